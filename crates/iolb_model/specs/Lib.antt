@@ -1,0 +1,9 @@
+pub mod Form
+pub mod Program
+pub mod Execution
+pub mod Source
+pub mod Graph
+pub mod Game
+pub mod Polynomial
+pub mod Bound
+pub mod Printed
