@@ -1,0 +1,109 @@
+-- Each input that is read was loaded: between a board without its red pebble and the computing of a reader
+-- stands a load of it.
+use Rattle.std.proofs.Common.{inl, inr, ◌≡◌, refl, sym, ◌∙◌, ap, subst, ℕ, ◌+◌, ◌<◌, ◌≤◌, ◌≢◌, Bool, true, false, cond, not, List, [], ◌∷◌, ◌++◌, zero, suc, length, get_or, set, replicate, arith, IsTrue}
+use Rattle.std.specs.Prelude.{count_by, nat_eq, ◌||◌, Contains, ◌⊎◌}
+use Rattle.std.specs.List.{AllByRecursion, IsDistinct, list_any}
+use Rattle.std.proofs.lemmas.List.Elements.{All-from_recursion, All-contains}
+use Rattle.std.proofs.lemmas.Bool.{eqb-false, ne_eqb, cases_eq}
+use Rattle.std.proofs.lemmas.Map.Made.{length-le_from_is_member}
+use Rattle.std.specs.Set.{is_member}
+use Rattle.std.specs.Cmp.{nat_eq_equiv}
+use Rattle.std.proofs.lemmas.List.Sums.{sum_by-cons}
+use Rattle.std.proofs.lemmas.List.{get_or-set_other, get_or-set_same}
+use Rattle.std.proofs.lemmas.Grind.{common_steps}
+use Rattle.iolb_model.specs.declared.game.Move.{Move}
+use Rattle.iolb_model.specs.declared.game.Move.TheVariants.{Load, Store, Compute, Drop, Erase}
+use Rattle.iolb_model.specs.Graph.{ComputationGraph}
+use Rattle.iolb_model.specs.Game.{Board, marked, predecessors_at, IsAllowed, AreAllowed, board_after, final_board, IsCompletePebbling, is_load, loads, first_board}
+use Rattle.pebble_game.specs.Inputs.{IsReadInput, ReadInputsAreLoaded}
+
+-- the vertices that are loaded, in order
+abbrev pub loaded : List Move → List ℕ
+loaded [] = []
+loaded (Load v ∷ moves) = v ∷ loaded moves
+loaded (Store v ∷ moves) = loaded moves
+loaded (Compute v ∷ moves) = loaded moves
+loaded (Drop v ∷ moves) = loaded moves
+loaded (Erase v ∷ moves) = loaded moves
+
+pub loads-loaded : (moves : List Move) → loads moves ≡ length (loaded moves)
+loads-loaded [] = refl
+loads-loaded (Load v ∷ moves) = sum_by-cons (λ (move : Move). cond (is_load move) 1 0) (Load v) moves ∙ ap (λ n. 1 + n) (loads-loaded moves) ∙ omega arith
+loads-loaded (Store v ∷ moves) = loads-loaded moves
+loads-loaded (Compute v ∷ moves) = loads-loaded moves
+loads-loaded (Drop v ∷ moves) = loads-loaded moves
+loads-loaded (Erase v ∷ moves) = loads-loaded moves
+
+-- another vertex's mark stays
+marked_other : (marks : List Bool) (v w : ℕ) (b : Bool) → v ≢ w → marked (set marks w b) v ≡ marked marks v
+marked_other marks v w b apart = get_or-set_other marks w v b false apart
+
+unmarked_first : (m : Bool) (marks : List Bool) (w : ℕ) → m ≡ false → marked (set (m ∷ marks) w false) zero ≡ false
+unmarked_first m marks zero h = refl
+unmarked_first m marks (suc w) h = h
+
+-- a vertex without a mark has none after one is taken off
+unmarked : (marks : List Bool) (v w : ℕ) → marked marks v ≡ false → marked (set marks w false) v ≡ false
+unmarked [] v w h = refl
+unmarked (m ∷ marks) (suc v) zero h = h
+unmarked (m ∷ marks) zero w h = unmarked_first m marks w h
+unmarked (m ∷ marks) (suc v) (suc w) h = unmarked marks v w h
+
+or_true : (b x : Bool) → (b ≡ false → x ≡ true) → (b || x) ≡ true
+or_true true x h = refl
+or_true false x h = h refl
+
+-- a number's place among the loaded vertices
+abbrev pub is_loaded : ℕ → List Move → Bool
+is_loaded v moves = is_member nat_eq (loaded moves) v
+
+-- Between a board where an input has no red pebble and the computing of an instance that reads it, it is loaded.
+pub loaded_before_reader : (graph : ComputationGraph) (s : ℕ) (v n : ℕ) → graph.instances ≤ v → Contains (predecessors_at graph n) v
+    → (board : Board) (moves : List Move) → AreAllowed graph s board moves → marked board.red v ≡ false → marked board.computed n ≡ false
+    → marked (final_board board moves).computed n ≡ true → is_loaded v moves ≡ true
+loaded_before_reader graph s v n input read board [] allowed white before after = cc
+loaded_before_reader graph s v n input read board (Load w ∷ moves) allowed white before after =
+    or_true (nat_eq v w) (is_loaded v moves) (λ apart. loaded_before_reader graph s v n input read (board_after board (Load w)) moves allowed.1
+      (marked_other board.red v w true (eqb-false v w apart) ∙ white) before after)
+loaded_before_reader graph s v n input read board (Store w ∷ moves) allowed white before after =
+    loaded_before_reader graph s v n input read (board_after board (Store w)) moves allowed.1 white before after
+loaded_before_reader graph s v n input read board (Compute w ∷ moves) allowed white before after =
+    loaded_before_reader graph s v n input read (board_after board (Compute w)) moves allowed.1
+      (marked_other board.red v w true (λ (same : v ≡ w). absurd (omega (arith, allowed.0.0, same, input))) ∙ white)
+      (marked_other board.computed n w true (λ (same : n ≡ w). not_computed same) ∙ before) after where
+  not_computed : n ≡ w → ⊥
+  not_computed same =
+      let reads : Contains (predecessors_at graph w) v = subst (λ (m : ℕ). Contains (predecessors_at graph m) v) same read in
+      let red : marked board.red v ≡ true = All-contains (λ (u : ℕ). IsTrue (marked board.red u)) (predecessors_at graph w) v (All-from_recursion (λ (u : ℕ). IsTrue (marked board.red u)) (predecessors_at graph w) allowed.0.2) reads in
+      cc
+loaded_before_reader graph s v n input read board (Drop w ∷ moves) allowed white before after =
+    loaded_before_reader graph s v n input read (board_after board (Drop w)) moves allowed.1 (unmarked board.red v w white) before after
+loaded_before_reader graph s v n input read board (Erase w ∷ moves) allowed white before after =
+    loaded_before_reader graph s v n input read (board_after board (Erase w)) moves allowed.1 white before after
+
+-- at first no vertex is red or computed
+unmarked_at_first : (n v : ℕ) → marked (replicate n false) v ≡ false
+unmarked_at_first zero v = refl
+unmarked_at_first (suc n) zero = refl
+unmarked_at_first (suc n) (suc v) = unmarked_at_first n v
+
+pub read_input_loaded : (graph : ComputationGraph) (s : ℕ) (moves : List Move) (v : ℕ) → IsCompletePebbling graph s moves → IsReadInput graph v → is_loaded v moves ≡ true
+read_input_loaded graph s moves v game input =
+    loaded_before_reader graph s v input.reader input.input input.read (first_board graph) moves game.allowed
+      (unmarked_at_first (graph.instances + graph.inputs) v) (unmarked_at_first (graph.instances + graph.inputs) input.reader) (game.computed input.reader input.there)
+
+by_eqb : {P : Type 0} (a b : ℕ) → (a ≡ b → P) → (nat_eq a b ≡ false → P) → P
+by_eqb a b same apart = elim (cases_eq a b) [ inl e ↦ same e | inr e ↦ apart (ne_eqb a b e) ]
+
+-- each of a list of inputs that are read stands among the loaded vertices
+each_loaded : (graph : ComputationGraph) (s : ℕ) (moves : List Move) (inputs : List ℕ) → IsCompletePebbling graph s moves
+    → AllByRecursion (IsReadInput graph) inputs → (q : ℕ) → is_member nat_eq inputs q ≡ true → is_member nat_eq (loaded moves) q ≡ true
+each_loaded graph s moves [] game read q h = cc
+each_loaded graph s moves (v ∷ inputs) game read q h =
+    by_eqb q v (λ (same : q ≡ v). subst (λ (u : ℕ). is_member nat_eq (loaded moves) u ≡ true) (sym same) (read_input_loaded graph s moves v game read.0))
+      (λ (apart : nat_eq q v ≡ false). each_loaded graph s moves inputs game read.1 q (rw apart at h))
+
+pub read_inputs_loaded : ReadInputsAreLoaded
+read_inputs_loaded graph s moves inputs game apart read =
+    subst (λ (n : ℕ). length inputs ≤ n) (sym (loads-loaded moves))
+      (length-le_from_is_member nat_eq_equiv inputs (loaded moves) apart (each_loaded graph s moves inputs game read))
