@@ -1,0 +1,3 @@
+pub mod Members
+pub mod Cells
+pub mod InputVertices

@@ -1,0 +1,35 @@
+-- Reads whose words no earlier instance wrote: each different one costs a load.
+use Rattle.std.specs.Prelude.{◌≡◌, ℕ, suc, ◌≤◌, ℤ, ◌++◌, List, length, map, slice_index_or, slice_get, Some}
+use Rattle.std.specs.List.{AllByRecursion, IsDistinct}
+use Rattle.iolb_model.specs.declared.game.Move.{Move}
+use Rattle.iolb_model.specs.Program.{Access, Statement, AffineProgram, no_statement, statement_at}
+use Rattle.iolb_model.specs.Execution.{Instance, execution}
+use Rattle.iolb_model.specs.Source.{Cell, same_cell, cell_of, source_of, input}
+use Rattle.iolb_model.specs.Graph.{computation_graph}
+use Rattle.iolb_model.specs.Game.{IsCompletePebbling, loads}
+
+-- the read of a statement at this number, in the order of its reads
+abbrev pub read_at : AffineProgram → ℕ → ℕ → Access
+read_at program statement read = slice_index_or (statement_at program statement).reads read no_statement.writes
+
+-- the cell of a statement's read at these loop values
+abbrev pub read_cell : AffineProgram → List ℤ → ℕ → ℕ → List ℤ → Cell
+read_cell program parameters statement read values = cell_of (read_at program statement read) (parameters ++ values)
+
+-- The instance of the statement at these loop values is executed, and the source of its read of this number is
+-- the input cell itself.
+pub record ReadsInput (program : AffineProgram) (parameters : List ℤ) (statement read : ℕ) (values : List ℤ) : Type 0 where
+  pub there : suc read ≤ length (statement_at program statement).reads
+  pub place : ℕ
+  pub executed : slice_get (execution program parameters) place ≡ Some (record { statement = statement; values = values })
+  pub source : source_of program parameters (execution program parameters) place (read_cell program parameters statement read values)
+      ≡ input (read_cell program parameters statement read values)
+
+-- In every complete pebbling of a program's computation graph, with any number of red pebbles, points whose reads
+-- have different input cells as sources cost a load each.
+abbrev pub InputReadsAreLoaded : Type 0
+InputReadsAreLoaded = (program : AffineProgram) (parameters : List ℤ) (statement read : ℕ) (points : List (List ℤ)) (s : ℕ) (moves : List Move)
+    → IsCompletePebbling (computation_graph program parameters) s moves
+    → AllByRecursion (ReadsInput program parameters statement read) points
+    → IsDistinct same_cell (map (read_cell program parameters statement read) points)
+    → length points ≤ loads moves

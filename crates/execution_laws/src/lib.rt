@@ -1,0 +1,4 @@
+//! Laws of the executions of affine programs and of their computation graphs.
+#![tactic(auto)]
+
+pub mod cold;
