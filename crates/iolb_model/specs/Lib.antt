@@ -7,3 +7,4 @@ pub mod Game
 pub mod Polynomial
 pub mod Bound
 pub mod Printed
+pub mod Headline

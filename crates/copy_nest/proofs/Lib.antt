@@ -1,0 +1,5 @@
+pub mod Grids
+pub mod Runs
+pub mod Undone
+pub mod Product
+pub mod Copies

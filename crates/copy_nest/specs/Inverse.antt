@@ -1,0 +1,35 @@
+-- Matrices that undo the order of a reference's subscripts.
+use Rattle.std.specs.Prelude.{◌≡◌, ℕ, zero, suc, ◌+◌, ◌<◌, ◌⊎◌, ℤ, pos, ◌*ℤ◌, ◌+ℤ◌, List, [], ◌∷◌, map, length, drop, replicate, slice_set, slice_index_or, ◌==◌, if◌then◌else◌}
+use Rattle.iolb_model.specs.Form.{AffineForm, dot}
+use Rattle.iolb_model.specs.Program.{Access}
+
+-- the coefficients of the loop variables in each subscript, where so many parameters come first
+abbrev pub loop_coefficients : ℕ → Access → List (List ℤ)
+loop_coefficients parameters access = map (λ (form : AffineForm). drop parameters form.coefficients) access.subscripts
+
+-- the numbers that the rows have in one column
+abbrev pub column : ℕ → List (List ℤ) → List ℤ
+column place rows = map (λ row. slice_index_or row place (pos 0)) rows
+
+-- the entry of a matrix product: a row of the first times a column of the second
+abbrev pub product_entry : List (List ℤ) → List (List ℤ) → ℕ → ℕ → ℤ
+product_entry first second row col = dot (slice_index_or first row []) (column col second)
+
+-- the entry of the identity matrix
+abbrev pub identity_entry : ℕ → ℕ → ℤ
+identity_entry row col = if row == col then pos 1 else pos 0
+
+-- the product of two matrices is the identity of this size
+abbrev pub IsInverse : ℕ → List (List ℤ) → List (List ℤ) → Type 0
+IsInverse size first second = (row col : ℕ) → row < size → col < size → product_entry first second row col ≡ identity_entry row col
+
+-- one entry comes before another, by rows
+abbrev pub ComesBefore : ℕ → ℕ → ℕ → ℕ → Type 0
+ComesBefore row col row' col' = (row < row') ⊎ ((row ≡ row') × (col < col'))
+
+-- the first entry, by rows, in which the product of two matrices isn't the identity of this size
+pub record IsFirstDifference (size : ℕ) (first second : List (List ℤ)) (row col : ℕ) : Type 0 where
+  pub row_there : row < size
+  pub col_there : col < size
+  pub differs : product_entry first second row col ≡ identity_entry row col → ⊥
+  pub none_before : (row' col' : ℕ) → row' < size → col' < size → ComesBefore row' col' row col → product_entry first second row' col' ≡ identity_entry row' col'

@@ -1,0 +1,5 @@
+pub mod Nest
+pub mod Spelling
+pub mod Inverse
+pub mod Count
+pub mod Loads
