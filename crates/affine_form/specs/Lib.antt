@@ -1,0 +1,5 @@
+pub mod Form
+pub mod Matrix
+pub mod Multipliers
+pub mod SumText
+pub mod System
