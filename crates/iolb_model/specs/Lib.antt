@@ -1,5 +1,6 @@
 pub mod Form
 pub mod Program
+pub mod Path
 pub mod Execution
 pub mod Source
 pub mod Graph
