@@ -1,12 +1,16 @@
 //! Affine loop programs: their type, and their text in C.
 #![tactic(auto)]
 
+mod fault;
 mod item;
 mod program;
+mod read;
 mod reference;
 mod statement;
 
+pub use fault::{ProgramError, ProgramFault};
 pub use item::Item;
 pub use program::Program;
+pub use read::read_program;
 pub use reference::Reference;
 pub use statement::Statement;

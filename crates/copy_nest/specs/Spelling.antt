@@ -2,7 +2,8 @@
 -- by spaces and newlines alone.
 use Rattle.std.specs.Prelude.{◌≡◌, ℕ, ◌≤◌, ◌⊎◌, ◌==◌, ◌||◌, ◌&&◌, nat_le, Bool, false, IsTrue, List, [], ◌∷◌, ◌++◌, map, length, flat_map, codes, bytes_eq, Contains}
 use Rattle.std.specs.List.{AllByRecursion, IsDistinct, list_any}
-use Rattle.copy_nest.specs.Nest.{CopyLoop, CopyAccess, CopyNest, loop_names, parameter_names}
+use Rattle.iolb_model.specs.Program.{AffineProgram}
+use Rattle.copy_nest.specs.Nest.{CopyLoop, CopyAccess, CopyNest, loop_names, parameter_names, program_of}
 
 -- letters and `_`
 abbrev pub is_letter : ℕ → Bool
@@ -75,3 +76,7 @@ AreSpelled (word ∷ words) bytes = (blanks : List ℕ) × (rest : List ℕ) × 
 abbrev pub IsTextOf : List ℕ → CopyNest → Type 0
 IsTextOf bytes nest = (body : List ℕ) × (end : List ℕ) × ((end ≡ []) ⊎ (end ≡ codes "\n"))
     × (bytes ≡ codes "#pragma scop\n" ++ body ++ codes "\n#pragma endscop" ++ end) × AreSpelled (nest_words nest) body
+
+-- The bytes read as this program: they are the text of a copy nest whose program it is.
+abbrev pub ReadsAsProgram : List ℕ → AffineProgram → Type 0
+ReadsAsProgram bytes program = (nest : CopyNest) × IsCopyNest nest × IsTextOf bytes nest × (program ≡ program_of nest)
