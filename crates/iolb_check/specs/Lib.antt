@@ -1,0 +1,4 @@
+pub mod Product
+pub mod Values
+pub mod Certificate
+pub mod Refusal

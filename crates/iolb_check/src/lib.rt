@@ -1,0 +1,12 @@
+//! The checker: whether a certificate's claims hold of a program, and the bound on loads that they give.
+#![tactic(auto)]
+
+mod bound;
+mod certificate;
+mod checker;
+mod poly;
+
+pub use bound::{Bound, Value};
+pub use certificate::Certificate;
+pub use checker::check;
+pub use poly::Product;
