@@ -22,7 +22,7 @@ use Rattle.execution_laws.proofs.Cells.{same_cell-equal}
 use Rattle.execution_laws.proofs.InputVertices.{input_reads_loaded}
 use Rattle.copy_nest.specs.Nest.{CopyLoop, CopyNest, loop_names, parameter_names, place_of, variable_less_one, parameters_positive, access_of, program_of}
 use Rattle.copy_nest.specs.Spelling.{IsCopyNest}
-use Rattle.copy_nest.specs.Inverse.{IsInverse, loop_coefficients}
+use Rattle.copy_nest.specs.Inverse.{IsScaledInverse, loop_coefficients}
 use Rattle.copy_nest.specs.Count.{grid, parameters_product, copy_bound}
 use Rattle.copy_nest.specs.Loads.{CopiesAreLoaded}
 use Rattle.copy_nest.proofs.Grids.{Differ, All-weaker, Differ-grid, product, length-grid, lengths-grid}
@@ -129,11 +129,11 @@ loop_parts parameters xs ys (form ∷ forms) e =
   cons_same a b us vs e f = cc
 
 cells_same : (nest : CopyNest) (parameters : List ℤ) (matrix : List (List ℤ)) → length parameters ≡ length (parameter_names nest)
-    → IsInverse (length nest.loops) matrix (loop_coefficients (length (parameter_names nest)) (access_of nest 1 nest.read))
+    → IsScaledInverse 1 (length nest.loops) matrix (loop_coefficients (length (parameter_names nest)) (access_of nest 1 nest.read))
     → (xs ys : List ℤ) → length xs ≡ length nest.loops → length ys ≡ length nest.loops
     → read_cell (program_of nest) parameters 0 0 xs ≡ read_cell (program_of nest) parameters 0 0 ys → xs ≡ ys
 cells_same nest parameters matrix wide inverse xs ys wide_x wide_y e =
-    same_point (length nest.loops) matrix (loop_coefficients (length (parameter_names nest)) (access_of nest 1 nest.read)) xs ys wide_x wide_y inverse
+    same_point 0 (length nest.loops) matrix (loop_coefficients (length (parameter_names nest)) (access_of nest 1 nest.read)) xs ys wide_x wide_y inverse
       (subst (λ (n : ℕ). map (λ (row : List ℤ). dot row xs) (map (λ (form : AffineForm). drop n form.coefficients) (access_of nest 1 nest.read).subscripts)
           ≡ map (λ (row : List ℤ). dot row ys) (map (λ (form : AffineForm). drop n form.coefficients) (access_of nest 1 nest.read).subscripts)) wide
         (loop_parts parameters xs ys (access_of nest 1 nest.read).subscripts (ap (λ (c : Cell). c.subscripts) e)))

@@ -4,9 +4,9 @@ use Rattle.std.specs.Prelude.{ℤ, pos, negsuc, ◌+ℤ◌, ◌-ℤ◌, ◌*ℤ�
 use Rattle.std.proofs.lemmas.Int.{ints}
 use Rattle.std.proofs.lemmas.Bool.{eq-eqb, ne_eqb, cases_eq}
 use Rattle.std.proofs.lemmas.List.{same_lists, get_or_default}
-use Rattle.integer_laws.proofs.Ring.{zero-mul, one-mul, mul-zero, mul-add, add-mul, mul_assoc_ℤ, add_pairs}
+use Rattle.integer_laws.proofs.Ring.{zero-mul, one-mul, mul-cancel, mul-zero, mul-add, add-mul, mul_assoc_ℤ, add_pairs}
 use Rattle.iolb_model.specs.Form.{AffineForm, dot, form_value}
-use Rattle.copy_nest.specs.Inverse.{column, product_entry, identity_entry, IsInverse}
+use Rattle.copy_nest.specs.Inverse.{column, product_entry, scaled_entry, IsScaledInverse}
 
 dot-nil : (row : List ℤ) → dot row [] ≡ pos 0
 dot-nil [] = refl
@@ -43,16 +43,16 @@ dot-of_zeros (a ∷ m) (row ∷ rows) = omega (arith, ints, mul-zero a, dot-of_z
 abbrev pub entry : List ℤ → List (List ℤ) → ℕ → ℤ
 entry m rows place = dot m (column place rows)
 
-off_diagonal : (row col : ℕ) → (row ≡ col → ⊥) → identity_entry row col ≡ pos 0
-off_diagonal row col apart = ap (λ (b : Bool). cond b (pos 1) (pos 0)) (ne_eqb row col apart)
+off_diagonal : (scale row col : ℕ) → (row ≡ col → ⊥) → scaled_entry scale row col ≡ pos 0
+off_diagonal scale row col apart = ap (λ (b : Bool). cond b (pos scale) (pos 0)) (ne_eqb row col apart)
 
-on_diagonal : (row col : ℕ) → row ≡ col → identity_entry row col ≡ pos 1
-on_diagonal row col e = ap (λ (b : Bool). cond b (pos 1) (pos 0)) (eq-eqb row col e)
+on_diagonal : (scale row col : ℕ) → row ≡ col → scaled_entry scale row col ≡ pos scale
+on_diagonal scale row col e = ap (λ (b : Bool). cond b (pos scale) (pos 0)) (eq-eqb row col e)
 
-next_diagonal : (row col : ℕ) → identity_entry (suc row) (suc col) ≡ identity_entry row col
-next_diagonal row col = elim (cases_eq row col) [
-    inl e ↦ on_diagonal (suc row) (suc col) (ap suc e) ∙ sym (on_diagonal row col e)
-  | inr apart ↦ off_diagonal (suc row) (suc col) (λ e. apart (omega (arith, e))) ∙ sym (off_diagonal row col apart) ]
+next_diagonal : (scale row col : ℕ) → scaled_entry scale (suc row) (suc col) ≡ scaled_entry scale row col
+next_diagonal scale row col = elim (cases_eq row col) [
+    inl e ↦ on_diagonal scale (suc row) (suc col) (ap suc e) ∙ sym (on_diagonal scale row col e)
+  | inr apart ↦ off_diagonal scale (suc row) (suc col) (λ e. apart (omega (arith, e))) ∙ sym (off_diagonal scale row col apart) ]
 
 -- A combination of the rows at a point whose first entries are 0 ..
 past_diagonal : (m : List ℤ) (rows : List (List ℤ)) (k : ℕ) (xs : List ℤ) → ((j : ℕ) → j < length xs → entry m rows (k + j) ≡ pos 0)
@@ -67,44 +67,45 @@ past_diagonal m rows k (x ∷ xs) h =
   total : (a b : ℤ) → a ≡ pos 0 → b ≡ pos 0 → (a *ℤ x) +ℤ b ≡ pos 0
   total a b e f = ap (λ (z : ℤ). (z *ℤ x) +ℤ b) e ∙ omega (arith, ints, zero-mul x)
 
--- .. but for a 1 at one place is the point's value at this place
-at_diagonal : (m : List ℤ) (rows : List (List ℤ)) (k place : ℕ) (xs : List ℤ) → ((j : ℕ) → j < length xs → entry m rows (k + j) ≡ identity_entry place j)
-    → place < length xs → dot m (map (λ (row : List ℤ). dot (drop k row) xs) rows) ≡ get_or xs place (pos 0)
-at_diagonal m rows k place [] h l = absurd (omega (arith, l))
-at_diagonal m rows k zero (x ∷ xs) h l = 
+-- .. but for a number at one place is that number times the point's value at this place
+at_diagonal : (scale : ℕ) (m : List ℤ) (rows : List (List ℤ)) (k place : ℕ) (xs : List ℤ) → ((j : ℕ) → j < length xs → entry m rows (k + j) ≡ scaled_entry scale place j)
+    → place < length xs → dot m (map (λ (row : List ℤ). dot (drop k row) xs) rows) ≡ pos scale *ℤ get_or xs place (pos 0)
+at_diagonal scale m rows k place [] h l = absurd (omega (arith, l))
+at_diagonal scale m rows k zero (x ∷ xs) h l = 
     ap (dot m) (map-same (λ (row : List ℤ). dot (drop k row) (x ∷ xs)) (λ (row : List ℤ). (get_or row k (pos 0) *ℤ x) +ℤ dot (drop (suc k) row) xs) (λ row. dot-drop k row x xs) rows)
     ∙ dot-linear m rows (λ (row : List ℤ). get_or row k (pos 0)) (λ (row : List ℤ). dot (drop (suc k) row) xs) x
     ∙ total (entry m rows k) (dot m (map (λ (row : List ℤ). dot (drop (suc k) row) xs) rows))
-      (subst (λ (n : ℕ). entry m rows n ≡ pos 1) (omega arith) (h 0 (omega arith) ∙ on_diagonal 0 0 refl))
-      (past_diagonal m rows (suc k) xs (λ j lt. subst (λ (n : ℕ). entry m rows n ≡ pos 0) (omega arith) (h (suc j) (omega (arith, lt)) ∙ off_diagonal 0 (suc j) (λ e. omega (arith, e))))) where
-  total : (a b : ℤ) → a ≡ pos 1 → b ≡ pos 0 → (a *ℤ x) +ℤ b ≡ x
-  total a b e f = ap (λ (z : ℤ). (z *ℤ x) +ℤ b) e ∙ omega (arith, ints, one-mul x)
-at_diagonal m rows k (suc place) (x ∷ xs) h l =
+      (subst (λ (n : ℕ). entry m rows n ≡ pos scale) (omega arith) (h 0 (omega arith) ∙ on_diagonal scale 0 0 refl))
+      (past_diagonal m rows (suc k) xs (λ j lt. subst (λ (n : ℕ). entry m rows n ≡ pos 0) (omega arith) (h (suc j) (omega (arith, lt)) ∙ off_diagonal scale 0 (suc j) (λ e. omega (arith, e))))) where
+  total : (a b : ℤ) → a ≡ pos scale → b ≡ pos 0 → (a *ℤ x) +ℤ b ≡ pos scale *ℤ x
+  total a b e f = ap (λ (z : ℤ). (z *ℤ x) +ℤ b) e ∙ omega (arith, ints)
+at_diagonal scale m rows k (suc place) (x ∷ xs) h l =
     ap (dot m) (map-same (λ (row : List ℤ). dot (drop k row) (x ∷ xs)) (λ (row : List ℤ). (get_or row k (pos 0) *ℤ x) +ℤ dot (drop (suc k) row) xs) (λ row. dot-drop k row x xs) rows)
     ∙ dot-linear m rows (λ (row : List ℤ). get_or row k (pos 0)) (λ (row : List ℤ). dot (drop (suc k) row) xs) x
-    ∙ total (entry m rows k) (dot m (map (λ (row : List ℤ). dot (drop (suc k) row) xs) rows)) (get_or xs place (pos 0))
-      (subst (λ (n : ℕ). entry m rows n ≡ pos 0) (omega arith) (h 0 (omega arith) ∙ off_diagonal (suc place) 0 (λ e. omega (arith, e))))
-      (at_diagonal m rows (suc k) place xs (λ j lt. subst (λ (n : ℕ). entry m rows n ≡ identity_entry place j) (omega arith) (h (suc j) (omega (arith, lt)) ∙ next_diagonal place j)) (omega (arith, l))) where
+    ∙ total (entry m rows k) (dot m (map (λ (row : List ℤ). dot (drop (suc k) row) xs) rows)) (pos scale *ℤ get_or xs place (pos 0))
+      (subst (λ (n : ℕ). entry m rows n ≡ pos 0) (omega arith) (h 0 (omega arith) ∙ off_diagonal scale (suc place) 0 (λ e. omega (arith, e))))
+      (at_diagonal scale m rows (suc k) place xs (λ j lt. subst (λ (n : ℕ). entry m rows n ≡ scaled_entry scale place j) (omega arith) (h (suc j) (omega (arith, lt)) ∙ next_diagonal scale place j)) (omega (arith, l))) where
   total : (a b c : ℤ) → a ≡ pos 0 → b ≡ c → (a *ℤ x) +ℤ b ≡ c
   total a b c e f = ap (λ (z : ℤ). (z *ℤ x) +ℤ b) e ∙ omega (arith, ints, zero-mul x)
 
--- what the rows give at a point, the first matrix turns back into the point's values
-pub undone : (size : ℕ) (matrix rows : List (List ℤ)) (xs : List ℤ) → length xs ≡ size → IsInverse size matrix rows → (place : ℕ) → place < size
-    → dot (get_or matrix place []) (map (λ (row : List ℤ). dot row xs) rows) ≡ get_or xs place (pos 0)
-undone size matrix rows xs wide inverse place l =
-    at_diagonal (get_or matrix place []) rows 0 place xs
-      (λ j lt. subst (λ (n : ℕ). entry (get_or matrix place []) rows n ≡ identity_entry place j) (omega arith) (inverse place j l (omega (arith, lt, wide)))) (omega (arith, l, wide))
+-- what the rows give at a point, the first matrix turns back into the point's values, scaled
+pub undone : (scale size : ℕ) (matrix rows : List (List ℤ)) (xs : List ℤ) → length xs ≡ size → IsScaledInverse scale size matrix rows → (place : ℕ) → place < size
+    → dot (get_or matrix place []) (map (λ (row : List ℤ). dot row xs) rows) ≡ pos scale *ℤ get_or xs place (pos 0)
+undone scale size matrix rows xs wide inverse place l =
+    at_diagonal scale (get_or matrix place []) rows 0 place xs
+      (λ j lt. subst (λ (n : ℕ). entry (get_or matrix place []) rows n ≡ scaled_entry scale place j) (omega arith) (inverse place j l (omega (arith, lt, wide)))) (omega (arith, l, wide))
 
 -- so points at which the rows give the same are equal
-pub same_point : (size : ℕ) (matrix rows : List (List ℤ)) (xs ys : List ℤ) → length xs ≡ size → length ys ≡ size → IsInverse size matrix rows
+pub same_point : (scale size : ℕ) (matrix rows : List (List ℤ)) (xs ys : List ℤ) → length xs ≡ size → length ys ≡ size → IsScaledInverse (suc scale) size matrix rows
     → map (λ (row : List ℤ). dot row xs) rows ≡ map (λ (row : List ℤ). dot row ys) rows → xs ≡ ys
-same_point size matrix rows xs ys wide wide' inverse e =
+same_point scale size matrix rows xs ys wide wide' inverse e =
     same_lists xs ys (wide ∙ sym wide') (λ k d l.
-      get_or_at xs k d l ∙ sym (undone size matrix rows xs wide inverse k (omega (arith, l, wide)))
-      ∙ ap (dot (get_or matrix k [])) e
-      ∙ undone size matrix rows ys wide' inverse k (omega (arith, l, wide)) ∙ sym (get_or_at ys k d (omega (arith, l, wide, wide')))) where
-  get_or_at : (zs : List ℤ) (k : ℕ) (d : ℤ) → k < length zs → get_or zs k d ≡ get_or zs k (pos 0)
-  get_or_at zs k d l = get_or_default zs k d (pos 0) l
+      get_or_default xs k d (pos 0) l
+      ∙ mul-cancel scale (get_or xs k (pos 0)) (get_or ys k (pos 0))
+        (sym (undone (suc scale) size matrix rows xs wide inverse k (omega (arith, l, wide)))
+        ∙ ap (dot (get_or matrix k [])) e
+        ∙ undone (suc scale) size matrix rows ys wide' inverse k (omega (arith, l, wide)))
+      ∙ sym (get_or_default ys k d (pos 0) (omega (arith, l, wide, wide'))))
 
 -- a form at parameters and loop values: what the parameters give, and what the loop values give
 pub dot-append : (row : List ℤ) (parameters xs : List ℤ) → dot row (parameters ++ xs) ≡ dot row parameters +ℤ dot (drop (length parameters) row) xs

@@ -7,7 +7,7 @@ use Rattle.affine_form.specs.Matrix.{IntegerMatrix}
 use Rattle.affine_c.specs.Parts.{ProgramParts, meaning}
 use Rattle.copy_nest.specs.Nest.{CopyNest, program_of}
 use Rattle.copy_nest.specs.Spelling.{IsCopyNest}
-use Rattle.copy_nest.specs.Inverse.{IsInverse, loop_coefficients}
+use Rattle.copy_nest.specs.Inverse.{IsScaledInverse, loop_coefficients}
 
 -- a matrix's rows
 abbrev pub matrix_rows : IntegerMatrix → List (List ℤ)
@@ -26,4 +26,4 @@ pub record FitsNest (program : AffineProgram) (matrix : IntegerMatrix) (nest : C
 
 -- Condition 12: the matrix undoes the order of the read's subscripts.
 abbrev pub MeetsConditions : AffineProgram → IntegerMatrix → Type 0
-MeetsConditions program matrix = IsInverse matrix.rows (matrix_rows matrix) (read_coefficients program)
+MeetsConditions program matrix = IsScaledInverse 1 matrix.rows (matrix_rows matrix) (read_coefficients program)

@@ -16,5 +16,5 @@ entry_place row column = Key 8 ∷ Index 0 ∷ Key 52 ∷ Index 0 ∷ Key 10 ∷
 -- where there was memory, it is condition 12 that fails, at the first entry of the product that isn't the identity's
 abbrev pub IsRefusal : AffineProgram → IntegerMatrix → Refused → Type 0
 IsRefusal program matrix (No failed) = (failed.condition ≡ 12) × (row : ℕ) × (column : ℕ)
-    × IsFirstDifference matrix.rows (matrix_rows matrix) (read_coefficients program) row column × (failed.place ≡ entry_place row column)
+    × IsFirstDifference 1 matrix.rows (matrix_rows matrix) (read_coefficients program) row column × (failed.place ≡ entry_place row column)
 IsRefusal program matrix Memory = ⊤

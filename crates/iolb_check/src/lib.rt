@@ -4,6 +4,7 @@
 mod bound;
 mod certificate;
 mod checker;
+mod inverse;
 mod poly;
 
 pub use bound::{Bound, Value};
