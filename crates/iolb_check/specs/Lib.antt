@@ -1,5 +1,6 @@
 pub mod Product
 pub mod Columns
+pub mod Uses
 pub mod Values
 pub mod Certificate
 pub mod Refusal

@@ -6,6 +6,7 @@ mod certificate;
 mod checker;
 mod inverse;
 mod poly;
+mod uses;
 
 pub use bound::{Bound, Value};
 pub use certificate::Certificate;
