@@ -55,7 +55,7 @@ members_all : {A : Type 0} (P : A → Type 0) (xs : List A) → ((x : A) → Mem
 members_all P [] h = tt
 members_all P (x ∷ xs) h = (h x (inl refl), members_all P xs (λ y m. h y (inr m)))
 
-parameters_placed : (nest : CopyNest) → AllByRecursion (λ (l : CopyLoop). place_of l.bound (parameter_names nest) < length (parameter_names nest)) nest.loops
+pub parameters_placed : (nest : CopyNest) → AllByRecursion (λ (l : CopyLoop). place_of l.bound (parameter_names nest) < length (parameter_names nest)) nest.loops
 parameters_placed nest = bounds_placed (parameter_names nest) nest.loops (members_all (λ (l : CopyLoop). Member l.bound (parameter_names nest)) nest.loops
     (λ l m. Member-distinct bytes_eq bytes_equal l.bound (map (λ (k : CopyLoop). k.bound) nest.loops) (Member-map (λ (k : CopyLoop). k.bound) l nest.loops m)))
 

@@ -13,6 +13,11 @@ use Rattle.iolb_check.specs.Certificate.{matrix_rows, read_coefficients}
 abbrev pub entry_place : ℕ → ℕ → List Step
 entry_place row column = Key 8 ∷ Index 0 ∷ Key 52 ∷ Index 0 ∷ Key 10 ∷ Key 23 ∷ Key 28 ∷ Index row ∷ Index column ∷ []
 
+-- where there was memory, it is condition 12 at this entry
+abbrev pub IsMatrixRefusal : ℕ → ℕ → Refused → Type 0
+IsMatrixRefusal row column (No failed) = (failed.condition ≡ 12) × (failed.place ≡ entry_place row column)
+IsMatrixRefusal row column Memory = ⊤
+
 -- where there was memory, it is condition 12 that fails, at the first entry of the product that isn't the identity's
 abbrev pub IsRefusal : AffineProgram → IntegerMatrix → Refused → Type 0
 IsRefusal program matrix (No failed) = (failed.condition ≡ 12) × (row : ℕ) × (column : ℕ)
