@@ -13,13 +13,12 @@ pub struct Wide;
 const LIMIT: u128 = 1 << 127;
 
 /// The greatest u with `u^q * den <= num * k^m`, and at least 1; Wide exactly where `num * k^m`
-/// reaches 2^127.
+/// reaches 2^127. It is how many points the cover inequality allows at most. It takes 127
+/// steps of halving at most, each of up to q products, and no memory.
 pub fn greatest_u(q: u32, den: u128, num: u128, k: u128, m: u32) -> Result<u128, Wide>
-    requires q_range { (1 ≤ q) × (q ≤ 12) }
-    requires den_range { (1 ≤ den) × (den < 2 ^ 112) }
-    requires num_range { (1 ≤ num) × (num < 2 ^ 112) }
-    requires k_range { 1 ≤ k }
-    requires m_range { (1 ≤ m) × (m ≤ 24) }
+    requires q_positive { 1 ≤ q }
+    requires den_positive { 1 ≤ den }
+    requires k_positive { 1 ≤ k }
     ensures greatest { IfOk result (λ u. IsGreatest q den (num * k ^ m) u) }
     ensures wide { IsErr result ↔ (2 ^ 127 ≤ num * k ^ m) }
 {
@@ -42,8 +41,8 @@ fn is_within(q: u32, den: u128, top: u128, u: u128) -> bool
 
 /// The greatest u with `u^q * den <= top`, and at least 1, found by halving.
 fn greatest_within(q: u32, den: u128, top: u128) -> u128
-    requires q_range { 1 ≤ q }
-    requires den_range { 1 ≤ den }
+    requires q_positive { 1 ≤ q }
+    requires den_positive { 1 ≤ den }
     requires top_range { top < 2 ^ 127 }
     ensures { IsGreatest q den top result }
 {
@@ -58,4 +57,20 @@ fn greatest_within(q: u32, den: u128, top: u128) -> u128
         }
     }
     low
+}
+
+#[cfg(test)]
+mod tests {
+    use super::*;
+
+    #[test]
+    fn worked_cases(rt: HostRuntime) {
+        assert_eq!(rt; greatest_u(2, 27, 1, 48, 3), Ok(64));
+        assert_eq!(rt; greatest_u(2, 27, 1, 47, 3), Ok(62));
+        assert_eq!(rt; greatest_u(1, 1, 1, 1, 1), Ok(1));
+        assert_eq!(rt; greatest_u(12, 4096, 1, 1, 1), Ok(1));
+        assert_eq!(rt; greatest_u(1, 1, 1, 1 << 64, 2), Err(Wide));
+        assert_eq!(rt; greatest_u(3, 3125, 4, 20, 5), Ok(16));
+        assert_eq!(rt; greatest_u(2, 1, 1, 48, 3), Ok(332));
+    }
 }

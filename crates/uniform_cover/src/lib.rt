@@ -4,7 +4,13 @@
 //! cites. No root, fraction or logarithm stands in a statement, and `0^0` is 1 throughout.
 #![tactic(auto)]
 
+mod cover;
 mod greatest;
+mod mean;
 mod power;
 
-pub use greatest::{greatest_u, Wide};
+pub use cover::{
+    cover_inequality, cover_inequality_each, cover_inequality_sum, projection_inequality,
+};
+pub use greatest::{Wide, greatest_u};
+pub use mean::{mean_inequality, superadditive_step, weighted_mean_inequality};
