@@ -1,13 +1,6 @@
-// A library with one function.
+//! Sums of powers: polynomials whose value at n is the sum of `i^d` for i from 1 to n.
 #![tactic(auto)]
 
-ghost use Rattle.std.specs.Prelude.{◌≡◌};
-ghost use Rattle.power_sums.specs.Echo.{echo_of};
+mod row;
 
-// The `ensures` clause is the contract: what `echo` returns is `echo_of` of its argument, a definition
-// in `specs/Echo.antt`, which a caller's clause can cite too.
-pub fn echo(x: usize) -> usize
-    ensures { result ≡ echo_of x }
-{
-    x
-}
+pub use row::{ROW_COUNT, Row, power_sum};
