@@ -6,3 +6,4 @@ pub mod Members
 pub mod CoverLemmas
 pub mod WeightLemmas
 pub mod ProjectionLemmas
+mod Samples

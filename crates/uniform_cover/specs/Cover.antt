@@ -4,7 +4,7 @@ use Rattle.std.specs.Prelude.{◌≡◌, ℕ, ◌*◌, ◌^◌, ◌<◌, ◌≤�
 use Rattle.std.specs.List.{AllByRecursion, IsDistinct}
 use Rattle.uniform_cover.specs.Products.{product_by}
 
--- a family: a set of coordinates with its weight, what label each point has, and a list of labels
+-- a family: whether its set has a coordinate, the set's weight, the label of each point, and a list of labels
 pub record Family (V L : Type 0) : Type 0 where
   pub has : ℕ → Bool
   pub weight : ℕ
@@ -28,10 +28,12 @@ HasLabels {V} points family = (v : V) → Contains points v → Contains family.
 abbrev pub weight_at : {V L : Type 0} → ℕ → List (Family V L) → ℕ
 weight_at i families = sum_by (λ f. cond (f.has i) f.weight 0) families
 
--- the families cover the d coordinates of the points q times
+-- each of the d coordinates of different points lies in sets of total weight at least q, and of each family the labels
+-- fix the set and are listed
 pub record IsUniformCover {V C L : Type 0} (same : V → V → Bool) (q d : ℕ) (coordinate : V → ℕ → C) (points : List V) (families : List (Family V L)) : Type 0 where
   pub positive : 1 ≤ q
   pub distinct : IsDistinct same points
+  -- points that agree at all coordinates are one
   pub told_apart : (u v : V) → Contains points u → Contains points v → Agree coordinate d u v → u ≡ v
   pub fixed : AllByRecursion (FixesSet coordinate d points) families
   pub held : AllByRecursion (HasLabels points) families

@@ -12,8 +12,8 @@ pub record Pair : Type 0 where
   pub left : ℕ
   pub right : ℕ
 
--- k-th roots of products add up (Minkowski): two numbers whose k-th powers are within the scaled products of k left
--- and of k right factors have a sum whose k-th power is within the scaled product of the factors' sums
+-- the geometric mean is superadditive: two numbers whose k-th powers are within the scaled products of k left and of
+-- k right factors have a sum whose k-th power is within the scaled product of the factors' sums
 abbrev pub SuperadditiveStep : Type 0
 SuperadditiveStep = (scale c e : ℕ) (pairs : List Pair)
     → c ^ length pairs ≤ scale * product_by (λ p. p.left) pairs

@@ -3,19 +3,13 @@
 
 ghost use Rattle.std.specs.Prelude.{ℕ, ℤ, List, nat_eq};
 ghost use Rattle.uniform_cover.specs.Cover.{CoverInequality, CoverInequalityEach, CoverInequalitySum};
-ghost use Rattle.uniform_cover.specs.Projection.{ProjectionInequality};
 
-/// The uniform cover inequality (Loomis and Whitney, 1949; Bollobás and Thomason, 1995) of a finite set
-/// of points with d coordinates: where each coordinate lies in sets of total weight at least q, and q is
-/// at least 1, the q-th power of the number of points is at most the product of the sizes of their
-/// projections on the sets, each raised to the set's weight.
-pub fn projection_inequality()
-    ensures { ProjectionInequality }
-{}
-
-/// The same of numbered points with any coordinates, such as vertices of a graph, and families in place of
-/// projections: a label of each point which fixes the coordinates of the family's set, and any list that
-/// has the label of each point.
+/// The uniform cover inequality (Loomis and Whitney, 1949; Bollobás and Thomason, 1995) over labels. The
+/// points are numbered, such as vertices of a graph, each with d coordinates that tell it apart. A family
+/// is a weighted set of coordinates, a label of each point which fixes the coordinates in the set, and any
+/// list that has the label of each point. Where each coordinate lies in sets of total weight at least q,
+/// and q is at least 1, the q-th power of the number of points is at most the product of the lengths of
+/// the families' lists, each raised to the family's weight.
 pub fn cover_inequality()
     ensures { CoverInequality ℕ ℤ (List ℤ) nat_eq }
 {}

@@ -13,8 +13,8 @@ pub struct Wide;
 const LIMIT: u128 = 1 << 127;
 
 /// The greatest u with `u^q * den <= num * k^m`, and at least 1; Wide exactly where `num * k^m`
-/// reaches 2^127. It is how many points the cover inequality allows at most. It takes 127
-/// steps of halving at most, each of up to q products, and no memory.
+/// reaches 2^127. A number of points that the cover inequality allows is at most this. It takes
+/// at most 127 steps of halving, each of up to q products, and no memory.
 pub fn greatest_u(q: u32, den: u128, num: u128, k: u128, m: u32) -> Result<u128, Wide>
     requires q_positive { 1 ≤ q }
     requires den_positive { 1 ≤ den }

@@ -8,9 +8,9 @@ mod cover;
 mod greatest;
 mod mean;
 mod power;
+mod projection;
 
-pub use cover::{
-    cover_inequality, cover_inequality_each, cover_inequality_sum, projection_inequality,
-};
+pub use cover::{cover_inequality, cover_inequality_each, cover_inequality_sum};
 pub use greatest::{Wide, greatest_u};
 pub use mean::{mean_inequality, superadditive_step, weighted_mean_inequality};
+pub use projection::projection_inequality;

@@ -4,7 +4,7 @@ ghost use Rattle.std.specs.Prelude.{◌≡◌, ◌*◌, ◌^◌, ◌<◌, ◌≤
 ghost use Rattle.std.specs.Option.{SomeIff};
 
 /// `factor * base^exponent`, or None where that needs more than 128 bits.
-pub fn scaled_power(factor: u128, base: u128, exponent: u32) -> Option<u128>
+pub(crate) fn scaled_power(factor: u128, base: u128, exponent: u32) -> Option<u128>
     requires { 1 ≤ base }
     ensures { SomeIff result (factor * base ^ exponent < 2 ^ 128) (factor * base ^ exponent) }
 {
