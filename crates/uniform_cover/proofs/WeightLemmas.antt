@@ -10,7 +10,7 @@ use Rattle.std.proofs.lemmas.List.Sums.{sum_by-cons, sum_by-append}
 use Rattle.std.proofs.Math.Nat.{mul-le-mul, mul-le-mul_left, pow-le-pow_left, pow-zero}
 use Rattle.std.proofs.lemmas.Nat.{pow-add}
 use Rattle.uniform_cover.specs.Products.{product_by}
-use Rattle.uniform_cover.specs.Cover.{Family, Agree, FixesSet, HasLabels, weight_at, CoverInequality, CoverInequalityEach, CoverInequalitySum}
+use Rattle.uniform_cover.specs.Cover.{Family, Agree, FixesSet, HasLabels, weight_at, CoverInequality, CoverInequalityEach, CoverInequalitySum, CoverBoundEach, CoverBoundSum}
 use Rattle.uniform_cover.proofs.Members.{IsIn, and_parts, IsIn-from_Contains, Contains-from_IsIn}
 use Rattle.uniform_cover.proofs.ProductLemmas.{product_by-append, product_by-replicate}
 use Rattle.uniform_cover.proofs.MeanLemmas.{weighted_by}
@@ -124,3 +124,12 @@ module _ {V C L : Type 0}
       let mean : m ^ m * product_by (λ f. length f.labels ^ f.weight) fs ≤ product_by (λ f. f.weight ^ f.weight) fs * sum_by (λ f. length f.labels) fs ^ m = weighted_by (λ f. length f.labels) (λ f. f.weight) fs in
       let grown : product_by (λ f. f.weight ^ f.weight) fs * sum_by (λ f. length f.labels) fs ^ m ≤ product_by (λ f. f.weight ^ f.weight) fs * k ^ m = mul-le-mul_left (product_by (λ f. f.weight ^ f.weight) fs) (pow-le-pow_left few m) in
       omega arith
+
+  pub cover_bound_each : CoverBoundEach V C L same
+  cover_bound_each q d k u coordinate points fs cover_of few is_greatest =
+      let below : length points ^ q ≤ k ^ sum_by (λ f. f.weight) fs = cover_inequality_each q d k coordinate points fs cover_of few in
+      is_greatest.greatest (length points) (omega arith)
+
+  pub cover_bound_sum : CoverBoundSum V C L same
+  cover_bound_sum q d k u coordinate points fs cover_of few is_greatest =
+      is_greatest.greatest (length points) (cover_inequality_sum q d k coordinate points fs cover_of few)

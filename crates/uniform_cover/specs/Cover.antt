@@ -3,6 +3,7 @@
 use Rattle.std.specs.Prelude.{◌≡◌, ℕ, ◌*◌, ◌^◌, ◌<◌, ◌≤◌, Bool, cond, List, length, sum_by, Contains, IsTrue}
 use Rattle.std.specs.List.{AllByRecursion, IsDistinct}
 use Rattle.uniform_cover.specs.Products.{product_by}
+use Rattle.uniform_cover.specs.Greatest.{IsGreatest}
 
 -- a family: whether its set has a coordinate, the set's weight, the label of each point, and a list of labels
 pub record Family (V L : Type 0) : Type 0 where
@@ -60,3 +61,20 @@ CoverInequalitySum V C L same = (q d k : ℕ) (coordinate : V → ℕ → C) (po
     → sum_by (λ f. length f.labels) families ≤ k
     → let total = sum_by (λ f. f.weight) families in
     length points ^ q * total ^ total ≤ product_by (λ f. f.weight ^ f.weight) families * k ^ total
+
+-- so there are at most as many points as the greatest number that the inequality allows, in the first case
+abbrev pub CoverBoundEach : (V C L : Type 0) → (V → V → Bool) → Type 0
+CoverBoundEach V C L same = (q d k u : ℕ) (coordinate : V → ℕ → C) (points : List V) (families : List (Family V L))
+    → IsUniformCover same q d coordinate points families
+    → AllByRecursion (λ f. length f.labels ≤ k) families
+    → IsGreatest q 1 (1 * k ^ sum_by (λ f. f.weight) families) u
+    → length points ≤ u
+
+-- and in the second
+abbrev pub CoverBoundSum : (V C L : Type 0) → (V → V → Bool) → Type 0
+CoverBoundSum V C L same = (q d k u : ℕ) (coordinate : V → ℕ → C) (points : List V) (families : List (Family V L))
+    → IsUniformCover same q d coordinate points families
+    → sum_by (λ f. length f.labels) families ≤ k
+    → let total = sum_by (λ f. f.weight) families in
+    IsGreatest q (total ^ total) (product_by (λ f. f.weight ^ f.weight) families * k ^ total) u
+    → length points ≤ u

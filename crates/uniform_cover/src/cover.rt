@@ -2,7 +2,7 @@
 //! of labels fix their coordinates.
 
 ghost use Rattle.std.specs.Prelude.{ℕ, ℤ, List, nat_eq};
-ghost use Rattle.uniform_cover.specs.Cover.{CoverInequality, CoverInequalityEach, CoverInequalitySum};
+ghost use Rattle.uniform_cover.specs.Cover.{CoverInequality, CoverBoundEach, CoverBoundSum, CoverInequalityEach, CoverInequalitySum};
 
 /// The uniform cover inequality (Loomis and Whitney, 1949; Bollobás and Thomason, 1995) over labels. The
 /// points are numbered, such as vertices of a graph, each with d coordinates that tell it apart. A family
@@ -15,13 +15,16 @@ pub fn cover_inequality()
 {}
 
 /// Where no family lists more than k labels, the q-th power of the number of points is at most k raised
-/// to the sum of the weights.
+/// to the sum M of the weights. So there are at most as many points as `greatest_u(q, 1, 1, k, M)` says.
 pub fn cover_inequality_each()
-    ensures { CoverInequalityEach ℕ ℤ (List ℤ) nat_eq }
+    ensures powers { CoverInequalityEach ℕ ℤ (List ℤ) nat_eq }
+    ensures points { CoverBoundEach ℕ ℤ (List ℤ) nat_eq }
 {}
 
 /// Where the families list at most k labels together, the q-th power of the number of points, times `M^M`,
-/// is at most the product of the weights, each raised to itself, times `k^M`, where M is the sum of the weights.
+/// is at most the product W of the weights, each raised to itself, times `k^M`, where M is the sum of the
+/// weights. So there are at most as many points as `greatest_u(q, M^M, W, k, M)` says.
 pub fn cover_inequality_sum()
-    ensures { CoverInequalitySum ℕ ℤ (List ℤ) nat_eq }
+    ensures powers { CoverInequalitySum ℕ ℤ (List ℤ) nat_eq }
+    ensures points { CoverBoundSum ℕ ℤ (List ℤ) nat_eq }
 {}
