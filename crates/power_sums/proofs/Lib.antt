@@ -1,0 +1,4 @@
+pub mod IntLaws
+pub mod Polynomials
+pub mod Table
+mod Samples

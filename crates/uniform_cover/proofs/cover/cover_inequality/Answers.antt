@@ -1,0 +1,10 @@
+use Rattle.std.specs.Prelude.{nat_eq}
+use Rattle.std.specs.Cmp.Lexicographic.{pointwise}
+use Rattle.std.specs.Ordering.{int_eq}
+use Rattle.std.proofs.lemmas.Bool.Decides.{Decides-eqb, Decides-int_eq}
+use Rattle.uniform_cover.proofs.ProjectionLemmas.{point_decides}
+use Rattle.uniform_cover.proofs.WeightLemmas.{cover_inequality as law}
+use Rattle.uniform_cover.proofs.cover.cover_inequality.Goals as goal
+
+pub returns : goal.returns
+returns c = law nat_eq Decides-eqb int_eq Decides-int_eq (pointwise int_eq) point_decides

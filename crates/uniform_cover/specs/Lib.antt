@@ -1,0 +1,5 @@
+pub mod Greatest
+pub mod Products
+pub mod Mean
+pub mod Cover
+pub mod Projection
