@@ -31,3 +31,6 @@ pub use shown::{empty, entails};
 pub use system::System;
 pub use terms_text::TermsText;
 pub use uni_pair::{NotInverse, UniPair};
+
+#[cfg(test)]
+mod tests;
