@@ -36,3 +36,9 @@ dot-step xs ys k sum total x y d z p q e f is h =
 -- what holds of each element holds of one that was read
 pub All-read : {X : Type 0} (P : X → Type 0) (xs : List X) (k : ℕ) (x : X) → AllByRecursion P xs → k < length xs → x ≡ get_or xs k x → P x
 All-read P xs k x h below e = subst P (sym e) (All-at P xs k x h below)
+
+-- what holds of each element and of a default holds of what is read with that default
+pub All-or : {X : Type 0} (P : X → Type 0) (xs : List X) (k : ℕ) (d : X) → AllByRecursion P xs → P d → P (get_or xs k d)
+All-or P [] k d h p = p
+All-or P (x ∷ xs) zero d h p = h.0
+All-or P (x ∷ xs) (suc k) d h p = All-or P xs k d h.1 p

@@ -1,5 +1,9 @@
+pub mod Combination
 pub mod Form
 pub mod Matrix
 pub mod Multipliers
+pub mod Shown
+pub mod Substitution
 pub mod SumText
 pub mod System
+pub mod UniPair

@@ -13,8 +13,11 @@ mod multipliers;
 mod name;
 mod place;
 mod refused;
+mod shown;
+mod substitution;
 mod system;
 mod terms_text;
+mod uni_pair;
 mod wide;
 
 pub use form::Form;
@@ -24,5 +27,10 @@ pub use multipliers::Multipliers;
 pub use name::Name;
 pub use place::{Place, Step};
 pub use refused::{No, Refused};
+pub use shown::{empty, entails};
 pub use system::System;
 pub use terms_text::TermsText;
+pub use uni_pair::{NotInverse, UniPair};
+
+#[cfg(test)]
+mod tests;

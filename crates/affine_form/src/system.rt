@@ -44,6 +44,7 @@ impl System {
     pub fn vars(&self) -> usize
         ensures vars { result ≡ self.now.vars }
         ensures few { self.now.vars ≤ 24 }
+        ensures over { AllOver self.now.vars self.now.rows }
     {
         self.vars
     }

@@ -1,0 +1,8 @@
+use Rattle.std.proofs.Common.{◌≡◌, ℕ, ◌<◌, ◌*ℤ◌, pos}
+use Rattle.affine_form.specs.Combination.{coefficient_of}
+use Rattle.affine_form.specs.Shown.{row_sum}
+use Rattle.affine_form.proofs.shown.entails.Given as goal
+
+abbrev pub invariant-loop-variable : goal.invariant-loop-variable
+invariant-loop-variable l =
+    (v : ℕ) → v < l.variable → (pos l.shown.scale *ℤ coefficient_of v l.goal) ≡ coefficient_of v (row_sum l.system l.shown)
