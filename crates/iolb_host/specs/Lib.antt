@@ -1,0 +1,6 @@
+pub mod Count
+pub mod FileCounts
+pub mod Files
+pub mod MemFiles
+pub mod MemSink
+pub mod Sink
