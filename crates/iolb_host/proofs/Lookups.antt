@@ -1,5 +1,5 @@
 -- A look-up in a map of the program, in the words of the files that it holds.
-use Rattle.std.proofs.Common.{◌≡◌, ℕ, Bool, true, false, cond, List, [], ◌∷◌, Option, Some, None, String, Vec, refl, sym, ap, ◌∙◌}
+use Rattle.std.proofs.Common.{◌≡◌, ℕ, Bool, true, false, cond, List, [], ◌∷◌, Option, Some, String, Vec, refl, sym, ap, ◌∙◌}
 use Rattle.std.specs.Option.{option_map}
 use Rattle.std.specs.String.{string_bytes}
 use Rattle.std.specs.Map.{lookup}
@@ -9,7 +9,7 @@ use Rattle.std.specs.Cmp.Lexicographic.{slice_cmp}
 use Rattle.std.specs.Str.{bytes_eq}
 use Rattle.std.specs.declared.alloc.Global.{Global}
 use Rattle.std.proofs.lemmas.Map.Text.{is_eq-slice_cmp}
-use Rattle.iolb_host.specs.Files.{FileMap, content_of}
+use Rattle.iolb_host.specs.Files.{content_of}
 use Rattle.iolb_host.specs.MemFiles.{files_of, files_in}
 
 choice : (test : Bool) (bytes : Vec ℕ Global) (here : Option (List ℕ)) (there : Option (Vec ℕ Global)) →

@@ -1,3 +1,4 @@
+pub mod Chunks
 pub mod Count
 pub mod FileCounts
 pub mod Files

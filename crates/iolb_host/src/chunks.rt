@@ -1,6 +1,7 @@
 //! Whole files and whole pieces, by reads and writes that each move a part.
 ghost use Rattle.std.specs.Prelude.{◌≡◌, ℕ, ◌+◌, ◌<◌, ◌≤◌, List, ◌++◌, take, length, vec_len, IfSome, IfOk, OnOk, OnErr, IsErrOf};
 ghost use Rattle.std.specs.Io.KnownBytes.{Appends, Consumes, IsAtEnd};
+ghost use Rattle.iolb_host.specs.Chunks.{TakesAtMost};
 
 use crate::{FileFault, SinkFault};
 use std::alloc::Global;
@@ -19,6 +20,8 @@ pub(crate) fn read_whole<S: Read>(
     ensures within { IfOk result (λ bytes. length bytes.items ≤ most) }
     ensures too_long { IsErrOf result FileFault.TooLong → IfSome (S.remaining source.old) (λ rest. most < length rest) }
     ensures never_missing { ¬ IsErrOf result FileFault.Missing }
+    // Whatever comes of it, no more is taken than is needed to see that the source is too long.
+    ensures stops { TakesAtMost (most + 1) (S.remaining source.old) (S.remaining source.new) }
 {
     let mut bytes = Vec::new(alloc);
     while bytes.len() as u64 <= most {
@@ -31,15 +34,11 @@ pub(crate) fn read_whole<S: Read>(
 }
 
 // One read of at most `spare` bytes and one, which are put behind those that were read before.
-fn read_chunk<S: Read>(
-    source: &mut S,
-    bytes: &mut Vec<u8>,
-    spare: u64,
-) -> Result<usize, FileFault>
+fn read_chunk<S: Read>(source: &mut S, bytes: &mut Vec<u8>, spare: u64) -> Result<usize, FileFault>
     ensures grows { IfOk result (λ count. vec_len bytes.new ≡ vec_len bytes.old + count) }
-    ensures bound { IfOk result (λ count. count ≤ spare + 1) }
+    ensures stops { TakesAtMost (spare + 1) (S.remaining source.old) (S.remaining source.new) }
     ensures taken { OnOk result ((chunk : List ℕ) × (bytes.new.items ≡ bytes.old.items ++ chunk)
-        × Consumes (S.remaining source.old) (S.remaining source.new) chunk) }
+        × (length chunk ≤ spare + 1) × Consumes (S.remaining source.old) (S.remaining source.new) chunk) }
     ensures end { IfOk result (λ count. count ≡ 0 → IsAtEnd (S.remaining source.new)) }
     ensures never_missing { ¬ IsErrOf result FileFault.Missing }
     ensures never_long { ¬ IsErrOf result FileFault.TooLong }

@@ -27,12 +27,12 @@ impl Model for MemFiles {
     ghost Value = { FailingStore };
 
     ghost view = { λ store. record {
-        files = files_of store.files;
-        failing = store.failing.items;
-        calls = store.calls;
-        missing = store.counts.missing;
-        long = store.counts.long;
-        faults = store.counts.faults
+      files = files_of store.files;
+      failing = store.failing.items;
+      calls = store.calls;
+      missing = store.counts.missing;
+      long = store.counts.long;
+      faults = store.counts.faults;
     } };
 }
 

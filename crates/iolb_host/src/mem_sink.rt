@@ -23,10 +23,10 @@ impl Model for MemSink {
     ghost Value = { FailingSink };
 
     ghost view = { λ sink. record {
-        written = sink.bytes.items;
-        failing = sink.failing.items;
-        calls = sink.calls;
-        faults = sink.faults
+      written = sink.bytes.items;
+      failing = sink.failing.items;
+      calls = sink.calls;
+      faults = sink.faults;
     } };
 }
 

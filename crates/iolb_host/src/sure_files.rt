@@ -23,9 +23,9 @@ impl Model for SureFiles {
     ghost Value = { SureStore };
 
     ghost view = { λ store. record {
-        files = files_of store.files;
-        missing = store.counts.missing;
-        long = store.counts.long
+      files = files_of store.files;
+      missing = store.counts.missing;
+      long = store.counts.long;
     } };
 }
 

@@ -3,10 +3,11 @@ use Rattle.iolb_host.proofs.Moved.{appends_more, appends_part, keeps_part, split
 use Rattle.iolb_host.proofs.chunks.write_whole.Goals as goal
 
 pub loop-rest-preserved : goal.loop-rest-preserved
-loop-rest-preserved g c =
-    (c.loop-rest.invariant.0 ++ take c.in-Ok.count c.loop-rest.rest.now,
-    splits_further _ _ _ c.in-Ok.count c.loop-rest.invariant.1,
-    appends_more _ _ _ _ _ c.loop-rest.invariant.2 c.in-Ok.ensures.bytes)
+loop-rest-preserved g c = (
+  c.loop-rest.invariant.0 ++ take c.in-Ok.count c.loop-rest.rest.now,
+  splits_further _ _ _ c.in-Ok.count c.loop-rest.invariant.1,
+  appends_more _ _ _ _ _ c.loop-rest.invariant.2 c.in-Ok.ensures.bytes,
+)
 
 pub returns-in-Ok-eq0-clause-failed : goal.returns-in-Ok-eq0-clause-failed
 returns-in-Ok-eq0-clause-failed g c =

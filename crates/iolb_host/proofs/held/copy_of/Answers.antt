@@ -20,7 +20,8 @@ returns-then-len-most-clause-answers c =
 pub returns-in_ok-from_slice-in-Some-clause-answers :
     goal.returns-in_ok-from_slice-in-Some-clause-answers
 returns-in_ok-from_slice-in-Some-clause-answers c =
-    let items = c.in_ok-from_slice-in-Some.ensures.items ∙ c.deref.ensures.value in
-    (content_of-files_of c.args.files.now c.args.name.now (Some c.in-Some.bytes.now) c.in-Some.ensures.value
-    ∙ ap Some (sym items),
-    rw items (omega arith))
+    let items = c.in_ok-from_slice-in-Some.ensures.items ∙ c.deref.ensures.value in (
+      content_of-files_of c.args.files.now c.args.name.now (Some c.in-Some.bytes.now) c.in-Some.ensures.value
+          ∙ ap Some (sym items),
+      rw items (omega arith),
+    )
