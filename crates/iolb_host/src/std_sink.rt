@@ -1,5 +1,7 @@
 //! The standard streams.
-ghost use Rattle.std.specs.Prelude.{◌≡◌, None};
+ghost use Rattle.std.specs.Prelude.{◌≡◌, ◌≤◌, ℕ, take, None, OnOk, OnErr, IsErrOf};
+ghost use Rattle.std.specs.Io.KnownBytes.{Appends};
+ghost use Rattle.iolb_host.specs.Count.{Rose};
 
 use crate::chunks::write_whole;
 use crate::count::raise;
@@ -41,11 +43,22 @@ impl StdSink<Stderr> {
 }
 
 impl<W: Write> Sink for StdSink<W> {
+    ghost use Rattle.iolb_host.specs.StdSink.{stream_of, fault_count};
+
     ghost written = { λ _. None };
 
-    ghost faults = { λ sink. sink.faults };
+    ghost faults = { λ sink. fault_count sink };
 
-    fn put(&mut self, bytes: &[u8]) -> Result<(), SinkFault> {
+    fn put(&mut self, bytes: &[u8]) -> Result<(), SinkFault>
+        ensures faults_never_fall { fault_count self.old ≤ fault_count self.new }
+        ensures failed_cause { IsErrOf result SinkFault.Failed → Rose (fault_count self.old) (fault_count self.new) }
+        ensures never_memory { ¬ IsErrOf result SinkFault.Memory }
+
+        // A stream of which it is known what it holds holds the whole piece after Ok, and its first bytes after a failure.
+        ensures whole { OnOk result (Appends (W.contents (stream_of self.old)) (W.contents (stream_of self.new)) bytes.now) }
+        ensures part { OnErr result ((count : ℕ)
+            × Appends (W.contents (stream_of self.old)) (W.contents (stream_of self.new)) (take count bytes.now)) }
+    {
         let outcome = write_whole(&mut self.stream, bytes);
         if outcome.is_err() {
             raise(&mut self.faults);
