@@ -1,6 +1,6 @@
 -- The counts of the faults of reads.
 use Rattle.std.specs.Prelude.{Result, Ok, Err}
-use Rattle.iolb_host.specs.declared.count.FileCounts.{FileCounts}
+use Rattle.iolb_host.specs.declared.file_counts.FileCounts.{FileCounts}
 use Rattle.iolb_host.specs.declared.files.FileFault.{FileFault}
 use Rattle.iolb_host.specs.declared.files.FileFault.TheVariants.{Missing, TooLong, Failed, Memory}
 use Rattle.iolb_host.specs.Count.{next_count}

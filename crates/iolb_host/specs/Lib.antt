@@ -5,4 +5,5 @@ pub mod Files
 pub mod MemFiles
 pub mod MemSink
 pub mod Sink
+pub mod StdFiles
 pub mod StdSink

@@ -16,9 +16,11 @@ pub(crate) fn read_whole<S: Read>(
     source: &mut S,
     most: u64,
 ) -> Result<Vec<u8>, FileFault>
-    ensures whole { IfOk result (λ bytes. IfSome (S.remaining source.old) (λ rest. bytes.items ≡ rest)) }
+    ensures whole { IfOk result (λ bytes.
+        IfSome (S.remaining source.old) (λ rest. bytes.items ≡ rest)) }
     ensures within { IfOk result (λ bytes. length bytes.items ≤ most) }
-    ensures too_long { IsErrOf result FileFault.TooLong → IfSome (S.remaining source.old) (λ rest. most < length rest) }
+    ensures too_long { IsErrOf result FileFault.TooLong →
+        IfSome (S.remaining source.old) (λ rest. most < length rest) }
     ensures never_missing { ¬ IsErrOf result FileFault.Missing }
     // Whatever comes of it, no more is taken than is needed to see that the source is too long.
     ensures stops { TakesAtMost (most + 1) (S.remaining source.old) (S.remaining source.new) }
@@ -62,7 +64,8 @@ fn read_chunk<S: Read>(source: &mut S, bytes: &mut Vec<u8>, spare: u64) -> Resul
 /// interrupted one are failed ones.
 pub(crate) fn write_whole<W: Write>(stream: &mut W, piece: &[u8]) -> Result<(), SinkFault>
     ensures ok { OnOk result (Appends (W.contents stream.old) (W.contents stream.new) piece.now) }
-    ensures failed { OnErr result ((count : ℕ) × Appends (W.contents stream.old) (W.contents stream.new) (take count piece.now)) }
+    ensures failed { OnErr result ((count : ℕ)
+        × Appends (W.contents stream.old) (W.contents stream.new) (take count piece.now)) }
     ensures never_memory { ¬ IsErrOf result SinkFault.Memory }
 {
     let mut rest = piece;

@@ -49,10 +49,13 @@ pub trait Files {
         ensures faults_never_fall { faults self.old ≤ faults self.new }
 
         // Each fault that isn't want of memory comes only where its count rose in this call.
-        ensures missing_cause { IsErrOf result FileFault.Missing → Rose (missing self.old) (missing self.new) }
+        ensures missing_cause { IsErrOf result FileFault.Missing →
+            Rose (missing self.old) (missing self.new) }
         ensures long_cause { IsErrOf result FileFault.TooLong → Rose (long self.old) (long self.new) }
-        ensures failed_cause { IsErrOf result FileFault.Failed → Rose (faults self.old) (faults self.new) }
+        ensures failed_cause { IsErrOf result FileFault.Failed →
+            Rose (faults self.old) (faults self.new) }
 
         ensures within { IfOk result (λ bytes. length bytes.items ≤ most) }
-        ensures answers { IfSome (told self.old) (λ files. Answers (content_of files name.now) most result) };
+        ensures answers { IfSome (told self.old) (λ files.
+            Answers (content_of files name.now) most result) };
 }

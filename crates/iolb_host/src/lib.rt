@@ -6,6 +6,8 @@
 
 mod chunks;
 mod count;
+mod failing;
+mod file_counts;
 mod files;
 mod held;
 mod mem_files;

@@ -4,7 +4,9 @@ ghost use Rattle.iolb_host.specs.Count.{Rose};
 ghost use Rattle.iolb_host.specs.Files.{content_of, Answers};
 ghost use Rattle.iolb_host.specs.MemFiles.{files_of, after_read};
 
-use crate::count::{FileCounts, is_listed, raise};
+use crate::count::raise;
+use crate::failing::is_listed;
+use crate::file_counts::FileCounts;
 use crate::held::copy_of;
 use crate::{FileFault, Files};
 use std::alloc::Global;
@@ -71,9 +73,11 @@ impl Files for MemFiles {
         ensures missing_never_falls { self.old.missing ≤ self.new.missing }
         ensures long_never_falls { self.old.long ≤ self.new.long }
         ensures faults_never_fall { self.old.faults ≤ self.new.faults }
-        ensures missing_cause { IsErrOf result FileFault.Missing → Rose self.old.missing self.new.missing }
+        ensures missing_cause { IsErrOf result FileFault.Missing →
+            Rose self.old.missing self.new.missing }
         ensures long_cause { IsErrOf result FileFault.TooLong → Rose self.old.long self.new.long }
-        ensures failed_cause { IsErrOf result FileFault.Failed → Rose self.old.faults self.new.faults }
+        ensures failed_cause { IsErrOf result FileFault.Failed →
+            Rose self.old.faults self.new.faults }
         ensures within { IfOk result (λ bytes. length bytes.items ≤ most) }
         ensures answers { Answers (content_of self.old.files name.now) most result }
 

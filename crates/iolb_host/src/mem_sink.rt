@@ -3,7 +3,8 @@ ghost use Rattle.std.specs.Prelude.{◌≡◌, ◌≤◌, ◌++◌, ◌↔◌, [
 ghost use Rattle.iolb_host.specs.Count.{Rose};
 ghost use Rattle.iolb_host.specs.MemSink.{after_put};
 
-use crate::count::{is_listed, raise};
+use crate::count::raise;
+use crate::failing::is_listed;
 use crate::{Sink, SinkFault};
 use std::alloc::Global;
 use std::marker::Model;

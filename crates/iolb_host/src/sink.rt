@@ -9,7 +9,7 @@ use std::alloc::AllocError;
 /// Why a piece was not written.
 #[derive(Clone, Copy, Debug, PartialEq, Eq)]
 pub enum SinkFault {
-    /// The sink took a part of the piece at most.
+    /// The write failed. The first bytes of the piece may have been written.
     Failed,
     /// The memory for the piece was refused. Nothing of it was written.
     Memory,
@@ -34,9 +34,11 @@ pub trait Sink {
     /// Writes the piece behind what was written before.
     fn put(&mut self, bytes: &[u8]) -> Result<(), SinkFault>
         ensures faults_never_fall { faults self.old ≤ faults self.new }
-        ensures failed_cause { IsErrOf result SinkFault.Failed → Rose (faults self.old) (faults self.new) }
+        ensures failed_cause { IsErrOf result SinkFault.Failed →
+            Rose (faults self.old) (faults self.new) }
 
         ensures ok { OnOk result (AppendsPiece (written self.old) (written self.new) bytes.now) }
-        ensures failed { IsErrOf result SinkFault.Failed → AppendsPart (written self.old) (written self.new) bytes.now }
+        ensures failed { IsErrOf result SinkFault.Failed →
+            AppendsPart (written self.old) (written self.new) bytes.now }
         ensures memory { IsErrOf result SinkFault.Memory → written self.new ≡ written self.old };
 }

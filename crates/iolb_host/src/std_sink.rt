@@ -1,7 +1,7 @@
 //! The standard streams.
-ghost use Rattle.std.specs.Prelude.{◌≡◌, ◌≤◌, ℕ, take, None, OnOk, OnErr, IsErrOf};
+ghost use Rattle.std.specs.Prelude.{◌≡◌, ◌≤◌, if◌then◌else◌, is_ok, ℕ, take, None, OnOk, OnErr, IsErrOf};
 ghost use Rattle.std.specs.Io.KnownBytes.{Appends};
-ghost use Rattle.iolb_host.specs.Count.{Rose};
+ghost use Rattle.iolb_host.specs.Count.{next_count, Rose};
 
 use crate::chunks::write_whole;
 use crate::count::raise;
@@ -51,11 +51,18 @@ impl<W: Write> Sink for StdSink<W> {
 
     fn put(&mut self, bytes: &[u8]) -> Result<(), SinkFault>
         ensures faults_never_fall { fault_count self.old ≤ fault_count self.new }
-        ensures failed_cause { IsErrOf result SinkFault.Failed → Rose (fault_count self.old) (fault_count self.new) }
+        ensures failed_cause { IsErrOf result SinkFault.Failed →
+            Rose (fault_count self.old) (fault_count self.new) }
         ensures never_memory { ¬ IsErrOf result SinkFault.Memory }
 
-        // A stream of which it is known what it holds holds the whole piece after Ok, and its first bytes after a failure.
-        ensures whole { OnOk result (Appends (W.contents (stream_of self.old)) (W.contents (stream_of self.new)) bytes.now) }
+        // The count is one more after a failure, and stays else.
+        ensures counted { fault_count self.new
+            ≡ (if is_ok result then fault_count self.old else next_count (fault_count self.old)) }
+
+        // Where it is known what the stream holds, it has gained the piece after Ok, and the piece's first bytes,
+        // none, some or all, after a failure.
+        ensures whole { OnOk result
+            (Appends (W.contents (stream_of self.old)) (W.contents (stream_of self.new)) bytes.now) }
         ensures part { OnErr result ((count : ℕ)
             × Appends (W.contents (stream_of self.old)) (W.contents (stream_of self.new)) (take count bytes.now)) }
     {

@@ -2,7 +2,7 @@
 ghost use Rattle.std.specs.Prelude.{◌≡◌, Some};
 ghost use Rattle.iolb_host.specs.MemFiles.{files_of};
 
-use crate::count::FileCounts;
+use crate::file_counts::FileCounts;
 use crate::held::copy_of;
 use crate::{FileFault, Files};
 use std::alloc::Global;

@@ -17,15 +17,18 @@ fn read_both<F: Files>(
     most: u64,
 ) -> Result<(Vec<u8>, Vec<u8>), FileFault>
     ensures told_stays { F.told files.new ≡ F.told files.old }
-    ensures missing_cause { IsErrOf result FileFault.Missing → Rose (F.missing files.old) (F.missing files.new) }
+    ensures missing_cause { IsErrOf result FileFault.Missing →
+        Rose (F.missing files.old) (F.missing files.new) }
     ensures long_cause { IsErrOf result FileFault.TooLong → Rose (F.long files.old) (F.long files.new) }
-    ensures failed_cause { IsErrOf result FileFault.Failed → Rose (F.faults files.old) (F.faults files.new) }
+    ensures failed_cause { IsErrOf result FileFault.Failed →
+        Rose (F.faults files.old) (F.faults files.new) }
     ensures exact { IfOk result (λ both. IfSome (F.told files.old) (λ map.
         (content_of map first.now ≡ Some both.0.items) × (content_of map second.now ≡ Some both.1.items))) }
 
     // Files that are there, and short enough, are neither missing nor too long.
     ensures there { (map : FileMap) (a b : List ℕ) → F.told files.old ≡ Some map
-        → content_of map first.now ≡ Some a → content_of map second.now ≡ Some b → length a ≤ most → length b ≤ most
+        → content_of map first.now ≡ Some a → content_of map second.now ≡ Some b
+        → length a ≤ most → length b ≤ most
         → (IsErrOf result FileFault.Missing → ⊥) × (IsErrOf result FileFault.TooLong → ⊥) }
 {
     let a = files.read(first, most)?;
@@ -35,8 +38,10 @@ fn read_both<F: Files>(
 
 // Two pieces, written one after the other.
 fn put_both<O: Sink>(sink: &mut O, first: &[u8], second: &[u8]) -> Result<(), SinkFault>
-    ensures failed_cause { IsErrOf result SinkFault.Failed → Rose (O.faults sink.old) (O.faults sink.new) }
-    ensures ok { OnOk result (O.written sink.new ≡ append_known (append_known (O.written sink.old) first.now) second.now) }
+    ensures failed_cause { IsErrOf result SinkFault.Failed →
+        Rose (O.faults sink.old) (O.faults sink.new) }
+    ensures ok { OnOk result (O.written sink.new
+        ≡ append_known (append_known (O.written sink.old) first.now) second.now) }
 {
     sink.put(first)?;
     sink.put(second)
