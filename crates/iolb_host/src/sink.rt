@@ -1,0 +1,44 @@
+//! Sinks as the program sees them.
+ghost use Rattle.std.specs.Prelude.{◌≡◌, ℕ, ◌≤◌, List, Option, OnOk, IsErrOf};
+ghost use Rattle.iolb_host.specs.declared.sink.SinkFault.TheVariants.{Memory};
+ghost use Rattle.iolb_host.specs.Count.{Rose};
+ghost use Rattle.iolb_host.specs.Sink.{AppendsPiece, AppendsPart};
+
+use std::alloc::AllocError;
+
+/// Why a piece was not written.
+#[derive(Clone, Copy, Debug, PartialEq, Eq)]
+pub enum SinkFault {
+    /// The write failed. The first bytes of the piece may have been written.
+    Failed,
+    /// The memory for the piece was refused. Nothing of it was written.
+    Memory,
+}
+
+impl From<AllocError> for SinkFault {
+    ghost from_gives = { λ _ fault. fault ≡ Memory };
+
+    fn from(_: AllocError) -> Self {
+        SinkFault::Memory
+    }
+}
+
+/// Where bytes are written, piece after piece.
+pub trait Sink {
+    /// The bytes written so far, where they are told.
+    ghost written: { Self → Option (List ℕ) };
+
+    /// How often a write failed.
+    ghost faults: { Self → ℕ };
+
+    /// Writes the piece behind what was written before.
+    fn put(&mut self, bytes: &[u8]) -> Result<(), SinkFault>
+        ensures faults_never_fall { faults self.old ≤ faults self.new }
+        ensures failed_cause { IsErrOf result SinkFault.Failed →
+            Rose (faults self.old) (faults self.new) }
+
+        ensures ok { OnOk result (AppendsPiece (written self.old) (written self.new) bytes.now) }
+        ensures failed { IsErrOf result SinkFault.Failed →
+            AppendsPart (written self.old) (written self.new) bytes.now }
+        ensures memory { IsErrOf result SinkFault.Memory → written self.new ≡ written self.old };
+}
