@@ -1,3 +1,4 @@
 pub mod Tree
 pub mod Parts
 pub mod Fault
+pub mod Reading
