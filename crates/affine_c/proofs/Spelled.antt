@@ -100,7 +100,7 @@ prefix-word : (word rest : List ℕ) → AllByRecursion (λ b. IsTrue (is_name_b
 prefix-word [] rest h e = e
 prefix-word (b ∷ word) rest h e = ap (λ (t : Bool). cond t (1 + prefix_len is_name_byte (word ++ rest)) 0) h.0 ∙ omega (arith, prefix-word word rest h.1 e)
 
-or_parts : (a b : Bool) → (a || b) ≡ true → (a ≡ true) ⊎ (b ≡ true)
+pub or_parts : (a b : Bool) → (a || b) ≡ true → (a ≡ true) ⊎ (b ≡ true)
 or_parts true b e = inl refl
 or_parts false b e = inr e
 

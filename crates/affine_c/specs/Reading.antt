@@ -3,7 +3,7 @@
 use Rattle.std.specs.Prelude.{ℕ, zero, suc, ◌-◌, ◌==◌, ◌||◌, ◌&&◌, nat_le, Bool, true, false, not, if◌then◌else◌, List, [], ◌∷◌, length, take, drop, codes, bytes_eq, Option, Some, None, option_and_then, option_map}
 use Rattle.std.specs.List.{prefix_len, list_all}
 use Rattle.std.specs.Option.{option_map_or}
-use Rattle.copy_nest.specs.Nest.{CopyLoop, CopyAccess, CopyNest}
+use Rattle.copy_nest.specs.Nest.{CopyLoop, CopyAccess, CopyNest, loop_names, parameter_names}
 use Rattle.copy_nest.specs.Spelling.{is_letter, is_name_byte, keywords, is_among}
 
 -- a space or a newline
@@ -118,3 +118,47 @@ without_newline bytes = option_map_or (λ rest. rest) (before_end (codes "\n") b
 -- what stands between the opening line and the closing one
 abbrev pub body_of : List ℕ → Option (List ℕ)
 body_of bytes = option_and_then (λ opened. before_end (codes "\n#pragma endscop") (without_newline opened)) (after_start (codes "#pragma scop\n") bytes)
+
+-- whether no name of a list stands in another list
+abbrev pub none_among : List (List ℕ) → List (List ℕ) → Bool
+none_among words names = list_all (λ name. not (is_among words name)) names
+
+-- whether each name of a list stands in another list
+abbrev pub each_among : List (List ℕ) → List (List ℕ) → Bool
+each_among words names = list_all (λ name. is_among words name) names
+
+-- whether the names of a list differ from each other
+abbrev pub all_differ : List (List ℕ) → Bool
+all_differ [] = true
+all_differ (name ∷ names) = none_among (name ∷ []) names && all_differ names
+
+-- whether all of these tests pass
+abbrev pub all_of : List Bool → Bool
+all_of [] = true
+all_of (test ∷ tests) = test && all_of tests
+
+-- what a nest keeps beside the form of its names and the numbers of its loops and subscripts
+abbrev pub copy_tests : CopyNest → List Bool
+copy_tests nest =
+    nat_le 1 (length nest.loops)
+    ∷ all_differ (loop_names nest)
+    ∷ none_among (parameter_names nest) (loop_names nest)
+    ∷ none_among (loop_names nest) (nest.written.array ∷ nest.read.array ∷ [])
+    ∷ none_among (parameter_names nest) (nest.written.array ∷ nest.read.array ∷ [])
+    ∷ not (bytes_eq nest.written.array nest.read.array)
+    ∷ each_among (loop_names nest) nest.written.subscripts
+    ∷ each_among (loop_names nest) nest.read.subscripts
+    ∷ (length nest.read.subscripts == length nest.loops)
+    ∷ all_differ nest.read.subscripts
+    ∷ []
+
+abbrev pub is_copy_nest : CopyNest → Bool
+is_copy_nest nest = all_of (copy_tests nest)
+
+-- the nest that a text spells, where it keeps what a copy nest keeps
+abbrev pub if_copies : CopyNest → Option CopyNest
+if_copies nest = if is_copy_nest nest then Some nest else None
+
+-- the copy nest of a text
+abbrev pub nest_of : List ℕ → Option CopyNest
+nest_of bytes = option_and_then if_copies (option_and_then nest_at (body_of bytes))
