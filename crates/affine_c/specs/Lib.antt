@@ -2,3 +2,4 @@ pub mod Tree
 pub mod Parts
 pub mod Fault
 pub mod Reading
+pub mod Views

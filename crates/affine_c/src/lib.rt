@@ -3,10 +3,13 @@
 
 mod fault;
 mod item;
+mod names;
+mod nest_text;
 mod program;
 mod read;
 mod reference;
 mod statement;
+mod words;
 
 pub use fault::{ProgramError, ProgramFault};
 pub use item::Item;
