@@ -2,3 +2,4 @@ pub mod Spelled
 pub mod SpelledNest
 pub mod TextOfNest
 pub mod InFront
+pub mod Distinct

@@ -96,7 +96,7 @@ All-none_among : (words names : List (List ℕ)) → AllByRecursion (λ (n : Lis
 All-none_among words [] h = refl
 All-none_among words (n ∷ names) h = and_true (not (is_among words n)) (none_among words names) (ap not h.0) (All-none_among words names h.1)
 
-eq_turned : (a b : List ℕ) → bytes_eq a b ≡ false → bytes_eq b a ≡ false
+pub eq_turned : (a b : List ℕ) → bytes_eq a b ≡ false → bytes_eq b a ≡ false
 eq_turned a b e = false_from_ne_true (bytes_eq b a) (λ f. let same : bytes_eq a b ≡ true = subst (λ (z : List ℕ). bytes_eq a z ≡ true) (sym (bytes_equal b a f)) (bytes_refl a) in cc)
 
 -- no name is the first, as a row of names that differ from it

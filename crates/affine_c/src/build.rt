@@ -1,0 +1,103 @@
+//! The program of a copy nest.
+
+ghost use Rattle.std.specs.Prelude.{◌≡◌, ◌≤◌, ◌<◌, ◌+◌, ℕ, ℤ, pos, negsuc, map, length, replicate, slice_set, IfOk, ◌⊎◌};
+ghost use Rattle.std.specs.List.{AllByRecursion};
+ghost use Rattle.iolb_model.specs.Form.{AffineForm};
+ghost use Rattle.iolb_model.specs.Program.{loop, next, done};
+ghost use Rattle.copy_nest.specs.Nest.{CopyLoop, place_of, nest_item, zero_form, variable_less_one, parameters_positive};
+ghost use Rattle.copy_nest.specs.Spelling.{IsName};
+ghost use Rattle.affine_c.specs.Views.{loop_view};
+ghost use Rattle.affine_c.specs.Tree.{item_of};
+
+use crate::item::Item;
+use crate::nest_text::Header;
+use affine_form::{Form, Memory, Name, System};
+use std::alloc::Global;
+
+/// A name's place among names, or their number where it isn't there.
+fn place_among(names: &[&[u8]], name: &[u8]) -> usize
+    ensures { result ≡ place_of name.now (map (λ n. n.now) names.now) }
+{
+    for (i, other) in names.iter().enumerate() {
+        if name == *other {
+            return i;
+        }
+    }
+    names.len()
+}
+
+/// The form that is 0, of so many variables.
+fn form_of_zero(alloc: Global, variables: usize) -> Result<Form, Memory>
+    requires { variables ≤ 24 }
+    ensures { IfOk result (λ form. form ≡ zero_form variables) }
+{
+    let coef = vec![in alloc; 0i128; variables]?;
+    Ok(Form::new(coef, 0))
+}
+
+/// The form that is one variable of so many, less `less`, which is 0 or 1.
+fn form_of_variable(
+    alloc: Global,
+    variables: usize,
+    place: usize,
+    constant: i128,
+) -> Result<Form, Memory>
+    requires few { variables ≤ 24 }
+    requires there { place < variables }
+    requires small { (constant ≡ pos 0) ⊎ (constant ≡ negsuc 0) }
+    ensures { IfOk result (λ form. form ≡ record { coefficients = slice_set (replicate variables (pos 0)) place (pos 1); constant = constant }) }
+{
+    let mut coef = vec![in alloc; 0i128; variables]?;
+    coef[place] = 1;
+    Ok(Form::new(coef, constant))
+}
+
+/// A loop around an item, outside which so many variables are known.
+fn loop_around(
+    alloc: Global,
+    parameters: &[&[u8]],
+    variables: usize,
+    header: &Header,
+    inner: Item,
+) -> Result<Item, Memory>
+    requires few { variables ≤ 24 }
+    requires name { IsName header.now.name.now }
+    requires there { place_of header.now.bound.now (map (λ n. n.now) parameters.now) < variables }
+    ensures { IfOk result (λ item. item_of item ≡ loop header.now.name.now (zero_form variables)
+        (variable_less_one variables (place_of header.now.bound.now (map (λ n. n.now) parameters.now))) (next (item_of inner) done)) }
+{
+    let place = place_among(parameters, header.bound);
+    let lower = form_of_zero(alloc, variables)?;
+    let upper = form_of_variable(alloc, variables, place, -1)?;
+    let name = name_from(alloc, header.name)?;
+    let body = vec![in alloc; inner]?;
+    Ok(Item::Loop {
+        name,
+        lower,
+        upper,
+        body,
+    })
+}
+
+/// The loops around the statement.
+fn tree_of(alloc: Global, parameters: &[&[u8]], loops: &[Header]) -> Result<Item, Memory>
+    requires few { length parameters.now + length loops.now ≤ 24 }
+    requires names { AllByRecursion (λ (l : CopyLoop). IsName l.name × IsName l.bound) (map loop_view loops.now) }
+    requires there { AllByRecursion (λ (l : CopyLoop). place_of l.bound (map (λ n. n.now) parameters.now) < length parameters.now) (map loop_view loops.now) }
+    ensures { IfOk result (λ item. item_of item ≡ nest_item (map (λ n. n.now) parameters.now) (length parameters.now) (map loop_view loops.now)) }
+{
+    let mut item = Item::Assign(0);
+    for k in (0..loops.len()).rev() {
+        item = loop_around(alloc, parameters, parameters.len() + k, &loops[k], item)?;
+    }
+    Ok(item)
+}
+
+/// A name of these bytes.
+fn name_from(alloc: Global, bytes: &[u8]) -> Result<Name, Memory>
+    requires { IsName bytes.now }
+    ensures { IfOk result (λ name. name ≡ bytes.now) }
+{
+    let bytes = Vec::from_slice(alloc, bytes)?;
+    Ok(Name::new(bytes))
+}
