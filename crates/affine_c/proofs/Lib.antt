@@ -3,3 +3,4 @@ pub mod SpelledNest
 pub mod TextOfNest
 pub mod InFront
 pub mod Distinct
+pub mod Loops

@@ -3,3 +3,4 @@ pub mod Parts
 pub mod Fault
 pub mod Reading
 pub mod Views
+pub mod Build

@@ -7,10 +7,14 @@ ghost use Rattle.iolb_model.specs.Program.{loop, next, done};
 ghost use Rattle.copy_nest.specs.Nest.{CopyLoop, place_of, nest_item, zero_form, variable_less_one, parameters_positive};
 ghost use Rattle.copy_nest.specs.Spelling.{IsName};
 ghost use Rattle.affine_c.specs.Views.{loop_view};
+ghost use Rattle.copy_nest.specs.Steps.{nest_steps};
+ghost use Rattle.affine_c.specs.Build.{loop_access};
+ghost use Rattle.affine_c.specs.Parts.{access_of, step_of};
 ghost use Rattle.affine_c.specs.Tree.{item_of};
 
 use crate::item::Item;
 use crate::nest_text::Header;
+use crate::reference::Reference;
 use affine_form::{Form, Memory, Name, System};
 use std::alloc::Global;
 
@@ -100,4 +104,70 @@ fn name_from(alloc: Global, bytes: &[u8]) -> Result<Name, Memory>
 {
     let bytes = Vec::from_slice(alloc, bytes)?;
     Ok(Name::new(bytes))
+}
+
+/// The bounds of the loops around the statement, outermost first.
+fn bounds_of(
+    alloc: Global,
+    parameters: &[&[u8]],
+    loops: &[Header],
+) -> Result<Vec<(Form, Form)>, Memory>
+    requires few { length parameters.now + length loops.now ≤ 24 }
+    requires there { AllByRecursion (λ (l : CopyLoop). place_of l.bound (map (λ n. n.now) parameters.now) < length parameters.now) (map loop_view loops.now) }
+    ensures { IfOk result (λ bounds. map step_of bounds.items ≡ nest_steps (map (λ n. n.now) parameters.now) (length parameters.now) (map loop_view loops.now)) }
+{
+    let mut bounds = Vec::new(alloc);
+    for (k, header) in loops.iter().enumerate() {
+        let variables = parameters.len() + k;
+        let place = place_among(parameters, header.bound);
+        let lower = form_of_zero(alloc, variables)?;
+        let upper = form_of_variable(alloc, variables, place, -1)?;
+        bounds.push((lower, upper))?;
+    }
+    Ok(bounds)
+}
+
+/// A reference to the array of this number, whose subscripts are loops, behind so many parameters.
+fn reference_of(
+    alloc: Global,
+    array: u16,
+    subscripts: &[&[u8]],
+    parameters: usize,
+    loops: &[&[u8]],
+) -> Result<Reference, Memory>
+    requires few { parameters + length loops.now ≤ 24 }
+    requires there { AllByRecursion (λ name. place_of name (map (λ n. n.now) loops.now) < length loops.now) (map (λ n. n.now) subscripts.now) }
+    ensures { IfOk result (λ reference. access_of reference ≡ loop_access array parameters (map (λ n. n.now) loops.now) (map (λ n. n.now) subscripts.now)) }
+{
+    let mut subs = Vec::new(alloc);
+    for name in subscripts {
+        let place = place_among(loops, name);
+        let form = form_of_variable(alloc, parameters + loops.len(), parameters + place, 0)?;
+        subs.push(form)?;
+    }
+    Ok(Reference { array, subs })
+}
+
+/// The assumptions that each of so many parameters is at least 1.
+fn assumptions_of(alloc: Global, parameters: usize) -> Result<System, Memory>
+    requires { parameters ≤ 24 }
+    ensures { IfOk result (λ system. system ≡ record { vars = parameters; rows = parameters_positive parameters }) }
+{
+    let mut system = System::new(alloc, parameters);
+    for place in 0..parameters {
+        system.push(form_of_variable(alloc, parameters, place, -1)?)?;
+    }
+    Ok(system)
+}
+
+/// Names of these bytes.
+fn names_from(alloc: Global, names: &[&[u8]]) -> Result<Vec<Name>, Memory>
+    requires { AllByRecursion IsName (map (λ n. n.now) names.now) }
+    ensures { IfOk result (λ found. found.items ≡ map (λ n. n.now) names.now) }
+{
+    let mut found = Vec::new(alloc);
+    for name in names {
+        found.push(name_from(alloc, name)?)?;
+    }
+    Ok(found)
 }

@@ -3,3 +3,4 @@ pub mod Runs
 pub mod Undone
 pub mod Product
 pub mod Copies
+pub mod Paths
