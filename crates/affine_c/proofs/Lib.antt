@@ -4,3 +4,6 @@ pub mod TextOfNest
 pub mod InFront
 pub mod Distinct
 pub mod Loops
+pub mod Sized
+pub mod Whole
+pub mod Readings

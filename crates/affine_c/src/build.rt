@@ -4,17 +4,19 @@ ghost use Rattle.std.specs.Prelude.{◌≡◌, ◌≤◌, ◌<◌, ◌+◌, ℕ,
 ghost use Rattle.std.specs.List.{AllByRecursion};
 ghost use Rattle.iolb_model.specs.Form.{AffineForm};
 ghost use Rattle.iolb_model.specs.Program.{loop, next, done};
-ghost use Rattle.copy_nest.specs.Nest.{CopyLoop, place_of, nest_item, zero_form, variable_less_one, parameters_positive};
-ghost use Rattle.copy_nest.specs.Spelling.{IsName};
-ghost use Rattle.affine_c.specs.Views.{loop_view};
+ghost use Rattle.copy_nest.specs.Nest.{CopyLoop, place_of, nest_item, zero_form, variable_less_one, parameters_positive, loop_names, parameter_names, nest_statement, nest_arrays, program_of};
+ghost use Rattle.copy_nest.specs.Spelling.{IsName, IsCopyNest};
+ghost use Rattle.affine_c.specs.Views.{loop_view, nest_view};
 ghost use Rattle.copy_nest.specs.Steps.{nest_steps};
 ghost use Rattle.affine_c.specs.Build.{loop_access};
-ghost use Rattle.affine_c.specs.Parts.{access_of, step_of};
+ghost use Rattle.affine_c.specs.Parts.{access_of, step_of, statement_of, array_of, meaning};
 ghost use Rattle.affine_c.specs.Tree.{item_of};
 
 use crate::item::Item;
-use crate::nest_text::Header;
+use crate::nest_text::{Header, NestText};
+use crate::program::Program;
 use crate::reference::Reference;
+use crate::statement::Statement;
 use affine_form::{Form, Memory, Name, System};
 use std::alloc::Global;
 
@@ -170,4 +172,61 @@ fn names_from(alloc: Global, names: &[&[u8]]) -> Result<Vec<Name>, Memory>
         found.push(name_from(alloc, name)?)?;
     }
     Ok(found)
+}
+
+/// The statement of a nest.
+fn statement_of_nest(
+    alloc: Global,
+    nest: &NestText,
+    loops: &[&[u8]],
+    parameters: &[&[u8]],
+) -> Result<Statement, Memory>
+    requires copies { IsCopyNest (nest_view nest.now) }
+    requires loops { map (λ n. n.now) loops.now ≡ loop_names (nest_view nest.now) }
+    requires parameters { map (λ n. n.now) parameters.now ≡ parameter_names (nest_view nest.now) }
+    ensures statement { IfOk result (λ statement. statement_of statement ≡ nest_statement (nest_view nest.now)) }
+    ensures bounds { IfOk result (λ statement. map step_of statement.bounds.items ≡ nest_steps (parameter_names (nest_view nest.now)) (length (parameter_names (nest_view nest.now))) (nest_view nest.now).loops) }
+{
+    let bounds = bounds_of(alloc, parameters, nest.loops.as_slice())?;
+    let writes = reference_of(alloc, 0, nest.written.subscripts.as_slice(), parameters.len(), loops)?;
+    let read = reference_of(alloc, 1, nest.read.subscripts.as_slice(), parameters.len(), loops)?;
+    let reads = vec![in alloc; read]?;
+    Ok(Statement {
+        bounds,
+        writes,
+        reads,
+    })
+}
+
+/// The arrays of a nest, each with its number of subscripts.
+fn arrays_of(alloc: Global, nest: &NestText) -> Result<Vec<(Name, u8)>, Memory>
+    requires { IsCopyNest (nest_view nest.now) }
+    ensures { IfOk result (λ arrays. map array_of arrays.items ≡ nest_arrays (nest_view nest.now)) }
+{
+    let written = name_from(alloc, nest.written.array)?;
+    let read = name_from(alloc, nest.read.array)?;
+    let arrays = vec![in alloc; (written, nest.written.subscripts.len() as u8), (read, nest.read.subscripts.len() as u8)]?;
+    Ok(arrays)
+}
+
+/// The program of a nest.
+pub(crate) fn program_of_nest(
+    alloc: Global,
+    nest: &NestText,
+    loops: &[&[u8]],
+    parameters: &[&[u8]],
+) -> Result<Program, Memory>
+    requires copies { IsCopyNest (nest_view nest.now) }
+    requires loops { map (λ n. n.now) loops.now ≡ loop_names (nest_view nest.now) }
+    requires parameters { map (λ n. n.now) parameters.now ≡ parameter_names (nest_view nest.now) }
+    ensures { IfOk result (λ program. meaning program ≡ program_of (nest_view nest.now)) }
+{
+    let params = names_from(alloc, parameters)?;
+    let assumed = assumptions_of(alloc, parameters.len())?;
+    let arrays = arrays_of(alloc, nest)?;
+    let statement = statement_of_nest(alloc, nest, loops, parameters)?;
+    let statements = vec![in alloc; statement]?;
+    let item = tree_of(alloc, parameters, nest.loops.as_slice())?;
+    let tree = vec![in alloc; item]?;
+    Ok(Program::from_parts(params, assumed, arrays, statements, tree))
 }

@@ -4,3 +4,4 @@ pub mod Undone
 pub mod Product
 pub mod Copies
 pub mod Paths
+pub mod Sizes
