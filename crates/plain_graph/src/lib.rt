@@ -7,3 +7,6 @@ pub mod graphs;
 pub mod runs;
 pub mod sources;
 pub mod stopped;
+
+#[cfg(test)]
+mod tests;
