@@ -1,0 +1,11 @@
+pub mod Status
+pub mod Words
+pub mod Reading
+pub mod PlainCertificate
+pub mod CertificateText
+pub mod PointerText
+pub mod Lines
+pub mod Stop
+pub mod Judged
+pub mod Outcome
+pub mod Written
