@@ -80,7 +80,7 @@ plain_cold parameters loops matrix = object
     (member (codes "nest") (list (map loop_pair loops))
     (member (codes "point") (number_lists (map (λ k. form_numbers (variable (parameters + length loops) (parameters + k))) (range_with_len 0 (length loops))))
     (member (codes "read") (number (unsigned 0))
-    (member (codes "shown") (number_lists (map (λ step. shown_by (parameter_place step)) loops))
+    (member (codes "shown") (number_lists (map shown_by (map parameter_place loops)))
     (member (codes "statement") (number (unsigned 0))
     (member (codes "sums") (list (sums_from parameters 0 (map parameter_place loops)))
     no_members)))))))))

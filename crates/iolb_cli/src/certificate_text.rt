@@ -1,11 +1,17 @@
 //! The text of a certificate.
 
-ghost use Rattle.std.specs.Prelude.{◌≡◌, IfOk, IfErr};
+ghost use Rattle.std.specs.Prelude.{◌≡◌, ◌≤◌, [], false, length, IsTrue, IfOk, IfErr, IfSome, IfNone};
+ghost use Rattle.affine_form.specs.Matrix.{IntegerMatrix};
 ghost use Rattle.copy_nest.specs.Nest.{CopyNest, program_of};
 ghost use Rattle.copy_nest.specs.Spelling.{IsCopyNest};
 ghost use Rattle.affine_c.specs.Parts.{meaning};
+ghost use Rattle.iolb_check.specs.Certificate.{matrix_rows};
+ghost use Rattle.serde_json.specs.Data.{depth};
+ghost use Rattle.serde_json.specs.Read.{max_depth};
+ghost use Rattle.serde_json.specs.Written.{has_float};
 ghost use Rattle.serde_json.specs.View.{view};
-ghost use Rattle.iolb_cli.specs.CertificateText.{ReadsAsCertificate, IfTextFault};
+ghost use Rattle.iolb_cli.specs.PlainCertificate.{loops_of, certificate_of};
+ghost use Rattle.iolb_cli.specs.CertificateText.{IsSquare, ReadsAsCertificate, IfTextFault};
 
 use crate::cert_error::{CertError, CertFault};
 use crate::matrix_entries::matrix_entries;
@@ -18,6 +24,11 @@ use std::alloc::{AllocError, Global};
 
 /// Whether two values are the same, where the second has no float.
 fn are_same(alloc: Global, first: &Value, second: &Value) -> Result<bool, AllocError>
+    requires nests { depth (view first.now) ≤ max_depth }
+    requires shallow { depth (view second.now) ≤ max_depth }
+    requires no_float { has_float (view second.now) ≡ false }
+    ensures same { IfOk result (λ b. IsTrue b → view first.now ≡ view second.now) }
+    ensures other { IfOk result (λ b. view first.now ≡ view second.now → IsTrue b) }
 {
     let text = first.to_string(alloc)?;
     let other = second.to_string(alloc)?;
@@ -26,6 +37,7 @@ fn are_same(alloc: Global, first: &Value, second: &Value) -> Result<bool, AllocE
 
 /// The fault of this number at the whole value.
 fn fault(alloc: Global, number: u8) -> CertError
+    ensures { result ≡ CertError.Fault (record { number = number; place = [] }) }
 {
     CertError::Fault(CertFault {
         number,
@@ -39,6 +51,12 @@ fn certificate_in(
     program: &Program,
     value: &Value,
 ) -> Result<Option<Certificate>, AllocError>
+    requires nest { (nest : CopyNest) × IsCopyNest nest × (meaning program.now ≡ program_of nest) }
+    requires nests { depth (view value.now) ≤ max_depth }
+    ensures square { IfOk result (λ o. IfSome o (λ matrix. IsSquare (length (loops_of (meaning program.now))) matrix)) }
+    ensures found { IfOk result (λ o. IfSome o (λ matrix. view value.now ≡ certificate_of (meaning program.now) (matrix_rows matrix))) }
+    ensures none { IfOk result (λ o. IfNone o ((matrix : IntegerMatrix) → IsSquare (length (loops_of (meaning program.now))) matrix
+        → view value.now ≡ certificate_of (meaning program.now) (matrix_rows matrix) → ⊥)) }
 {
     let Some(rows) = value.pointer("/branches/0/terms/0/cold/inverse/matrix") else {
         return Ok(None);
@@ -47,7 +65,7 @@ fn certificate_in(
     let Some(cells) = matrix_entries(alloc, rows, bounds.len())? else {
         return Ok(None);
     };
-    let parameters = program.params().len() as u8;
+    let parameters = program.assumed().vars() as u8;
     let plain = plain_value(alloc, parameters, bounds, cells.as_slice())?;
     if !are_same(alloc, value, &plain)? {
         return Ok(None);

@@ -1,8 +1,8 @@
 //! JSON arrays of whole numbers.
 
-ghost use Rattle.std.specs.Prelude.{◌≡◌, ◌∷◌, [], map, IfOk};
+ghost use Rattle.std.specs.Prelude.{◌≡◌, ◌∷◌, [], ◌^◌, map, IfOk};
 ghost use Rattle.serde_json.specs.View.{view};
-ghost use Rattle.affine_form.specs.Form.{IsLegalForm};
+ghost use Rattle.affine_form.specs.Form.{IsSmall};
 ghost use Rattle.iolb_cli.specs.PlainCertificate.{numbers as number_array, number_lists, form_numbers, list};
 
 use affine_form::Form;
@@ -31,15 +31,23 @@ pub(crate) fn entries(alloc: Global, entries: &[i32]) -> Result<Value, AllocErro
     Ok(Value::Array(items))
 }
 
+/// A number of a form.
+fn whole(number: i128) -> i64
+    requires { IsSmall (2 ^ 62) number }
+    ensures { result ≡ number }
+{
+    number as i64
+}
+
 /// The numbers of a form: its coefficients, then its constant.
 fn form_list(alloc: Global, form: &Form) -> Result<Vec<i64>, AllocError>
     ensures { IfOk result (λ list. list.items ≡ form_numbers form.now) }
 {
     let mut list = Vec::new(alloc);
     for coefficient in form.coef() {
-        list.push(*coefficient as i64)?;
+        list.push(whole(*coefficient))?;
     }
-    list.push(form.constant() as i64)?;
+    list.push(whole(form.constant()))?;
     Ok(list)
 }
 

@@ -1,7 +1,7 @@
 //! The lines that are written to the standard error.
 
 ghost use Rattle.std.specs.Prelude.{◌≡◌, ◌++◌, ℕ, codes, decimal, IfOk};
-ghost use Rattle.iolb_cli.specs.Lines.{usage, out_of_memory, file_line as line_of_file, program_line as line_of_program, certificate_line as line_of_certificate, condition_line as line_of_condition};
+ghost use Rattle.iolb_cli.specs.Lines.{usage, out_of_memory, file_line as line_of_file, program_line as line_of_program, place_part as part_of_place, certificate_line as line_of_certificate, condition_line as line_of_condition};
 ghost use Rattle.iolb_cli.specs.Stop.{stop_line as line_of_stop};
 
 use crate::cert_error::CertFault;
@@ -43,17 +43,26 @@ fn program_line(alloc: Global, fault: ProgramFault) -> Result<Vec<u8>, Memory>
     Ok(Vec::from_slice(alloc, line.as_bytes())?)
 }
 
-/// The fault of a certificate's text; fault 1 has no place.
+/// The place of a fault of a certificate's text; fault 1 has none.
+fn place_part(alloc: Global, fault: &CertFault) -> Result<Vec<u8>, Memory>
+    ensures { IfOk result (λ text. text.items ≡ part_of_place fault.now) }
+{
+    if fault.number == 1 {
+        return Ok(Vec::new(alloc));
+    }
+    let mut text = Vec::from_slice(alloc, b" at ")?;
+    text.extend_from_slice(pointer_text(alloc, &fault.place)?.as_slice())?;
+    Ok(text)
+}
+
+/// The fault of a certificate's text.
 fn certificate_line(alloc: Global, fault: &CertFault) -> Result<Vec<u8>, Memory>
     ensures { IfOk result (λ line. line.items ≡ line_of_certificate fault.now) }
 {
     let number = fault.number;
     let words = format!(in alloc; "certificate text refused: fault {number}")?;
     let mut line = Vec::from_slice(alloc, words.as_bytes())?;
-    if number != 1 {
-        line.extend_from_slice(b" at ")?;
-        line.extend_from_slice(pointer_text(alloc, &fault.place)?.as_slice())?;
-    }
+    line.extend_from_slice(place_part(alloc, fault)?.as_slice())?;
     line.push(b'\n')?;
     Ok(line)
 }

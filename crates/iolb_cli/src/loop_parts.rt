@@ -28,7 +28,7 @@ fn parameter_of(form: &Form) -> u8
 
 /// The place of each loop's parameter.
 pub(crate) fn places(alloc: Global, bounds: &[(Form, Form)]) -> Result<Vec<u8>, AllocError>
-    ensures { IfOk result (λ places. places.items ≡ map (λ b. parameter_place (step_of b)) bounds.now) }
+    ensures { IfOk result (λ places. places.items ≡ map parameter_place (map step_of bounds.now)) }
 {
     let mut places = Vec::new(alloc);
     for (_lower, upper) in bounds {
@@ -39,7 +39,7 @@ pub(crate) fn places(alloc: Global, bounds: &[(Form, Form)]) -> Result<Vec<u8>, 
 
 /// The loops, each by its lower and its upper bound.
 pub(crate) fn nest(alloc: Global, bounds: &[(Form, Form)]) -> Result<Value, AllocError>
-    ensures { IfOk result (λ value. view value ≡ list (map (λ b. loop_pair (step_of b)) bounds.now)) }
+    ensures { IfOk result (λ value. view value ≡ list (map loop_pair (map step_of bounds.now))) }
 {
     let mut pairs = Vec::new(alloc);
     for (lower, upper) in bounds {
@@ -70,6 +70,7 @@ pub(crate) fn shown(alloc: Global, places: &[u8]) -> Result<Value, AllocError>
 }
 
 /// What shows that the points of the nest lie inside the loops, where there are so many parameters and loops.
+#[tactic(auto, using(crate::proofs::Ranges::range_step))]
 pub(crate) fn inside(alloc: Global, parameters: u8, loops: u8) -> Result<Value, AllocError>
     requires few_parameters { parameters ≤ 24 }
     requires few_loops { loops ≤ 4 }
@@ -94,6 +95,7 @@ fn unit_form(alloc: Global, count: usize, place: usize) -> Result<Value, AllocEr
 }
 
 /// The point of the loops' variables themselves.
+#[tactic(auto, using(crate::proofs::Ranges::range_step))]
 pub(crate) fn point(alloc: Global, parameters: usize, loops: usize) -> Result<Value, AllocError>
     requires few_parameters { parameters ≤ 24 }
     requires few_loops { loops ≤ 4 }

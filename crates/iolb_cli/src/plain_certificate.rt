@@ -1,6 +1,6 @@
 //! The plain certificate of a copy nest.
 
-ghost use Rattle.std.specs.Prelude.{◌≡◌, ◌*◌, ◌<◌, ◌≤◌, ℕ, length, map, IfOk};
+ghost use Rattle.std.specs.Prelude.{◌≡◌, ◌*◌, ◌<◌, ◌≤◌, ℕ, ℤ, List, length, map, IfOk};
 ghost use Rattle.serde_json.specs.View.{view};
 ghost use Rattle.affine_form.specs.Matrix.{IntegerMatrix};
 ghost use Rattle.affine_c.specs.Parts.{step_of};
@@ -15,6 +15,7 @@ use serde_json::{Value, json};
 use std::alloc::{AllocError, Global};
 
 /// The inverse: a square matrix of this size by its entries, row after row, and the scale 1.
+#[tactic(auto, using(crate::proofs::Ranges::range_step))]
 fn inverse(alloc: Global, size: usize, cells: &[i32]) -> Result<Value, AllocError>
     requires few { size ≤ 4 }
     requires full { length cells.now ≡ size * size }
@@ -30,11 +31,14 @@ fn inverse(alloc: Global, size: usize, cells: &[i32]) -> Result<Value, AllocErro
 }
 
 /// The cold term.
-fn cold(alloc: Global, parameters: u8, bounds: &[(Form, Form)], inverse: Value) -> Result<Value, AllocError>
+fn cold(alloc: Global, parameters: u8, bounds: &[(Form, Form)], cells: &[i32]) -> Result<Value, AllocError>
     requires few_parameters { parameters ≤ 24 }
     requires few_loops { length bounds.now ≤ 4 }
-    ensures { IfOk result (λ value. (matrix : List (List ℤ)) → view inverse ≡ plain_inverse matrix → view value ≡ plain_cold parameters (map step_of bounds.now) matrix) }
+    requires full { length cells.now ≡ length bounds.now * length bounds.now }
+    ensures { IfOk result (λ value. view value ≡ plain_cold parameters (map step_of bounds.now)
+        (matrix_rows (record { rows = length bounds.now; columns = length bounds.now; cells = cells.now }))) }
 {
+    let inverse = inverse(alloc, bounds.len(), cells)?;
     let places = places(alloc, bounds)?;
     let inside = inside(alloc, parameters, bounds.len() as u8)?;
     let nest = nest(alloc, bounds)?;
@@ -68,8 +72,7 @@ pub(crate) fn plain_value(
     ensures { IfOk result (λ value. view value ≡ plain_certificate parameters (map step_of bounds.now)
         (matrix_rows (record { rows = length bounds.now; columns = length bounds.now; cells = cells.now }))) }
 {
-    let inverse = inverse(alloc, bounds.len(), cells)?;
-    let cold = cold(alloc, parameters, bounds, inverse)?;
+    let cold = cold(alloc, parameters, bounds, cells)?;
     json!(in alloc; {
         "branches": [{"disjoint": [], "terms": [{"cold": cold}]}],
         "quasts": [[{"input": []}]],

@@ -1,6 +1,6 @@
 //! Places in JSON values, printed.
 
-ghost use Rattle.std.specs.Prelude.{◌≡◌, ◌<◌, ◌++◌, IfOk};
+ghost use Rattle.std.specs.Prelude.{◌≡◌, ◌<◌, ◌++◌, IfOk, OnOk};
 ghost use Rattle.iolb_cli.specs.PointerText.{key_name as name_of_key, pointer_text as text_of_pointer, step_text};
 
 use affine_form::{Memory, Place, Step};
@@ -29,6 +29,7 @@ fn key_name(key: u8) -> &'static [u8]
 
 /// A step of a JSON Pointer, written at the end.
 fn push_step(alloc: Global, text: &mut Vec<u8>, step: Step) -> Result<(), Memory>
+    ensures { OnOk result (text.new.items ≡ text.old.items ++ step_text step) }
 {
     text.push(b'/')?;
     match step {

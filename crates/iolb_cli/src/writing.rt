@@ -16,7 +16,8 @@ pub(crate) fn no_memory<E: Sink>(err: &mut E) -> Status
     ensures { IsCut (record { before = E.written err.old; after = E.written err.new; faults = E.faults err.old; faults_after = E.faults err.new }) out_of_memory result }
 {
     match err.put(OUT_OF_MEMORY) {
-        Ok(()) | Err(SinkFault::Memory) => Status::NoMemory,
+        Ok(()) => Status::NoMemory,
+        Err(SinkFault::Memory) => Status::NoMemory,
         Err(SinkFault::Failed) => Status::WriteFault,
     }
 }

@@ -1,0 +1,7 @@
+use Rattle.std.proofs.Common.{◌≡◌, ℕ, ◌+◌, ◌*◌, ◌<◌, ◌≤◌, List, [], ◌∷◌, ◌++◌, length, map, drop, take, replicate, cond}
+use Rattle.std.specs.Prelude.{ℤ, pos, flat_map}
+use Rattle.iolb_model.specs.Printed.{branches_text}
+use Rattle.iolb_cli.proofs.bound_lines.branch_lines.Given as goal
+
+abbrev pub invariant-loop-i : goal.invariant-loop-i
+invariant-loop-i l = l.text.items ++ branches_text l.names l.i (drop l.i l.bound.branches) ≡ branches_text l.names 0 l.bound.branches
