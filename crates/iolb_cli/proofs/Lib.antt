@@ -3,6 +3,7 @@ pub mod Loops
 pub mod Sinks
 pub mod Branches
 pub mod Ranges
+pub mod Growing
 pub mod Keys
 pub mod Entries
 pub mod Shapes

@@ -70,20 +70,30 @@ single key value = object (member key value no_members)
 abbrev pub plain_inverse : List (List ℤ) → Data
 plain_inverse matrix = object (member (codes "matrix") (number_lists matrix) (member (codes "scale") (number (unsigned 1)) no_members))
 
+-- a cold term of the first read of the first statement, whose source is the input
+abbrev pub cold_object : Data → Data → Data → Data → Data → Data → Data
+cold_object inside inverse nest point shown sums = object
+    (member (codes "inside") inside
+    (member (codes "inverse") inverse
+    (member (codes "leaves") (list (single (codes "stop") (list []) ∷ []))
+    (member (codes "nest") nest
+    (member (codes "point") point
+    (member (codes "read") (number (unsigned 0))
+    (member (codes "shown") shown
+    (member (codes "statement") (number (unsigned 0))
+    (member (codes "sums") sums
+    no_members)))))))))
+
 -- The one cold term, where there are so many parameters and these loops: each point of the loops reads a cell of its
 -- own, which no statement writes.
 abbrev pub plain_cold : ℕ → List PathStep → List (List ℤ) → Data
-plain_cold parameters loops matrix = object
-    (member (codes "inside") (number_lists (map inside_by (range_with_len parameters (2 * length loops))))
-    (member (codes "inverse") (plain_inverse matrix)
-    (member (codes "leaves") (list (single (codes "stop") (list []) ∷ []))
-    (member (codes "nest") (list (map loop_pair loops))
-    (member (codes "point") (number_lists (map (λ k. form_numbers (variable (parameters + length loops) (parameters + k))) (range_with_len 0 (length loops))))
-    (member (codes "read") (number (unsigned 0))
-    (member (codes "shown") (number_lists (map shown_by (map parameter_place loops)))
-    (member (codes "statement") (number (unsigned 0))
-    (member (codes "sums") (list (sums_from parameters 0 (map parameter_place loops)))
-    no_members)))))))))
+plain_cold parameters loops matrix = cold_object
+    (number_lists (map inside_by (range_with_len parameters (2 * length loops))))
+    (plain_inverse matrix)
+    (list (map loop_pair loops))
+    (number_lists (map (λ k. form_numbers (variable (parameters + length loops) (parameters + k))) (range_with_len 0 (length loops))))
+    (number_lists (map shown_by (map parameter_place loops)))
+    (list (sums_from parameters 0 (map parameter_place loops)))
 
 -- the certificate: one branch of that term, and for the one read the input as its source
 abbrev pub plain_certificate : ℕ → List PathStep → List (List ℤ) → Data

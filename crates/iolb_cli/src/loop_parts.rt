@@ -70,7 +70,6 @@ pub(crate) fn shown(alloc: Global, places: &[u8]) -> Result<Value, AllocError>
 }
 
 /// What shows that the points of the nest lie inside the loops, where there are so many parameters and loops.
-#[tactic(auto, using(crate::proofs::Ranges::range_step))]
 pub(crate) fn inside(alloc: Global, parameters: u8, loops: u8) -> Result<Value, AllocError>
     requires few_parameters { parameters ≤ 24 }
     requires few_loops { loops ≤ 4 }
@@ -95,7 +94,6 @@ fn unit_form(alloc: Global, count: usize, place: usize) -> Result<Value, AllocEr
 }
 
 /// The point of the loops' variables themselves.
-#[tactic(auto, using(crate::proofs::Ranges::range_step))]
 pub(crate) fn point(alloc: Global, parameters: usize, loops: usize) -> Result<Value, AllocError>
     requires few_parameters { parameters ≤ 24 }
     requires few_loops { loops ≤ 4 }

@@ -5,7 +5,7 @@ ghost use Rattle.serde_json.specs.View.{view};
 ghost use Rattle.affine_form.specs.Matrix.{IntegerMatrix};
 ghost use Rattle.affine_c.specs.Parts.{step_of};
 ghost use Rattle.iolb_check.specs.Certificate.{matrix_rows};
-ghost use Rattle.iolb_cli.specs.PlainCertificate.{list, number_lists, plain_inverse, plain_cold, plain_certificate};
+ghost use Rattle.iolb_cli.specs.PlainCertificate.{list, number_lists, plain_inverse, cold_object, plain_cold, plain_certificate};
 
 use crate::json_numbers::entries;
 use crate::loop_parts::{inside, nest, places, point, shown};
@@ -15,7 +15,6 @@ use serde_json::{Value, json};
 use std::alloc::{AllocError, Global};
 
 /// The inverse: a square matrix of this size by its entries, row after row, and the scale 1.
-#[tactic(auto, using(crate::proofs::Ranges::range_step))]
 fn inverse(alloc: Global, size: usize, cells: &[i32]) -> Result<Value, AllocError>
     requires few { size ≤ 4 }
     requires full { length cells.now ≡ size * size }
@@ -28,6 +27,32 @@ fn inverse(alloc: Global, size: usize, cells: &[i32]) -> Result<Value, AllocErro
     }
     let matrix = Value::Array(rows);
     json!(in alloc; {"matrix": matrix, "scale": 1u64})
+}
+
+/// A cold term of the first read of the first statement, whose source is the input.
+fn cold_value(
+    alloc: Global,
+    inside: Value,
+    inverse: Value,
+    nest: Value,
+    point: Value,
+    shown: Value,
+    sums: Value,
+) -> Result<Value, AllocError>
+    ensures { IfOk result (λ value. view value
+        ≡ cold_object (view inside) (view inverse) (view nest) (view point) (view shown) (view sums)) }
+{
+    json!(in alloc; {
+        "inside": inside,
+        "inverse": inverse,
+        "leaves": [{"stop": []}],
+        "nest": nest,
+        "point": point,
+        "read": 0u64,
+        "shown": shown,
+        "statement": 0u64,
+        "sums": sums,
+    })
 }
 
 /// The cold term.
@@ -45,17 +70,7 @@ fn cold(alloc: Global, parameters: u8, bounds: &[(Form, Form)], cells: &[i32]) -
     let point = point(alloc, usize::from(parameters), bounds.len())?;
     let shown = shown(alloc, places.as_slice())?;
     let sums = sums(alloc, parameters, places.as_slice())?;
-    json!(in alloc; {
-        "inside": inside,
-        "inverse": inverse,
-        "leaves": [{"stop": []}],
-        "nest": nest,
-        "point": point,
-        "read": 0u64,
-        "shown": shown,
-        "statement": 0u64,
-        "sums": sums,
-    })
+    cold_value(alloc, inside, inverse, nest, point, shown, sums)
 }
 
 /// The plain certificate where there are so many parameters and loops with these bounds, with the matrix of these

@@ -1,6 +1,6 @@
 //! Places in JSON values, printed.
 
-ghost use Rattle.std.specs.Prelude.{◌≡◌, ◌<◌, ◌++◌, IfOk, OnOk};
+ghost use Rattle.std.specs.Prelude.{◌≡◌, ◌<◌, ◌++◌, [], length, map, slice_index_or, IfOk, OnOk};
 ghost use Rattle.iolb_cli.specs.PointerText.{key_name as name_of_key, pointer_text as text_of_pointer, step_text};
 
 use affine_form::{Memory, Place, Step};
@@ -16,12 +16,20 @@ const KEYS: [&[u8]; 60] = [
     b"vertex", b"wavefront", b"weight", b"yes",
 ];
 
+/// The name at this place of a table.
+fn name_at(names: &[&'static [u8]], place: usize) -> &'static [u8]
+    requires { place < length names.now }
+    ensures { result.now ≡ slice_index_or (map (λ name. name.now) names.now) place [] }
+{
+    names[place]
+}
+
 /// The key of this number, and nothing past the last.
 fn key_name(key: u8) -> &'static [u8]
     ensures { result.now ≡ name_of_key key }
 {
     if usize::from(key) < KEYS.len() {
-        KEYS[usize::from(key)]
+        name_at(&KEYS, usize::from(key))
     } else {
         b""
     }

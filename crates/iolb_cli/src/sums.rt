@@ -19,7 +19,6 @@ fn uses(places: &[u8], place: u8) -> i64
 
 /// The coefficient 1 and the exponents: for each parameter how many of the later loops have it, 0 for each loop
 /// variable before, and 1.
-#[tactic(auto, using(crate::proofs::Ranges::range_step))]
 fn term(alloc: Global, parameters: u8, before: usize, later: &[u8]) -> Result<Vec<i64>, AllocError>
     requires { length later.now ≤ 4 }
     ensures { IfOk result (λ numbers. numbers.items ≡ sum_term parameters before later.now) }
@@ -43,7 +42,6 @@ fn one_term(alloc: Global, term: &[i64]) -> Result<Value, AllocError>
 }
 
 /// For each loop its variable times the parameters of the loops after it.
-#[tactic(auto, using(crate::proofs::Ranges::sums_step, crate::proofs::Ranges::sums_end))]
 pub(crate) fn sums(alloc: Global, parameters: u8, places: &[u8]) -> Result<Value, AllocError>
     requires { length places.now ≤ 4 }
     ensures { IfOk result (λ value. view value ≡ list (sums_from parameters 0 places.now)) }

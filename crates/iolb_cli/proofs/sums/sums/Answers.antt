@@ -1,0 +1,19 @@
+use Rattle.std.proofs.Common.{rules, ◌≡◌, refl, sym, ◌∙◌, ap, subst, inl, inr, ℕ, zero, suc, ◌+◌, ◌-◌, ◌*◌, ◌/◌, ◌%◌, ◌<◌, ◌≤◌, ◌^◌, min, max, Bool, true, false, cond, not, List, [], ◌∷◌, ◌++◌, length, map, drop, take, get_or, append_assoc, append-nil, arith}
+use Rattle.std.specs.Prelude.{ℤ, pos}
+use Rattle.std.specs.List.{range_with_len}
+use Rattle.serde_json.specs.Data.{Data}
+use Rattle.serde_json.specs.View.{view}
+use Rattle.iolb_cli.specs.PlainCertificate.{numbers, list, inside_by, form_numbers, one_term, sum_term, sums_from}
+use Rattle.serde_json.proofs.Views.{view-Array}
+use Rattle.iolb_cli.proofs.Growing.{one_sum}
+use Rattle.iolb_cli.proofs.Ranges.{sums_end}
+use Rattle.iolb_cli.proofs.sums.sums.Goals as goal
+
+pub loop-k-preserved : goal.loop-k-preserved
+loop-k-preserved c =
+    one_sum c.loop-k.values.items c.push.new.self.items c.in_ok-one_term.field-0 c.args.parameters c.loop-k.k c.args.places.now
+      (sums_from c.args.parameters 0 c.args.places.now) c.in_ok-push.ensures.items ? c.loop-k-test.true c.loop-k.invariant
+
+pub returns : goal.returns
+returns c = view-Array c.loop-k.values
+    ∙ ap list (sym (append-nil (map view c.loop-k.values.items)) ∙ ap (λ (l : List Data). map view c.loop-k.values.items ++ l) (sym (sums_end c.args.parameters c.loop-k.k c.args.places.now c.loop-k-test.false)) ∙ c.loop-k.invariant)
