@@ -4,6 +4,7 @@ use Rattle.std.specs.declared.alloc.Global.{Global}
 use Rattle.iolb_model.specs.Form.{AffineForm}
 use Rattle.iolb_model.specs.Program.{AffineProgram}
 use Rattle.iolb_model.specs.Path.{PathStep}
+use Rattle.affine_form.specs.System.{AffineSystem}
 use Rattle.affine_form.specs.Matrix.{IntegerMatrix}
 use Rattle.affine_c.specs.declared.statement.Statement.{Statement}
 use Rattle.affine_c.specs.Parts.{ProgramParts, meaning, step_of, IsProgram}
@@ -52,11 +53,11 @@ returns-in_default-clause-none c = λ matrix sq e.
 
 pub matrix_entries-requires-clause-some : goal.matrix_entries-requires-clause-some
 matrix_entries-requires-clause-some c =
-    some_bounds c.args.program.now c.index-statements-0.result c.as_slice-bounds.result.now (facts_of c.args.program.now c.requires.nest c.statements.ensures.kept c.statements.result.now c.statements.ensures.statements c.index-statements-0.result c.index-statements-0.is) c.as_slice-bounds.ensures.value
+    some_bounds c.args.program.now c.index-statements-0.result c.as_slice-bounds.result.now (facts_of c.args.program.now c.requires.nest c.statements.ensures.kept c.statements.result.now c.statements.ensures.statements c.index-statements-0.result c.index-statements-0.is) (c.as_slice-bounds.ensures.value ∙ ap (λ (s : Statement). s.bounds.items) (sym c.index-statements-0.is))
 
 pub matrix_entries-requires-clause-few : goal.matrix_entries-requires-clause-few
 matrix_entries-requires-clause-few c =
-    few_bounds c.args.program.now c.index-statements-0.result c.as_slice-bounds.result.now (facts_of c.args.program.now c.requires.nest c.statements.ensures.kept c.statements.result.now c.statements.ensures.statements c.index-statements-0.result c.index-statements-0.is) c.as_slice-bounds.ensures.value
+    few_bounds c.args.program.now c.index-statements-0.result c.as_slice-bounds.result.now (facts_of c.args.program.now c.requires.nest c.statements.ensures.kept c.statements.result.now c.statements.ensures.statements c.index-statements-0.result c.index-statements-0.is) (c.as_slice-bounds.ensures.value ∙ ap (λ (s : Statement). s.bounds.items) (sym c.index-statements-0.is))
 
 none_found : (o : Option (Vec ℤ Global)) (cells : List ℤ) → o ≡ None → IsSomeAnd o (λ v. v.items ≡ cells) → ⊥
 none_found None cells e h = h
@@ -66,27 +67,43 @@ pub returns-in_default-2-clause-none : goal.returns-in_default-2-clause-none
 returns-in_default-2-clause-none c = λ matrix sq e.
     let facts : LoopFacts c.args.program.now c.index-statements-0.result = facts_of c.args.program.now c.requires.nest c.statements.ensures.kept c.statements.result.now c.statements.ensures.statements c.index-statements-0.result c.index-statements-0.is in
     none_found c.in_ok-cells.field-0 matrix.cells c.in_default-2.is
-      (c.in_ok-cells.ensures.found matrix (subst (λ (n : ℕ). IsSquare n matrix) (as_many c.args.program.now c.index-statements-0.result c.as_slice-bounds.result.now facts c.as_slice-bounds.ensures.value) sq)
+      (c.in_ok-cells.ensures.found matrix (subst (λ (n : ℕ). IsSquare n matrix) (as_many c.args.program.now c.index-statements-0.result c.as_slice-bounds.result.now facts (c.as_slice-bounds.ensures.value ∙ ap (λ (s : Statement). s.bounds.items) (sym c.index-statements-0.is))) sq)
         (found_is (view c.args.value.now) (view c.in-Some.rows.now) (length c.args.program.now.params) (loops_of (meaning c.args.program.now)) (matrix_rows matrix) c.in-Some.ensures e))
 
 pub plain_value-requires-clause-few_loops : goal.plain_value-requires-clause-few_loops
 plain_value-requires-clause-few_loops c =
-    few_bounds c.args.program.now c.index-statements-0.result c.as_slice-bounds.result.now (facts_of c.args.program.now c.requires.nest c.statements.ensures.kept c.statements.result.now c.statements.ensures.statements c.index-statements-0.result c.index-statements-0.is) c.as_slice-bounds.ensures.value
+    few_bounds c.args.program.now c.index-statements-0.result c.as_slice-bounds.result.now (facts_of c.args.program.now c.requires.nest c.statements.ensures.kept c.statements.result.now c.statements.ensures.statements c.index-statements-0.result c.index-statements-0.is) (c.as_slice-bounds.ensures.value ∙ ap (λ (s : Statement). s.bounds.items) (sym c.index-statements-0.is))
 
 pub are_same-requires-clause-shallow : goal.are_same-requires-clause-shallow
-are_same-requires-clause-shallow c = subst (λ (d : Data). depth d ≤ max_depth) (sym c.in_ok-plain.ensures) (plain_shallow _ _ _)
+are_same-requires-clause-shallow c = subst (λ (d : Data). depth d ≤ max_depth) (sym c.in_ok-plain.ensures) (plain_shallow c.vars-parameters.result (map step_of c.as_slice-bounds.result.now) (matrix_rows (square (length c.as_slice-bounds.result.now) c.as_slice.result.now)))
 
 pub are_same-requires-clause-no_float : goal.are_same-requires-clause-no_float
-are_same-requires-clause-no_float c = subst (λ (d : Data). has_float d ≡ false) (sym c.in_ok-plain.ensures) (plain_exact _ _ _)
+are_same-requires-clause-no_float c = subst (λ (d : Data). has_float d ≡ false) (sym c.in_ok-plain.ensures) (plain_exact c.vars-parameters.result (map step_of c.as_slice-bounds.result.now) (matrix_rows (square (length c.as_slice-bounds.result.now) c.as_slice.result.now)))
 
-refuted : (b : Bool) → not b ≡ true → IsTrue b → ⊥
+refuted : (b : Bool) → b ≡ false → IsTrue b → ⊥
 refuted true e h = absurd cc
-refuted false e h = h
+refuted false e h = absurd cc
+
+some_found : (o : Option (Vec ℤ Global)) (v : Vec ℤ Global) (cells : List ℤ) → o ≡ Some v → IsSomeAnd o (λ w. w.items ≡ cells) → v.items ≡ cells
+some_found None v cells e h = absurd h
+some_found (Some w) v cells e h = ap (λ (u : Vec ℤ Global). u.items) (sym (same_some w v e)) ∙ h
 
 pub returns-then-not-branch-clause-none : goal.returns-then-not-branch-clause-none
-returns-then-not-branch-clause-none c = ?
+returns-then-not-branch-clause-none c = λ matrix sq e.
+    let bounds : List (AffineForm × AffineForm) = c.as_slice-bounds.result.now in
+    let bounds_are : bounds ≡ c.index-statements-0.result.bounds.items = c.as_slice-bounds.ensures.value ∙ ap (λ (s : Statement). s.bounds.items) (sym c.index-statements-0.is) in
+    let facts : LoopFacts c.args.program.now c.index-statements-0.result = facts_of c.args.program.now c.requires.nest c.statements.ensures.kept c.statements.result.now c.statements.ensures.statements c.index-statements-0.result c.index-statements-0.is in
+    let parameters : c.vars-parameters.result ≡ length c.args.program.now.params = c.vars-parameters.ensures.vars ∙ ap (λ (s : AffineSystem). s.vars) c.assumed.ensures.assumed ∙ c.assumed.ensures.kept.assumed in
+    let sized : IsSquare (length bounds) matrix = subst (λ (n : ℕ). IsSquare n matrix) (as_many c.args.program.now c.index-statements-0.result bounds facts bounds_are) sq in
+    let cells : c.in-Some-2.cells.items ≡ matrix.cells = some_found c.in_ok-cells.field-0 c.in-Some-2.cells matrix.cells c.in-Some-2.is
+      (c.in_ok-cells.ensures.found matrix sized (found_is (view c.args.value.now) (view c.in-Some.rows.now) (length c.args.program.now.params) (loops_of (meaning c.args.program.now)) (matrix_rows matrix) c.in-Some.ensures e)) in
+    let made : square (length bounds) c.as_slice.result.now ≡ matrix = ap (square (length bounds)) (c.as_slice.ensures.value ∙ cells) ∙ square_is (length bounds) matrix sized.rows sized.columns in
+    refuted c.in_ok-are_same.field-0 c.if-not-branch.true (c.in_ok-are_same.ensures.other
+      (e ∙ sym (c.in_ok-plain.ensures
+        ∙ plain_is c.args.program.now c.index-statements-0.result bounds c.vars-parameters.result facts bounds_are parameters (matrix_rows (square (length bounds) c.as_slice.result.now))
+        ∙ ap (λ (m : IntegerMatrix). certificate_of (meaning c.args.program.now) (matrix_rows m)) made)))
 
 pub new-matrix-requires-clause-shape : goal.new-matrix-requires-clause-shape
 new-matrix-requires-clause-shape c =
-    let few : length c.as_slice-bounds.result.now ≤ 4 = few_bounds c.args.program.now c.index-statements-0.result c.as_slice-bounds.result.now (facts_of c.args.program.now c.requires.nest c.statements.ensures.kept c.statements.result.now c.statements.ensures.statements c.index-statements-0.result c.index-statements-0.is) c.as_slice-bounds.ensures.value in
+    let few : length c.as_slice-bounds.result.now ≤ 4 = few_bounds c.args.program.now c.index-statements-0.result c.as_slice-bounds.result.now (facts_of c.args.program.now c.requires.nest c.statements.ensures.kept c.statements.result.now c.statements.ensures.statements c.index-statements-0.result c.index-statements-0.is) (c.as_slice-bounds.ensures.value ∙ ap (λ (s : Statement). s.bounds.items) (sym c.index-statements-0.is)) in
     record { few_rows = omega (arith, few); few_columns = omega (arith, few); rows_first = λ e. e; full = search rules }
