@@ -48,7 +48,8 @@ pub(crate) fn sums(alloc: Global, parameters: u8, places: &[u8]) -> Result<Value
 {
     let mut values = Vec::new(alloc);
     for k in 0..places.len() {
-        let term = term(alloc, parameters, k, &places[k + 1..])?;
+        let later = &places[k + 1..];
+        let term = term(alloc, parameters, k, later)?;
         values.push(one_term(alloc, term.as_slice())?)?;
     }
     Ok(Value::Array(values))

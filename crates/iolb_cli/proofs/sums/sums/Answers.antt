@@ -12,7 +12,7 @@ use Rattle.iolb_cli.proofs.sums.sums.Goals as goal
 pub loop-k-preserved : goal.loop-k-preserved
 loop-k-preserved c =
     one_sum c.loop-k.values.items c.push.new.self.items c.in_ok-one_term.field-0 c.args.parameters c.loop-k.k c.args.places.now
-      (sums_from c.args.parameters 0 c.args.places.now) c.in_ok-push.ensures.items (c.in_ok-one_term.ensures ∙ ap one_term (c.as_slice.ensures.value ∙ c.in_ok-term.ensures)) c.loop-k-test.true c.loop-k.invariant
+      (sums_from c.args.parameters 0 c.args.places.now) c.in_ok-push.ensures.items (c.in_ok-one_term.ensures ∙ ap one_term (c.as_slice.ensures.value ∙ c.in_ok-term.ensures ∙ ap (sum_term c.args.parameters c.loop-k.k) ?)) c.loop-k-test.true c.loop-k.invariant
 
 pub returns : goal.returns
 returns c = view-Array c.loop-k.values
