@@ -1,3 +1,6 @@
 pub mod Tree
 pub mod Parts
 pub mod Fault
+pub mod Reading
+pub mod Views
+pub mod Build

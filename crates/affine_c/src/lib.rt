@@ -1,12 +1,17 @@
 //! Affine loop programs: their type, and their text in C.
 #![tactic(auto)]
 
+mod build;
+mod copies;
 mod fault;
 mod item;
+mod names;
+mod nest_text;
 mod program;
 mod read;
 mod reference;
 mod statement;
+mod words;
 
 pub use fault::{ProgramError, ProgramFault};
 pub use item::Item;

@@ -68,12 +68,20 @@ array_of access = record { name = access.array; rank = length access.subscripts 
 abbrev pub parameters_positive : ℕ → List AffineForm
 parameters_positive count = map (variable_less_one count) (range_with_len 0 count)
 
+-- the arrays: the one that is written, and the one that is read
+abbrev pub nest_arrays : CopyNest → List Array
+nest_arrays nest = array_of nest.written ∷ array_of nest.read ∷ []
+
+-- the statement
+abbrev pub nest_statement : CopyNest → Statement
+nest_statement nest = record { writes = access_of nest 0 nest.written; reads = access_of nest 1 nest.read ∷ [] }
+
 -- the program of a copy nest
 abbrev pub program_of : CopyNest → AffineProgram
 program_of nest = record {
   parameters = parameter_names nest;
   assumptions = parameters_positive (length (parameter_names nest));
-  arrays = array_of nest.written ∷ array_of nest.read ∷ [];
-  statements = (record { writes = access_of nest 0 nest.written; reads = access_of nest 1 nest.read ∷ [] }) ∷ [];
+  arrays = nest_arrays nest;
+  statements = nest_statement nest ∷ [];
   tree = next (nest_item (parameter_names nest) (length (parameter_names nest)) nest.loops) done
 }

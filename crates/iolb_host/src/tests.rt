@@ -118,6 +118,7 @@ fn the_system_is_reached(rt: HostRuntime) -> Result<(), Fail> {
     );
     assert_eq!(rt; files.read("/", 9).err(), Some(FileFault::Failed));
     assert_eq!(rt; files.read("/dev/null", 0)?.len(), 0);
+    assert_ne!(rt; files.read("/proc/self/comm", 64)?.len(), 0);
     assert_eq!(rt;
         files.read("/dev/zero", 9000).err(),
         Some(FileFault::TooLong)

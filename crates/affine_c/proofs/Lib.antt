@@ -1,0 +1,9 @@
+pub mod Spelled
+pub mod SpelledNest
+pub mod TextOfNest
+pub mod InFront
+pub mod Distinct
+pub mod Loops
+pub mod Sized
+pub mod Whole
+pub mod Readings
