@@ -17,6 +17,7 @@ use Rattle.iolb_cli.specs.Lines.{out_of_memory}
 use Rattle.iolb_cli.specs.Stop.{program_most, HoldsProgram, IsAccepted, CheckStop, stop_status, Call, Stops}
 use Rattle.iolb_cli.specs.Judged.{IsGoodFor, CertificateStop}
 use Rattle.iolb_cli.specs.Outcome.{SinkUse, Gains, GainsPart, Stays, Fails, IsDone, IsStopped, IsCutShort, Outcome}
+use Rattle.iolb_cli.specs.Headline.{IsLowerBoundPrinted}
 use Rattle.iolb_cli.specs.Written.{IsCut, LineWritten, OutputWritten}
 use Rattle.iolb_cli.proofs.Sinks.{part_of_piece}
 
@@ -128,3 +129,22 @@ done_outcome call output error text status done (inr (inl w)) =
     subst (λ (s : Status). Outcome s call output error) (sym w.0) (inl w.1, record { output_part = inr (text, done, w.2); error_part = inl w.3 })
 done_outcome call output error text status done (inr (inr (stays, cut))) =
     cut_ends call output error status (record { output_part = inl stays; error_part = due_part call error out_of_memory (inr refl) cut.part }) cut.ends
+
+-- what status 0 says
+pub headline : (call : Call) (output error : SinkUse) (status : Status) → Outcome status call output error → status ≡ Done → IsLowerBoundPrinted call output error
+headline call output error status outcome e = said_bound (subst (λ (s : Status). Outcome s call output error) e outcome) where
+  said_bound : (text : List ℕ) × IsDone call text × Gains output text × Stays error → IsLowerBoundPrinted call output error
+  said_bound (text, done, gains, stays) = record {
+    program_name = done.program;
+    certificate_name = done.certificate;
+    program = done.accepted.program;
+    matrix = done.accepted.matrix;
+    bound = done.accepted.bound;
+    asked = done.asked;
+    holds_program = done.accepted.holds_program;
+    holds_certificate = done.accepted.holds_certificate;
+    meets = done.accepted.meets;
+    printed = subst (Gains output) done.accepted.printed gains;
+    error_stays = stays;
+    holds = done.accepted.holds
+  }

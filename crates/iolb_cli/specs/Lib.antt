@@ -10,3 +10,4 @@ pub mod Stop
 pub mod Judged
 pub mod Outcome
 pub mod Written
+pub mod Headline

@@ -4,6 +4,7 @@ ghost use Rattle.std.specs.Prelude.{◌≡◌, map, string_bytes};
 ghost use Rattle.iolb_cli.specs.Stop.{Call, stop_status, stop_line as line_of_stop};
 ghost use Rattle.iolb_cli.specs.Written.{LineWritten};
 ghost use Rattle.iolb_cli.specs.Outcome.{Outcome};
+ghost use Rattle.iolb_cli.specs.Headline.{IsLowerBoundPrinted};
 
 use crate::checking::check_files;
 use crate::lines::stop_line;
@@ -32,7 +33,10 @@ pub fn run<F: Files, O: Sink, E: Sink>(
     out: &mut O,
     err: &mut E,
 ) -> Status
-    ensures { Outcome result (record { words = map (λ word. string_bytes word) words.now.items; files = F.told files.old; counts = record {
+    ensures outcome { Outcome result (record { words = map (λ word. string_bytes word) words.now.items; files = F.told files.old; counts = record {
+        missing = F.missing files.old; missing_after = F.missing files.new; long = F.long files.old; long_after = F.long files.new;
+        failed = F.faults files.old; failed_after = F.faults files.new } }) (record { before = O.written out.old; after = O.written out.new; faults = O.faults out.old; faults_after = O.faults out.new }) (record { before = E.written err.old; after = E.written err.new; faults = E.faults err.old; faults_after = E.faults err.new }) }
+    ensures headline { result ≡ Status.Done → IsLowerBoundPrinted (record { words = map (λ word. string_bytes word) words.now.items; files = F.told files.old; counts = record {
         missing = F.missing files.old; missing_after = F.missing files.new; long = F.long files.old; long_after = F.long files.new;
         failed = F.faults files.old; failed_after = F.faults files.new } }) (record { before = O.written out.old; after = O.written out.new; faults = O.faults out.old; faults_after = O.faults out.new }) (record { before = E.written err.old; after = E.written err.new; faults = E.faults err.old; faults_after = E.faults err.new }) }
 {
