@@ -1,6 +1,6 @@
 -- The branches of a bound, printed one after another.
-use Rattle.std.proofs.Common.{rules, ◌≡◌, refl, sym, ◌∙◌, ap, subst, inl, inr, ℕ, zero, suc, ◌+◌, ◌-◌, ◌*◌, ◌/◌, ◌%◌, ◌<◌, ◌≤◌, ◌^◌, min, Bool, true, false, cond, not, List, [], ◌∷◌, ◌++◌, length, map, drop, take, get_or, append_assoc, append-nil, arith}
-use Rattle.std.specs.Prelude.{Option, Some, None, slice_get, flat_map, codes, decimal}
+use Rattle.std.proofs.Common.{◌≡◌, sym, ◌∙◌, ap, ℕ, zero, suc, ◌+◌, List, [], ◌∷◌, ◌++◌, drop, append_assoc, arith}
+use Rattle.std.specs.Prelude.{Some, slice_get, flat_map, codes, decimal}
 use Rattle.iolb_model.specs.Bound.{BoundTerm}
 use Rattle.iolb_model.specs.Printed.{branches_text, bound_term_text}
 

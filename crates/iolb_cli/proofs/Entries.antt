@@ -1,5 +1,5 @@
 -- The entries of a square matrix, in a JSON array of arrays.
-use Rattle.std.proofs.Common.{rules, ◌≡◌, refl, sym, ◌∙◌, ap, subst, inl, inr, ℕ, zero, suc, ◌+◌, ◌-◌, ◌*◌, ◌/◌, ◌%◌, ◌<◌, ◌≤◌, ◌^◌, min, max, Bool, true, false, cond, not, List, [], ◌∷◌, ◌++◌, length, map, drop, take, get_or, append_assoc, append-nil, arith}
+use Rattle.std.proofs.Common.{◌≡◌, refl, sym, ◌∙◌, ap, subst, ℕ, zero, suc, ◌+◌, ◌-◌, ◌*◌, ◌/◌, ◌%◌, ◌<◌, ◌≤◌, min, List, [], ◌∷◌, length, map, drop, take, get_or, arith}
 use Rattle.std.specs.Prelude.{ℤ, pos, Some, option_and_then}
 use Rattle.std.specs.List.{range_with_len}
 use Rattle.std.proofs.lemmas.List.{get_or-map, length-map, get_or-take, get_or-drop, length-take, length-drop}
@@ -64,4 +64,4 @@ pub entry_of : (size : ℕ) (matrix : IntegerMatrix) (k : ℕ) → IsSquare size
     → option_and_then (at (k % size)) (at (k / size) (number_lists (matrix_rows matrix))) ≡ Some (number (of_integer (get_or matrix.cells k (pos 0))))
 entry_of size matrix k sq some h =
     subst (λ (m : IntegerMatrix). option_and_then (at (k % size)) (at (k / size) (number_lists (matrix_rows m))) ≡ Some (number (of_integer (get_or matrix.cells k (pos 0)))))
-      (square_is size matrix sq.rows sq.columns) (entry_there size matrix.cells k sq.full some h)
+    (square_is size matrix sq.rows sq.columns) (entry_there size matrix.cells k sq.full some h)

@@ -1,10 +1,9 @@
 -- The loops of a copy nest's program.
-use Rattle.std.proofs.Common.{◌≡◌, refl, sym, ◌∙◌, ap, subst, ℕ, zero, suc, ◌≤◌, List, [], ◌∷◌, length, map, get_or, arith}
+use Rattle.std.proofs.Common.{◌≡◌, refl, sym, ◌∙◌, ap, ℕ, suc, ◌≤◌, List, [], ◌∷◌, length, map, get_or, arith}
 use Rattle.std.specs.Prelude.{Option, Some, None, option_map, unwrap_or}
 use Rattle.std.specs.List.{AllByRecursion, enumerate_from}
 use Rattle.std.proofs.lemmas.List.{length-map}
-use Rattle.iolb_model.specs.Form.{AffineForm}
-use Rattle.iolb_model.specs.Program.{AffineProgram, Statement as ModelStatement}
+use Rattle.iolb_model.specs.Program.{AffineProgram}
 use Rattle.iolb_model.specs.Path.{PathStep, rises, first_of, item_path, row_path}
 use Rattle.affine_c.specs.declared.statement.Statement.{Statement}
 use Rattle.affine_c.specs.Tree.{row_of}
@@ -61,5 +60,5 @@ loop_facts parts nest st ok e kept is =
       loops = loops;
       some = omega (arith, many, nested, ok.some_loop);
       few = omega (arith, many, nested, ok.few_loops);
-      as_many = many
+      as_many = many;
     }

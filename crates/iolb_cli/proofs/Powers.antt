@@ -1,10 +1,10 @@
 -- Products of powers, printed one after another.
-use Rattle.std.proofs.Common.{rules, ◌≡◌, refl, sym, ◌∙◌, ap, subst, inl, inr, ℕ, zero, suc, ◌+◌, ◌-◌, ◌*◌, ◌/◌, ◌%◌, ◌<◌, ◌≤◌, ◌^◌, min, Bool, true, false, cond, not, List, [], ◌∷◌, ◌++◌, length, map, drop, take, get_or, append_assoc, append-nil, arith}
-use Rattle.std.specs.Prelude.{flat_map, filter, codes, zip, ◌==◌, pos, ℤ, decimal}
+use Rattle.std.proofs.Common.{◌≡◌, refl, sym, ◌∙◌, ap, ℕ, zero, suc, ◌+◌, ◌<◌, ◌≤◌, min, Bool, true, false, cond, not, List, [], ◌∷◌, ◌++◌, length, drop, get_or, append_assoc, arith}
+use Rattle.std.specs.Prelude.{flat_map, filter, codes, zip, ◌==◌, pos}
 use Rattle.std.specs.List.{join_by}
 use Rattle.std.specs.Fmt.{digits}
-use Rattle.std.proofs.lemmas.Bool.{eq-eqb, ne_eqb}
-use Rattle.iolb_model.specs.Printed.{power_text, product_text, terms_text, size_text}
+use Rattle.std.proofs.lemmas.Bool.{ne_eqb}
+use Rattle.iolb_model.specs.Printed.{power_text, terms_text}
 use Rattle.iolb_cli.specs.Powers.{powers_after}
 
 zip-nil : {A B : Type 0} (xs : List A) → zip {K = A} {X = B} xs [] ≡ []
@@ -47,19 +47,19 @@ pub printed : (started : Bool) (text name : List ℕ) (exponent : ℕ) (rest : L
     → ((text ++ cond started (codes "*") []) ++ power_text (name, exponent)) ++ powers_after true rest ≡ text ++ powers_after started ((name, exponent) ∷ rest)
 printed started text name exponent rest h =
     pieces started text (power_text (name, exponent)) (powers_after true rest) (powers_after started ((name, exponent) ∷ rest)) (first started (filter is_shown rest) (filter is_shown ((name, exponent) ∷ rest)) (shown_first (name, exponent) rest h)) where
-  is_shown : List ℕ × ℕ → Bool
-  is_shown power = not (power.1 == 0)
+      is_shown : List ℕ × ℕ → Bool
+      is_shown power = not (power.1 == 0)
 
-  after : Bool → List (List ℕ × ℕ) → List ℕ
-  after b shown = cond b (flat_map (λ power. codes "*" ++ power_text power) shown) (join_by power_text (codes "*") shown)
+      after : Bool → List (List ℕ × ℕ) → List ℕ
+      after b shown = cond b (flat_map (λ power. codes "*" ++ power_text power) shown) (join_by power_text (codes "*") shown)
 
-  first : (b : Bool) (shown all : List (List ℕ × ℕ)) → all ≡ (name, exponent) ∷ shown
-      → after b all ≡ cond b (codes "*") [] ++ (power_text (name, exponent) ++ after true shown)
-  first true shown all e = ap (after true) e
-  first false shown all e = ap (after false) e
+      first : (b : Bool) (shown all : List (List ℕ × ℕ)) → all ≡ (name, exponent) ∷ shown
+          → after b all ≡ cond b (codes "*") [] ++ (power_text (name, exponent) ++ after true shown)
+      first true shown all e = ap (after true) e
+      first false shown all e = ap (after false) e
 
-  pieces : (b : Bool) (text power more whole : List ℕ) → whole ≡ cond b (codes "*") [] ++ (power ++ more) → ((text ++ cond b (codes "*") []) ++ power) ++ more ≡ text ++ whole
-  pieces b text power more whole e = append_assoc (text ++ cond b (codes "*") []) power more ∙ append_assoc text (cond b (codes "*") []) (power ++ more) ∙ ap (λ (l : List ℕ). text ++ l) (sym e)
+      pieces : (b : Bool) (text power more whole : List ℕ) → whole ≡ cond b (codes "*") [] ++ (power ++ more) → ((text ++ cond b (codes "*") []) ++ power) ++ more ≡ text ++ whole
+      pieces b text power more whole e = append_assoc (text ++ cond b (codes "*") []) power more ∙ append_assoc text (cond b (codes "*") []) (power ++ more) ∙ ap (λ (l : List ℕ). text ++ l) (sym e)
 
 -- a product with the coefficient 1
 pub one_product : (text : List ℕ) → length text ≡ 0 → codes "1" ≡ terms_text ((pos 1, text) ∷ [])

@@ -1,17 +1,16 @@
 -- The plain certificate has no float and is shallow, and its matrix stands where it is looked for.
-use Rattle.std.proofs.Common.{rules, ◌≡◌, refl, sym, ◌∙◌, ap, subst, inl, inr, ℕ, zero, suc, ◌+◌, ◌-◌, ◌*◌, ◌/◌, ◌%◌, ◌<◌, ◌≤◌, ◌^◌, min, max, Bool, true, false, cond, not, List, [], ◌∷◌, ◌++◌, length, map, drop, take, get_or, append_assoc, append-nil, arith}
+use Rattle.std.proofs.Common.{◌≡◌, refl, ◌∙◌, ap, ℕ, suc, ◌+◌, ◌*◌, ◌≤◌, Bool, false, List, [], ◌∷◌, length, map, arith}
 use Rattle.std.specs.Prelude.{ℤ, pos, negsuc, Some, None, codes, ◌||◌}
 use Rattle.std.specs.List.{range_with_len}
 use Rattle.copy_nest.specs.Nest.{variable}
 use Rattle.iolb_model.specs.Path.{PathStep, rises}
-use Rattle.iolb_model.specs.Form.{AffineForm}
 use Rattle.serde_json.specs.Data.{Data, number, depth, items_depth}
 use Rattle.serde_json.specs.Read.{max_depth}
 use Rattle.serde_json.specs.Find.{of_integer, is_float, pointer}
 use Rattle.serde_json.specs.View.{items_of}
-use Rattle.serde_json.specs.Written.{has_float, items_have_float}
+use Rattle.serde_json.specs.Written.{has_float}
 use Rattle.serde_json.proofs.OnLiterals.{serde_json_on_literals}
-use Rattle.iolb_cli.specs.PlainCertificate.{list, numbers, number_lists, loop_pair, one_term, sums_from, plain_inverse, plain_cold, plain_certificate, inside_by, shown_by, parameter_place, form_numbers, sum_term}
+use Rattle.iolb_cli.specs.PlainCertificate.{list, numbers, number_lists, loop_pair, one_term, sums_from, plain_inverse, plain_certificate, inside_by, shown_by, parameter_place, form_numbers, sum_term}
 
 whole_exact : (z : ℤ) → is_float (of_integer z) ≡ false
 whole_exact (pos n) = refl
@@ -60,15 +59,26 @@ sums_shallow parameters before (p ∷ places) = omega (arith, lists_shallow (sum
 
 pub plain_exact : (parameters : ℕ) (loops : List PathStep) (matrix : List (List ℤ)) → has_float (plain_certificate parameters loops matrix) ≡ false
 plain_exact parameters loops matrix =
-    rw (lists_exact (map inside_by (range_with_len parameters (2 * length loops))), inverse_exact matrix, pairs_exact loops,
+    rw (
+      lists_exact (map inside_by (range_with_len parameters (2 * length loops))),
+      inverse_exact matrix,
+      pairs_exact loops,
       lists_exact (map (λ k. form_numbers (variable (parameters + length loops) (parameters + k))) (range_with_len 0 (length loops))),
-      lists_exact (map shown_by (map parameter_place loops)), sums_exact parameters 0 (map parameter_place loops)) refl
+      lists_exact (map shown_by (map parameter_place loops)),
+      sums_exact parameters 0 (map parameter_place loops),
+    ) refl
 
 pub plain_shallow : (parameters : ℕ) (loops : List PathStep) (matrix : List (List ℤ)) → depth (plain_certificate parameters loops matrix) ≤ max_depth
 plain_shallow parameters loops matrix =
-    omega (arith, lists_shallow (map inside_by (range_with_len parameters (2 * length loops))), lists_shallow matrix, pairs_shallow loops,
+    omega (
+      arith,
+      lists_shallow (map inside_by (range_with_len parameters (2 * length loops))),
+      lists_shallow matrix,
+      pairs_shallow loops,
       lists_shallow (map (λ k. form_numbers (variable (parameters + length loops) (parameters + k))) (range_with_len 0 (length loops))),
-      lists_shallow (map shown_by (map parameter_place loops)), sums_shallow parameters 0 (map parameter_place loops))
+      lists_shallow (map shown_by (map parameter_place loops)),
+      sums_shallow parameters 0 (map parameter_place loops),
+    )
 
 -- where the matrix is looked for
 abbrev pub matrix_path : List ℕ

@@ -1,13 +1,12 @@
 -- What a sink has gained.
-use Rattle.std.proofs.Common.{rules, ◌≡◌, refl, sym, ◌∙◌, ap, subst, inl, inr, ℕ, zero, suc, ◌+◌, ◌-◌, ◌*◌, ◌/◌, ◌%◌, ◌<◌, ◌≤◌, ◌^◌, min, Bool, true, false, cond, not, List, [], ◌∷◌, ◌++◌, length, map, drop, take, get_or, append_assoc, append-nil, arith}
-use Rattle.std.specs.Prelude.{◌⊎◌, Option}
+use Rattle.std.proofs.Common.{refl, sym, ◌∙◌, ap, inl, inr, ℕ, List, length, arith}
+use Rattle.std.specs.Prelude.{Option}
 use Rattle.std.specs.Io.KnownBytes.{append_known}
 use Rattle.std.proofs.lemmas.List.{take_all}
 use Rattle.iolb_host.specs.Sink.{AppendsPiece, AppendsPart}
-use Rattle.iolb_cli.specs.declared.status.Status.{Status}
 use Rattle.iolb_cli.specs.declared.status.Status.TheVariants.{NoMemory}
 use Rattle.iolb_cli.specs.Lines.{out_of_memory}
-use Rattle.iolb_cli.specs.Outcome.{SinkUse, Gains, GainsPart}
+use Rattle.iolb_cli.specs.Outcome.{SinkUse, Gains}
 use Rattle.iolb_cli.specs.Written.{IsCut}
 
 -- the whole of a piece is a part of it

@@ -1,5 +1,5 @@
 -- From the check of a certificate to that of two files, and to what the call leaves.
-use Rattle.std.proofs.Common.{rules, ◌≡◌, refl, sym, ◌∙◌, ap, subst, inl, inr, ℕ, zero, suc, ◌+◌, ◌-◌, ◌*◌, ◌/◌, ◌%◌, ◌<◌, ◌≤◌, ◌^◌, min, max, Bool, true, false, cond, not, List, [], ◌∷◌, ◌++◌, length, map, drop, take, get_or, append_assoc, append-nil, arith}
+use Rattle.std.proofs.Common.{◌≡◌, refl, sym, ◌∙◌, subst, inl, inr, ℕ, ◌≤◌, List, length, map, arith}
 use Rattle.std.specs.Prelude.{◌⊎◌, Option, Some, None, Result, Ok, Err, IfOk, IfErr, IfSome, Vec}
 use Rattle.std.specs.declared.alloc.Global.{Global}
 use Rattle.iolb_model.specs.Program.{AffineProgram}
@@ -9,16 +9,16 @@ use Rattle.iolb_host.specs.declared.files.FileFault.TheVariants.{Missing, TooLon
 use Rattle.iolb_host.specs.Count.{Rose}
 use Rattle.iolb_host.specs.Files.{FileMap, content_of, Answers}
 use Rattle.iolb_cli.specs.declared.status.Status.{Status}
-use Rattle.iolb_cli.specs.declared.status.Status.TheVariants.{Done, Refused, OtherText, FileAbsent, ReadFault, WriteFault, Wide, NoMemory}
+use Rattle.iolb_cli.specs.declared.status.Status.TheVariants.{Done, WriteFault, NoMemory}
 use Rattle.iolb_cli.specs.declared.stop.Stop.{Stop}
 use Rattle.iolb_cli.specs.declared.stop.Stop.TheVariants.{Words, ProgramFile, ProgramText, CertificateFile, CertificateText, Condition, Memory}
-use Rattle.iolb_cli.specs.Reading.{IsContent, Counts, FaultCause}
+use Rattle.iolb_cli.specs.Reading.{Counts, FaultCause}
 use Rattle.iolb_cli.specs.Lines.{out_of_memory}
 use Rattle.iolb_cli.specs.Stop.{program_most, HoldsProgram, IsAccepted, CheckStop, stop_status, Call, Stops}
 use Rattle.iolb_cli.specs.Judged.{IsGoodFor, CertificateStop}
 use Rattle.iolb_cli.specs.Outcome.{SinkUse, Gains, GainsPart, Stays, Fails, IsDone, IsStopped, IsCutShort, Outcome}
 use Rattle.iolb_cli.specs.Headline.{IsLowerBoundPrinted}
-use Rattle.iolb_cli.specs.Written.{IsCut, LineWritten, OutputWritten}
+use Rattle.iolb_cli.specs.Written.{LineWritten, OutputWritten}
 use Rattle.iolb_cli.proofs.Sinks.{part_of_piece}
 
 abbrev pub counts : ℕ → ℕ → ℕ → ℕ → ℕ → ℕ → Counts
@@ -61,7 +61,7 @@ accepted_from files p name program text there good = record {
   meets = good.good.meets;
   bound_is = good.good.bound_is;
   printed = good.good.printed;
-  holds = good.good.holds
+  holds = good.good.holds;
 }
 
 pub accepted_result : (r : Result (Vec ℕ Global) Stop) (files told : Option FileMap) (p name : List ℕ) (program : AffineProgram) → told ≡ files
@@ -79,7 +79,7 @@ pub program_there : (files : Option FileMap) (name : List ℕ) (bytes : Vec ℕ 
 program_there files name bytes slice program e few told reads = record {
   bytes = bytes.items;
   content = record { few = few; told = told_from files name program_most bytes told };
-  reads = subst (λ (l : List ℕ). ReadsAsProgram l program) e reads
+  reads = subst (λ (l : List ℕ). ReadsAsProgram l program) e reads;
 }
 
 -- a call that stopped and said so
@@ -146,5 +146,5 @@ headline call output error status outcome e = said_bound (subst (λ (s : Status)
     meets = done.accepted.meets;
     printed = subst (Gains output) done.accepted.printed gains;
     error_stays = stays;
-    holds = done.accepted.holds
+    holds = done.accepted.holds;
   }

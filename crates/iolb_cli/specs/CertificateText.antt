@@ -1,5 +1,5 @@
 -- What the text of a certificate is, and which fault a text has.
-use Rattle.std.specs.Prelude.{◌≡◌, ⊤, ℕ, ◌*◌, ◌^◌, ◌⊎◌, ℤ, List, [], length, Some, IsUtf8}
+use Rattle.std.specs.Prelude.{◌≡◌, ⊤, ℕ, ◌*◌, ◌^◌, ◌⊎◌, List, [], length, Some, IsUtf8}
 use Rattle.std.specs.List.{AllByRecursion}
 use Rattle.iolb_model.specs.Program.{AffineProgram}
 use Rattle.affine_form.specs.Form.{IsSmall}

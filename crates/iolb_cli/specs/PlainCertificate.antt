@@ -99,9 +99,9 @@ plain_cold parameters loops matrix = cold_object
 abbrev pub plain_certificate : ℕ → List PathStep → List (List ℤ) → Data
 plain_certificate parameters loops matrix = object
     (member (codes "branches") (list (object
-      (member (codes "disjoint") (list [])
-      (member (codes "terms") (list (single (codes "cold") (plain_cold parameters loops matrix) ∷ []))
-      no_members)) ∷ []))
+    (member (codes "disjoint") (list [])
+    (member (codes "terms") (list (single (codes "cold") (plain_cold parameters loops matrix) ∷ []))
+    no_members)) ∷ []))
     (member (codes "quasts") (list (list (single (codes "input") (list []) ∷ []) ∷ []))
     (member (codes "version") (number (unsigned 1))
     no_members)))

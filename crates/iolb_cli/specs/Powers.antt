@@ -1,5 +1,5 @@
 -- Products of powers that are printed one after another.
-use Rattle.std.specs.Prelude.{ℕ, ◌==◌, Bool, true, false, not, if◌then◌else◌, List, ◌++◌, filter, flat_map, codes}
+use Rattle.std.specs.Prelude.{ℕ, ◌==◌, Bool, not, if◌then◌else◌, List, ◌++◌, filter, flat_map, codes}
 use Rattle.std.specs.List.{join_by}
 use Rattle.iolb_model.specs.Printed.{power_text}
 

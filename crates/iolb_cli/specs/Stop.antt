@@ -16,7 +16,7 @@ use Rattle.iolb_host.specs.Files.{FileMap}
 use Rattle.iolb_host.specs.declared.files.FileFault.{FileFault}
 use Rattle.iolb_host.specs.declared.files.FileFault.TheVariants.{Missing, TooLong, Failed, Memory as NoMemoryForFile}
 use Rattle.iolb_cli.specs.declared.status.Status.{Status}
-use Rattle.iolb_cli.specs.declared.status.Status.TheVariants.{Done, Refused, Words as WordsRefused, ProgramText as ProgramRefused, OtherText, FileAbsent, ReadFault, WriteFault, Wide, NoMemory}
+use Rattle.iolb_cli.specs.declared.status.Status.TheVariants.{Refused, Words as WordsRefused, ProgramText as ProgramRefused, OtherText, FileAbsent, ReadFault, NoMemory}
 use Rattle.iolb_cli.specs.declared.stop.Stop.{Stop}
 use Rattle.iolb_cli.specs.declared.stop.Stop.TheVariants.{Words, ProgramFile, ProgramText, CertificateFile, CertificateText, Condition, Memory}
 use Rattle.iolb_cli.specs.Words.{IsCheck}

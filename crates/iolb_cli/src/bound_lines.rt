@@ -13,7 +13,12 @@ use iolb_check::{Bound, Value};
 use std::alloc::Global;
 
 /// An assumption, written on a line at the end.
-fn push_assumption(alloc: Global, text: &mut Vec<u8>, names: &[Name], row: &Form) -> Result<(), Memory>
+fn push_assumption(
+    alloc: Global,
+    text: &mut Vec<u8>,
+    names: &[Name],
+    row: &Form,
+) -> Result<(), Memory>
     requires { IsOver (length names.now) row.now }
     ensures { OnOk result (text.new.items ≡ text.old.items ++ assumption_text names.now row.now) }
 {
@@ -61,7 +66,12 @@ fn term_lines(alloc: Global, names: &[Name], terms: &[Value]) -> Result<Vec<u8>,
 }
 
 /// A word, a number and the end of the line, written at the end.
-fn push_number_line(alloc: Global, text: &mut Vec<u8>, word: &[u8], number: usize) -> Result<(), Memory>
+fn push_number_line(
+    alloc: Global,
+    text: &mut Vec<u8>,
+    word: &[u8],
+    number: usize,
+) -> Result<(), Memory>
     ensures { OnOk result (text.new.items ≡ text.old.items ++ word.now ++ decimal number ++ codes "\n") }
 {
     text.extend_from_slice(word)?;

@@ -16,7 +16,13 @@ use iolb_host::{Files, Sink};
 use std::alloc::Global;
 
 /// Writes why the check of these two files stops.
-fn stopped<E: Sink>(alloc: Global, program: &str, certificate: &str, stop: &Stop, err: &mut E) -> Status
+fn stopped<E: Sink>(
+    alloc: Global,
+    program: &str,
+    certificate: &str,
+    stop: &Stop,
+    err: &mut E,
+) -> Status
     ensures { LineWritten (record { before = E.written err.old; after = E.written err.new; faults = E.faults err.old; faults_after = E.faults err.new }) (line_of_stop program.now certificate.now stop.now) (stop_status stop.now) result }
 {
     match stop_line(alloc, program, certificate, stop) {
@@ -33,12 +39,30 @@ pub fn run<F: Files, O: Sink, E: Sink>(
     out: &mut O,
     err: &mut E,
 ) -> Status
-    ensures outcome { Outcome result (record { words = map (λ word. string_bytes word) words.now.items; files = F.told files.old; counts = record {
-        missing = F.missing files.old; missing_after = F.missing files.new; long = F.long files.old; long_after = F.long files.new;
-        failed = F.faults files.old; failed_after = F.faults files.new } }) (record { before = O.written out.old; after = O.written out.new; faults = O.faults out.old; faults_after = O.faults out.new }) (record { before = E.written err.old; after = E.written err.new; faults = E.faults err.old; faults_after = E.faults err.new }) }
-    ensures headline { result ≡ Status.Done → IsLowerBoundPrinted (record { words = map (λ word. string_bytes word) words.now.items; files = F.told files.old; counts = record {
-        missing = F.missing files.old; missing_after = F.missing files.new; long = F.long files.old; long_after = F.long files.new;
-        failed = F.faults files.old; failed_after = F.faults files.new } }) (record { before = O.written out.old; after = O.written out.new; faults = O.faults out.old; faults_after = O.faults out.new }) (record { before = E.written err.old; after = E.written err.new; faults = E.faults err.old; faults_after = E.faults err.new }) }
+    ensures outcome { Outcome result (record {
+      words = map (λ word. string_bytes word) words.now.items;
+      files = F.told files.old;
+      counts = record {
+        missing = F.missing files.old;
+        missing_after = F.missing files.new;
+        long = F.long files.old;
+        long_after = F.long files.new;
+        failed = F.faults files.old;
+        failed_after = F.faults files.new;
+      };
+    }) (record { before = O.written out.old; after = O.written out.new; faults = O.faults out.old; faults_after = O.faults out.new }) (record { before = E.written err.old; after = E.written err.new; faults = E.faults err.old; faults_after = E.faults err.new }) }
+    ensures headline { result ≡ Status.Done → IsLowerBoundPrinted (record {
+      words = map (λ word. string_bytes word) words.now.items;
+      files = F.told files.old;
+      counts = record {
+        missing = F.missing files.old;
+        missing_after = F.missing files.new;
+        long = F.long files.old;
+        long_after = F.long files.new;
+        failed = F.faults files.old;
+        failed_after = F.faults files.new;
+      };
+    }) (record { before = O.written out.old; after = O.written out.new; faults = O.faults out.old; faults_after = O.faults out.new }) (record { before = E.written err.old; after = E.written err.new; faults = E.faults err.old; faults_after = E.faults err.new }) }
 {
     let Some((program, certificate)) = check_names(words) else {
         return stopped(alloc, "", "", &Stop::Words, err);

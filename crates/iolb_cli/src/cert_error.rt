@@ -23,6 +23,7 @@ pub enum CertError {
 
 impl From<AllocError> for CertError {
     ghost use Rattle.iolb_cli.specs.declared.cert_error.CertError.TheVariants.{Memory};
+
     ghost from_gives = { λ _ e. e ≡ Memory };
 
     fn from(_error: AllocError) -> CertError {

@@ -55,8 +55,13 @@ fn check_certificate<F: Files>(
     ensures faults_never_fall { F.faults files.old ≤ F.faults files.new }
     ensures good { IfOk result (λ text. IsGoodFor (F.told files.old) certificate.now (meaning program.now) text.items) }
     ensures stop { IfErr result (λ stop. CertificateStop (F.told files.old) (record {
-        missing = F.missing files.old; missing_after = F.missing files.new; long = F.long files.old; long_after = F.long files.new;
-        failed = F.faults files.old; failed_after = F.faults files.new }) certificate.now (meaning program.now) stop) }
+      missing = F.missing files.old;
+      missing_after = F.missing files.new;
+      long = F.long files.old;
+      long_after = F.long files.new;
+      failed = F.faults files.old;
+      failed_after = F.faults files.new;
+    }) certificate.now (meaning program.now) stop) }
 {
     let bytes = match files.read(certificate, CERTIFICATE_MOST) {
         Ok(bytes) => bytes,
@@ -78,8 +83,13 @@ pub(crate) fn check_files<F: Files>(
 ) -> Result<Vec<u8>, Stop>
     ensures accepted { IfOk result (λ text. IsAccepted (F.told files.old) program.now certificate.now text.items) }
     ensures stop { IfErr result (λ stop. CheckStop (F.told files.old) (record {
-        missing = F.missing files.old; missing_after = F.missing files.new; long = F.long files.old; long_after = F.long files.new;
-        failed = F.faults files.old; failed_after = F.faults files.new }) program.now certificate.now stop) }
+      missing = F.missing files.old;
+      missing_after = F.missing files.new;
+      long = F.long files.old;
+      long_after = F.long files.new;
+      failed = F.faults files.old;
+      failed_after = F.faults files.new;
+    }) program.now certificate.now stop) }
 {
     let bytes = match files.read(program, PROGRAM_MOST) {
         Ok(bytes) => bytes,

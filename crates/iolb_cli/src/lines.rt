@@ -12,7 +12,8 @@ use affine_form::{Memory, No};
 use iolb_host::FileFault;
 use std::alloc::Global;
 
-const USAGE: &[u8] = b"usage: iolb check PROGRAM CERTIFICATE\n       iolb bound PROGRAM\n       iolb eval PROGRAM CERTIFICATE S NAME=NUMBER...\n       iolb replay PROGRAM SCHEDULE S NAME=NUMBER...\n       iolb sample N\n";
+const USAGE: &[u8] =
+    b"usage: iolb check PROGRAM CERTIFICATE\n       iolb bound PROGRAM\n       iolb eval PROGRAM CERTIFICATE S NAME=NUMBER...\n       iolb replay PROGRAM SCHEDULE S NAME=NUMBER...\n       iolb sample N\n";
 
 /// The line for want of memory.
 pub(crate) const OUT_OF_MEMORY: &[u8] = b"out of memory\n";

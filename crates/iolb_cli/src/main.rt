@@ -16,26 +16,39 @@ mod product_text;
 mod status;
 mod stop;
 mod sums;
+#[cfg(test)]
+mod tests;
 mod words;
 mod writing;
 
-#[cfg(test)]
-mod tests;
-
+use crate::status::Status;
 use iolb_host::{StdFiles, StdSink};
-use std::env;
-use std::io;
 use std::process::ExitCode;
+use std::{env, io};
 
-fn main(rt: HostRuntime) -> io::Result<ExitCode> {
-    let alloc = rt.alloc();
-    let mut words = Vec::new(alloc);
-    for word in env::args(&rt)?.skip(1) {
+/// The words after the program's name.
+fn words_of(rt: &HostRuntime) -> io::Result<Vec<String>> {
+    let mut words = Vec::new(rt.alloc());
+    for word in env::args(rt)?.skip(1) {
         words.push(word)?;
     }
-    let mut files = StdFiles::new(&rt);
-    let mut out = StdSink::output(&rt);
-    let mut err = StdSink::error(&rt);
-    let status = call::run(alloc, &words, &mut files, &mut out, &mut err);
-    Ok(ExitCode::from(status.number()))
+    Ok(words)
+}
+
+/// Calls the program with the system's files and streams. A word that is no text is refused as no words are.
+fn called(rt: &HostRuntime) -> Status {
+    let alloc = rt.alloc();
+    let mut out = StdSink::output(rt);
+    let mut err = StdSink::error(rt);
+    let words = match words_of(rt) {
+        Ok(words) => words,
+        Err(error) if error.kind() == io::ErrorKind::InvalidData => Vec::new(alloc),
+        Err(_) => return writing::no_memory(&mut err),
+    };
+    let mut files = StdFiles::new(rt);
+    call::run(alloc, &words, &mut files, &mut out, &mut err)
+}
+
+fn main(rt: HostRuntime) -> ExitCode {
+    ExitCode::from(called(&rt).number())
 }

@@ -56,7 +56,12 @@ fn cold_value(
 }
 
 /// The cold term.
-fn cold(alloc: Global, parameters: u8, bounds: &[(Form, Form)], cells: &[i32]) -> Result<Value, AllocError>
+fn cold(
+    alloc: Global,
+    parameters: u8,
+    bounds: &[(Form, Form)],
+    cells: &[i32],
+) -> Result<Value, AllocError>
     requires few_parameters { parameters ≤ 24 }
     requires few_loops { length bounds.now ≤ 4 }
     requires full { length cells.now ≡ length bounds.now * length bounds.now }

@@ -60,7 +60,11 @@ fn powers_text(alloc: Global, names: &[Name], exponents: &[u8]) -> Result<Vec<u8
 }
 
 /// A product of parameters as a polynomial is printed: `1` if it has none.
-pub(crate) fn product_text(alloc: Global, names: &[Name], product: &Product) -> Result<Vec<u8>, Memory>
+pub(crate) fn product_text(
+    alloc: Global,
+    names: &[Name],
+    product: &Product,
+) -> Result<Vec<u8>, Memory>
     ensures { IfOk result (λ text. text.items ≡ polynomial_text names.now product.now) }
 {
     let text = powers_text(alloc, names, product.exponents())?;

@@ -7,19 +7,25 @@ use std::alloc::{AllocError, Global};
 use std::collections::BTreeMap;
 use std::test::Fail;
 
-const COPY: &str = "#pragma scop\nfor (i = 0; i < N; i++) for (j = 0; j < M; j++) B[i][j] = A[i][j];\n#pragma endscop\n";
+const COPY: &str =
+    "#pragma scop\nfor (i = 0; i < N; i++) for (j = 0; j < M; j++) B[i][j] = A[i][j];\n#pragma endscop\n";
 
-const TRANSPOSE: &str = "#pragma scop\nfor (i = 0; i < N; i++) for (j = 0; j < M; j++) B[i][j] = A[j][i];\n#pragma endscop\n";
+const TRANSPOSE: &str =
+    "#pragma scop\nfor (i = 0; i < N; i++) for (j = 0; j < M; j++) B[i][j] = A[j][i];\n#pragma endscop\n";
 
-const GEMM: &str = "#include \"gemm.h\"\nstatic void kernel_gemm(int ni, int nj, int nk) {\n  int i, j, k;\n#pragma scop\n  for (i = 0; i < _PB_NI; i++) {\n    for (j = 0; j < _PB_NJ; j++)\n      C[i][j] *= beta; /* scale first */\n    for (k = 0; k < _PB_NK; k++)\n      for (j = 0; j < _PB_NJ; j++)\n        C[i][j] += alpha * A[i][k] * B[k][j];\n  }\n#pragma endscop\n}\n";
+const GEMM: &str =
+    "#include \"gemm.h\"\nstatic void kernel_gemm(int ni, int nj, int nk) {\n  int i, j, k;\n#pragma scop\n  for (i = 0; i < _PB_NI; i++) {\n    for (j = 0; j < _PB_NJ; j++)\n      C[i][j] *= beta; /* scale first */\n    for (k = 0; k < _PB_NK; k++)\n      for (j = 0; j < _PB_NJ; j++)\n        C[i][j] += alpha * A[i][k] * B[k][j];\n  }\n#pragma endscop\n}\n";
 
-const STRAIGHT: &str = "{\"branches\":[{\"disjoint\":[],\"terms\":[{\"cold\":{\"inside\":[[1,0,2,1],[1,0,3,1],[1,0,4,1],[1,0,5,1]],\"inverse\":{\"matrix\":[[1,0],[0,1]],\"scale\":1},\"leaves\":[{\"stop\":[]}],\"nest\":[[[0,0,0],[1,0,-1]],[[0,0,0,0],[0,1,0,-1]]],\"point\":[[0,0,1,0,0],[0,0,0,1,0]],\"read\":0,\"shown\":[[1,1,0,1],[1,1,1,1]],\"statement\":0,\"sums\":[{\"den\":1,\"terms\":[[1,0,1,1]]},{\"den\":1,\"terms\":[[1,0,0,0,1]]}]}}]}],\"quasts\":[[{\"input\":[]}]],\"version\":1}\n";
+const STRAIGHT: &str =
+    "{\"branches\":[{\"disjoint\":[],\"terms\":[{\"cold\":{\"inside\":[[1,0,2,1],[1,0,3,1],[1,0,4,1],[1,0,5,1]],\"inverse\":{\"matrix\":[[1,0],[0,1]],\"scale\":1},\"leaves\":[{\"stop\":[]}],\"nest\":[[[0,0,0],[1,0,-1]],[[0,0,0,0],[0,1,0,-1]]],\"point\":[[0,0,1,0,0],[0,0,0,1,0]],\"read\":0,\"shown\":[[1,1,0,1],[1,1,1,1]],\"statement\":0,\"sums\":[{\"den\":1,\"terms\":[[1,0,1,1]]},{\"den\":1,\"terms\":[[1,0,0,0,1]]}]}}]}],\"quasts\":[[{\"input\":[]}]],\"version\":1}\n";
 
-const SWAPPED: &str = "{\"branches\":[{\"disjoint\":[],\"terms\":[{\"cold\":{\"inside\":[[1,0,2,1],[1,0,3,1],[1,0,4,1],[1,0,5,1]],\"inverse\":{\"matrix\":[[0,1],[1,0]],\"scale\":1},\"leaves\":[{\"stop\":[]}],\"nest\":[[[0,0,0],[1,0,-1]],[[0,0,0,0],[0,1,0,-1]]],\"point\":[[0,0,1,0,0],[0,0,0,1,0]],\"read\":0,\"shown\":[[1,1,0,1],[1,1,1,1]],\"statement\":0,\"sums\":[{\"den\":1,\"terms\":[[1,0,1,1]]},{\"den\":1,\"terms\":[[1,0,0,0,1]]}]}}]}],\"quasts\":[[{\"input\":[]}]],\"version\":1}\n";
+const SWAPPED: &str =
+    "{\"branches\":[{\"disjoint\":[],\"terms\":[{\"cold\":{\"inside\":[[1,0,2,1],[1,0,3,1],[1,0,4,1],[1,0,5,1]],\"inverse\":{\"matrix\":[[0,1],[1,0]],\"scale\":1},\"leaves\":[{\"stop\":[]}],\"nest\":[[[0,0,0],[1,0,-1]],[[0,0,0,0],[0,1,0,-1]]],\"point\":[[0,0,1,0,0],[0,0,0,1,0]],\"read\":0,\"shown\":[[1,1,0,1],[1,1,1,1]],\"statement\":0,\"sums\":[{\"den\":1,\"terms\":[[1,0,1,1]]},{\"den\":1,\"terms\":[[1,0,0,0,1]]}]}}]}],\"quasts\":[[{\"input\":[]}]],\"version\":1}\n";
 
 const CUT: &str = "{\"branches\":[{\"disjoint\":[],\"terms\":[{\"c";
 
-const USAGE: &str = "usage: iolb check PROGRAM CERTIFICATE\n       iolb bound PROGRAM\n       iolb eval PROGRAM CERTIFICATE S NAME=NUMBER...\n       iolb replay PROGRAM SCHEDULE S NAME=NUMBER...\n       iolb sample N\n";
+const USAGE: &str =
+    "usage: iolb check PROGRAM CERTIFICATE\n       iolb bound PROGRAM\n       iolb eval PROGRAM CERTIFICATE S NAME=NUMBER...\n       iolb replay PROGRAM SCHEDULE S NAME=NUMBER...\n       iolb sample N\n";
 
 const BOUND: &str = "assume N - 1 >= 0\nassume M - 1 >= 0\nbranch 0\n  cold N*M\nbranches 1\n";
 
@@ -31,7 +37,10 @@ const FILES: [(&str, &str); 9] = [
     ("swapped.json", SWAPPED),
     ("cut.json", CUT),
     ("empty.json", ""),
-    ("other.json", "{\"branches\":[],\"quasts\":[],\"version\":1}\n"),
+    (
+        "other.json",
+        "{\"branches\":[],\"quasts\":[],\"version\":1}\n",
+    ),
     ("-c", COPY),
 ];
 
@@ -71,7 +80,8 @@ fn call(
     Ok((status, out, err))
 }
 
-const CONDITION: &str = "certificate refused: condition 12 at /branches/0/terms/0/cold/inverse/matrix/0/0\n";
+const CONDITION: &str =
+    "certificate refused: condition 12 at /branches/0/terms/0/cold/inverse/matrix/0/0\n";
 
 #[test]
 fn worked_calls(rt: HostRuntime) -> Result<(), Fail> {
@@ -79,16 +89,46 @@ fn worked_calls(rt: HostRuntime) -> Result<(), Fail> {
         ("check copy.c copy.json", Status::Done, BOUND, ""),
         ("check transpose.c swapped.json", Status::Done, BOUND, ""),
         ("check copy.c swapped.json", Status::Refused, "", CONDITION),
-        ("check gemm.c copy.json", Status::ProgramText, "", "program refused: fault 13 at byte 0\n"),
-        ("check copy.c cut.json", Status::OtherText, "", "certificate text refused: fault 1\n"),
-        ("check copy.c empty.json", Status::OtherText, "", "certificate text refused: fault 1\n"),
-        ("check copy.c other.json", Status::OtherText, "", "certificate text refused: fault 4 at \n"),
+        (
+            "check gemm.c copy.json",
+            Status::ProgramText,
+            "",
+            "program refused: fault 13 at byte 0\n",
+        ),
+        (
+            "check copy.c cut.json",
+            Status::OtherText,
+            "",
+            "certificate text refused: fault 1\n",
+        ),
+        (
+            "check copy.c empty.json",
+            Status::OtherText,
+            "",
+            "certificate text refused: fault 1\n",
+        ),
+        (
+            "check copy.c other.json",
+            Status::OtherText,
+            "",
+            "certificate text refused: fault 4 at \n",
+        ),
         ("", Status::Words, "", USAGE),
         ("--help", Status::Words, "", USAGE),
         ("check -c copy.json", Status::Words, "", USAGE),
         ("bound copy.c copy.json", Status::Words, "", USAGE),
-        ("check p.c copy.json", Status::FileAbsent, "", "file missing: p.c\n"),
-        ("check copy.c c.json", Status::FileAbsent, "", "file missing: c.json\n"),
+        (
+            "check p.c copy.json",
+            Status::FileAbsent,
+            "",
+            "file missing: p.c\n",
+        ),
+        (
+            "check copy.c c.json",
+            Status::FileAbsent,
+            "",
+            "file missing: c.json\n",
+        ),
     ];
     for (line, status, output, error) in cases {
         let (found, out, err) = call(rt.alloc(), line, None, None, None)?;
@@ -104,8 +144,22 @@ fn failing_reads_and_writes(rt: HostRuntime) -> Result<(), Fail> {
     let check = "check copy.c copy.json";
     let absent = "check p.c copy.json";
     let cases = [
-        (check, Some(0), None, None, Status::ReadFault, "read failed: copy.c\n"),
-        (check, Some(1), None, None, Status::ReadFault, "read failed: copy.json\n"),
+        (
+            check,
+            Some(0),
+            None,
+            None,
+            Status::ReadFault,
+            "read failed: copy.c\n",
+        ),
+        (
+            check,
+            Some(1),
+            None,
+            None,
+            Status::ReadFault,
+            "read failed: copy.json\n",
+        ),
         (check, None, Some(0), None, Status::WriteFault, ""),
         (absent, None, None, Some(0), Status::WriteFault, ""),
     ];

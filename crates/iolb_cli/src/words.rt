@@ -23,7 +23,10 @@ pub fn check_names(words: &Vec<String>) -> Option<(&str, &str)>
     let [command, program, certificate] = words.as_slice() else {
         return None;
     };
-    if command.as_str() != "check" || is_option(program.as_bytes()) || is_option(certificate.as_bytes()) {
+    if command.as_str() != "check"
+        || is_option(program.as_bytes())
+        || is_option(certificate.as_bytes())
+    {
         return None;
     }
     Some((program.as_str(), certificate.as_str()))

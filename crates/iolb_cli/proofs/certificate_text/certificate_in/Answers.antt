@@ -1,8 +1,7 @@
-use Rattle.std.proofs.Common.{rules, ◌≡◌, refl, sym, ◌∙◌, ap, subst, inl, inr, ℕ, zero, suc, ◌+◌, ◌-◌, ◌*◌, ◌/◌, ◌%◌, ◌<◌, ◌≤◌, ◌^◌, min, max, Bool, true, false, cond, not, List, [], ◌∷◌, ◌++◌, length, map, drop, take, get_or, append_assoc, append-nil, arith}
-use Rattle.std.specs.Prelude.{ℤ, Option, None, Some, IsTrue, IsSomeAnd, IfSome, option_map, Vec}
+use Rattle.std.proofs.Common.{rules, ◌≡◌, sym, ◌∙◌, ap, subst, ℕ, ◌≤◌, Bool, true, false, List, length, map, get_or, arith}
+use Rattle.std.specs.Prelude.{ℤ, Option, None, Some, IsTrue, IsSomeAnd, Vec}
 use Rattle.std.specs.declared.alloc.Global.{Global}
 use Rattle.iolb_model.specs.Form.{AffineForm}
-use Rattle.iolb_model.specs.Program.{AffineProgram}
 use Rattle.iolb_model.specs.Path.{PathStep}
 use Rattle.affine_form.specs.System.{AffineSystem}
 use Rattle.affine_form.specs.Matrix.{IntegerMatrix}
@@ -15,7 +14,7 @@ use Rattle.serde_json.specs.Data.{Data, depth}
 use Rattle.serde_json.specs.Read.{max_depth}
 use Rattle.serde_json.specs.Written.{has_float}
 use Rattle.serde_json.specs.View.{view}
-use Rattle.iolb_cli.specs.PlainCertificate.{loops_of, certificate_of, number_lists, plain_certificate}
+use Rattle.iolb_cli.specs.PlainCertificate.{loops_of, certificate_of, plain_certificate}
 use Rattle.iolb_cli.specs.CertificateText.{IsSquare}
 use Rattle.iolb_cli.proofs.Loops.{LoopFacts, loop_facts}
 use Rattle.iolb_cli.proofs.Shapes.{plain_exact, plain_shallow, not_found, found_is}
@@ -67,8 +66,8 @@ pub returns-in_default-2-clause-none : goal.returns-in_default-2-clause-none
 returns-in_default-2-clause-none c = λ matrix sq e.
     let facts : LoopFacts c.args.program.now c.index-statements-0.result = facts_of c.args.program.now c.requires.nest c.statements.ensures.kept c.statements.result.now c.statements.ensures.statements c.index-statements-0.result c.index-statements-0.is in
     none_found c.in_ok-cells.field-0 matrix.cells c.in_default-2.is
-      (c.in_ok-cells.ensures.found matrix (subst (λ (n : ℕ). IsSquare n matrix) (as_many c.args.program.now c.index-statements-0.result c.as_slice-bounds.result.now facts (c.as_slice-bounds.ensures.value ∙ ap (λ (s : Statement). s.bounds.items) (sym c.index-statements-0.is))) sq)
-        (found_is (view c.args.value.now) (view c.in-Some.rows.now) (length c.args.program.now.params) (loops_of (meaning c.args.program.now)) (matrix_rows matrix) c.in-Some.ensures e))
+    (c.in_ok-cells.ensures.found matrix (subst (λ (n : ℕ). IsSquare n matrix) (as_many c.args.program.now c.index-statements-0.result c.as_slice-bounds.result.now facts (c.as_slice-bounds.ensures.value ∙ ap (λ (s : Statement). s.bounds.items) (sym c.index-statements-0.is))) sq)
+    (found_is (view c.args.value.now) (view c.in-Some.rows.now) (length c.args.program.now.params) (loops_of (meaning c.args.program.now)) (matrix_rows matrix) c.in-Some.ensures e))
 
 pub plain_value-requires-clause-few_loops : goal.plain_value-requires-clause-few_loops
 plain_value-requires-clause-few_loops c =
@@ -96,12 +95,12 @@ returns-then-not-branch-clause-none c = λ matrix sq e.
     let parameters : c.vars-parameters.result ≡ length c.args.program.now.params = c.vars-parameters.ensures.vars ∙ ap (λ (s : AffineSystem). s.vars) c.assumed.ensures.assumed ∙ c.assumed.ensures.kept.assumed in
     let sized : IsSquare (length bounds) matrix = subst (λ (n : ℕ). IsSquare n matrix) (as_many c.args.program.now c.index-statements-0.result bounds facts bounds_are) sq in
     let cells : c.in-Some-2.cells.items ≡ matrix.cells = some_found c.in_ok-cells.field-0 c.in-Some-2.cells matrix.cells c.in-Some-2.is
-      (c.in_ok-cells.ensures.found matrix sized (found_is (view c.args.value.now) (view c.in-Some.rows.now) (length c.args.program.now.params) (loops_of (meaning c.args.program.now)) (matrix_rows matrix) c.in-Some.ensures e)) in
+    (c.in_ok-cells.ensures.found matrix sized (found_is (view c.args.value.now) (view c.in-Some.rows.now) (length c.args.program.now.params) (loops_of (meaning c.args.program.now)) (matrix_rows matrix) c.in-Some.ensures e)) in
     let made : square (length bounds) c.as_slice.result.now ≡ matrix = ap (square (length bounds)) (c.as_slice.ensures.value ∙ cells) ∙ square_is (length bounds) matrix sized.rows sized.columns in
     refuted c.in_ok-are_same.field-0 c.if-not-branch.true (c.in_ok-are_same.ensures.other
-      (e ∙ sym (c.in_ok-plain.ensures
-        ∙ plain_is c.args.program.now c.index-statements-0.result bounds c.vars-parameters.result facts bounds_are parameters (matrix_rows (square (length bounds) c.as_slice.result.now))
-        ∙ ap (λ (m : IntegerMatrix). certificate_of (meaning c.args.program.now) (matrix_rows m)) made)))
+    (e ∙ sym (c.in_ok-plain.ensures
+    ∙ plain_is c.args.program.now c.index-statements-0.result bounds c.vars-parameters.result facts bounds_are parameters (matrix_rows (square (length bounds) c.as_slice.result.now))
+    ∙ ap (λ (m : IntegerMatrix). certificate_of (meaning c.args.program.now) (matrix_rows m)) made)))
 
 pub new-matrix-requires-clause-shape : goal.new-matrix-requires-clause-shape
 new-matrix-requires-clause-shape c =

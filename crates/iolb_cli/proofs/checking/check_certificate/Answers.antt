@@ -1,4 +1,4 @@
-use Rattle.std.proofs.Common.{rules, ◌≡◌, refl, sym, ◌∙◌, ap, subst, inl, inr, ℕ, zero, suc, ◌+◌, ◌-◌, ◌*◌, ◌/◌, ◌%◌, ◌<◌, ◌≤◌, ◌^◌, min, max, Bool, true, false, cond, not, List, [], ◌∷◌, ◌++◌, length, map, drop, take, get_or, append_assoc, append-nil, arith}
+use Rattle.std.proofs.Common.{◌≡◌, ◌∙◌, ap, length}
 use Rattle.iolb_model.specs.Program.{AffineProgram}
 use Rattle.affine_c.specs.Parts.{meaning}
 use Rattle.iolb_cli.specs.PlainCertificate.{loops_of}
@@ -7,10 +7,12 @@ use Rattle.iolb_cli.proofs.checking.check_certificate.Goals as goal
 
 pub judge-requires : goal.judge-requires
 judge-requires g c =
-    let many : length (loops_of (meaning c.args.program.now)) ≡ length c.requires.0.loops = ap (λ (p : AffineProgram). length (loops_of p)) c.requires.2 ∙ length-loops c.requires.0 in
-    (c.requires.0, record {
-      copies = c.requires.1;
-      program_is = c.requires.2;
-      rows = c.in-Ok-read_certificate.ensures.certificate.square.rows ∙ many;
-      columns = c.in-Ok-read_certificate.ensures.certificate.square.columns ∙ many
-    })
+    let many : length (loops_of (meaning c.args.program.now)) ≡ length c.requires.0.loops = ap (λ (p : AffineProgram). length (loops_of p)) c.requires.2 ∙ length-loops c.requires.0 in (
+      c.requires.0,
+      record {
+        copies = c.requires.1;
+        program_is = c.requires.2;
+        rows = c.in-Ok-read_certificate.ensures.certificate.square.rows ∙ many;
+        columns = c.in-Ok-read_certificate.ensures.certificate.square.columns ∙ many;
+      },
+    )

@@ -1,4 +1,3 @@
-use Rattle.std.proofs.Common.{rules, ◌≡◌, refl, sym, ◌∙◌, ap, subst, inl, inr, ℕ, zero, suc, ◌+◌, ◌-◌, ◌*◌, ◌/◌, ◌%◌, ◌<◌, ◌≤◌, ◌^◌, min, max, Bool, true, false, cond, not, List, [], ◌∷◌, ◌++◌, length, map, drop, take, get_or, append_assoc, append-nil, arith}
 use Rattle.affine_c.specs.Parts.{meaning}
 use Rattle.iolb_cli.proofs.Assumptions.{assumptions_over}
 use Rattle.iolb_cli.proofs.checking.judge.Goals as goal

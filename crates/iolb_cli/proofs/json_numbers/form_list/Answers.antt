@@ -1,4 +1,4 @@
-use Rattle.std.proofs.Common.{rules, ◌≡◌, refl, sym, ◌∙◌, ap, subst, inl, inr, ℕ, zero, suc, ◌+◌, ◌-◌, ◌*◌, ◌/◌, ◌%◌, ◌<◌, ◌≤◌, ◌^◌, min, max, Bool, true, false, cond, not, List, [], ◌∷◌, ◌++◌, length, map, drop, take, get_or, append_assoc, append-nil, arith}
+use Rattle.std.proofs.Common.{◌≡◌, sym, ◌∙◌, ap, subst, ℕ, suc, ◌+◌, ◌<◌, ◌^◌, List, [], ◌∷◌, ◌++◌, length, drop, get_or, append_assoc, arith}
 use Rattle.std.specs.Prelude.{ℤ, pos, unsigned_abs}
 use Rattle.std.proofs.Common.{lit≤, to_z, of_z}
 use mir.Syntax.{w64}
@@ -21,9 +21,9 @@ loop-coefficient-preserved c =
     let i : ℕ = c.loop-coefficient.coefficient-index in
     let inside : i < length xs = c.loop-coefficient-test.true in
     let small : unsigned_abs (get_or xs i (pos 0)) < 2 ^ 62 =
-      subst (λ (l : List ℤ). i < length l → unsigned_abs (get_or l i (pos 0)) < 2 ^ 62) (sym c.coef-coefficient-items.ensures.coefficients)
-        (All-at (IsSmall (2 ^ 62)) c.args.form.now.coefficients i (pos 0) c.coef-coefficient-items.ensures.legal.1.0) inside in
+    subst (λ (l : List ℤ). i < length l → unsigned_abs (get_or l i (pos 0)) < 2 ^ 62) (sym c.coef-coefficient-items.ensures.coefficients)
+    (All-at (IsSmall (2 ^ 62)) c.args.form.now.coefficients i (pos 0) c.coef-coefficient-items.ensures.legal.1.0) inside in
     let is : c.whole.result ≡ get_or xs i (pos 0) = c.whole.ensures ∙ small-bits (get_or xs i (pos 0)) (2 ^ 62) small (lit≤ tt) in
     let small_whole : unsigned_abs c.whole.result < 2 ^ 62 = subst (λ (z : ℤ). unsigned_abs z < 2 ^ 62) (sym is) small in
     moved c.loop-coefficient.list.items c.push.new.self.items xs i (to_z w64 (of_z w64 c.whole.result)) inside
-      (to_z-of_z w64 c.whole.result (fits_signed_from_abs w64 c.whole.result (omega (arith, small_whole))) ∙ is) c.in_ok-push.ensures.items c.loop-coefficient.invariant
+    (to_z-of_z w64 c.whole.result (fits_signed_from_abs w64 c.whole.result (omega (arith, small_whole))) ∙ is) c.in_ok-push.ensures.items c.loop-coefficient.invariant

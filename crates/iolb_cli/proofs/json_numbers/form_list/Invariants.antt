@@ -1,5 +1,4 @@
-use Rattle.std.proofs.Common.{◌≡◌, ℕ, ◌+◌, ◌*◌, ◌<◌, ◌≤◌, List, [], ◌∷◌, ◌++◌, length, map, drop, take, replicate, cond}
-use Rattle.std.specs.Prelude.{ℤ, pos, flat_map}
+use Rattle.std.proofs.Common.{◌≡◌, ◌++◌, drop}
 use Rattle.iolb_cli.proofs.json_numbers.form_list.Given as goal
 
 abbrev pub invariant-loop-coefficient : goal.invariant-loop-coefficient

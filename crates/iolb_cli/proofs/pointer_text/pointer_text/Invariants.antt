@@ -1,5 +1,5 @@
-use Rattle.std.proofs.Common.{◌≡◌, ℕ, ◌+◌, ◌*◌, ◌<◌, ◌≤◌, List, [], ◌∷◌, ◌++◌, length, map, drop, take, replicate, cond}
-use Rattle.std.specs.Prelude.{ℤ, pos, flat_map}
+use Rattle.std.proofs.Common.{◌≡◌, ◌++◌, drop}
+use Rattle.std.specs.Prelude.{flat_map}
 use Rattle.iolb_cli.specs.PointerText.{step_text}
 use Rattle.iolb_cli.proofs.pointer_text.pointer_text.Given as goal
 

@@ -1,4 +1,4 @@
-use Rattle.std.proofs.Common.{rules, ◌≡◌, refl, sym, ◌∙◌, ap, subst, inl, inr, ℕ, zero, suc, ◌+◌, ◌-◌, ◌*◌, ◌/◌, ◌%◌, ◌<◌, ◌≤◌, ◌^◌, min, Bool, true, false, cond, not, List, [], ◌∷◌, ◌++◌, length, map, drop, take, get_or, append_assoc, append-nil, arith}
+use Rattle.std.proofs.Common.{◌≡◌, sym, ◌∙◌, ap, ℕ, ◌+◌, Bool, true, false, List, [], ◌++◌, drop, append-nil, arith}
 use Rattle.std.specs.Prelude.{zip}
 use Rattle.iolb_cli.specs.Powers.{powers_after}
 use Rattle.iolb_cli.proofs.Powers.{zip_past, zip_step}
@@ -8,7 +8,7 @@ pub loop-i-preserved : goal.loop-i-preserved
 loop-i-preserved c =
     c.in_ok-started.ensures (zip (drop (c.loop-i.i + 1) c.args.names.now) (drop (c.loop-i.i + 1) c.args.exponents.now))
     ∙ ap (λ (ps : List (List ℕ × ℕ)). c.loop-i.text.items ++ powers_after c.loop-i.started ps)
-      (sym (zip_step c.args.names.now c.args.exponents.now c.loop-i.i c.index-names-i.result (omega (arith, c.loop-i-test.true, c.min-i-end.ensures)) c.index-names-i.is))
+    (sym (zip_step c.args.names.now c.args.exponents.now c.loop-i.i c.index-names-i.result (omega (arith, c.loop-i-test.true, c.min-i-end.ensures)) c.index-names-i.is))
     ∙ c.loop-i.invariant
 
 ended : (started : Bool) (text : List ℕ) (ps : List (List ℕ × ℕ)) → ps ≡ [] → text ++ powers_after started ps ≡ text

@@ -1,8 +1,7 @@
-use Rattle.std.proofs.Common.{rules, ◌≡◌, refl, sym, ◌∙◌, ap, subst, inl, inr, ℕ, zero, suc, ◌+◌, ◌-◌, ◌*◌, ◌/◌, ◌%◌, ◌<◌, ◌≤◌, ◌^◌, min, max, Bool, true, false, cond, not, List, [], ◌∷◌, ◌++◌, length, map, drop, take, get_or, append_assoc, append-nil, arith}
-use Rattle.std.specs.Prelude.{ℤ, pos}
+use Rattle.std.proofs.Common.{rules, sym, ◌∙◌, ap, ℕ, List, [], ◌∷◌}
+use Rattle.std.specs.Prelude.{pos}
 use Rattle.iolb_model.specs.Polynomial.{Polynomial}
-use Rattle.iolb_model.specs.Printed.{polynomial_text, product_text, terms_text}
-use Rattle.iolb_check.specs.Product.{product_of}
+use Rattle.iolb_model.specs.Printed.{polynomial_text, terms_text}
 use Rattle.iolb_cli.proofs.Powers.{one_product}
 use Rattle.iolb_cli.proofs.product_text.product_text.Goals as goal
 
