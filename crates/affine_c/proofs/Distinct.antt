@@ -1,5 +1,5 @@
 -- Each name once, one name more.
-use Rattle.std.proofs.Common.{◌≡◌, refl, sym, ◌∙◌, ap, subst, inl, inr, ℕ, Bool, true, false, cond, not, List, [], ◌∷◌, ◌++◌}
+use Rattle.std.proofs.Common.{◌≡◌, refl, sym, ◌∙◌, ap, subst, ℕ, Bool, true, false, cond, not, List, [], ◌∷◌, ◌++◌}
 use Rattle.std.specs.Prelude.{◌||◌, bytes_eq, filter}
 use Rattle.std.proofs.lemmas.Bool.{false_from_ne_true}
 use Rattle.std.proofs.lemmas.List.{append-nil}
@@ -34,14 +34,18 @@ distinct-push [] y = refl
 distinct-push (x ∷ xs) y = ap (λ (l : List (List ℕ)). x ∷ filter apart l) (distinct-push xs y) ∙ by_same (bytes_eq x y) refl (is_among (distinct bytes_eq xs) y) refl where
   apart : List ℕ → Bool
   apart z = not (bytes_eq x z)
+
   kept : List (List ℕ)
   kept = distinct bytes_eq xs
+
   either : (b : Bool) → filter apart (kept ++ y ∷ []) ≡ filter apart kept → filter apart (cond b kept (kept ++ y ∷ [])) ≡ filter apart kept
   either true g = refl
   either false g = g
+
   chosen : (b : Bool) → filter apart (kept ++ y ∷ []) ≡ filter apart kept ++ y ∷ [] → x ∷ filter apart (cond b kept (kept ++ y ∷ [])) ≡ cond b (x ∷ filter apart kept) (x ∷ (filter apart kept ++ y ∷ []))
   chosen true g = refl
   chosen false g = ap (λ (l : List (List ℕ)). x ∷ l) g
+
   by_same : (t : Bool) → t ≡ bytes_eq x y → (a : Bool) → a ≡ is_among kept y
       → x ∷ filter apart (cond (is_among kept y) kept (kept ++ y ∷ [])) ≡ cond (bytes_eq y x || is_among (filter apart kept) y) (x ∷ filter apart kept) (x ∷ (filter apart kept ++ y ∷ []))
   by_same true e a f =

@@ -29,7 +29,7 @@ pub front_step : {A : Type 0} (one : List ℕ → Option (A × List ℕ)) (front
 front_step {A = A} one front turn bytes x rest all l e h =
     let left : 4 - turn ≡ suc (4 - (turn + 1)) = omega (arith, l) in
     same_pair (front ++ x ∷ [] ++ (members_at one (4 - (turn + 1)) rest).0) (front ++ (x ∷ (members_at one (4 - (turn + 1)) rest).0)) (members_at one (4 - (turn + 1)) rest).1
-      (append_assoc front (x ∷ []) (members_at one (4 - (turn + 1)) rest).0)
+    (append_assoc front (x ∷ []) (members_at one (4 - (turn + 1)) rest).0)
     ∙ ap (with_front front) (sym (members_next one (4 - (turn + 1)) bytes x rest e) ∙ ap (λ (n : ℕ). members_at one n bytes) (sym left))
     ∙ h
 

@@ -1,5 +1,5 @@
 -- What holds of each loop of a nest, at the one that is read.
-use Rattle.std.proofs.Common.{rules, ◌≡◌, sym, subst, ◌<◌, ℕ, map, length, List, [], get_or, Bor}
+use Rattle.std.proofs.Common.{sym, subst, ◌<◌, ℕ, map, length, List, [], get_or, Bor}
 use Rattle.std.specs.List.{AllByRecursion}
 use Rattle.std.proofs.lemmas.List.{get_or-map, length-map}
 use Rattle.copy_nest.specs.Nest.{CopyLoop}
@@ -19,10 +19,10 @@ no_loop = record { name = []; bound = [] }
 pub at_loop : (P : CopyLoop → Type 0) (loops : List Header) (k : ℕ) → AllByRecursion P (map loop_view loops) → k < length loops → P (loop_view (get_or loops k no_header))
 at_loop P loops k h l =
     subst P (get_or-map loop_view loops k no_header no_loop l)
-      (All-at P (map loop_view loops) k no_loop h (subst (λ (n : ℕ). k < n) (sym (length-map loops loop_view)) l))
+    (All-at P (map loop_view loops) k no_loop h (subst (λ (n : ℕ). k < n) (sym (length-map loops loop_view)) l))
 
 -- what holds of each name holds of the one that is read
 pub at_name : (P : List ℕ → Type 0) (names : List (Bor (List ℕ))) (k : ℕ) (d : Bor (List ℕ)) → AllByRecursion P (map (λ (n : Bor (List ℕ)). n.now) names) → k < length names → P (get_or names k d).now
 at_name P names k d h l =
     subst P (get_or-map (λ (n : Bor (List ℕ)). n.now) names k d [] l)
-      (All-at P (map (λ (n : Bor (List ℕ)). n.now) names) k [] h (subst (λ (n : ℕ). k < n) (sym (length-map names (λ (n : Bor (List ℕ)). n.now))) l))
+    (All-at P (map (λ (n : Bor (List ℕ)). n.now) names) k [] h (subst (λ (n : ℕ). k < n) (sym (length-map names (λ (n : Bor (List ℕ)). n.now))) l))

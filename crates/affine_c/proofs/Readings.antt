@@ -1,9 +1,9 @@
 -- The program that is read is the one of the copy nest of which the bytes are the text.
-use Rattle.std.proofs.Common.{◌≡◌, refl, sym, ◌∙◌, ap, subst, ℕ, List, Bool, true, false, cond}
+use Rattle.std.proofs.Common.{◌≡◌, refl, sym, ◌∙◌, ap, ℕ, List, Bool, true, cond}
 use Rattle.std.specs.Prelude.{Option, Some, None, option_map, option_and_then}
 use Rattle.iolb_model.specs.Program.{AffineProgram}
 use Rattle.copy_nest.specs.Nest.{CopyNest, program_of}
-use Rattle.copy_nest.specs.Spelling.{IsCopyNest, IsTextOf, ReadsAsProgram}
+use Rattle.copy_nest.specs.Spelling.{IsCopyNest, ReadsAsProgram}
 use Rattle.affine_c.specs.Parts.{ProgramParts, meaning}
 use Rattle.affine_c.specs.Reading.{body_of, nest_at, is_copy_nest, if_copies, nest_of}
 use Rattle.affine_c.proofs.TextOfNest.{nest_of_sound, nest_of_complete}

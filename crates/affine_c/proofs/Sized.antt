@@ -1,5 +1,5 @@
 -- How many loops and parameters the lists of a nest's names hold, and that they are names.
-use Rattle.std.proofs.Common.{◌≡◌, refl, sym, ◌∙◌, ap, subst, ℕ, ◌+◌, ◌<◌, ◌≤◌, List, [], ◌∷◌, length, map, Bool, true, false, not, cond, filter, Bor, arith}
+use Rattle.std.proofs.Common.{◌≡◌, sym, ◌∙◌, ap, subst, ℕ, ◌<◌, ◌≤◌, List, [], ◌∷◌, length, map, Bool, true, false, not, cond, filter, Bor, arith}
 use Rattle.std.specs.Prelude.{bytes_eq, IsTrue}
 use Rattle.std.specs.List.{AllByRecursion}
 use Rattle.std.proofs.lemmas.List.{length-map}
@@ -29,7 +29,7 @@ pub bounds_there : (nest : CopyNest) (names : List (Bor (List ℕ))) → map (λ
     → AllByRecursion (λ (l : CopyLoop). place_of l.bound (map (λ (n : Bor (List ℕ)). n.now) names) < length names) nest.loops
 bounds_there nest names e =
     subst (λ (many : ℕ). AllByRecursion (λ (l : CopyLoop). place_of l.bound (map (λ (n : Bor (List ℕ)). n.now) names) < many) nest.loops) (sym (parameters_long nest names e))
-      (subst (λ (all : List (List ℕ)). AllByRecursion (λ (l : CopyLoop). place_of l.bound all < length (parameter_names nest)) nest.loops) (sym e) (parameters_placed nest))
+    (subst (λ (all : List (List ℕ)). AllByRecursion (λ (l : CopyLoop). place_of l.bound all < length (parameter_names nest)) nest.loops) (sym e) (parameters_placed nest))
 
 -- each subscript that is a loop has a place among the names
 pub subscripts_there : (nest : CopyNest) (names : List (Bor (List ℕ))) (subscripts : List (List ℕ)) → map (λ (n : Bor (List ℕ)). n.now) names ≡ loop_names nest
@@ -37,7 +37,7 @@ pub subscripts_there : (nest : CopyNest) (names : List (Bor (List ℕ))) (subscr
     → AllByRecursion (λ (name : List ℕ). place_of name (map (λ (n : Bor (List ℕ)). n.now) names) < length names) subscripts
 subscripts_there nest names subscripts e h =
     subst (λ (many : ℕ). AllByRecursion (λ (name : List ℕ). place_of name (map (λ (n : Bor (List ℕ)). n.now) names) < many) subscripts) (sym (sym (length-map names (λ (n : Bor (List ℕ)). n.now)) ∙ ap length e))
-      (subst (λ (all : List (List ℕ)). AllByRecursion (λ (name : List ℕ). place_of name all < length (loop_names nest)) subscripts) (sym e) (subscripts_placed (loop_names nest) subscripts h))
+    (subst (λ (all : List (List ℕ)). AllByRecursion (λ (name : List ℕ). place_of name all < length (loop_names nest)) subscripts) (sym e) (subscripts_placed (loop_names nest) subscripts h))
 
 kept : (P : List ℕ → Type 0) (x : List ℕ) (xs : List (List ℕ)) (b : Bool) → P x → AllByRecursion P xs → AllByRecursion P (cond b (x ∷ xs) xs)
 kept P x xs true p h = (p, h)

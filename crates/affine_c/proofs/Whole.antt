@@ -1,9 +1,9 @@
 -- What is built for a copy nest is a program, and means the nest's program.
-use Rattle.std.proofs.Common.{◌≡◌, refl, sym, ◌∙◌, ap, subst, ℕ, List, [], ◌∷◌, length, map}
-use Rattle.std.specs.Prelude.{Option, Some}
+use Rattle.std.proofs.Common.{◌≡◌, sym, ◌∙◌, ap, subst, ℕ, List, [], ◌∷◌, length, map}
+use Rattle.std.specs.Prelude.{Some}
 use Rattle.std.specs.List.{AllByRecursion, enumerate_from}
 use Rattle.iolb_model.specs.Form.{AffineForm}
-use Rattle.iolb_model.specs.Program.{Access, Array, AffineProgram, Statement as ModelStatement, Item as ModelItem, Row, next, done, IsWellFormed}
+use Rattle.iolb_model.specs.Program.{Array, AffineProgram, Statement as ModelStatement, Item as ModelItem, Row, next, done, IsWellFormed}
 use Rattle.iolb_model.specs.Path.{PathStep, row_path}
 use Rattle.affine_form.specs.System.{AffineSystem}
 use Rattle.copy_nest.specs.Nest.{CopyNest, parameter_names, parameters_positive, nest_arrays, nest_statement, nest_item, program_of}
@@ -43,13 +43,13 @@ tree_built nest parts statement item built = ap row_of built.one_item ∙ ap (λ
 pub built_meaning : (nest : CopyNest) (parts : ProgramParts) (statement : Statement) (item : Item) → AreBuilt nest parts statement item → meaning parts ≡ program_of nest
 built_meaning nest parts statement item built =
     five parts.params (parameter_names nest) parts.assumed.rows (parameters_positive (length (parameter_names nest))) (map array_of parts.arrays) (nest_arrays nest)
-      (map statement_of parts.statements) (nest_statement nest ∷ []) (row_of parts.tree) (program_of nest).tree built.params (ap (λ (s : AffineSystem). s.rows) built.assumed) built.arrays
-      (ap (map statement_of) built.one_statement ∙ ap (λ (s : ModelStatement). s ∷ []) built.statement) (tree_built nest parts statement item built)
+    (map statement_of parts.statements) (nest_statement nest ∷ []) (row_of parts.tree) (program_of nest).tree built.params (ap (λ (s : AffineSystem). s.rows) built.assumed) built.arrays
+    (ap (map statement_of) built.one_statement ∙ ap (λ (s : ModelStatement). s ∷ []) built.statement) (tree_built nest parts statement item built)
 
 pub built_program : (nest : CopyNest) (parts : ProgramParts) (statement : Statement) (item : Item) → AreBuilt nest parts statement item → IsProgram parts
 built_program nest parts statement item built = record {
-    well_formed = subst IsWellFormed (sym (built_meaning nest parts statement item built)) (nest_well_formed nest);
-    assumed = ap (λ (s : AffineSystem). s.vars) built.assumed ∙ ap (λ (p : List (List ℕ)). length p) (sym built.params);
-    bounds = subst (λ (all : List Statement). AllByRecursion (λ (placed : ℕ × Statement). row_path (row_of parts.tree) placed.0 ≡ Some (map step_of placed.1.bounds.items)) (enumerate_from 0 all)) (sym built.one_statement)
-      ((ap (λ (row : Row). row_path row 0) (tree_built nest parts statement item built) ∙ statement_path nest ∙ ap (λ (steps : List PathStep). Some steps) (sym built.bounds)), tt)
-  }
+  well_formed = subst IsWellFormed (sym (built_meaning nest parts statement item built)) (nest_well_formed nest);
+  assumed = ap (λ (s : AffineSystem). s.vars) built.assumed ∙ ap (λ (p : List (List ℕ)). length p) (sym built.params);
+  bounds = subst (λ (all : List Statement). AllByRecursion (λ (placed : ℕ × Statement). row_path (row_of parts.tree) placed.0 ≡ Some (map step_of placed.1.bounds.items)) (enumerate_from 0 all)) (sym built.one_statement)
+      ((ap (λ (row : Row). row_path row 0) (tree_built nest parts statement item built) ∙ statement_path nest ∙ ap (λ (steps : List PathStep). Some steps) (sym built.bounds)), tt);
+}

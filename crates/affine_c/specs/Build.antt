@@ -7,5 +7,5 @@ use Rattle.copy_nest.specs.Nest.{place_of, variable}
 abbrev pub loop_access : ℕ → ℕ → List (List ℕ) → List (List ℕ) → Access
 loop_access array parameters loops names = record {
   array = array;
-  subscripts = map (λ (name : List ℕ). variable (parameters + length loops) (parameters + place_of name loops)) names
+  subscripts = map (λ (name : List ℕ). variable (parameters + length loops) (parameters + place_of name loops)) names;
 }

@@ -37,7 +37,7 @@ meaning parts = record {
   assumptions = parts.assumed.rows;
   arrays = map array_of parts.arrays;
   statements = map statement_of parts.statements;
-  tree = row_of parts.tree
+  tree = row_of parts.tree;
 }
 
 -- a loop around a statement, by its lower and its upper bound

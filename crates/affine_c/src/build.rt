@@ -188,8 +188,20 @@ fn statement_of_nest(
     ensures bounds { IfOk result (λ statement. map step_of statement.bounds.items ≡ nest_steps (parameter_names (nest_view nest.now)) (length (parameter_names (nest_view nest.now))) (nest_view nest.now).loops) }
 {
     let bounds = bounds_of(alloc, parameters, nest.loops.as_slice())?;
-    let writes = reference_of(alloc, 0, nest.written.subscripts.as_slice(), parameters.len(), loops)?;
-    let read = reference_of(alloc, 1, nest.read.subscripts.as_slice(), parameters.len(), loops)?;
+    let writes = reference_of(
+        alloc,
+        0,
+        nest.written.subscripts.as_slice(),
+        parameters.len(),
+        loops,
+    )?;
+    let read = reference_of(
+        alloc,
+        1,
+        nest.read.subscripts.as_slice(),
+        parameters.len(),
+        loops,
+    )?;
     let reads = vec![in alloc; read]?;
     Ok(Statement {
         bounds,
@@ -205,7 +217,10 @@ fn arrays_of(alloc: Global, nest: &NestText) -> Result<Vec<(Name, u8)>, Memory>
 {
     let written = name_from(alloc, nest.written.array)?;
     let read = name_from(alloc, nest.read.array)?;
-    let arrays = vec![in alloc; (written, nest.written.subscripts.len() as u8), (read, nest.read.subscripts.len() as u8)]?;
+    let arrays = vec![in alloc;
+        (written, nest.written.subscripts.len() as u8),
+        (read, nest.read.subscripts.len() as u8),
+    ]?;
     Ok(arrays)
 }
 

@@ -1,12 +1,11 @@
 -- A copy nest's program is well formed, and its statement is reached through its loops.
-use Rattle.std.proofs.Common.{◌≡◌, refl, sym, ◌∙◌, ap, subst, ℕ, zero, suc, ◌+◌, ◌<◌, ◌≤◌, List, [], ◌∷◌, ◌++◌, length, map, set, replicate, arith}
-use Rattle.std.specs.Prelude.{pos, negsuc, Option, Some, None, option_map, ⊤}
+use Rattle.std.proofs.Common.{◌≡◌, refl, sym, ◌∙◌, ap, subst, ℕ, suc, ◌+◌, List, [], ◌∷◌, length, map, set, replicate, arith}
+use Rattle.std.specs.Prelude.{pos, Option, Some, None, option_map}
 use Rattle.std.specs.List.{AllByRecursion, range_with_len}
 use Rattle.std.proofs.lemmas.List.{length-map, length-set, length-replicate, append-nil}
-use Rattle.iolb_model.specs.Form.{AffineForm}
-use Rattle.iolb_model.specs.Program.{AffineProgram, Item, Row, done, next, IsOver, AccessFits, StatementFits, ItemFits, RowFits, item_statements, row_statements, IsWellFormed}
+use Rattle.iolb_model.specs.Program.{IsOver, StatementFits, ItemFits, item_statements, IsWellFormed}
 use Rattle.iolb_model.specs.Path.{PathStep, rises, first_of, item_path, row_path}
-use Rattle.copy_nest.specs.Nest.{CopyLoop, CopyAccess, CopyNest, loop_names, parameter_names, place_of, variable, variable_less_one, zero_form, nest_item, access_of, parameters_positive, program_of}
+use Rattle.copy_nest.specs.Nest.{CopyLoop, CopyNest, parameter_names, place_of, variable, variable_less_one, zero_form, nest_item, program_of}
 use Rattle.copy_nest.specs.Steps.{nest_steps}
 
 nest_path : (names : List (List ℕ)) (variables : ℕ) (loops : List CopyLoop) → item_path (nest_item names variables loops) 0 ≡ Some (nest_steps names variables loops)
@@ -34,10 +33,10 @@ subscripts_wide (name ∷ names) variables f = (unit_wide variables (f name), su
 -- the statement's references fit, over the parameters and the loops
 statement_fits : (nest : CopyNest) (variables : ℕ) → variables ≡ length (parameter_names nest) + length nest.loops → StatementFits (program_of nest) variables 0
 statement_fits nest variables e = subst (λ (n : ℕ). StatementFits (program_of nest) n 0) (sym e) (record {
-    there = omega arith;
-    writes = record { rank = length-map nest.written.subscripts _; subscripts = subscripts_wide nest.written.subscripts _ _ };
-    reads = (record { rank = length-map nest.read.subscripts _; subscripts = subscripts_wide nest.read.subscripts _ _ }, tt)
-  })
+  there = omega arith;
+  writes = record { rank = length-map nest.written.subscripts _; subscripts = subscripts_wide nest.written.subscripts _ _ };
+  reads = (record { rank = length-map nest.read.subscripts _; subscripts = subscripts_wide nest.read.subscripts _ _ }, tt);
+})
 
 item_fits : (nest : CopyNest) (loops : List CopyLoop) (variables : ℕ) → variables + length loops ≡ length (parameter_names nest) + length nest.loops
     → ItemFits (program_of nest) variables (nest_item (parameter_names nest) variables loops)
@@ -46,7 +45,7 @@ item_fits nest (l ∷ loops) variables e = (length-replicate variables (pos 0), 
 
 pub nest_well_formed : (nest : CopyNest) → IsWellFormed (program_of nest)
 nest_well_formed nest = record {
-    numbered = append-nil (item_statements (nest_item (parameter_names nest) (length (parameter_names nest)) nest.loops)) ∙ one_statement (parameter_names nest) (length (parameter_names nest)) nest.loops;
-    assumptions = positive_wide (length (parameter_names nest)) (range_with_len 0 (length (parameter_names nest)));
-    tree = (item_fits nest nest.loops (length (parameter_names nest)) refl, tt)
-  }
+  numbered = append-nil (item_statements (nest_item (parameter_names nest) (length (parameter_names nest)) nest.loops)) ∙ one_statement (parameter_names nest) (length (parameter_names nest)) nest.loops;
+  assumptions = positive_wide (length (parameter_names nest)) (range_with_len 0 (length (parameter_names nest)));
+  tree = (item_fits nest nest.loops (length (parameter_names nest)) refl, tt);
+}

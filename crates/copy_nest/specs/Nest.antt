@@ -1,9 +1,9 @@
 -- Copy nests: one to four loops, each from 0 to below a parameter, around one statement that copies a cell of one
 -- array into a cell of another. The program that such a nest means.
-use Rattle.std.specs.Prelude.{◌≡◌, ◌≢◌, ℕ, suc, ◌+◌, ◌-◌, ◌≤◌, ℤ, pos, negsuc, Bool, List, [], ◌∷◌, ◌++◌, map, length, replicate, slice_set, bytes_eq, Contains, IsPermutation}
-use Rattle.std.specs.List.{AllByRecursion, IsDistinct, range_with_len, position_or_len}
+use Rattle.std.specs.Prelude.{ℕ, suc, ◌+◌, pos, negsuc, List, [], ◌∷◌, map, length, replicate, slice_set, bytes_eq}
+use Rattle.std.specs.List.{range_with_len, position_or_len}
 use Rattle.iolb_model.specs.Form.{AffineForm}
-use Rattle.iolb_model.specs.Program.{Access, Statement, Item, assign, loop, Row, done, next, Array, AffineProgram}
+use Rattle.iolb_model.specs.Program.{Access, Statement, Item, assign, loop, done, next, Array, AffineProgram}
 use Rattle.iolb_model.specs.Graph.{distinct}
 
 -- a loop from 0 to below a parameter: the loop's name, and the parameter's
@@ -57,7 +57,7 @@ abbrev pub access_of : CopyNest → ℕ → CopyAccess → Access
 access_of nest number access = record {
   array = number;
   subscripts = map (λ (name : List ℕ). variable (length (parameter_names nest) + length nest.loops)
-    (length (parameter_names nest) + place_of name (loop_names nest))) access.subscripts
+      (length (parameter_names nest) + place_of name (loop_names nest))) access.subscripts;
 }
 
 -- the array of a reference
@@ -83,5 +83,5 @@ program_of nest = record {
   assumptions = parameters_positive (length (parameter_names nest));
   arrays = nest_arrays nest;
   statements = nest_statement nest ∷ [];
-  tree = next (nest_item (parameter_names nest) (length (parameter_names nest)) nest.loops) done
+  tree = next (nest_item (parameter_names nest) (length (parameter_names nest)) nest.loops) done;
 }

@@ -8,5 +8,5 @@ graph_of graph = record {
   instances = graph.instances;
   inputs = graph.inputs;
   predecessors = map (λ vertices. vertices.items) graph.preds.items;
-  last_writers = graph.last.items
+  last_writers = graph.last.items;
 }

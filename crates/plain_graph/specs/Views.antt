@@ -1,5 +1,5 @@
 -- The code's instances, cells and sources, as those of the definitions.
-use Rattle.std.specs.Prelude.{ℕ, List, [], map}
+use Rattle.std.specs.Prelude.{List, [], map}
 use Rattle.iolb_model.specs.Program.{AffineProgram}
 use Rattle.iolb_model.specs.Execution.{Instance as ModelInstance}
 use Rattle.iolb_model.specs.Source.{Cell as ModelCell, Source as ModelSource, written_at, input}

@@ -6,7 +6,7 @@ ghost use Rattle.iolb_model.specs.Source.{cell_of, same_cell, written_cell, read
 ghost use Rattle.affine_c.specs.Parts.{access_of, statement_of};
 ghost use Rattle.plain_graph.specs.Views.{cell_view, instance_of, program_with};
 
-use crate::runs::{value_at, Instance};
+use crate::runs::{Instance, value_at};
 use crate::stopped::Stopped;
 use affine_c::{Reference, Statement};
 use std::alloc::Global;

@@ -7,9 +7,9 @@ ghost use Rattle.iolb_model.specs.Graph.{distinct, input_cell, placed, vertex_of
 ghost use Rattle.pebble_game.specs.Graphs.{graph_of};
 ghost use Rattle.plain_graph.specs.Views.{cell_view, instance_of, source_view, program_with, no_instance};
 
-use crate::cells::{cell_written_by, Cell};
-use crate::runs::{runs_of_row, Instance};
-use crate::sources::{cells_of_inputs, distinct_cells, sources_at, Source};
+use crate::cells::{Cell, cell_written_by};
+use crate::runs::{Instance, runs_of_row};
+use crate::sources::{Source, cells_of_inputs, distinct_cells, sources_at};
 use crate::stopped::Stopped;
 use affine_c::{Item, Statement};
 use pebble_game::Graph;
@@ -206,7 +206,13 @@ pub fn graph(
     let sources = all_sources(alloc, statements, parameters, runs.as_slice())?;
     let cells = cells_of_inputs(alloc, sources.as_slice())?;
     let cells = distinct_cells(alloc, cells.as_slice())?;
-    let preds = all_predecessors(alloc, statements, parameters, runs.as_slice(), cells.as_slice())?;
+    let preds = all_predecessors(
+        alloc,
+        statements,
+        parameters,
+        runs.as_slice(),
+        cells.as_slice(),
+    )?;
     let last = last_writers(alloc, statements, parameters, runs.as_slice())?;
     Ok(Graph {
         instances: small_number(runs.as_slice().len())?,

@@ -7,6 +7,5 @@ pub mod graphs;
 pub mod runs;
 pub mod sources;
 pub mod stopped;
-
 #[cfg(test)]
 mod tests;

@@ -83,11 +83,7 @@ fn with_value(alloc: Global, point: &[i128], value: i128) -> Result<Vec<i128>, S
 }
 
 /// Puts instances of a loop's body at the end, each with the loop's value in front of its own.
-fn push_at_value(
-    runs: &mut Vec<Instance>,
-    value: i128,
-    body: Vec<Instance>,
-) -> Result<(), Stopped>
+fn push_at_value(runs: &mut Vec<Instance>, value: i128, body: Vec<Instance>) -> Result<(), Stopped>
     ensures { OnOk result (map instance_of runs.new.items ≡ map instance_of runs.old.items ++ map (at_value value) (map instance_of body.items)) }
 {
     for instance in body {
@@ -110,12 +106,19 @@ pub fn runs_of_row(alloc: Global, row: &[Item], point: &[i128]) -> Result<Vec<In
                 values: Vec::new(alloc),
             })?,
             Item::Loop {
-                lower, upper, body, ..
+                lower,
+                upper,
+                body,
+                ..
             } => {
                 let values = loop_values(alloc, value_at(lower, point)?, value_at(upper, point)?)?;
                 for value in values.as_slice() {
                     let inner = with_value(alloc, point, *value)?;
-                    push_at_value(&mut runs, *value, runs_of_row(alloc, body, inner.as_slice())?)?;
+                    push_at_value(
+                        &mut runs,
+                        *value,
+                        runs_of_row(alloc, body, inner.as_slice())?,
+                    )?;
                 }
             }
         }

@@ -6,7 +6,7 @@ ghost use Rattle.iolb_model.specs.Source.{same_cell, last_write_before, source_o
 ghost use Rattle.iolb_model.specs.Graph.{distinct, input_cell};
 ghost use Rattle.plain_graph.specs.Views.{cell_view, instance_of, source_view, program_with, no_instance};
 
-use crate::cells::{cell_written_by, cells_read_by, Cell};
+use crate::cells::{Cell, cell_written_by, cells_read_by};
 use crate::runs::Instance;
 use crate::stopped::Stopped;
 use affine_c::Statement;

@@ -104,7 +104,14 @@ fn copies_an_array(rt: HostRuntime) -> Result<(), Fail> {
     }
     let found = graph(alloc, statements.as_slice(), tree.as_slice(), &[2, 2])?;
     assert!(rt; found.instances == 4);
-    assert!(rt; has(&found, 4, &[&[4], &[5], &[6], &[7]], &[true, true, true, true]));
+    assert!(rt;
+        has(
+            &found,
+            4,
+            &[&[4], &[5], &[6], &[7]],
+            &[true, true, true, true]
+        )
+    );
     Ok(())
 }
 
@@ -127,6 +134,13 @@ fn sums_what_it_copies(rt: HostRuntime) -> Result<(), Fail> {
     let tree = vec![in alloc; loop_below(alloc, 1, 0, body)?]?;
     let found = graph(alloc, statements.as_slice(), tree.as_slice(), &[2])?;
     assert!(rt; found.instances == 4);
-    assert!(rt; has(&found, 3, &[&[4], &[0, 5], &[6], &[2, 1]], &[true, false, true, true]));
+    assert!(rt;
+        has(
+            &found,
+            3,
+            &[&[4], &[0, 5], &[6], &[2, 1]],
+            &[true, false, true, true]
+        )
+    );
     Ok(())
 }

@@ -1,4 +1,4 @@
-use Rattle.std.proofs.Common.{◌≡◌, sym, ◌∙◌, ap, subst, ◌<◌, ◌+◌, ℕ, map, length, List, ◌∷◌, [], ◌++◌, arith}
+use Rattle.std.proofs.Common.{sym, ◌∙◌, ap, map, length, List, ◌∷◌, [], ◌++◌, arith}
 use Rattle.std.specs.List.{range_with_len}
 use Rattle.std.proofs.lemmas.List.FromFn.{length-map-range_with_len, map-range_with_len_more}
 use Rattle.iolb_model.specs.Form.{AffineForm}

@@ -1,4 +1,4 @@
-use Rattle.std.proofs.Common.{◌≡◌, sym, ◌∙◌, ap, subst, ◌≤◌, ◌<◌, ◌+◌, ℕ, suc, map, length, List, [], ◌∷◌, ◌++◌, drop, get_or, arith, Bor}
+use Rattle.std.proofs.Common.{◌≡◌, sym, ◌∙◌, ap, subst, ◌<◌, ◌+◌, ℕ, suc, map, length, List, [], ◌∷◌, ◌++◌, drop, get_or, arith, Bor}
 use Rattle.std.proofs.lemmas.List.{get_or-map, drop_more, length-map, append_assoc, map_push}
 use Rattle.iolb_model.specs.Form.{AffineForm}
 use Rattle.iolb_model.specs.Path.{PathStep, rises}
@@ -32,8 +32,8 @@ pub loop-k-preserved : goal.loop-k-preserved
 loop-k-preserved c =
     ap (λ (x : List (AffineForm × AffineForm)). map step_of x ++ nest_steps (map (λ (n : Bor (List ℕ)). n.now) c.args.parameters.now) (length c.args.parameters.now + (c.loop-k.k + 1)) (drop (c.loop-k.k + 1) (map loop_view c.args.loops.now))) c.in_ok-push.ensures.items
     ∙ stepped (map (λ (n : Bor (List ℕ)). n.now) c.args.parameters.now) (length c.args.parameters.now) c.loop-k.k (map loop_view c.args.loops.now) (loop_view (get_or c.args.loops.now c.loop-k.k no_header))
-        c.loop-k.bounds.items c.in_ok-lower.lower c.in_ok-upper.upper (subst (λ (n : ℕ). c.loop-k.k < n) (sym (length-map c.args.loops.now loop_view)) c.loop-k-test.true)
-        (sym (get_or-map loop_view c.args.loops.now c.loop-k.k no_header no_loop c.loop-k-test.true))
-        c.in_ok-lower.ensures
-        (c.in_ok-upper.ensures ∙ ap (λ (n : ℕ). variable_less_one (length c.args.parameters.now + c.loop-k.k) n) c.place_among-place.ensures)
+    c.loop-k.bounds.items c.in_ok-lower.lower c.in_ok-upper.upper (subst (λ (n : ℕ). c.loop-k.k < n) (sym (length-map c.args.loops.now loop_view)) c.loop-k-test.true)
+    (sym (get_or-map loop_view c.args.loops.now c.loop-k.k no_header no_loop c.loop-k-test.true))
+    c.in_ok-lower.ensures
+    (c.in_ok-upper.ensures ∙ ap (λ (n : ℕ). variable_less_one (length c.args.parameters.now + c.loop-k.k) n) c.place_among-place.ensures)
     ∙ c.loop-k.invariant

@@ -1,4 +1,4 @@
-use Rattle.std.proofs.Common.{rules, ◌≡◌, [], ℕ, List}
+use Rattle.std.proofs.Common.{[]}
 use Rattle.copy_nest.specs.Spelling.{IsName}
 use Rattle.affine_c.proofs.Loops.{at_name}
 use Rattle.affine_c.proofs.build.names_from.Goals as goal

@@ -1,4 +1,4 @@
-use Rattle.std.proofs.Common.{rules, ◌≡◌, sym, ◌∙◌, ap, ◌<◌, ◌+◌, ◌++◌, ◌∷◌, [], ℕ, map, take, length, get_or, List, arith, Bor}
+use Rattle.std.proofs.Common.{sym, ◌∙◌, ap, ◌<◌, ◌+◌, ◌++◌, ◌∷◌, [], ℕ, map, take, length, get_or, List, arith, Bor}
 use Rattle.std.proofs.lemmas.List.{map_more, map_push}
 use Rattle.iolb_model.specs.Form.{AffineForm}
 use Rattle.copy_nest.specs.Nest.{place_of, variable}
@@ -22,6 +22,6 @@ loop-name-preserved c =
     c.in_ok-push.ensures.items
     ∙ ap (λ (x : List AffineForm). x ++ c.in_ok-form.form ∷ []) c.loop-name.invariant
     ∙ ap (λ (x : AffineForm). map subscript (map (λ (n : Bor (List ℕ)). n.now) (take c.loop-name.name-index c.args.subscripts.now)) ++ x ∷ [])
-        (c.in_ok-form.ensures ∙ ap (λ (n : ℕ). variable (c.args.parameters + length c.args.loops.now) (c.args.parameters + n)) c.place_among-place.ensures)
+    (c.in_ok-form.ensures ∙ ap (λ (n : ℕ). variable (c.args.parameters + length c.args.loops.now) (c.args.parameters + n)) c.place_among-place.ensures)
     ∙ sym (map_push subscript (map (λ (n : Bor (List ℕ)). n.now) (take c.loop-name.name-index c.args.subscripts.now)) read.now)
     ∙ ap (map subscript) (sym (map_more (λ (n : Bor (List ℕ)). n.now) c.args.subscripts.now c.loop-name.name-index (record { ref_ptr = (0, 0); now = [] }) c.loop-name-test.true))

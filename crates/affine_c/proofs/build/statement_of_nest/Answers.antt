@@ -1,4 +1,4 @@
-use Rattle.std.proofs.Common.{rules, ◌≡◌, sym, ◌∙◌, ap, subst, ◌≤◌, ◌<◌, ◌+◌, ℕ, map, length, List, [], ◌∷◌, arith, Bor}
+use Rattle.std.proofs.Common.{◌≡◌, sym, ◌∙◌, ap, subst, ◌<◌, ◌+◌, ℕ, map, length, List, [], ◌∷◌, arith, Bor}
 use Rattle.std.specs.List.{AllByRecursion}
 use Rattle.std.proofs.lemmas.List.{length-map}
 use Rattle.iolb_model.specs.Form.{AffineForm}
@@ -20,7 +20,7 @@ bounds_of-requires-clause-few c =
 pub bounds_of-requires-clause-there : goal.bounds_of-requires-clause-there
 bounds_of-requires-clause-there c =
     subst (λ (all : List Header). AllByRecursion (λ (l : CopyLoop). place_of l.bound (map (λ (n : Bor (List ℕ)). n.now) c.args.parameters.now) < length c.args.parameters.now) (map loop_view all))
-      (sym c.as_slice.ensures.value) (bounds_there (nest_view c.args.nest.now) c.args.parameters.now c.requires.parameters)
+    (sym c.as_slice.ensures.value) (bounds_there (nest_view c.args.nest.now) c.args.parameters.now c.requires.parameters)
 
 pub reference_of-requires-clause-few : goal.reference_of-requires-clause-few
 reference_of-requires-clause-few c =
@@ -31,7 +31,7 @@ reference_of-requires-clause-few c =
 pub reference_of-requires-clause-there : goal.reference_of-requires-clause-there
 reference_of-requires-clause-there c =
     subst (λ (all : List (Bor (List ℕ))). AllByRecursion (λ (name : List ℕ). place_of name (map (λ (n : Bor (List ℕ)). n.now) c.args.loops.now) < length c.args.loops.now) (map (λ (n : Bor (List ℕ)). n.now) all))
-      (sym c.as_slice-2.ensures.value) (subscripts_there (nest_view c.args.nest.now) c.args.loops.now (nest_view c.args.nest.now).written.subscripts c.requires.loops c.requires.copies.written_subscripts.1)
+    (sym c.as_slice-2.ensures.value) (subscripts_there (nest_view c.args.nest.now) c.args.loops.now (nest_view c.args.nest.now).written.subscripts c.requires.loops c.requires.copies.written_subscripts.1)
 
 pub reference_of-requires-2-clause-few : goal.reference_of-requires-2-clause-few
 reference_of-requires-2-clause-few c =
@@ -42,7 +42,7 @@ reference_of-requires-2-clause-few c =
 pub reference_of-requires-2-clause-there : goal.reference_of-requires-2-clause-there
 reference_of-requires-2-clause-there c =
     subst (λ (all : List (Bor (List ℕ))). AllByRecursion (λ (name : List ℕ). place_of name (map (λ (n : Bor (List ℕ)). n.now) c.args.loops.now) < length c.args.loops.now) (map (λ (n : Bor (List ℕ)). n.now) all))
-      (sym c.as_slice-3.ensures.value) (subscripts_there (nest_view c.args.nest.now) c.args.loops.now (nest_view c.args.nest.now).read.subscripts c.requires.loops c.requires.copies.read_subscripts)
+    (sym c.as_slice-3.ensures.value) (subscripts_there (nest_view c.args.nest.now) c.args.loops.now (nest_view c.args.nest.now).read.subscripts c.requires.loops c.requires.copies.read_subscripts)
 
 abbrev reference_with : ℕ → List AffineForm → Access
 reference_with array subscripts = record { array = array; subscripts = subscripts }

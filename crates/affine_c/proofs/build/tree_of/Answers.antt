@@ -1,4 +1,4 @@
-use Rattle.std.proofs.Common.{rules, ◌≡◌, sym, ◌∙◌, ap, subst, ◌≤◌, ◌<◌, ◌+◌, ◌-◌, ℕ, suc, map, length, List, [], ◌∷◌, drop, get_or, arith, Bor}
+use Rattle.std.proofs.Common.{◌≡◌, sym, ◌∙◌, ap, subst, ◌≤◌, ◌<◌, ◌+◌, ◌-◌, ℕ, suc, map, length, List, [], ◌∷◌, drop, get_or, arith, Bor}
 use Rattle.std.specs.List.{AllByRecursion}
 use Rattle.std.proofs.lemmas.List.{get_or-map, drop_more, length-map}
 use Rattle.iolb_model.specs.Program.{loop, next, done, Item as ModelItem}
@@ -18,7 +18,7 @@ at_loop : (P : CopyLoop → Type 0) (loops : List Header) (k : ℕ) → AllByRec
     → P (loop_view (get_or loops k (record { name = record { ref_ptr = (0, 0); now = [] }; bound = record { ref_ptr = (0, 0); now = [] } })))
 at_loop P loops k h l =
     subst P (get_or-map loop_view loops k (record { name = record { ref_ptr = (0, 0); now = [] }; bound = record { ref_ptr = (0, 0); now = [] } }) (record { name = []; bound = [] }) l)
-      (All-at P (map loop_view loops) k (record { name = []; bound = [] }) h (subst (λ (n : ℕ). k < n) (sym (length-map loops loop_view)) l))
+    (All-at P (map loop_view loops) k (record { name = []; bound = [] }) h (subst (λ (n : ℕ). k < n) (sym (length-map loops loop_view)) l))
 
 pub loop_around-requires-clause-name : goal.loop_around-requires-clause-name
 loop_around-requires-clause-name c = (at_loop (λ (l : CopyLoop). IsName l.name × IsName l.bound) c.args.loops.now (c.loop-k.k - 1) c.requires.names (omega (arith, c.loop-k.invariant.within, c.loop-k-test.true))).0
@@ -39,7 +39,7 @@ around names count k loops l item inner some within e f g =
     let count_more : suc (count + (k - 1)) ≡ count + k = omega (arith, some) in
     f
     ∙ ap (λ (i : ModelItem). loop l.name (zero_form (count + (k - 1))) (variable_less_one (count + (k - 1)) (place_of l.bound names)) (next i done))
-      (g ∙ ap (λ (n : ℕ). nest_item names n (drop k loops)) (sym count_more) ∙ ap (λ (n : ℕ). nest_item names (suc (count + (k - 1))) (drop n loops)) (sym more))
+    (g ∙ ap (λ (n : ℕ). nest_item names n (drop k loops)) (sym count_more) ∙ ap (λ (n : ℕ). nest_item names (suc (count + (k - 1))) (drop n loops)) (sym more))
     ∙ ap (λ (x : CopyLoop). nest_item names (count + (k - 1)) (x ∷ drop (k - 1 + 1) loops)) e
     ∙ ap (nest_item names (count + (k - 1))) (sym (drop_more loops (k - 1) (record { name = []; bound = [] }) below))
 
@@ -49,8 +49,8 @@ loop-k-preserved c =
     record {
       within = omega (arith, c.loop-k.invariant.within);
       built = around (map (λ (n : Bor (List ℕ)). n.now) c.args.parameters.now) (length c.args.parameters.now) c.loop-k.k (map loop_view c.args.loops.now)
-        (loop_view (get_or c.args.loops.now (c.loop-k.k - 1) (record { name = record { ref_ptr = (0, 0); now = [] }; bound = record { ref_ptr = (0, 0); now = [] } })))
-        (item_of c.in_ok-item.item) (item_of c.loop-k.item) (omega (arith, c.loop-k-test.true)) (subst (λ (n : ℕ). c.loop-k.k ≤ n) (sym (length-map c.args.loops.now loop_view)) c.loop-k.invariant.within)
-        (sym (get_or-map loop_view c.args.loops.now (c.loop-k.k - 1) (record { name = record { ref_ptr = (0, 0); now = [] }; bound = record { ref_ptr = (0, 0); now = [] } }) (record { name = []; bound = [] }) below))
-        c.in_ok-item.ensures c.loop-k.invariant.built
+          (loop_view (get_or c.args.loops.now (c.loop-k.k - 1) (record { name = record { ref_ptr = (0, 0); now = [] }; bound = record { ref_ptr = (0, 0); now = [] } })))
+          (item_of c.in_ok-item.item) (item_of c.loop-k.item) (omega (arith, c.loop-k-test.true)) (subst (λ (n : ℕ). c.loop-k.k ≤ n) (sym (length-map c.args.loops.now loop_view)) c.loop-k.invariant.within)
+          (sym (get_or-map loop_view c.args.loops.now (c.loop-k.k - 1) (record { name = record { ref_ptr = (0, 0); now = [] }; bound = record { ref_ptr = (0, 0); now = [] } }) (record { name = []; bound = [] }) below))
+          c.in_ok-item.ensures c.loop-k.invariant.built;
     }

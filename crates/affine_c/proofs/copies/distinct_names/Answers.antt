@@ -1,4 +1,4 @@
-use Rattle.std.proofs.Common.{◌≡◌, sym, ◌∙◌, ap, map, bytes_eq, ℕ, ◌+◌, List, [], ◌∷◌, ◌++◌, take, get_or, Bor}
+use Rattle.std.proofs.Common.{sym, ◌∙◌, ap, map, bytes_eq, ℕ, List, [], take, get_or, Bor}
 use Rattle.std.proofs.lemmas.List.{map_more}
 use Rattle.iolb_model.specs.Graph.{distinct}
 use Rattle.affine_c.specs.Reading.{with_new}

@@ -1,4 +1,4 @@
-use Rattle.std.proofs.Common.{◌≡◌, sym, ◌∙◌, ap, ℕ, ◌-◌, ◌+◌, List, [], ◌∷◌, ◌++◌, map, rules}
+use Rattle.std.proofs.Common.{◌≡◌, sym, ◌∙◌, ap, ℕ, ◌-◌, ◌+◌, List, [], ◌∷◌, ◌++◌, map}
 use Rattle.std.proofs.lemmas.List.{map_push}
 use Rattle.copy_nest.specs.Nest.{CopyLoop}
 use Rattle.affine_c.specs.declared.nest_text.Header.{Header}

@@ -1,5 +1,5 @@
-use Rattle.std.proofs.Common.{rules, ◌≡◌, sym, ◌∙◌, ap, map, ℕ, List, Bor}
-use Rattle.std.specs.Prelude.{option_copied, option_map, Option, Some}
+use Rattle.std.proofs.Common.{◌≡◌, sym, ◌∙◌, ap, map, ℕ, List, Bor}
+use Rattle.std.specs.Prelude.{option_copied, option_map, Some}
 use Rattle.std.specs.Prelude.{bytes_eq}
 use Rattle.iolb_model.specs.Graph.{distinct}
 use Rattle.copy_nest.specs.Nest.{CopyLoop}

@@ -1,5 +1,5 @@
-use Rattle.std.proofs.Common.{rules, ◌≡◌, refl, sym, ◌∙◌, ap, ℕ, List}
-use Rattle.std.specs.Prelude.{Option, Some, None, option_map}
+use Rattle.std.proofs.Common.{refl, sym, ◌∙◌, ap}
+use Rattle.std.specs.Prelude.{option_map}
 use Rattle.affine_c.specs.Parts.{meaning}
 use Rattle.affine_c.proofs.Readings.{program_sound, program_absent}
 use Rattle.affine_c.proofs.read.read_program.Goals as goal

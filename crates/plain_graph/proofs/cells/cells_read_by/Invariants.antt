@@ -1,4 +1,4 @@
-use Rattle.std.proofs.Common.{◌≡◌, map, take, []}
+use Rattle.std.proofs.Common.{◌≡◌, map, take}
 use Rattle.iolb_model.specs.Source.{cell_of}
 use Rattle.affine_c.specs.Parts.{access_of}
 use Rattle.plain_graph.specs.Views.{cell_view}

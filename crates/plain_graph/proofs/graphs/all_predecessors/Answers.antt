@@ -1,4 +1,4 @@
-use Rattle.std.proofs.Common.{◌≡◌, ◌∙◌, ap, sym, subst, ◌<◌, ◌≤◌, ℕ, List, [], map, length, Vec, Global}
+use Rattle.std.proofs.Common.{◌∙◌, ap, sym, subst, ◌<◌, ◌≤◌, ℕ, List, [], map, Vec, Global}
 use Rattle.std.proofs.lemmas.List.{length-map, map_push}
 use Rattle.iolb_model.specs.Graph.{predecessors_of}
 use Rattle.plain_graph.specs.Views.{instance_of, cell_view, program_with}

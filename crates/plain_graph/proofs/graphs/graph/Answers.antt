@@ -1,9 +1,9 @@
-use Rattle.std.proofs.Common.{◌≡◌, ◌∙◌, ap, sym, ◌+◌, ◌<◌, ℕ, suc, Bool, not, List, [], map, length, Vec, Global, arith}
+use Rattle.std.proofs.Common.{◌≡◌, ◌∙◌, ap, sym, ℕ, Bool, List, [], map, length, Vec, Global}
 use Rattle.std.specs.Prelude.{ℤ, flat_map, filter_map}
 use Rattle.std.proofs.lemmas.List.{length-map}
 use Rattle.iolb_model.specs.Program.{AffineProgram}
 use Rattle.iolb_model.specs.Execution.{Instance as ModelInstance, execution}
-use Rattle.iolb_model.specs.Source.{Cell as ModelCell, Source as ModelSource, same_cell, sources_of}
+use Rattle.iolb_model.specs.Source.{Cell as ModelCell, same_cell, sources_of}
 use Rattle.iolb_model.specs.Graph.{ComputationGraph, distinct, placed, input_cell, input_cells, predecessors_of, is_last_writer, computation_graph}
 use Rattle.plain_graph.specs.declared.runs.Instance.{Instance}
 use Rattle.plain_graph.specs.declared.cells.Cell.{Cell}
@@ -36,11 +36,11 @@ returns c = made (program_with c.args.statements.now c.args.tree.now) c.args.par
     c.in_ok-small_number.field-0 c.in_ok-small_number-2.field-0 (map items c.in_ok-preds.preds.items) c.in_ok-last.last.items
     c.in_ok-runs.ensures
     (c.in_ok-cells-2.ensures ∙ ap (λ (cells : List Cell). distinct same_cell (map cell_view cells)) c.as_slice-3.ensures.value ∙ ap (distinct same_cell) (c.in_ok-cells.ensures
-      ∙ ap (λ (sources : List Source). filter_map input_cell (map source_view sources)) c.as_slice-2.ensures.value ∙ ap (filter_map input_cell) (c.in_ok-sources.ensures
-        ∙ ap (λ (runs : List Instance). flat_map (sources_of (program_with c.args.statements.now []) c.args.parameters.now (map instance_of runs)) (placed (map instance_of runs))) c.as_slice.ensures.value)))
+    ∙ ap (λ (sources : List Source). filter_map input_cell (map source_view sources)) c.as_slice-2.ensures.value ∙ ap (filter_map input_cell) (c.in_ok-sources.ensures
+    ∙ ap (λ (runs : List Instance). flat_map (sources_of (program_with c.args.statements.now []) c.args.parameters.now (map instance_of runs)) (placed (map instance_of runs))) c.as_slice.ensures.value)))
     (c.in_ok-small_number.ensures ∙ ap length c.as_slice-7.ensures.value ∙ sym (length-map c.in_ok-runs.runs.items instance_of))
     (c.in_ok-small_number-2.ensures ∙ ap length c.as_slice-8.ensures.value ∙ sym (length-map c.in_ok-cells-2.cells.items cell_view))
     (c.in_ok-preds.ensures
-      ∙ ap (λ (runs : List Instance). map (predecessors_of (program_with c.args.statements.now []) c.args.parameters.now (map instance_of runs) (map cell_view c.as_slice-5.result.now)) (placed (map instance_of runs))) c.as_slice-4.ensures.value
-      ∙ ap (λ (cells : List Cell). map (predecessors_of (program_with c.args.statements.now []) c.args.parameters.now (map instance_of c.in_ok-runs.runs.items) (map cell_view cells)) (placed (map instance_of c.in_ok-runs.runs.items))) c.as_slice-5.ensures.value)
+    ∙ ap (λ (runs : List Instance). map (predecessors_of (program_with c.args.statements.now []) c.args.parameters.now (map instance_of runs) (map cell_view c.as_slice-5.result.now)) (placed (map instance_of runs))) c.as_slice-4.ensures.value
+    ∙ ap (λ (cells : List Cell). map (predecessors_of (program_with c.args.statements.now []) c.args.parameters.now (map instance_of c.in_ok-runs.runs.items) (map cell_view cells)) (placed (map instance_of c.in_ok-runs.runs.items))) c.as_slice-5.ensures.value)
     (c.in_ok-last.ensures ∙ ap (λ (runs : List Instance). map (is_last_writer (program_with c.args.statements.now []) c.args.parameters.now (map instance_of runs)) (placed (map instance_of runs))) c.as_slice-6.ensures.value)

@@ -1,4 +1,4 @@
-use Rattle.std.proofs.Common.{◌≡◌, ◌∙◌, ap, sym, subst, ◌<◌, ◌≤◌, ℕ, [], map, length}
+use Rattle.std.proofs.Common.{sym, subst, ◌<◌, ◌≤◌, ℕ, [], map}
 use Rattle.std.proofs.lemmas.List.{length-map}
 use Rattle.iolb_model.specs.Graph.{is_last_writer}
 use Rattle.plain_graph.specs.Views.{instance_of, program_with}

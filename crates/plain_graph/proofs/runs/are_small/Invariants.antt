@@ -1,4 +1,4 @@
-use Rattle.std.proofs.Common.{◌≡◌, take, ◌^◌}
+use Rattle.std.proofs.Common.{take, ◌^◌}
 use Rattle.std.specs.List.{AllByRecursion}
 use Rattle.affine_form.specs.Form.{IsSmall}
 use Rattle.plain_graph.proofs.runs.are_small.Given as goal

@@ -1,4 +1,4 @@
-use Rattle.std.proofs.Common.{◌≡◌, ◌++◌, ◌-◌, ◌≤◌}
+use Rattle.std.proofs.Common.{◌≡◌, ◌++◌, ◌-◌}
 use Rattle.iolb_model.specs.Execution.{rising}
 use Rattle.plain_graph.proofs.runs.values_from.Given as goal
 
