@@ -1,12 +1,11 @@
 -- Cells that are the same are equal, and cells that differ have different places in a list.
-use Rattle.std.proofs.Common.{◌≡◌, refl, sym, ◌∙◌, ap, subst, inl, inr, ℕ, zero, suc, ◌+◌, Bool, true, false, cond, not, List, [], ◌∷◌, length, arith}
-use Rattle.std.specs.Prelude.{ℤ, ◌==◌, ◌&&◌, nat_eq, Option, Some, None, slice_get}
-use Rattle.std.specs.List.{position_or_len, prefix_len}
+use Rattle.std.proofs.Common.{◌≡◌, refl, sym, ◌∙◌, ap, subst, inl, inr, ℕ, suc, ◌+◌, Bool, true, false, cond, not, List, [], ◌∷◌, arith}
+use Rattle.std.specs.Prelude.{◌==◌, ◌&&◌, Some, slice_get}
+use Rattle.std.specs.List.{position_or_len}
 use Rattle.std.specs.Ordering.{int_eq}
 use Rattle.std.specs.Cmp.{signed_Decides}
 use Rattle.std.proofs.lemmas.Bool.{eqb-true, eq-eqb}
 use Rattle.std.proofs.lemmas.Slice.Eq.{slice_eq-Decides}
-use Rattle.std.proofs.Math.IntN.{ℤ_set}
 use lib.Pointwise.{pointwise}
 use Rattle.iolb_model.specs.Source.{Cell, same_cell}
 use Rattle.execution_laws.proofs.Members.{Member}

@@ -1,16 +1,15 @@
 -- An input cell that is the source of a read is an input vertex that is read, and cells that differ are different vertices.
-use Rattle.std.proofs.Common.{◌≡◌, refl, sym, ◌∙◌, ap, subst, inl, inr, ℕ, zero, suc, ◌+◌, ◌<◌, ◌≤◌, Bool, true, false, cond, not, List, [], ◌∷◌, ◌++◌, length, map, get_or, arith}
-use Rattle.std.specs.Prelude.{ℤ, nat_eq, Option, Some, None, slice_get, slice_index_or, filter_map, flat_map, Contains}
+use Rattle.std.proofs.Common.{◌≡◌, refl, sym, ◌∙◌, ap, subst, inl, inr, ℕ, zero, suc, ◌+◌, ◌<◌, ◌≤◌, false, List, [], ◌∷◌, ◌++◌, length, map, get_or, arith}
+use Rattle.std.specs.Prelude.{ℤ, nat_eq, Some, slice_get, filter_map, flat_map}
 use Rattle.std.specs.List.{AllByRecursion, IsDistinct, enumerate_from, position_or_len}
 use Rattle.std.proofs.lemmas.Bool.{eqb-true, ne_eqb}
 use Rattle.std.proofs.lemmas.List.{length-map}
-use Rattle.iolb_model.specs.declared.game.Move.{Move}
 use Rattle.iolb_model.specs.Program.{Access, AffineProgram, statement_at, no_statement}
 use Rattle.iolb_model.specs.Execution.{Instance, execution}
-use Rattle.iolb_model.specs.Source.{Cell, same_cell, cell_of, read_cells, Source, written_at, input, source_of, sources_of}
-use Rattle.iolb_model.specs.Graph.{ComputationGraph, distinct, placed, input_cell, input_cells, vertex_of, predecessors_of, computation_graph}
-use Rattle.iolb_model.specs.Game.{predecessors_at, IsCompletePebbling, loads}
-use Rattle.pebble_game.specs.Inputs.{IsReadInput, ReadInputsAreLoaded}
+use Rattle.iolb_model.specs.Source.{Cell, same_cell, cell_of, Source, input, source_of, sources_of}
+use Rattle.iolb_model.specs.Graph.{placed, input_cell, input_cells, vertex_of, predecessors_of, computation_graph}
+use Rattle.iolb_model.specs.Game.{predecessors_at, loads}
+use Rattle.pebble_game.specs.Inputs.{IsReadInput}
 use Rattle.pebble_game.proofs.Loaded.{read_inputs_loaded}
 use Rattle.execution_laws.specs.Cold.{read_at, read_cell, ReadsInput, InputReadsAreLoaded}
 use Rattle.execution_laws.proofs.Members.{Member, Member-map, Member-flat_map, Member-filter_map, Member-distinct, Member-enumerate, Contains-member}
@@ -45,7 +44,7 @@ slice_get-below (y ∷ xs) (suc n) x e = omega (arith, slice_get-below xs n x e)
 -- the source is among the sources of its instance's reads
 Member-sources : (program : AffineProgram) (parameters : List ℤ) (statement read : ℕ) (values : List ℤ) (point : ReadsInput program parameters statement read values)
     → Member (input (read_cell program parameters statement read values))
-        (sources_of program parameters (execution program parameters) (point.place, record { statement = statement; values = values }))
+    (sources_of program parameters (execution program parameters) (point.place, record { statement = statement; values = values }))
 Member-sources program parameters statement read values point =
     let runs : List Instance = execution program parameters in
     let cell : Cell = read_cell program parameters statement read values in
@@ -53,7 +52,7 @@ Member-sources program parameters statement read values point =
     let access : Member (read_at program statement read) reads = Member-get_or reads read no_statement.writes (omega (arith, point.there)) in
     let cells : Member cell (map (λ (a : Access). cell_of a (parameters ++ values)) reads) = Member-map (λ (a : Access). cell_of a (parameters ++ values)) (read_at program statement read) reads access in
     subst (λ (z : Source). Member z (map (source_of program parameters runs point.place) (map (λ (a : Access). cell_of a (parameters ++ values)) reads)))
-      point.source (Member-map (source_of program parameters runs point.place) cell (map (λ (a : Access). cell_of a (parameters ++ values)) reads) cells)
+    point.source (Member-map (source_of program parameters runs point.place) cell (map (λ (a : Access). cell_of a (parameters ++ values)) reads) cells)
 
 -- the instance stands with its place
 Member-placed : (program : AffineProgram) (parameters : List ℤ) (statement read : ℕ) (values : List ℤ) (point : ReadsInput program parameters statement read values)
@@ -61,7 +60,7 @@ Member-placed : (program : AffineProgram) (parameters : List ℤ) (statement rea
 Member-placed program parameters statement read values point =
     let zero_place : 0 + point.place ≡ point.place = omega arith in
     subst (λ (n : ℕ). Member {A = ℕ × Instance} (n, record { statement = statement; values = values }) (placed (execution program parameters))) zero_place
-      (Member-enumerate 0 (execution program parameters) point.place (record { statement = statement; values = values }) point.executed)
+    (Member-enumerate 0 (execution program parameters) point.place (record { statement = statement; values = values }) point.executed)
 
 -- the cell is among the input cells
 Member-input_cells : (program : AffineProgram) (parameters : List ℤ) (statement read : ℕ) (values : List ℤ) → ReadsInput program parameters statement read values
@@ -70,10 +69,10 @@ Member-input_cells program parameters statement read values point =
     let runs : List Instance = execution program parameters in
     let cell : Cell = read_cell program parameters statement read values in
     let sources : Member (input cell) (flat_map (sources_of program parameters runs) (placed runs)) =
-      Member-flat_map (sources_of program parameters runs) (point.place, record { statement = statement; values = values }) (placed runs) (input cell)
-        (Member-placed program parameters statement read values point) (Member-sources program parameters statement read values point) in
+    Member-flat_map (sources_of program parameters runs) (point.place, record { statement = statement; values = values }) (placed runs) (input cell)
+    (Member-placed program parameters statement read values point) (Member-sources program parameters statement read values point) in
     Member-distinct same_cell same_cell-equal cell (filter_map input_cell (flat_map (sources_of program parameters runs) (placed runs)))
-      (Member-filter_map input_cell (input cell) (flat_map (sources_of program parameters runs) (placed runs)) cell sources refl)
+    (Member-filter_map input_cell (input cell) (flat_map (sources_of program parameters runs) (placed runs)) cell sources refl)
 
 -- its vertex is an input that is read
 is_read_input : (program : AffineProgram) (parameters : List ℤ) (statement read : ℕ) (values : List ℤ) → ReadsInput program parameters statement read values
@@ -84,17 +83,17 @@ is_read_input program parameters statement read values point =
     let cell : Cell = read_cell program parameters statement read values in
     let instance : ℕ × Instance = (point.place, record { statement = statement; values = values }) in
     let row : predecessors_at (computation_graph program parameters) point.place ≡ predecessors_of program parameters runs cells instance =
-      get_or-map_some (predecessors_of program parameters runs cells) 0 runs point.place instance.1 [] point.executed
-        ∙ ap (predecessors_of program parameters runs cells) (place_and point.place (0 + point.place) instance.1 instance.1 (omega arith) refl) in
+    get_or-map_some (predecessors_of program parameters runs cells) 0 runs point.place instance.1 [] point.executed
+    ∙ ap (predecessors_of program parameters runs cells) (place_and point.place (0 + point.place) instance.1 instance.1 (omega arith) refl) in
     let vertex : Member (input_vertex program parameters cell) (predecessors_of program parameters runs cells instance) =
-      Member-distinct nat_eq eqb-true (input_vertex program parameters cell) (map (vertex_of (length runs) cells) (sources_of program parameters runs instance))
-        (Member-map (vertex_of (length runs) cells) (input cell) (sources_of program parameters runs instance) (Member-sources program parameters statement read values point)) in
+    Member-distinct nat_eq eqb-true (input_vertex program parameters cell) (map (vertex_of (length runs) cells) (sources_of program parameters runs instance))
+    (Member-map (vertex_of (length runs) cells) (input cell) (sources_of program parameters runs instance) (Member-sources program parameters statement read values point)) in
     record {
       input = omega arith;
       reader = point.place;
       there = slice_get-below runs point.place instance.1 point.executed;
       read = Contains-member (input_vertex program parameters cell) (predecessors_at (computation_graph program parameters) point.place)
-        (subst (λ (l : List ℕ). Member (input_vertex program parameters cell) l) (sym row) vertex)
+          (subst (λ (l : List ℕ). Member (input_vertex program parameters cell) l) (sym row) vertex);
     }
 
 -- each point's vertex is an input that is read
@@ -109,12 +108,13 @@ vertices_apart : (program : AffineProgram) (parameters : List ℤ) (statement re
     → AllByRecursion (ReadsInput program parameters statement read) points
     → AllByRecursion (λ (c : Cell). same_cell (read_cell program parameters statement read first) c ≡ false) (map (read_cell program parameters statement read) points)
     → AllByRecursion (λ (v : ℕ). nat_eq (input_vertex program parameters (read_cell program parameters statement read first)) v ≡ false)
-        (map (λ (values : List ℤ). input_vertex program parameters (read_cell program parameters statement read values)) points)
+    (map (λ (values : List ℤ). input_vertex program parameters (read_cell program parameters statement read values)) points)
 vertices_apart program parameters statement read first [] here h apart = tt
-vertices_apart program parameters statement read first (values ∷ points) here h apart =
-    (ne_eqb _ _ (λ e. position-apart (read_cell program parameters statement read first) (read_cell program parameters statement read values) (input_cells program parameters)
+vertices_apart program parameters statement read first (values ∷ points) here h apart = (
+  ne_eqb _ _ (λ e. position-apart (read_cell program parameters statement read first) (read_cell program parameters statement read values) (input_cells program parameters)
       (Member-input_cells program parameters statement read first here) (Member-input_cells program parameters statement read values h.0) apart.0 (omega (arith, e))),
-    vertices_apart program parameters statement read first points here h.1 apart.1)
+  vertices_apart program parameters statement read first points here h.1 apart.1,
+)
 
 vertices_distinct : (program : AffineProgram) (parameters : List ℤ) (statement read : ℕ) (points : List (List ℤ))
     → AllByRecursion (ReadsInput program parameters statement read) points
@@ -128,7 +128,6 @@ vertices_distinct program parameters statement read (values ∷ points) h d =
 pub input_reads_loaded : InputReadsAreLoaded
 input_reads_loaded program parameters statement read points s moves game reads apart =
     subst (λ (n : ℕ). n ≤ loads moves) (length-map points (λ (values : List ℤ). input_vertex program parameters (read_cell program parameters statement read values)))
-      (read_inputs_loaded (computation_graph program parameters) s moves
-        (map (λ (values : List ℤ). input_vertex program parameters (read_cell program parameters statement read values)) points) game
-        (vertices_distinct program parameters statement read points reads apart) (are_read_inputs program parameters statement read points reads))
-
+    (read_inputs_loaded (computation_graph program parameters) s moves
+    (map (λ (values : List ℤ). input_vertex program parameters (read_cell program parameters statement read values)) points) game
+    (vertices_distinct program parameters statement read points reads apart) (are_read_inputs program parameters statement read points reads))

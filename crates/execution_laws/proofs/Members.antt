@@ -1,8 +1,7 @@
 -- Members of lists, by recursion on the list.
-use Rattle.std.proofs.Common.{◌≡◌, refl, sym, ◌∙◌, ap, subst, inl, inr, ℕ, zero, suc, ◌+◌, ◌<◌, Bool, true, false, cond, not, List, [], ◌∷◌, ◌++◌, length, map, arith}
-use Rattle.std.specs.Prelude.{◌⊎◌, ⊤, Option, Some, None, slice_get, Contains, filter, filter_map, flat_map}
-use Rattle.std.specs.List.{AllByRecursion, enumerate_from, cons_option}
-use Rattle.std.specs.Bool.{Decides}
+use Rattle.std.proofs.Common.{◌≡◌, refl, sym, ◌∙◌, ap, subst, inl, inr, ℕ, zero, suc, ◌+◌, Bool, true, false, cond, not, List, [], ◌∷◌, ◌++◌, map, arith}
+use Rattle.std.specs.Prelude.{◌⊎◌, Option, Some, None, slice_get, Contains, filter, filter_map, flat_map}
+use Rattle.std.specs.List.{enumerate_from, cons_option}
 use Rattle.iolb_model.specs.Graph.{distinct}
 
 abbrev pub Member : {A : Type 0} → A → List A → Type 0

@@ -2,8 +2,8 @@
 use Rattle.std.specs.Prelude.{◌≡◌, ℕ, suc, ◌≤◌, ℤ, ◌++◌, List, length, map, slice_index_or, slice_get, Some}
 use Rattle.std.specs.List.{AllByRecursion, IsDistinct}
 use Rattle.iolb_model.specs.declared.game.Move.{Move}
-use Rattle.iolb_model.specs.Program.{Access, Statement, AffineProgram, no_statement, statement_at}
-use Rattle.iolb_model.specs.Execution.{Instance, execution}
+use Rattle.iolb_model.specs.Program.{Access, AffineProgram, no_statement, statement_at}
+use Rattle.iolb_model.specs.Execution.{execution}
 use Rattle.iolb_model.specs.Source.{Cell, same_cell, cell_of, source_of, input}
 use Rattle.iolb_model.specs.Graph.{computation_graph}
 use Rattle.iolb_model.specs.Game.{IsCompletePebbling, loads}

@@ -6,5 +6,4 @@ ghost use Rattle.execution_laws.specs.Cold.{InputReadsAreLoaded};
 /// cells as sources cost at least one load each. (Hong and Kung 1981; the sources are those of Feautrier 1991.)
 pub fn input_reads_are_loaded()
     ensures { InputReadsAreLoaded }
-{
-}
+{}
