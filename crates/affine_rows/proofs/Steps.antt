@@ -63,56 +63,6 @@ order-none vars common level i ys xs rows whole e q h =
       none : order_rows vars (replicate (common - i) upward) (level - i) (drop i ys) (drop i xs) ≡ []
       none = ap (λ (n : ℕ). order_rows vars (replicate n upward) (level - i) (drop i ys) (drop i xs)) zero_left
 
--- one pair of subscripts more
-pub cell-step : (vars i : ℕ) (at reader written read : List AffineForm) (w r f g : AffineForm) (rows more whole : List AffineForm)
-    → i < length written → i < length read → w ≡ get_or written i w → r ≡ get_or read i r → f ≡ substitution w at → g ≡ substitution r reader
-    → more ≡ (rows ++ difference vars f g (pos 0) ∷ []) ++ difference vars g f (pos 0) ∷ []
-    → rows ++ equality_rows vars (put_in at (drop i written)) (put_in reader (drop i read)) ≡ whole
-    → more ++ equality_rows vars (put_in at (drop (i + 1) written)) (put_in reader (drop (i + 1) read)) ≡ whole
-cell-step vars i at reader written read w r f g rows more whole p q a b is_f is_g pushed h =
-    let rest : List AffineForm = equality_rows vars (put_in at (drop (i + 1) written)) (put_in reader (drop (i + 1) read)) in
-    let first : equality_rows vars (put_in at (drop i written)) (put_in reader (drop i read)) ≡ difference vars f g (pos 0) ∷ difference vars g f (pos 0) ∷ rest =
-      ap (λ (zs : List AffineForm). equality_rows vars (put_in at zs) (put_in reader (drop i read))) (rest_at written i w p a)
-      ∙ ap (λ (zs : List AffineForm). equality_rows vars (put_in at (w ∷ drop (i + 1) written)) (put_in reader zs)) (rest_at read i r q b)
-      ∙ ap (λ (z : AffineForm). difference vars z (substitution r reader) (pos 0) ∷ difference vars (substitution r reader) z (pos 0) ∷ rest) (sym is_f)
-      ∙ ap (λ (z : AffineForm). difference vars f z (pos 0) ∷ difference vars z f (pos 0) ∷ rest) (sym is_g) in
-    ap (λ (zs : List AffineForm). zs ++ rest) pushed ∙ two_more rows rest whole (difference vars f g (pos 0)) (difference vars g f (pos 0)) (ap (λ (zs : List AffineForm). rows ++ zs) (sym first) ∙ h)
-
--- no pair is left
-pub cell-none : (vars i : ℕ) (at reader written read : List AffineForm) (rows whole : List AffineForm) → length written ≤ i
-    → rows ++ equality_rows vars (put_in at (drop i written)) (put_in reader (drop i read)) ≡ whole → rows ≡ whole
-cell-none vars i at reader written read rows whole past h =
-    sym (append-nil rows) ∙ ap (λ (zs : List AffineForm). rows ++ equality_rows vars (put_in at zs) (put_in reader (drop i read))) (sym (drop_all i written past)) ∙ h
-
--- one loop more
-pub within-step : (vars i : ℕ) (bounds : List (AffineForm × AffineForm)) (values before after : List AffineForm) (b : AffineForm × AffineForm) (v f g : AffineForm) (rows more whole : List AffineForm)
-    → i < length bounds → i < length values → b ≡ get_or bounds i b → v ≡ get_or values i v → f ≡ substitution b.0 before → g ≡ substitution b.1 before
-    → more ≡ (rows ++ difference vars v f (pos 0) ∷ []) ++ difference vars g v (pos 0) ∷ [] → after ≡ before ++ v ∷ []
-    → rows ++ within_rows vars (map step_of (drop i bounds)) before (drop i values) ≡ whole
-    → more ++ within_rows vars (map step_of (drop (i + 1) bounds)) after (drop (i + 1) values) ≡ whole
-within-step vars i bounds values before after b v f g rows more whole p q a e is_f is_g pushed grown h =
-    let rest : List AffineForm = within_rows vars (map step_of (drop (i + 1) bounds)) (before ++ v ∷ []) (drop (i + 1) values) in
-    let first : within_rows vars (map step_of (drop i bounds)) before (drop i values) ≡ difference vars v f (pos 0) ∷ difference vars g v (pos 0) ∷ rest =
-      ap (λ (zs : List (AffineForm × AffineForm)). within_rows vars (map step_of zs) before (drop i values)) (rest_at bounds i b p a)
-      ∙ ap (λ (zs : List AffineForm). within_rows vars (map step_of (b ∷ drop (i + 1) bounds)) before zs) (rest_at values i v q e)
-      ∙ ap (λ (z : AffineForm). difference vars v z (pos 0) ∷ difference vars (substitution b.1 before) v (pos 0) ∷ rest) (sym is_f)
-      ∙ ap (λ (z : AffineForm). difference vars v f (pos 0) ∷ difference vars z v (pos 0) ∷ rest) (sym is_g) in
-    ap (λ (zs : List AffineForm). zs ++ within_rows vars (map step_of (drop (i + 1) bounds)) after (drop (i + 1) values)) pushed
-    ∙ ap (λ (zs : List AffineForm). ((rows ++ difference vars v f (pos 0) ∷ []) ++ difference vars g v (pos 0) ∷ []) ++ within_rows vars (map step_of (drop (i + 1) bounds)) zs (drop (i + 1) values)) grown
-    ∙ two_more rows rest whole (difference vars v f (pos 0)) (difference vars g v (pos 0)) (ap (λ (zs : List AffineForm). rows ++ zs) (sym first) ∙ h)
-
-pub within-none : (vars i : ℕ) (bounds : List (AffineForm × AffineForm)) (values before rows whole : List AffineForm) → length bounds ≤ i
-    → rows ++ within_rows vars (map step_of (drop i bounds)) before (drop i values) ≡ whole → rows ≡ whole
-within-none vars i bounds values before rows whole past h =
-    sym (append-nil rows) ∙ ap (λ (zs : List (AffineForm × AffineForm)). rows ++ within_rows vars (map step_of zs) before (drop i values)) (sym (drop_all i bounds past)) ∙ h
-
--- the bounds that are left fit one variable more
-pub fit-step : (n m i : ℕ) (bounds : List (AffineForm × AffineForm)) (b : AffineForm × AffineForm) → i < length bounds → b ≡ get_or bounds i b → m ≡ suc n
-    → BoundsFit n (drop i bounds) → (IsSmallOver n b.0 × IsSmallOver n b.1) × BoundsFit m (drop (i + 1) bounds)
-fit-step n m i bounds b p a e h =
-    let first : BoundsFit n (b ∷ drop (i + 1) bounds) = subst (BoundsFit n) (rest_at bounds i b p a) h in
-    (first.0, subst (λ (k : ℕ). BoundsFit k (drop (i + 1) bounds)) (sym e) first.1)
-
 -- what two pushes give
 pub pushed-two : (rows one two : List AffineForm) (f g first second : AffineForm) → one ≡ rows ++ f ∷ [] → two ≡ one ++ g ∷ [] → f ≡ first → g ≡ second
     → two ≡ (rows ++ first ∷ []) ++ second ∷ []
