@@ -1,3 +1,4 @@
 pub mod Spelled
 pub mod SpelledNest
 pub mod TextOfNest
+pub mod Bounds

@@ -118,8 +118,9 @@ not_true false e = refl
 
 blank_is_no_name : (b : ℕ) → is_blank b ≡ true → is_name_byte b ≡ false
 blank_is_no_name b e = elim (or_parts (b == 32) (b == 10) e) [
-    inl f ↦ subst (λ (c : ℕ). is_name_byte c ≡ false) (sym (eqb-true b 32 f)) refl
-  | inr f ↦ subst (λ (c : ℕ). is_name_byte c ≡ false) (sym (eqb-true b 10 f)) refl ]
+  | inl f ↦ subst (λ (c : ℕ). is_name_byte c ≡ false) (sym (eqb-true b 32 f)) refl
+  | inr f ↦ subst (λ (c : ℕ). is_name_byte c ≡ false) (sym (eqb-true b 10 f)) refl
+]
 
 first_other : (b : ℕ) (bytes : List ℕ) → is_name_byte b ≡ false → prefix_len is_name_byte (b ∷ bytes) ≡ 0
 first_other b bytes e = ap (λ (t : Bool). cond t (1 + prefix_len is_name_byte bytes) 0) e
@@ -144,12 +145,14 @@ longest_word word words bytes names firm other spelled =
     let front : after_blanks bytes ≡ word ++ spelled.1 = ap after_blanks spelled.3 ∙ after_blanks-word spelled.0 word spelled.1 spelled.2 firm in
     let run : prefix_len is_name_byte (word ++ spelled.1) ≡ length word = prefix-word word spelled.1 names (no_run words spelled.1 other spelled.4) in
     ap (λ (l : List ℕ). split l) front ∙ ap (λ (n : ℕ). cut n) run ∙ pair (take (length word) (word ++ spelled.1)) word (drop (length word) (word ++ spelled.1)) spelled.1 (take-front word spelled.1) (drop-front word spelled.1) where
-  split : List ℕ → List ℕ × List ℕ
-  split l = (take (prefix_len is_name_byte l) l, drop (prefix_len is_name_byte l) l)
-  cut : ℕ → List ℕ × List ℕ
-  cut n = (take n (word ++ spelled.1), drop n (word ++ spelled.1))
-  pair : (a b c d : List ℕ) → a ≡ b → c ≡ d → ◌≡◌ {A = List ℕ × List ℕ} (a, c) (b, d)
-  pair a b c d e f = cc
+      split : List ℕ → List ℕ × List ℕ
+      split l = (take (prefix_len is_name_byte l) l, drop (prefix_len is_name_byte l) l)
+
+      cut : ℕ → List ℕ × List ℕ
+      cut n = (take n (word ++ spelled.1), drop n (word ++ spelled.1))
+
+      pair : (a b c d : List ℕ) → a ≡ b → c ≡ d → ◌≡◌ {A = List ℕ × List ℕ} (a, c) (b, d)
+      pair a b c d e f = cc
 
 -- the longest run, and what follows it
 pub longest_sound : (words : List (List ℕ)) (bytes : List ℕ) → AreSpelled words (longest bytes).1 → AreSpelled ((longest bytes).0 ∷ words) bytes
@@ -169,7 +172,7 @@ pub IsName-true : (word : List ℕ) → is_name word ≡ true → IsName word
 IsName-true [] e = absurd cc
 IsName-true (b ∷ word) e =
     let three : ((is_letter b && list_all is_name_byte word && nat_le (length (b ∷ word)) 64) ≡ true) × (not (is_among keywords (b ∷ word)) ≡ true) =
-      and_parts (is_letter b && list_all is_name_byte word && nat_le (length (b ∷ word)) 64) (not (is_among keywords (b ∷ word))) e in
+    and_parts (is_letter b && list_all is_name_byte word && nat_le (length (b ∷ word)) 64) (not (is_among keywords (b ∷ word))) e in
     let two : ((is_letter b && list_all is_name_byte word) ≡ true) × (nat_le (length (b ∷ word)) 64 ≡ true) = and_parts (is_letter b && list_all is_name_byte word) (nat_le (length (b ∷ word)) 64) three.0 in
     let one : (is_letter b ≡ true) × (list_all is_name_byte word ≡ true) = and_parts (is_letter b) (list_all is_name_byte word) two.0 in
     (one.0, all_names word one.1, leb-true (length (b ∷ word)) 64 two.1, not_true (is_among keywords (b ∷ word)) three.1)
@@ -178,8 +181,8 @@ pub is_name-IsName : (word : List ℕ) → IsName word → is_name word ≡ true
 is_name-IsName [] h = absurd h
 is_name-IsName (b ∷ word) h =
     and_true (is_letter b && list_all is_name_byte word && nat_le (length (b ∷ word)) 64) (not (is_among keywords (b ∷ word)))
-      (and_true (is_letter b && list_all is_name_byte word) (nat_le (length (b ∷ word)) 64) (and_true (is_letter b) (list_all is_name_byte word) h.0 (names_all word h.1)) (le-leb (length (b ∷ word)) 64 h.2))
-      (ap not h.3)
+    (and_true (is_letter b && list_all is_name_byte word) (nat_le (length (b ∷ word)) 64) (and_true (is_letter b) (list_all is_name_byte word) h.0 (names_all word h.1)) (le-leb (length (b ∷ word)) 64 h.2))
+    (ap not h.3)
 
 -- a name is made of name bytes, and doesn't begin with a blank
 pub IsName-bytes : (word : List ℕ) → IsName word → AllByRecursion (λ b. IsTrue (is_name_byte b)) word
@@ -192,14 +195,15 @@ IsName-firm (b ∷ word) h = false_from_ne_true (is_blank b) (λ e. let no : is_
 
 pub name_sound : (words : List (List ℕ)) (bytes : List ℕ) (found : List ℕ × List ℕ) → name_at bytes ≡ Some found → AreSpelled words found.1 → AreSpelled (found.0 ∷ words) bytes × IsName found.0
 name_sound words bytes found e spelled =
-    let both : (is_name (longest bytes).0 ≡ true) × ◌≡◌ {A = List ℕ × List ℕ} (longest bytes) found = cond_some (is_name (longest bytes).0) (longest bytes) found e in
-    (subst (λ (p : List ℕ × List ℕ). AreSpelled (p.0 ∷ words) bytes) both.1 (longest_sound words bytes (subst (λ (p : List ℕ × List ℕ). AreSpelled words p.1) (sym both.1) spelled)),
-    subst (λ (p : List ℕ × List ℕ). IsName p.0) both.1 (IsName-true (longest bytes).0 both.0))
+    let both : (is_name (longest bytes).0 ≡ true) × ◌≡◌ {A = List ℕ × List ℕ} (longest bytes) found = cond_some (is_name (longest bytes).0) (longest bytes) found e in (
+      subst (λ (p : List ℕ × List ℕ). AreSpelled (p.0 ∷ words) bytes) both.1 (longest_sound words bytes (subst (λ (p : List ℕ × List ℕ). AreSpelled words p.1) (sym both.1) spelled)),
+      subst (λ (p : List ℕ × List ℕ). IsName p.0) both.1 (IsName-true (longest bytes).0 both.0),
+    )
 
 pub name_complete : (word : List ℕ) (words : List (List ℕ)) (bytes : List ℕ) → IsName word → BeginsOther words → AreSpelled (word ∷ words) bytes
     → (rest : List ℕ) × ◌≡◌ {A = Option (List ℕ × List ℕ)} (name_at bytes) (Some (word, rest)) × AreSpelled words rest
 name_complete word words bytes name other spelled =
     let found : ◌≡◌ {A = List ℕ × List ℕ} (longest bytes) (word, spelled.1) = longest_word word words bytes (IsName-bytes word name) (IsName-firm word name) other spelled in
     (spelled.1, ap (λ (p : List ℕ × List ℕ). cond (is_name p.0) (Some p) None) found ∙ ap (λ (t : Bool). cond t (named word spelled.1) None) (is_name-IsName word name), spelled.4) where
-  named : List ℕ → List ℕ → Option (List ℕ × List ℕ)
-  named a b = Some (a, b)
+      named : List ℕ → List ℕ → Option (List ℕ × List ℕ)
+      named a b = Some (a, b)

@@ -21,21 +21,22 @@ header_end_sound : (name : List ℕ) (bound : List ℕ × List ℕ) (words : Lis
     → AreSpelled (codes ";" ∷ name ∷ codes "++" ∷ codes ")" ∷ words) bound.1 × (found.0 ≡ record { name = name; bound = bound.0 })
 header_end_sound name bound words found e spelled =
     map_some (λ (rest : List ℕ). (record { name = name; bound = bound.0 }, rest)) (after_words (codes ";" ∷ name ∷ codes "++" ∷ codes ")" ∷ []) bound.1) found e
-      (λ rest f g. (words_sound (codes ";" ∷ name ∷ codes "++" ∷ codes ")" ∷ []) words bound.1 rest f (subst (λ (p : CopyLoop × List ℕ). AreSpelled words p.1) (sym g) spelled), ap (λ (p : CopyLoop × List ℕ). p.0) (sym g)))
+    (λ rest f g. (words_sound (codes ";" ∷ name ∷ codes "++" ∷ codes ")" ∷ []) words bound.1 rest f (subst (λ (p : CopyLoop × List ℕ). AreSpelled words p.1) (sym g) spelled), ap (λ (p : CopyLoop × List ℕ). p.0) (sym g)))
 
 header_bound_sound : (name : List ℕ × List ℕ) (words : List (List ℕ)) (found : CopyLoop × List ℕ) → header_bound name ≡ Some found → AreSpelled words found.1
     → AreSpelled (codes "=" ∷ codes "0" ∷ codes ";" ∷ found.0.name ∷ codes "<" ∷ found.0.bound ∷ codes ";" ∷ found.0.name ∷ codes "++" ∷ codes ")" ∷ words) name.1
-      × (found.0.name ≡ name.0) × IsName found.0.bound
+    × (found.0.name ≡ name.0) × IsName found.0.bound
 header_bound_sound name words found e spelled =
     option_and_then_some (header_end name.0) (option_and_then name_at (after_words (codes "=" ∷ codes "0" ∷ codes ";" ∷ name.0 ∷ codes "<" ∷ []) name.1)) found e (λ bound f g.
-      option_and_then_some name_at (after_words (codes "=" ∷ codes "0" ∷ codes ";" ∷ name.0 ∷ codes "<" ∷ []) name.1) bound f (λ compared h k.
-        let last : AreSpelled (codes ";" ∷ name.0 ∷ codes "++" ∷ codes ")" ∷ words) bound.1 × (found.0 ≡ record { name = name.0; bound = bound.0 }) = header_end_sound name.0 bound words found g spelled in
-        let middle : AreSpelled (bound.0 ∷ codes ";" ∷ name.0 ∷ codes "++" ∷ codes ")" ∷ words) compared × IsName bound.0 = name_sound (codes ";" ∷ name.0 ∷ codes "++" ∷ codes ")" ∷ words) compared bound k last.0 in
-        let first : AreSpelled (codes "=" ∷ codes "0" ∷ codes ";" ∷ name.0 ∷ codes "<" ∷ bound.0 ∷ codes ";" ∷ name.0 ∷ codes "++" ∷ codes ")" ∷ words) name.1 =
-          words_sound (codes "=" ∷ codes "0" ∷ codes ";" ∷ name.0 ∷ codes "<" ∷ []) (bound.0 ∷ codes ";" ∷ name.0 ∷ codes "++" ∷ codes ")" ∷ words) name.1 compared h middle.0 in
-        (subst (λ (l : CopyLoop). AreSpelled (codes "=" ∷ codes "0" ∷ codes ";" ∷ l.name ∷ codes "<" ∷ l.bound ∷ codes ";" ∷ l.name ∷ codes "++" ∷ codes ")" ∷ words) name.1) (sym last.1) first,
-        ap (λ (l : CopyLoop). l.name) last.1,
-        subst (λ (l : CopyLoop). IsName l.bound) (sym last.1) middle.1)))
+    option_and_then_some name_at (after_words (codes "=" ∷ codes "0" ∷ codes ";" ∷ name.0 ∷ codes "<" ∷ []) name.1) bound f (λ compared h k.
+    let last : AreSpelled (codes ";" ∷ name.0 ∷ codes "++" ∷ codes ")" ∷ words) bound.1 × (found.0 ≡ record { name = name.0; bound = bound.0 }) = header_end_sound name.0 bound words found g spelled in
+    let middle : AreSpelled (bound.0 ∷ codes ";" ∷ name.0 ∷ codes "++" ∷ codes ")" ∷ words) compared × IsName bound.0 = name_sound (codes ";" ∷ name.0 ∷ codes "++" ∷ codes ")" ∷ words) compared bound k last.0 in
+    let first : AreSpelled (codes "=" ∷ codes "0" ∷ codes ";" ∷ name.0 ∷ codes "<" ∷ bound.0 ∷ codes ";" ∷ name.0 ∷ codes "++" ∷ codes ")" ∷ words) name.1 =
+    words_sound (codes "=" ∷ codes "0" ∷ codes ";" ∷ name.0 ∷ codes "<" ∷ []) (bound.0 ∷ codes ";" ∷ name.0 ∷ codes "++" ∷ codes ")" ∷ words) name.1 compared h middle.0 in (
+      subst (λ (l : CopyLoop). AreSpelled (codes "=" ∷ codes "0" ∷ codes ";" ∷ l.name ∷ codes "<" ∷ l.bound ∷ codes ";" ∷ l.name ∷ codes "++" ∷ codes ")" ∷ words) name.1) (sym last.1) first,
+      ap (λ (l : CopyLoop). l.name) last.1,
+      subst (λ (l : CopyLoop). IsName l.bound) (sym last.1) middle.1,
+    )))
 
 cond_then : {A : Type 0} (b : Bool) (o : Option A) (x : A) → cond b o None ≡ Some x → (b ≡ true) × (o ≡ Some x)
 cond_then true o x e = (refl, e)
@@ -47,16 +48,18 @@ or_false false b e = refl
 
 header_rest_sound : (words : List (List ℕ)) (bytes : List ℕ) (found : CopyLoop × List ℕ) → header_rest bytes ≡ Some found → AreSpelled words found.1
     → AreSpelled (codes "(" ∷ found.0.name ∷ codes "=" ∷ codes "0" ∷ codes ";" ∷ found.0.name ∷ codes "<" ∷ found.0.bound ∷ codes ";" ∷ found.0.name ∷ codes "++" ∷ codes ")" ∷ words) bytes
-      × IsName found.0.name × IsName found.0.bound
+    × IsName found.0.name × IsName found.0.bound
 header_rest_sound words bytes found e spelled =
     option_and_then_some header_bound (option_and_then name_at (after_word (codes "(") bytes)) found e (λ name f g.
-      option_and_then_some name_at (after_word (codes "(") bytes) name f (λ opened h k.
-        let inner : AreSpelled (codes "=" ∷ codes "0" ∷ codes ";" ∷ found.0.name ∷ codes "<" ∷ found.0.bound ∷ codes ";" ∷ found.0.name ∷ codes "++" ∷ codes ")" ∷ words) name.1
-            × (found.0.name ≡ name.0) × IsName found.0.bound = header_bound_sound name words found g spelled in
-        let rest : List (List ℕ) = codes "=" ∷ codes "0" ∷ codes ";" ∷ found.0.name ∷ codes "<" ∷ found.0.bound ∷ codes ";" ∷ found.0.name ∷ codes "++" ∷ codes ")" ∷ words in
-        let named : AreSpelled (name.0 ∷ rest) opened × IsName name.0 = name_sound rest opened name k inner.0 in
-        (word_sound (codes "(") (found.0.name ∷ rest) bytes opened h (subst (λ (w : List ℕ). AreSpelled (w ∷ rest) opened) (sym inner.1) named.0),
-        subst IsName (sym inner.1) named.1, inner.2)))
+    option_and_then_some name_at (after_word (codes "(") bytes) name f (λ opened h k.
+    let inner : AreSpelled (codes "=" ∷ codes "0" ∷ codes ";" ∷ found.0.name ∷ codes "<" ∷ found.0.bound ∷ codes ";" ∷ found.0.name ∷ codes "++" ∷ codes ")" ∷ words) name.1
+    × (found.0.name ≡ name.0) × IsName found.0.bound = header_bound_sound name words found g spelled in
+    let rest : List (List ℕ) = codes "=" ∷ codes "0" ∷ codes ";" ∷ found.0.name ∷ codes "<" ∷ found.0.bound ∷ codes ";" ∷ found.0.name ∷ codes "++" ∷ codes ")" ∷ words in
+    let named : AreSpelled (name.0 ∷ rest) opened × IsName name.0 = name_sound rest opened name k inner.0 in (
+      word_sound (codes "(") (found.0.name ∷ rest) bytes opened h (subst (λ (w : List ℕ). AreSpelled (w ∷ rest) opened) (sym inner.1) named.0),
+      subst IsName (sym inner.1) named.1,
+      inner.2,
+    )))
 
 header_sound : (words : List (List ℕ)) (bytes : List ℕ) (found : CopyLoop × List ℕ) → header_at bytes ≡ Some found → AreSpelled words found.1
     → AreSpelled (loop_words found.0 ++ words) bytes × IsName found.0.name × IsName found.0.bound
@@ -74,16 +77,17 @@ header_rest_complete l words bytes name bound spelled =
     let named = name_complete l.name (codes "=" ∷ codes "0" ∷ codes ";" ∷ l.name ∷ codes "<" ∷ l.bound ∷ codes ";" ∷ l.name ∷ codes "++" ∷ codes ")" ∷ words) opened.0 name refl opened.2 in
     let compared = words_complete (codes "=" ∷ codes "0" ∷ codes ";" ∷ l.name ∷ codes "<" ∷ []) (l.bound ∷ codes ";" ∷ l.name ∷ codes "++" ∷ codes ")" ∷ words) named.0 (refl, (refl, (refl, (IsName-firm l.name name, (refl, tt))))) named.2 in
     let bounded = name_complete l.bound (codes ";" ∷ l.name ∷ codes "++" ∷ codes ")" ∷ words) compared.0 bound refl compared.2 in
-    let ended = words_complete (codes ";" ∷ l.name ∷ codes "++" ∷ codes ")" ∷ []) words bounded.0 (refl, (IsName-firm l.name name, (refl, (refl, tt)))) bounded.2 in
-    (ended.0,
+    let ended = words_complete (codes ";" ∷ l.name ∷ codes "++" ∷ codes ")" ∷ []) words bounded.0 (refl, (IsName-firm l.name name, (refl, (refl, tt)))) bounded.2 in (
+      ended.0,
       ap (λ (o : Option (List ℕ)). option_and_then header_bound (option_and_then name_at o)) opened.1
-      ∙ ap (λ (o : Option (List ℕ × List ℕ)). option_and_then header_bound o) named.1
-      ∙ ap (λ (o : Option (List ℕ)). option_and_then (header_end l.name) (option_and_then name_at o)) compared.1
-      ∙ ap (λ (o : Option (List ℕ × List ℕ)). option_and_then (header_end l.name) o) bounded.1
-      ∙ ap (λ (o : Option (List ℕ)). option_map (λ (rest : List ℕ). ended_loop rest) o) ended.1,
-      ended.2) where
-  ended_loop : List ℕ → CopyLoop × List ℕ
-  ended_loop rest = (l, rest)
+          ∙ ap (λ (o : Option (List ℕ × List ℕ)). option_and_then header_bound o) named.1
+          ∙ ap (λ (o : Option (List ℕ)). option_and_then (header_end l.name) (option_and_then name_at o)) compared.1
+          ∙ ap (λ (o : Option (List ℕ × List ℕ)). option_and_then (header_end l.name) o) bounded.1
+          ∙ ap (λ (o : Option (List ℕ)). option_map (λ (rest : List ℕ). ended_loop rest) o) ended.1,
+      ended.2,
+    ) where
+      ended_loop : List ℕ → CopyLoop × List ℕ
+      ended_loop rest = (l, rest)
 
 header_complete : (l : CopyLoop) (words : List (List ℕ)) (bytes : List ℕ) → IsName l.name → IsName l.bound → AreSpelled (loop_words l ++ words) bytes
     → (rest : List ℕ) × ◌≡◌ {A = Option (CopyLoop × List ℕ)} (header_at bytes) (Some (l, rest)) × AreSpelled words rest
@@ -98,9 +102,9 @@ no_header : (word : List ℕ) (words : List (List ℕ)) (bytes : List ℕ) → I
 no_header word words bytes name other spelled =
     ap (λ (p : List ℕ × List ℕ). cond (bytes_eq p.0 (codes "for")) (header_rest p.1) None) (longest_word word words bytes (IsName-bytes word name) (IsName-firm word name) other spelled)
     ∙ ap (λ (b : Bool). cond b (header_rest spelled.1) None) (not_for word name) where
-  not_for : (w : List ℕ) → IsName w → bytes_eq w (codes "for") ≡ false
-  not_for [] h = absurd h
-  not_for (b ∷ w) h = or_false (bytes_eq (b ∷ w) (codes "for")) _ h.3
+      not_for : (w : List ℕ) → IsName w → bytes_eq w (codes "for") ≡ false
+      not_for [] h = absurd h
+      not_for (b ∷ w) h = or_false (bytes_eq (b ∷ w) (codes "for")) _ h.3
 
 abbrev pub AreNames : List CopyLoop → Type 0
 AreNames loops = AllByRecursion (λ (l : CopyLoop). IsName l.name × IsName l.bound) loops
@@ -117,7 +121,7 @@ headers_step most words bytes below None e spelled = (spelled, tt, omega arith)
 headers_step most words bytes below (Some found) e spelled =
     let rest : HeadersSound words most found.1 (headers_at most found.1) = below found.1 spelled in
     let first : AreSpelled (loop_words found.0 ++ (flat_map loop_words (headers_at most found.1).0 ++ words)) bytes × IsName found.0.name × IsName found.0.bound =
-      header_sound (flat_map loop_words (headers_at most found.1).0 ++ words) bytes found e rest.0 in
+    header_sound (flat_map loop_words (headers_at most found.1).0 ++ words) bytes found e rest.0 in
     (first.0, ((first.1, first.2), rest.1), omega (arith, rest.2))
 
 headers_sound : (most : ℕ) (words : List (List ℕ)) (bytes : List ℕ) → AreSpelled words (headers_at most bytes).1 → HeadersSound words most bytes (headers_at most bytes)
@@ -141,27 +145,28 @@ headers_complete (suc most) (l ∷ loops) word words bytes names few name other 
 subscript_sound : (words : List (List ℕ)) (bytes : List ℕ) (found : List ℕ × List ℕ) → subscript_at bytes ≡ Some found → AreSpelled words found.1 → AreSpelled (subscript_words found.0 ++ words) bytes
 subscript_sound words bytes found e spelled =
     option_and_then_some subscript_end (option_and_then name_at (after_word (codes "[") bytes)) found e (λ name f g.
-      option_and_then_some name_at (after_word (codes "[") bytes) name f (λ opened h k.
-        map_some (λ (rest : List ℕ). pair name.0 rest) (after_word (codes "]") name.1) found g (λ rest m n.
-          let closed : AreSpelled (codes "]" ∷ words) name.1 = word_sound (codes "]") words name.1 rest m (subst (λ (p : List ℕ × List ℕ). AreSpelled words p.1) (sym n) spelled) in
-          let named : AreSpelled (name.0 ∷ codes "]" ∷ words) opened × IsName name.0 = name_sound (codes "]" ∷ words) opened name k closed in
-          subst (λ (p : List ℕ × List ℕ). AreSpelled (subscript_words p.0 ++ words) bytes) n (word_sound (codes "[") (name.0 ∷ codes "]" ∷ words) bytes opened h named.0)))) where
-  pair : List ℕ → List ℕ → List ℕ × List ℕ
-  pair a b = (a, b)
+    option_and_then_some name_at (after_word (codes "[") bytes) name f (λ opened h k.
+    map_some (λ (rest : List ℕ). pair name.0 rest) (after_word (codes "]") name.1) found g (λ rest m n.
+    let closed : AreSpelled (codes "]" ∷ words) name.1 = word_sound (codes "]") words name.1 rest m (subst (λ (p : List ℕ × List ℕ). AreSpelled words p.1) (sym n) spelled) in
+    let named : AreSpelled (name.0 ∷ codes "]" ∷ words) opened × IsName name.0 = name_sound (codes "]" ∷ words) opened name k closed in
+    subst (λ (p : List ℕ × List ℕ). AreSpelled (subscript_words p.0 ++ words) bytes) n (word_sound (codes "[") (name.0 ∷ codes "]" ∷ words) bytes opened h named.0)))) where
+      pair : List ℕ → List ℕ → List ℕ × List ℕ
+      pair a b = (a, b)
 
 subscript_complete : (name : List ℕ) (words : List (List ℕ)) (bytes : List ℕ) → IsName name → AreSpelled (subscript_words name ++ words) bytes
     → (rest : List ℕ) × ◌≡◌ {A = Option (List ℕ × List ℕ)} (subscript_at bytes) (Some (name, rest)) × AreSpelled words rest
 subscript_complete name words bytes ok spelled =
     let opened = word_complete (codes "[") (name ∷ codes "]" ∷ words) bytes refl spelled in
     let named = name_complete name (codes "]" ∷ words) opened.0 ok refl opened.2 in
-    let closed = word_complete (codes "]") words named.0 refl named.2 in
-    (closed.0,
+    let closed = word_complete (codes "]") words named.0 refl named.2 in (
+      closed.0,
       ap (λ (o : Option (List ℕ)). option_and_then subscript_end (option_and_then name_at o)) opened.1
-      ∙ ap (λ (o : Option (List ℕ × List ℕ)). option_and_then subscript_end o) named.1
-      ∙ ap (λ (o : Option (List ℕ)). option_map (λ (rest : List ℕ). pair name rest) o) closed.1,
-      closed.2) where
-  pair : List ℕ → List ℕ → List ℕ × List ℕ
-  pair a b = (a, b)
+          ∙ ap (λ (o : Option (List ℕ × List ℕ)). option_and_then subscript_end o) named.1
+          ∙ ap (λ (o : Option (List ℕ)). option_map (λ (rest : List ℕ). pair name rest) o) closed.1,
+      closed.2,
+    ) where
+      pair : List ℕ → List ℕ → List ℕ × List ℕ
+      pair a b = (a, b)
 
 -- words that begin with this byte, which is neither a blank nor a bracket that opens a subscript
 abbrev pub BeginsWith : ℕ → List (List ℕ) → Type 0
@@ -172,7 +177,7 @@ no_subscript : (b : ℕ) (words : List (List ℕ)) (bytes : List ℕ) → is_bla
 no_subscript b [] bytes firm apart begins spelled = absurd begins
 no_subscript b (word ∷ words) bytes firm apart begins spelled =
     let front : after_blanks bytes ≡ (b ∷ []) ++ spelled.1 =
-      ap after_blanks spelled.3 ∙ ap (λ (w : List ℕ). after_blanks (spelled.0 ++ w ++ spelled.1)) begins ∙ after_blanks-word spelled.0 (b ∷ []) spelled.1 spelled.2 firm in
+    ap after_blanks spelled.3 ∙ ap (λ (w : List ℕ). after_blanks (spelled.0 ++ w ++ spelled.1)) begins ∙ after_blanks-word spelled.0 (b ∷ []) spelled.1 spelled.2 firm in
     ap (λ (l : List ℕ). option_and_then subscript_end (option_and_then name_at (after_start (codes "[") l))) front
     ∙ ap (λ (t : Bool). option_and_then subscript_end (option_and_then name_at (cond t (Some spelled.1) None))) apart
 
@@ -208,9 +213,9 @@ access_sound : (words : List (List ℕ)) (bytes : List ℕ) (found : CopyAccess 
     → AreSpelled (access_words found.0 ++ words) bytes × IsName found.0.array × (length found.0.subscripts ≤ 4)
 access_sound words bytes found e spelled =
     map_some access_from (name_at bytes) found e (λ name f g.
-      let subscripts : SubscriptsSound words 4 name.1 (subscripts_at 4 name.1) = subscripts_sound 4 words name.1 (subst (λ (p : CopyAccess × List ℕ). AreSpelled words p.1) (sym g) spelled) in
-      let named : AreSpelled (name.0 ∷ (flat_map subscript_words (subscripts_at 4 name.1).0 ++ words)) bytes × IsName name.0 = name_sound (flat_map subscript_words (subscripts_at 4 name.1).0 ++ words) bytes name f subscripts.0 in
-      subst (λ (p : CopyAccess × List ℕ). AreSpelled (access_words p.0 ++ words) bytes × IsName p.0.array × (length p.0.subscripts ≤ 4)) g (named.0, named.1, subscripts.1))
+    let subscripts : SubscriptsSound words 4 name.1 (subscripts_at 4 name.1) = subscripts_sound 4 words name.1 (subst (λ (p : CopyAccess × List ℕ). AreSpelled words p.1) (sym g) spelled) in
+    let named : AreSpelled (name.0 ∷ (flat_map subscript_words (subscripts_at 4 name.1).0 ++ words)) bytes × IsName name.0 = name_sound (flat_map subscript_words (subscripts_at 4 name.1).0 ++ words) bytes name f subscripts.0 in
+    subst (λ (p : CopyAccess × List ℕ). AreSpelled (access_words p.0 ++ words) bytes × IsName p.0.array × (length p.0.subscripts ≤ 4)) g (named.0, named.1, subscripts.1))
 
 begins_other : (b : ℕ) (names : List (List ℕ)) (words : List (List ℕ)) → is_name_byte b ≡ false → BeginsWith b words → BeginsOther (flat_map subscript_words names ++ words)
 begins_other b [] [] e h = tt
@@ -222,11 +227,13 @@ access_complete : (access : CopyAccess) (b : ℕ) (words : List (List ℕ)) (byt
     → (rest : List ℕ) × ◌≡◌ {A = Option (CopyAccess × List ℕ)} (access_at bytes) (Some (access, rest)) × AreSpelled words rest
 access_complete access b words bytes name names few firm apart other begins spelled =
     let named = name_complete access.array (flat_map subscript_words access.subscripts ++ words) bytes name (begins_other b access.subscripts words other begins) spelled in
-    let subscripts = subscripts_complete 4 access.subscripts b words named.0 names few firm apart begins named.2 in
-    (subscripts.0,
-      ap (option_map access_from) named.1 ∙ ap (λ (p : List (List ℕ) × List ℕ). found p) subscripts.1, subscripts.2) where
-  found : List (List ℕ) × List ℕ → Option (CopyAccess × List ℕ)
-  found p = Some (record { array = access.array; subscripts = p.0 }, p.1)
+    let subscripts = subscripts_complete 4 access.subscripts b words named.0 names few firm apart begins named.2 in (
+      subscripts.0,
+      ap (option_map access_from) named.1 ∙ ap (λ (p : List (List ℕ) × List ℕ). found p) subscripts.1,
+      subscripts.2,
+    ) where
+      found : List (List ℕ) × List ℕ → Option (CopyAccess × List ℕ)
+      found p = Some (record { array = access.array; subscripts = p.0 }, p.1)
 
 -- ---- the nest
 
@@ -255,28 +262,30 @@ regrouped nest = append_assoc (flat_map loop_words nest.loops ++ access_words ne
 pub nest_sound : (bytes : List ℕ) (nest : CopyNest) → nest_at bytes ≡ Some nest → AreSpelled (nest_words nest) bytes × HasNames nest
 nest_sound bytes nest e =
     option_and_then_some (statement_read loops) (access_at after) nest e (λ written f g.
-      option_and_then_some (statement_end loops written.0) (option_and_then access_at (after_word (codes "=") written.1)) nest g (λ read h k.
-        option_and_then_some access_at (after_word (codes "=") written.1) read h (λ assigned m n.
-          option_and_then_some (at_end (record { loops = loops; written = written.0; read = read.0 })) (after_word (codes ";") read.1) nest k (λ rest p q.
-            let both : (list_all is_blank rest ≡ true) × (record { loops = loops; written = written.0; read = read.0 } ≡ nest) = cond_some (list_all is_blank rest) (record { loops = loops; written = written.0; read = read.0 }) nest q in
-            let closed : AreSpelled (codes ";" ∷ []) read.1 = word_sound (codes ";") [] read.1 rest p (blanks_true rest both.0) in
-            let reads = access_sound (codes ";" ∷ []) assigned read n closed in
-            let equals = word_sound (codes "=") (access_words read.0 ++ codes ";" ∷ []) written.1 assigned m reads.0 in
-            let writes = access_sound (codes "=" ∷ (access_words read.0 ++ codes ";" ∷ [])) after written f equals in
-            let headers = headers_sound 4 (access_words written.0 ++ (codes "=" ∷ (access_words read.0 ++ codes ";" ∷ []))) bytes writes.0 in
-            subst (λ (x : CopyNest). AreSpelled (nest_words x) bytes × HasNames x) both.1
-              (subst (λ (words : List (List ℕ)). AreSpelled words bytes) (sym (regrouped (record { loops = loops; written = written.0; read = read.0 }))) headers.0,
-              record { loops = headers.1; few_loops = headers.2; written = writes.1; few_written = writes.2; read = reads.1; few_read = reads.2 }))))) where
-  loops : List CopyLoop
-  loops = (headers_at 4 bytes).0
-  after : List ℕ
-  after = (headers_at 4 bytes).1
+    option_and_then_some (statement_end loops written.0) (option_and_then access_at (after_word (codes "=") written.1)) nest g (λ read h k.
+    option_and_then_some access_at (after_word (codes "=") written.1) read h (λ assigned m n.
+    option_and_then_some (at_end (record { loops = loops; written = written.0; read = read.0 })) (after_word (codes ";") read.1) nest k (λ rest p q.
+    let both : (list_all is_blank rest ≡ true) × (record { loops = loops; written = written.0; read = read.0 } ≡ nest) = cond_some (list_all is_blank rest) (record { loops = loops; written = written.0; read = read.0 }) nest q in
+    let closed : AreSpelled (codes ";" ∷ []) read.1 = word_sound (codes ";") [] read.1 rest p (blanks_true rest both.0) in
+    let reads = access_sound (codes ";" ∷ []) assigned read n closed in
+    let equals = word_sound (codes "=") (access_words read.0 ++ codes ";" ∷ []) written.1 assigned m reads.0 in
+    let writes = access_sound (codes "=" ∷ (access_words read.0 ++ codes ";" ∷ [])) after written f equals in
+    let headers = headers_sound 4 (access_words written.0 ++ (codes "=" ∷ (access_words read.0 ++ codes ";" ∷ []))) bytes writes.0 in
+    subst (λ (x : CopyNest). AreSpelled (nest_words x) bytes × HasNames x) both.1 (
+      subst (λ (words : List (List ℕ)). AreSpelled words bytes) (sym (regrouped (record { loops = loops; written = written.0; read = read.0 }))) headers.0,
+      record { loops = headers.1; few_loops = headers.2; written = writes.1; few_written = writes.2; read = reads.1; few_read = reads.2 },
+    ))))) where
+      loops : List CopyLoop
+      loops = (headers_at 4 bytes).0
+
+      after : List ℕ
+      after = (headers_at 4 bytes).1
 
 pub nest_complete : (nest : CopyNest) (bytes : List ℕ) → HasNames nest → AllByRecursion IsName nest.written.subscripts → AllByRecursion IsName nest.read.subscripts → AreSpelled (nest_words nest) bytes → nest_at bytes ≡ Some nest
 nest_complete nest bytes names written read spelled =
     let headers = headers_complete 4 nest.loops nest.written.array (flat_map subscript_words nest.written.subscripts ++ (codes "=" ∷ (access_words nest.read ++ codes ";" ∷ []))) bytes names.loops names.few_loops names.written
-      (begins_other 61 nest.written.subscripts (codes "=" ∷ (access_words nest.read ++ codes ";" ∷ [])) refl refl)
-      (subst (λ (words : List (List ℕ)). AreSpelled words bytes) (regrouped nest) spelled) in
+    (begins_other 61 nest.written.subscripts (codes "=" ∷ (access_words nest.read ++ codes ";" ∷ [])) refl refl)
+    (subst (λ (words : List (List ℕ)). AreSpelled words bytes) (regrouped nest) spelled) in
     let writes = access_complete nest.written 61 (codes "=" ∷ (access_words nest.read ++ codes ";" ∷ [])) headers.0 names.written written names.few_written refl refl refl refl headers.2 in
     let equals = word_complete (codes "=") (access_words nest.read ++ codes ";" ∷ []) writes.0 refl writes.2 in
     let reads = access_complete nest.read 59 (codes ";" ∷ []) equals.0 names.read read names.few_read refl refl refl refl equals.2 in

@@ -19,8 +19,8 @@ before_end-some rest end =
     ∙ ap (λ (l : List ℕ). cond (bytes_eq l end) (Some (take (length rest) (rest ++ end))) None) (drop_at rest end (length rest) refl)
     ∙ ap (λ (t : Bool). cond t (Some (take (length rest) (rest ++ end))) None) (bytes_refl end)
     ∙ ap Some (take_at rest end (length rest) refl) where
-  at : ℕ → Option (List ℕ)
-  at n = cond (bytes_eq (drop n (rest ++ end)) end) (Some (take n (rest ++ end))) None
+      at : ℕ → Option (List ℕ)
+      at n = cond (bytes_eq (drop n (rest ++ end)) end) (Some (take n (rest ++ end))) None
 
 pub before_end-is : (bytes rest end : List ℕ) → before_end end bytes ≡ Some rest → bytes ≡ rest ++ end
 before_end-is bytes rest end e =
@@ -41,10 +41,13 @@ regroup a b c d = sym (append_assoc a (b ++ c) d) ∙ ap (λ (l : List ℕ). l +
 text_sound : (bytes body : List ℕ) → body_of bytes ≡ Some body → (end : List ℕ) × ((end ≡ []) ⊎ (end ≡ codes "\n")) × (bytes ≡ codes "#pragma scop\n" ++ body ++ codes "\n#pragma endscop" ++ end)
 text_sound bytes body e =
     option_and_then_some (λ (opened : List ℕ). before_end (codes "\n#pragma endscop") (without_newline opened)) (after_start (codes "#pragma scop\n") bytes) body e (λ opened f g.
-      let last = newline_or_none opened in
-      (last.0, last.1, after_start-is (codes "#pragma scop\n") bytes opened f
-        ∙ ap (λ (l : List ℕ). codes "#pragma scop\n" ++ l) (last.2 ∙ ap (λ (l : List ℕ). l ++ last.0) (before_end-is (without_newline opened) body (codes "\n#pragma endscop") g))
-        ∙ regroup (codes "#pragma scop\n") body (codes "\n#pragma endscop") last.0))
+    let last = newline_or_none opened in (
+      last.0,
+      last.1,
+      after_start-is (codes "#pragma scop\n") bytes opened f
+          ∙ ap (λ (l : List ℕ). codes "#pragma scop\n" ++ l) (last.2 ∙ ap (λ (l : List ℕ). l ++ last.0) (before_end-is (without_newline opened) body (codes "\n#pragma endscop") g))
+          ∙ regroup (codes "#pragma scop\n") body (codes "\n#pragma endscop") last.0,
+    ))
 
 before_end-none : (rest last end : List ℕ) → length last ≡ length end → bytes_eq last end ≡ false → before_end end (rest ++ last) ≡ None
 before_end-none rest last end same apart =
@@ -52,8 +55,8 @@ before_end-none rest last end same apart =
     ap (λ (n : ℕ). at n) short
     ∙ ap (λ (l : List ℕ). cond (bytes_eq l end) (Some (take (length rest) (rest ++ last))) None) (drop_at rest last (length rest) refl)
     ∙ ap (λ (t : Bool). cond t (Some (take (length rest) (rest ++ last))) None) apart where
-  at : ℕ → Option (List ℕ)
-  at n = cond (bytes_eq (drop n (rest ++ last)) end) (Some (take n (rest ++ last))) None
+      at : ℕ → Option (List ℕ)
+      at n = cond (bytes_eq (drop n (rest ++ last)) end) (Some (take n (rest ++ last))) None
 
 -- the closing line has no newline at its end
 no_newline : (body : List ℕ) → before_end (codes "\n") (body ++ codes "\n#pragma endscop") ≡ None
@@ -105,9 +108,9 @@ apart_from name [] e = tt
 apart_from name (n ∷ names) e =
     let both : (not (is_among (name ∷ []) n) ≡ true) × (none_among (name ∷ []) names ≡ true) = and_parts (not (is_among (name ∷ []) n)) (none_among (name ∷ []) names) e in
     (eq_turned n name (or_false (bytes_eq n name) false (not_true (is_among (name ∷ []) n) both.0)), apart_from name names both.1) where
-  or_false : (a b : Bool) → (a || b) ≡ false → a ≡ false
-  or_false true b h = h
-  or_false false b h = refl
+      or_false : (a b : Bool) → (a || b) ≡ false → a ≡ false
+      or_false true b h = h
+      or_false false b h = refl
 
 from_apart : (name : List ℕ) (names : List (List ℕ)) → AllByRecursion (λ (n : List ℕ). bytes_eq name n ≡ false) names → none_among (name ∷ []) names ≡ true
 from_apart name [] h = refl
@@ -135,8 +138,9 @@ parts_all (t ∷ tests) h = and_true t (all_of tests) h.0 (parts_all tests h.1)
 name_of : (name : List ℕ) (loops : List CopyLoop) → AreNames loops → is_among (map (λ (l : CopyLoop). l.name) loops) name ≡ true → IsName name
 name_of name [] h e = absurd cc
 name_of name (l ∷ loops) h e = elim (or_parts (bytes_eq name l.name) (is_among (map (λ (k : CopyLoop). k.name) loops) name) e) [
-    inl f ↦ subst IsName (sym (bytes_equal name l.name f)) h.0.0
-  | inr f ↦ name_of name loops h.1 f ]
+  | inl f ↦ subst IsName (sym (bytes_equal name l.name f)) h.0.0
+  | inr f ↦ name_of name loops h.1 f
+]
 
 names_of : (names : List (List ℕ)) (loops : List CopyLoop) → AreNames loops → AllByRecursion (λ (n : List ℕ). IsTrue (is_among (map (λ (l : CopyLoop). l.name) loops) n)) names → AllByRecursion IsName names
 names_of [] loops h k = tt
@@ -159,42 +163,60 @@ copies_sound nest names e =
       arrays_differ = not_true (bytes_eq nest.written.array nest.read.array) tests.1.1.1.1.1.0;
       written_subscripts = (names.few_written, list_all-All (is_among (loop_names nest)) nest.written.subscripts tests.1.1.1.1.1.1.0);
       read_subscripts = list_all-All (is_among (loop_names nest)) nest.read.subscripts tests.1.1.1.1.1.1.1.0;
-      read_each = (eqb-true (length nest.read.subscripts) (length nest.loops) tests.1.1.1.1.1.1.1.1.0, all_differ-IsDistinct nest.read.subscripts tests.1.1.1.1.1.1.1.1.1.0)
+      read_each = (eqb-true (length nest.read.subscripts) (length nest.loops) tests.1.1.1.1.1.1.1.1.0, all_differ-IsDistinct nest.read.subscripts tests.1.1.1.1.1.1.1.1.1.0);
     }
 
 pub copies_complete : (nest : CopyNest) → IsCopyNest nest → (is_copy_nest nest ≡ true) × HasNames nest × AllByRecursion IsName nest.written.subscripts × AllByRecursion IsName nest.read.subscripts
-copies_complete nest ok =
-    (parts_all (copy_tests nest)
-      (le-leb 1 (length nest.loops) ok.some_loop,
-      (IsDistinct-all_differ (loop_names nest) ok.loops_differ,
-      (All-none_among (parameter_names nest) (loop_names nest) ok.loops_are_no_parameters,
-      (All-none_among (loop_names nest) (nest.written.array ∷ nest.read.array ∷ []) (ok.arrays_are_no_loops.0, (ok.arrays_are_no_loops.1, tt)),
-      (All-none_among (parameter_names nest) (nest.written.array ∷ nest.read.array ∷ []) (ok.arrays_are_no_parameters.0, (ok.arrays_are_no_parameters.1, tt)),
-      (ap not ok.arrays_differ,
-      (All-list_all (is_among (loop_names nest)) nest.written.subscripts ok.written_subscripts.1,
-      (All-list_all (is_among (loop_names nest)) nest.read.subscripts ok.read_subscripts,
-      (eq-eqb (length nest.read.subscripts) (length nest.loops) ok.read_each.0,
-      (IsDistinct-all_differ nest.read.subscripts ok.read_each.1, tt)))))))))),
-    record {
-      loops = ok.names;
-      few_loops = ok.few_loops;
-      written = ok.arrays.0;
-      few_written = ok.written_subscripts.0;
-      read = ok.arrays.1;
-      few_read = omega (arith, ok.read_each.0, ok.few_loops)
-    },
-    names_of nest.written.subscripts nest.loops ok.names ok.written_subscripts.1,
-    names_of nest.read.subscripts nest.loops ok.names ok.read_subscripts)
+copies_complete nest ok = (
+  parts_all (copy_tests nest) (
+    le-leb 1 (length nest.loops) ok.some_loop,
+    (
+      IsDistinct-all_differ (loop_names nest) ok.loops_differ,
+      (
+        All-none_among (parameter_names nest) (loop_names nest) ok.loops_are_no_parameters,
+        (
+          All-none_among (loop_names nest) (nest.written.array ∷ nest.read.array ∷ []) (ok.arrays_are_no_loops.0, (ok.arrays_are_no_loops.1, tt)),
+          (
+            All-none_among (parameter_names nest) (nest.written.array ∷ nest.read.array ∷ []) (ok.arrays_are_no_parameters.0, (ok.arrays_are_no_parameters.1, tt)),
+            (
+              ap not ok.arrays_differ,
+              (
+                All-list_all (is_among (loop_names nest)) nest.written.subscripts ok.written_subscripts.1,
+                (
+                  All-list_all (is_among (loop_names nest)) nest.read.subscripts ok.read_subscripts,
+                  (
+                    eq-eqb (length nest.read.subscripts) (length nest.loops) ok.read_each.0,
+                    (IsDistinct-all_differ nest.read.subscripts ok.read_each.1, tt),
+                  ),
+                ),
+              ),
+            ),
+          ),
+        ),
+      ),
+    ),
+  ),
+  record {
+    loops = ok.names;
+    few_loops = ok.few_loops;
+    written = ok.arrays.0;
+    few_written = ok.written_subscripts.0;
+    read = ok.arrays.1;
+    few_read = omega (arith, ok.read_each.0, ok.few_loops);
+  },
+  names_of nest.written.subscripts nest.loops ok.names ok.written_subscripts.1,
+  names_of nest.read.subscripts nest.loops ok.names ok.read_subscripts,
+)
 
 -- the copy nest of a text is the one of which it is the text
 pub nest_of_sound : (bytes : List ℕ) (nest : CopyNest) → nest_of bytes ≡ Some nest → IsCopyNest nest × IsTextOf bytes nest
 nest_of_sound bytes nest e =
     option_and_then_some if_copies (option_and_then nest_at (body_of bytes)) nest e (λ found f g.
-      option_and_then_some nest_at (body_of bytes) found f (λ body h k.
-        let both : (is_copy_nest found ≡ true) × (found ≡ nest) = cond_some (is_copy_nest found) found nest g in
-        let spelled : AreSpelled (nest_words found) body × HasNames found = nest_sound body found k in
-        let text = text_sound bytes body h in
-        subst (λ (n : CopyNest). IsCopyNest n × IsTextOf bytes n) both.1 (copies_sound found spelled.1 both.0, (body, text.0, text.1, text.2, spelled.0))))
+    option_and_then_some nest_at (body_of bytes) found f (λ body h k.
+    let both : (is_copy_nest found ≡ true) × (found ≡ nest) = cond_some (is_copy_nest found) found nest g in
+    let spelled : AreSpelled (nest_words found) body × HasNames found = nest_sound body found k in
+    let text = text_sound bytes body h in
+    subst (λ (n : CopyNest). IsCopyNest n × IsTextOf bytes n) both.1 (copies_sound found spelled.1 both.0, (body, text.0, text.1, text.2, spelled.0))))
 
 pub nest_of_complete : (bytes : List ℕ) (nest : CopyNest) → IsCopyNest nest → IsTextOf bytes nest → nest_of bytes ≡ Some nest
 nest_of_complete bytes nest ok text =

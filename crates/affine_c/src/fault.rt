@@ -22,6 +22,7 @@ pub enum ProgramError {
 impl From<Memory> for ProgramError {
     ghost use Rattle.std.specs.Prelude.{◌≡◌};
     ghost use Rattle.affine_c.specs.declared.fault.ProgramError.TheVariants.{Memory};
+
     ghost from_gives = { λ _ e. e ≡ Memory };
 
     fn from(_error: Memory) -> ProgramError {
@@ -32,6 +33,7 @@ impl From<Memory> for ProgramError {
 impl From<AllocError> for ProgramError {
     ghost use Rattle.std.specs.Prelude.{◌≡◌};
     ghost use Rattle.affine_c.specs.declared.fault.ProgramError.TheVariants.{Memory};
+
     ghost from_gives = { λ _ e. e ≡ Memory };
 
     fn from(_error: AllocError) -> ProgramError {
@@ -42,6 +44,7 @@ impl From<AllocError> for ProgramError {
 impl<T: Drop> From<AllocFailed<T>> for ProgramError {
     ghost use Rattle.std.specs.Prelude.{◌≡◌};
     ghost use Rattle.affine_c.specs.declared.fault.ProgramError.TheVariants.{Memory};
+
     ghost from_gives = { λ _ e. e ≡ Memory };
 
     fn from(_error: AllocFailed<T>) -> ProgramError {

@@ -1,6 +1,7 @@
 //! Affine loop programs: their type, and their text in C.
 #![tactic(auto)]
 
+mod domain;
 mod fault;
 mod item;
 mod names;

@@ -53,7 +53,10 @@ fn is_proper_name(word: &[u8]) -> bool
     let Some((first, rest)) = word.split_first() else {
         return false;
     };
-    is_letter_byte(*first) && may_all_continue(rest) && word.len() <= 64 && !stands_among(&KEYWORDS, word)
+    is_letter_byte(*first)
+        && may_all_continue(rest)
+        && word.len() <= 64
+        && !stands_among(&KEYWORDS, word)
 }
 
 /// A name at the front, behind blanks, and what follows it.

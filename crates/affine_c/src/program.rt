@@ -22,7 +22,6 @@ pub struct Program {
 
 impl Model for Program {
     ghost use Rattle.affine_c.specs.Parts.{ProgramParts, IsProgram};
-
     ghost use Rattle.affine_c.specs.contracts.item.Item as item;
     ghost use Rattle.std.specs.Coded.{codes};
 

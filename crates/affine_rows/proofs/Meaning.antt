@@ -45,8 +45,8 @@ pub form_value-difference : (vars : ℕ) (f g : AffineForm) (number : ℤ) (poin
 form_value-difference vars f g number point =
     total (dot (difference vars f g number).coefficients point) (dot f.coefficients point) (dot g.coefficients point) f.constant g.constant
     (dot-add_lists (widened vars f).coefficients (map (λ x. pos 0 -ℤ x) (widened vars g).coefficients) point
-      ∙ ap (λ (z : ℤ). z +ℤ dot (map (λ x. pos 0 -ℤ x) (widened vars g).coefficients) point) (dot-end f.coefficients (vars - length f.coefficients) point)
-      ∙ ap (λ (z : ℤ). dot f.coefficients point +ℤ z) (dot-less (widened vars g).coefficients point ∙ ap (λ (z : ℤ). pos 0 -ℤ z) (dot-end g.coefficients (vars - length g.coefficients) point))) where
+    ∙ ap (λ (z : ℤ). z +ℤ dot (map (λ x. pos 0 -ℤ x) (widened vars g).coefficients) point) (dot-end f.coefficients (vars - length f.coefficients) point)
+    ∙ ap (λ (z : ℤ). dot f.coefficients point +ℤ z) (dot-less (widened vars g).coefficients point ∙ ap (λ (z : ℤ). pos 0 -ℤ z) (dot-end g.coefficients (vars - length g.coefficients) point))) where
       total : (d a b m n : ℤ) → d ≡ a +ℤ (pos 0 -ℤ b) → d +ℤ ((m -ℤ n) +ℤ number) ≡ ((a +ℤ m) -ℤ (b +ℤ n)) +ℤ number
       total d a b m n h = omega (arith, ints)
 
@@ -73,9 +73,9 @@ pub values_at-variables : (vars first : ℕ) (before xs after : List ℤ) → le
 values_at-variables vars first before [] after e h = refl
 values_at-variables vars first before (x ∷ xs) after e h =
     let here : form_value (variable vars first) (before ++ (x ∷ (xs ++ after))) ≡ x =
-      form_value-variable vars first (before ++ (x ∷ (xs ++ after))) (omega arith) ∙ get_or_at before x (xs ++ after) (pos 0) first e in
+    form_value-variable vars first (before ++ (x ∷ (xs ++ after))) (omega arith) ∙ get_or_at before x (xs ++ after) (pos 0) first e in
     let rest : values_at (variables_from vars (suc first) (length xs)) ((before ++ x ∷ []) ++ (xs ++ after)) ≡ xs =
-      values_at-variables vars (suc first) (before ++ x ∷ []) xs after (omega (arith, length-append before (x ∷ []))) (omega arith) in
+    values_at-variables vars (suc first) (before ++ x ∷ []) xs after (omega (arith, length-append before (x ∷ []))) (omega arith) in
     let moved : (before ++ x ∷ []) ++ (xs ++ after) ≡ before ++ (x ∷ (xs ++ after)) = append_assoc before (x ∷ []) (xs ++ after) in
     ap (λ (v : ℤ). v ∷ values_at (variables_from vars (suc first) (length xs)) (before ++ (x ∷ (xs ++ after)))) here
     ∙ ap (λ (vs : List ℤ). x ∷ vs) (subst (λ (p : List ℤ). values_at (variables_from vars (suc first) (length xs)) p ≡ xs) moved rest)
@@ -94,11 +94,12 @@ within_rows-says vars [] before (v ∷ vs) point same met = absurd (omega arith)
 within_rows-says vars (rises lower upper ∷ path) before [] point same met = absurd (omega arith)
 within_rows-says vars (rises lower upper ∷ path) before (v ∷ vs) point same met =
     let least = form_value-difference vars v (substitution lower before) (pos 0) point ∙ ap (λ (z : ℤ). (form_value v point -ℤ z) +ℤ pos 0) (form_value-substitution lower before point) in
-    let greatest = form_value-difference vars (substitution upper before) v (pos 0) point ∙ ap (λ (z : ℤ). (z -ℤ form_value v point) +ℤ pos 0) (form_value-substitution upper before point) in
-    (at_least (form_value v point) (form_value lower (values_at before point)) (form_value (difference vars v (substitution lower before) (pos 0)) point) least met.0,
-    at_least (form_value upper (values_at before point)) (form_value v point) (form_value (difference vars (substitution upper before) v (pos 0)) point) greatest met.1.0,
-    subst (λ (p : List ℤ). IsWithin path p (values_at vs point)) (map-append (λ form. form_value form point) before (v ∷ []))
-      (within_rows-says vars path (before ++ v ∷ []) vs point (omega arith) met.1.1))
+    let greatest = form_value-difference vars (substitution upper before) v (pos 0) point ∙ ap (λ (z : ℤ). (z -ℤ form_value v point) +ℤ pos 0) (form_value-substitution upper before point) in (
+      at_least (form_value v point) (form_value lower (values_at before point)) (form_value (difference vars v (substitution lower before) (pos 0)) point) least met.0,
+      at_least (form_value upper (values_at before point)) (form_value v point) (form_value (difference vars (substitution upper before) v (pos 0)) point) greatest met.1.0,
+      subst (λ (p : List ℤ). IsWithin path p (values_at vs point)) (map-append (λ form. form_value form point) before (v ∷ []))
+          (within_rows-says vars path (before ++ v ∷ []) vs point (omega arith) met.1.1),
+    )
 
 pub within_rows-met : (vars : ℕ) (path : List PathStep) (before values : List AffineForm) (point : List ℤ)
     → IsWithin path (values_at before point) (values_at values point) → IsMet (within_rows vars path before values) point
@@ -106,11 +107,14 @@ within_rows-met vars [] before values point h = tt
 within_rows-met vars (rises lower upper ∷ path) before [] point h = absurd h
 within_rows-met vars (rises lower upper ∷ path) before (v ∷ vs) point h =
     let least = form_value-difference vars v (substitution lower before) (pos 0) point ∙ ap (λ (z : ℤ). (form_value v point -ℤ z) +ℤ pos 0) (form_value-substitution lower before point) in
-    let greatest = form_value-difference vars (substitution upper before) v (pos 0) point ∙ ap (λ (z : ℤ). (z -ℤ form_value v point) +ℤ pos 0) (form_value-substitution upper before point) in
-    (at_least-from (form_value v point) (form_value lower (values_at before point)) (form_value (difference vars v (substitution lower before) (pos 0)) point) least h.0,
-    (at_least-from (form_value upper (values_at before point)) (form_value v point) (form_value (difference vars (substitution upper before) v (pos 0)) point) greatest h.1,
-    within_rows-met vars path (before ++ v ∷ []) vs point
-      (subst (λ (p : List ℤ). IsWithin path p (values_at vs point)) (sym (map-append (λ form. form_value form point) before (v ∷ []))) h.2)))
+    let greatest = form_value-difference vars (substitution upper before) v (pos 0) point ∙ ap (λ (z : ℤ). (z -ℤ form_value v point) +ℤ pos 0) (form_value-substitution upper before point) in (
+      at_least-from (form_value v point) (form_value lower (values_at before point)) (form_value (difference vars v (substitution lower before) (pos 0)) point) least h.0,
+      (
+        at_least-from (form_value upper (values_at before point)) (form_value v point) (form_value (difference vars (substitution upper before) v (pos 0)) point) greatest h.1,
+        within_rows-met vars path (before ++ v ∷ []) vs point
+            (subst (λ (p : List ℤ). IsWithin path p (values_at vs point)) (sym (map-append (λ form. form_value form point) before (v ∷ []))) h.2),
+      ),
+    )
 
 equal-from : (a b d e : ℤ) → d ≡ (a -ℤ b) +ℤ pos 0 → e ≡ (b -ℤ a) +ℤ pos 0 → pos 0 ≤ℤ d → pos 0 ≤ℤ e → a ≡ b
 equal-from a b d e p q h k = omega (arith, ints)
@@ -122,7 +126,7 @@ equality_rows-say vars [] (g ∷ gs) point same met = absurd (omega arith)
 equality_rows-say vars (f ∷ fs) [] point same met = absurd (omega arith)
 equality_rows-say vars (f ∷ fs) (g ∷ gs) point same met =
     let first : form_value f point ≡ form_value g point = equal-from (form_value f point) (form_value g point) (form_value (difference vars f g (pos 0)) point) (form_value (difference vars g f (pos 0)) point)
-      (form_value-difference vars f g (pos 0) point) (form_value-difference vars g f (pos 0) point) met.0 met.1.0 in
+    (form_value-difference vars f g (pos 0) point) (form_value-difference vars g f (pos 0) point) met.0 met.1.0 in
     let rest : values_at fs point ≡ values_at gs point = equality_rows-say vars fs gs point (omega arith) met.1.1 in cc
 
 pub equality_rows-met : (vars : ℕ) (fs gs : List AffineForm) (point : List ℤ) → values_at fs point ≡ values_at gs point → IsMet (equality_rows vars fs gs) point
@@ -130,10 +134,13 @@ equality_rows-met vars [] gs point e = tt
 equality_rows-met vars (f ∷ fs) [] point e = absurd cc
 equality_rows-met vars (f ∷ fs) (g ∷ gs) point e =
     let first : form_value f point ≡ form_value g point = cc in
-    let rest : values_at fs point ≡ values_at gs point = cc in
-    (at_least-from (form_value f point) (form_value g point) (form_value (difference vars f g (pos 0)) point) (form_value-difference vars f g (pos 0) point) (omega (arith, ints)),
-    (at_least-from (form_value g point) (form_value f point) (form_value (difference vars g f (pos 0)) point) (form_value-difference vars g f (pos 0) point) (omega (arith, ints)),
-    equality_rows-met vars fs gs point rest))
+    let rest : values_at fs point ≡ values_at gs point = cc in (
+      at_least-from (form_value f point) (form_value g point) (form_value (difference vars f g (pos 0)) point) (form_value-difference vars f g (pos 0) point) (omega (arith, ints)),
+      (
+        at_least-from (form_value g point) (form_value f point) (form_value (difference vars g f (pos 0)) point) (form_value-difference vars g f (pos 0) point) (omega (arith, ints)),
+        equality_rows-met vars fs gs point rest,
+      ),
+    )
 
 -- forms put in have the values of the forms at the values of those that are put in
 pub values_at-put_in : (point forms : List AffineForm) (values : List ℤ) → values_at (put_in point forms) values ≡ values_at forms (values_at point values)
@@ -164,10 +171,11 @@ order_rows-say vars (d ∷ loops) level t s [] xs point has p q met = absurd (om
 order_rows-say vars (d ∷ loops) level t s (y ∷ ys) [] point has p q met = absurd (omega arith)
 order_rows-say vars (upward ∷ loops) zero t s (y ∷ ys) (x ∷ xs) point has p q met =
     above-one (form_value x point) (form_value y point) (form_value (difference vars x y (negsuc 0)) point) (form_value-difference vars x y (negsuc 0) point) met.0
-order_rows-say vars (d ∷ loops) (suc level) t s (y ∷ ys) (x ∷ xs) point has p q met =
-    (equal-from (form_value y point) (form_value x point) (form_value (difference vars y x (pos 0)) point) (form_value (difference vars x y (pos 0)) point)
+order_rows-say vars (d ∷ loops) (suc level) t s (y ∷ ys) (x ∷ xs) point has p q met = (
+  equal-from (form_value y point) (form_value x point) (form_value (difference vars y x (pos 0)) point) (form_value (difference vars x y (pos 0)) point)
       (form_value-difference vars y x (pos 0) point) (form_value-difference vars x y (pos 0) point) met.0 met.1.0,
-    order_rows-say vars loops level t s ys xs point has (omega arith) (omega arith) met.1.1)
+  order_rows-say vars loops level t s ys xs point has (omega arith) (omega arith) met.1.1,
+)
 
 pub order_rows-met : (vars : ℕ) (loops : List Direction) (level t s : ℕ) (ys xs : List AffineForm) (point : List ℤ)
     → Precedes loops level t s (values_at ys point) (values_at xs point) → HasLevel loops level t s × IsMet (order_rows vars loops level ys xs) point
@@ -179,7 +187,10 @@ order_rows-met vars (upward ∷ loops) zero t s (y ∷ ys) (x ∷ xs) point h =
     (tt, (above-one-from (form_value x point) (form_value y point) (form_value (difference vars x y (negsuc 0)) point) (form_value-difference vars x y (negsuc 0) point) h, tt))
 order_rows-met vars (d ∷ loops) (suc level) t s (y ∷ ys) (x ∷ xs) point h =
     let same : form_value y point ≡ form_value x point = h.0 in
-    let rest = order_rows-met vars loops level t s ys xs point h.1 in
-    (rest.0,
-    (at_least-from (form_value y point) (form_value x point) (form_value (difference vars y x (pos 0)) point) (form_value-difference vars y x (pos 0) point) (omega (arith, ints)),
-    (at_least-from (form_value x point) (form_value y point) (form_value (difference vars x y (pos 0)) point) (form_value-difference vars x y (pos 0) point) (omega (arith, ints)), rest.1)))
+    let rest = order_rows-met vars loops level t s ys xs point h.1 in (
+      rest.0,
+      (
+        at_least-from (form_value y point) (form_value x point) (form_value (difference vars y x (pos 0)) point) (form_value-difference vars y x (pos 0) point) (omega (arith, ints)),
+        (at_least-from (form_value x point) (form_value y point) (form_value (difference vars x y (pos 0)) point) (form_value-difference vars x y (pos 0) point) (omega (arith, ints)), rest.1),
+      ),
+    )

@@ -1,8 +1,8 @@
 -- Rows made of forms: their lengths and sizes.
-use Rattle.std.proofs.Common.{◌≡◌, refl, sym, ◌∙◌, ap, subst, ℕ, zero, suc, ◌+◌, ◌-◌, ◌*◌, ◌^◌, ◌<◌, ◌≤◌, List, [], ◌∷◌, ◌++◌, length, map, replicate, get_or, take, drop, arith, lit≤}
+use Rattle.std.proofs.Common.{◌≡◌, refl, sym, ◌∙◌, ap, subst, ℕ, zero, suc, ◌+◌, ◌-◌, ◌*◌, ◌^◌, ◌<◌, ◌≤◌, List, [], ◌∷◌, ◌++◌, length, map, replicate, get_or, take, drop, arith, lit<}
 use Rattle.std.specs.Prelude.{unsigned_abs, slice_set, zip}
 use Rattle.std.specs.List.{AllByRecursion}
-use Rattle.std.proofs.Math.IntN.{ℤ, pos, ◌+ℤ◌, ◌-ℤ◌, ◌*ℤ◌}
+use Rattle.std.proofs.Math.IntN.{ℤ, pos, negsuc, ◌+ℤ◌, ◌-ℤ◌, ◌*ℤ◌}
 use Rattle.std.proofs.lemmas.Int.{ints, unsigned_abs-mul}
 use Rattle.std.proofs.lemmas.List.{length-append, length-replicate, length-map, length-set, append_assoc, replicate_more, append-nil}
 use Rattle.iolb_model.specs.Form.{AffineForm}
@@ -13,7 +13,8 @@ use Rattle.affine_form.specs.System.{AllOver}
 use Rattle.affine_form.proofs.Combination.{get_or-add_lists, length-add_lists}
 use Rattle.affine_form.proofs.Sizes.{size-add, product-below}
 use Rattle.affine_form.proofs.SubstitutionLemmas.{length-substitution}
-use Rattle.affine_rows.specs.Rows.{widened, variable, variables_from, difference, IsSmallOver, IsSmallWithin}
+use Rattle.execution_laws.specs.Order.{Direction, upward}
+use Rattle.affine_rows.specs.Rows.{widened, variable, variables_from, difference, within_rows, equality_rows, put_in, order_rows, IsSmallOver, IsSmallWithin, BoundsFit, step_of}
 
 pub All-append : {X : Type 0} (P : X → Type 0) (xs ys : List X) → AllByRecursion P xs → AllByRecursion P ys → AllByRecursion P (xs ++ ys)
 All-append P [] ys h g = g
@@ -80,6 +81,7 @@ variables-more vars place end xs ys whole below pushed h =
     ∙ ap (λ (n : ℕ). xs ++ variables_from vars place n) more ∙ h where
       next : place + 1 ≡ suc place
       next = omega arith
+
       more : suc (end - (place + 1)) ≡ end - place
       more = omega arith
 
@@ -99,16 +101,17 @@ scale-up_to a (x ∷ xs) h p = (omega (arith, unsigned_abs-mul a x, product-belo
 -- the numbers of a form with forms put in
 combination-up_to : (xs : List ℤ) (forms : List AffineForm) (constant : ℤ) → AllByRecursion (IsSmall (2 ^ 20)) xs → AllByRecursion (IsSmallForm (2 ^ 20)) forms → unsigned_abs constant < 2 ^ 20
     → AllByRecursion (IsUpTo (length xs * 2 ^ 40)) (combination (zip xs forms) (constant_form 0 constant)).coefficients
-      × IsUpTo (length xs * 2 ^ 40 + 2 ^ 20) (combination (zip xs forms) (constant_form 0 constant)).constant
+    × IsUpTo (length xs * 2 ^ 40 + 2 ^ 20) (combination (zip xs forms) (constant_form 0 constant)).constant
 combination-up_to [] forms constant p q h = (tt, omega (arith, h))
 combination-up_to (x ∷ xs) [] constant p q h = (tt, omega (arith, h))
 combination-up_to (x ∷ xs) (f ∷ fs) constant p q h =
     let rest = combination (zip xs fs) (constant_form 0 constant) in
     let before = combination-up_to xs fs constant p.1 q.1 h in
-    let limit : 2 ^ 40 + length xs * 2 ^ 40 ≤ suc (length xs) * 2 ^ 40 = omega arith in
-    (All-weaken (IsUpTo (2 ^ 40 + length xs * 2 ^ 40)) (IsUpTo (suc (length xs) * 2 ^ 40)) (add_lists (map (λ (y : ℤ). x *ℤ y) f.coefficients) rest.coefficients) (λ y g. omega (arith, g, limit))
-      (add_lists-up_to (2 ^ 40) (length xs * 2 ^ 40) (map (λ (y : ℤ). x *ℤ y) f.coefficients) rest.coefficients (scale-up_to x f.coefficients p.0 q.0.0) before.0),
-    omega (arith, size-add (x *ℤ f.constant) rest.constant, unsigned_abs-mul x f.constant, product-below x f.constant (2 ^ 20) (2 ^ 20) p.0 q.0.1, before.1))
+    let limit : 2 ^ 40 + length xs * 2 ^ 40 ≤ suc (length xs) * 2 ^ 40 = omega arith in (
+      All-weaken (IsUpTo (2 ^ 40 + length xs * 2 ^ 40)) (IsUpTo (suc (length xs) * 2 ^ 40)) (add_lists (map (λ (y : ℤ). x *ℤ y) f.coefficients) rest.coefficients) (λ y g. omega (arith, g, limit))
+          (add_lists-up_to (2 ^ 40) (length xs * 2 ^ 40) (map (λ (y : ℤ). x *ℤ y) f.coefficients) rest.coefficients (scale-up_to x f.coefficients p.0 q.0.0) before.0),
+      omega (arith, size-add (x *ℤ f.constant) rest.constant, unsigned_abs-mul x f.constant, product-below x f.constant (2 ^ 20) (2 ^ 20) p.0 q.0.1, before.1),
+    )
 
 -- are of size below 2^60
 pub small-substitution : (form : AffineForm) (point : List AffineForm) (vars : ℕ) → length point ≤ 24 → IsSmallOver (length point) form → AllByRecursion (IsSmallOver vars) point
@@ -137,3 +140,67 @@ variables-substitution form point vars same h =
 -- small forms have small numbers
 pub small-wider : (form : AffineForm) → IsSmallForm (2 ^ 20) form → IsSmallForm (2 ^ 60) form
 small-wider form h = (All-weaken (IsSmall (2 ^ 20)) (IsSmall (2 ^ 60)) form.coefficients (λ x g. omega (arith, g)) h.0, omega (arith, h.1))
+
+-- so many variables in a row
+pub length-variables : (vars first count : ℕ) → length (variables_from vars first count) ≡ count
+length-variables vars first zero = refl
+length-variables vars first (suc count) = ap suc (length-variables vars (suc first) count)
+
+set-small : (limit : ℕ) (xs : List ℤ) (k : ℕ) (y : ℤ) → AllByRecursion (IsSmall limit) xs → IsSmall limit y → AllByRecursion (IsSmall limit) (slice_set xs k y)
+set-small limit [] k y h p = tt
+set-small limit (x ∷ xs) zero y h p = (p, h.1)
+set-small limit (x ∷ xs) (suc k) y h p = (h.0, set-small limit xs k y h.1 p)
+
+-- are small forms over all variables
+pub variables-over : (vars first count : ℕ) → AllByRecursion (IsSmallOver vars) (variables_from vars first count)
+variables-over vars first zero = tt
+variables-over vars first (suc count) = (
+  record {
+    over = length-set (replicate vars (pos 0)) first (pos 1) ∙ length-replicate vars (pos 0);
+    small = (set-small (2 ^ 20) (replicate vars (pos 0)) first (pos 1) (All-replicate (IsSmall (2 ^ 20)) vars (pos 0) (lit< tt)) (lit< tt), lit< tt);
+  },
+  variables-over vars (suc first) count,
+)
+
+-- the rows of values within bounds: two for each loop, over all variables
+pub within_rows-many : (vars : ℕ) (bounds : List (AffineForm × AffineForm)) (before values : List AffineForm) → length values ≡ length bounds
+    → length (within_rows vars (map step_of bounds) before values) ≡ 2 * length bounds
+within_rows-many vars [] before values e = refl
+within_rows-many vars (b ∷ bounds) before [] e = absurd (omega arith)
+within_rows-many vars (b ∷ bounds) before (v ∷ values) e =
+    omega (arith, within_rows-many vars bounds (before ++ v ∷ []) values (omega arith))
+
+pub within_rows-over : (vars : ℕ) (bounds : List (AffineForm × AffineForm)) (before values : List AffineForm) → BoundsFit (length before) bounds
+    → AllByRecursion (IsSmallOver vars) before → AllByRecursion (IsSmallOver vars) values → AllOver vars (within_rows vars (map step_of bounds) before values)
+within_rows-over vars [] before values fit p q = tt
+within_rows-over vars (b ∷ bounds) before [] fit p q = tt
+within_rows-over vars (b ∷ bounds) before (v ∷ values) fit p q =
+    let value : variables v ≤ vars = omega (arith, q.0.over) in (
+      length-difference vars v (substitution b.0 before) (pos 0) value (variables-substitution b.0 before vars (sym fit.0.0.over) p),
+      (
+        length-difference vars (substitution b.1 before) v (pos 0) (variables-substitution b.1 before vars (sym fit.0.1.over) p) value,
+        within_rows-over vars bounds (before ++ v ∷ []) values (subst (λ (n : ℕ). BoundsFit n bounds) (omega (arith, length-append before (v ∷ []))) fit.1)
+            (All-append (IsSmallOver vars) before (v ∷ []) p (q.0, tt)) q.1,
+      ),
+    )
+
+pub equality_rows-over : (vars : ℕ) (fs gs : List AffineForm) → AllByRecursion (λ (f : AffineForm). variables f ≤ vars) fs → AllByRecursion (λ (f : AffineForm). variables f ≤ vars) gs
+    → AllOver vars (equality_rows vars fs gs)
+equality_rows-over vars [] gs p q = tt
+equality_rows-over vars (f ∷ fs) [] p q = tt
+equality_rows-over vars (f ∷ fs) (g ∷ gs) p q =
+    (length-difference vars f g (pos 0) p.0 q.0, (length-difference vars g f (pos 0) q.0 p.0, equality_rows-over vars fs gs p.1 q.1))
+
+pub put_in-within : (vars : ℕ) (point forms : List AffineForm) → AllByRecursion (IsSmallOver vars) point → AllByRecursion (IsSmallOver (length point)) forms
+    → AllByRecursion (λ (f : AffineForm). variables f ≤ vars) (put_in point forms)
+put_in-within vars point [] p q = tt
+put_in-within vars point (f ∷ fs) p q = (variables-substitution f point vars (sym q.0.over) p, put_in-within vars point fs p q.1)
+
+pub order_rows-over : (vars : ℕ) (loops : List Direction) (level : ℕ) (ys xs : List AffineForm) → AllByRecursion (IsSmallWithin vars) ys → AllByRecursion (IsSmallWithin vars) xs
+    → AllOver vars (order_rows vars loops level ys xs)
+order_rows-over vars [] level ys xs p q = tt
+order_rows-over vars (d ∷ loops) level [] xs p q = tt
+order_rows-over vars (d ∷ loops) level (y ∷ ys) [] p q = tt
+order_rows-over vars (upward ∷ loops) zero (y ∷ ys) (x ∷ xs) p q = (length-difference vars x y (negsuc 0) q.0.within p.0.within, tt)
+order_rows-over vars (d ∷ loops) (suc level) (y ∷ ys) (x ∷ xs) p q =
+    (length-difference vars y x (pos 0) p.0.within q.0.within, (length-difference vars x y (pos 0) q.0.within p.0.within, order_rows-over vars loops level ys xs p.1 q.1))

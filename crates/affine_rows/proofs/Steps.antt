@@ -29,10 +29,10 @@ pub order-step : (vars common level i : ℕ) (ys xs : List AffineForm) (y x : Af
 order-step vars common level i ys xs y x rows more whole p q r s a b pushed h =
     let rest : List AffineForm = order_rows vars (replicate (common - (i + 1)) upward) (level - (i + 1)) (drop (i + 1) ys) (drop (i + 1) xs) in
     let first : order_rows vars (replicate (common - i) upward) (level - i) (drop i ys) (drop i xs) ≡ difference vars y x (pos 0) ∷ difference vars x y (pos 0) ∷ rest =
-      ap (λ (n : ℕ). order_rows vars (replicate n upward) (level - i) (drop i ys) (drop i xs)) (below-more common i (omega arith))
-      ∙ ap (λ (n : ℕ). order_rows vars (upward ∷ replicate (common - (i + 1)) upward) n (drop i ys) (drop i xs)) (below-more level i p)
-      ∙ ap (λ (zs : List AffineForm). order_rows vars (upward ∷ replicate (common - (i + 1)) upward) (suc (level - (i + 1))) zs (drop i xs)) (rest_at ys i y r a)
-      ∙ ap (λ (zs : List AffineForm). order_rows vars (upward ∷ replicate (common - (i + 1)) upward) (suc (level - (i + 1))) (y ∷ drop (i + 1) ys) zs) (rest_at xs i x s b) in
+    ap (λ (n : ℕ). order_rows vars (replicate n upward) (level - i) (drop i ys) (drop i xs)) (below-more common i (omega arith))
+    ∙ ap (λ (n : ℕ). order_rows vars (upward ∷ replicate (common - (i + 1)) upward) n (drop i ys) (drop i xs)) (below-more level i p)
+    ∙ ap (λ (zs : List AffineForm). order_rows vars (upward ∷ replicate (common - (i + 1)) upward) (suc (level - (i + 1))) zs (drop i xs)) (rest_at ys i y r a)
+    ∙ ap (λ (zs : List AffineForm). order_rows vars (upward ∷ replicate (common - (i + 1)) upward) (suc (level - (i + 1))) (y ∷ drop (i + 1) ys) zs) (rest_at xs i x s b) in
     ap (λ (zs : List AffineForm). zs ++ rest) pushed ∙ two_more rows rest whole (difference vars y x (pos 0)) (difference vars x y (pos 0)) (ap (λ (zs : List AffineForm). rows ++ zs) (sym first) ∙ h)
 
 -- the row of the loop in which the values differ
@@ -45,6 +45,7 @@ order-last vars common level i ys xs y x rows more whole e q r s a b pushed h =
     pushed ∙ ap (λ (zs : List AffineForm). rows ++ zs) (sym first) ∙ h where
       none : (n m : ℕ) → n ≡ m → m - n ≡ zero
       none n m p = omega arith
+
       first : order_rows vars (replicate (common - i) upward) (level - i) (drop i ys) (drop i xs) ≡ difference vars x y (negsuc 0) ∷ []
       first =
           ap (λ (n : ℕ). order_rows vars (replicate n upward) (level - i) (drop i ys) (drop i xs)) (below-more common i (omega arith))
@@ -60,6 +61,7 @@ order-none vars common level i ys xs rows whole e q h =
     sym (append-nil rows) ∙ ap (λ (zs : List AffineForm). rows ++ zs) (sym none) ∙ h where
       zero_left : common - i ≡ zero
       zero_left = omega arith
+
       none : order_rows vars (replicate (common - i) upward) (level - i) (drop i ys) (drop i xs) ≡ []
       none = ap (λ (n : ℕ). order_rows vars (replicate n upward) (level - i) (drop i ys) (drop i xs)) zero_left
 
@@ -70,3 +72,12 @@ pushed-two rows one two f g first second p q a b = cc
 
 pub pushed-one : (rows one : List AffineForm) (f first : AffineForm) → one ≡ rows ++ f ∷ [] → f ≡ first → one ≡ rows ++ first ∷ []
 pushed-one rows one f first p a = cc
+
+-- no member is left
+pub at_end : {X Y : Type 0} (left : List X → List Y) (xs : List X) (i : ℕ) (rows whole : List Y) → length xs ≤ i → left [] ≡ [] → rows ++ left (drop i xs) ≡ whole → rows ≡ whole
+at_end left xs i rows whole past none h =
+    sym (append-nil rows) ∙ ap (λ zs. rows ++ zs) (sym (ap left (drop_all i xs past) ∙ none)) ∙ h
+
+pub at_count_end : {Y : Type 0} (left : ℕ → List Y) (n : ℕ) (rows whole : List Y) → n ≡ 0 → left 0 ≡ [] → rows ++ left n ≡ whole → rows ≡ whole
+at_count_end left n rows whole past none h =
+    sym (append-nil rows) ∙ ap (λ zs. rows ++ zs) (sym (ap left past ∙ none)) ∙ h

@@ -24,7 +24,7 @@ variables_from vars first (suc count) = variable vars first ∷ variables_from v
 abbrev pub difference : ℕ → AffineForm → AffineForm → ℤ → AffineForm
 difference vars f g number = record {
   coefficients = add_lists (widened vars f).coefficients (map (λ x. pos 0 -ℤ x) (widened vars g).coefficients);
-  constant = (f.constant -ℤ g.constant) +ℤ number
+  constant = (f.constant -ℤ g.constant) +ℤ number;
 }
 
 -- The rows which say that values are within the bounds on a way, where the forms before stand for the parameters and
@@ -34,7 +34,7 @@ within_rows vars [] before values = []
 within_rows vars (rises lower upper ∷ path) before [] = []
 within_rows vars (rises lower upper ∷ path) before (value ∷ values) =
     difference vars value (substitution lower before) (pos 0) ∷ difference vars (substitution upper before) value (pos 0)
-      ∷ within_rows vars path (before ++ value ∷ []) values
+    ∷ within_rows vars path (before ++ value ∷ []) values
 
 -- the rows which say that forms are equal pair by pair: `f - g`, then `g - f`
 abbrev pub equality_rows : ℕ → List AffineForm → List AffineForm → List AffineForm

@@ -22,7 +22,13 @@ pub fn widened(alloc: Global, vars: usize, form: &Form) -> Result<Form, Memory>
 }
 
 /// A form less another, both read over so many variables, and a number. Want of memory is its only error.
-pub fn difference(alloc: Global, vars: usize, left: &Form, right: &Form, number: i128) -> Result<Form, Memory>
+pub fn difference(
+    alloc: Global,
+    vars: usize,
+    left: &Form,
+    right: &Form,
+    number: i128,
+) -> Result<Form, Memory>
     requires few { vars ≤ 24 }
     requires left_in { variables left.now ≤ vars }
     requires right_in { variables right.now ≤ vars }

@@ -1,10 +1,11 @@
 //! Rows that say where points lie, which cells they touch and in which order they come.
 
-ghost use Rattle.std.specs.Prelude.{◌≡◌, ◌≤◌, ◌^◌, ◌+◌, length, map, replicate, IfOk};
+ghost use Rattle.std.specs.Prelude.{◌≡◌, ◌≤◌, ◌^◌, ◌+◌, ◌*◌, length, map, replicate, IfOk};
 ghost use Rattle.std.specs.List.{AllByRecursion};
 ghost use Rattle.execution_laws.specs.Order.{upward};
 ghost use Rattle.affine_form.specs.Form.{variables, IsSmallForm};
 ghost use Rattle.affine_form.specs.Substitution.{substitution};
+ghost use Rattle.affine_form.specs.System.{AllOver};
 ghost use Rattle.affine_rows.specs.Rows.{within_rows, equality_rows, put_in, order_rows, IsSmallOver, IsSmallWithin, BoundsFit, step_of};
 
 use crate::differences::difference;
@@ -26,7 +27,9 @@ pub fn within_rows(
     requires bounds_fit { BoundsFit (length params.now) bounds.now }
     requires params_over { AllByRecursion (IsSmallOver vars) params.now }
     requires values_over { AllByRecursion (IsSmallOver vars) values.now }
-    ensures { IfOk result (λ rows. rows.items ≡ within_rows vars (map step_of bounds.now) params.now values.now) }
+    ensures rows { IfOk result (λ rows. rows.items ≡ within_rows vars (map step_of bounds.now) params.now values.now) }
+    ensures many { IfOk result (λ rows. length rows.items ≡ 2 * length bounds.now) }
+    ensures over { IfOk result (λ rows. AllOver vars rows.items) }
 {
     let mut before = copies(alloc, params)?;
     let mut rows = Vec::new(alloc);
@@ -59,7 +62,8 @@ pub fn cell_rows(
     requires read_over { AllByRecursion (IsSmallOver (length reader.now)) read.now }
     requires at_over { AllByRecursion (IsSmallOver vars) at.now }
     requires reader_over { AllByRecursion (IsSmallOver vars) reader.now }
-    ensures { IfOk result (λ rows. rows.items ≡ equality_rows vars (put_in at.now written.now) (put_in reader.now read.now)) }
+    ensures rows { IfOk result (λ rows. rows.items ≡ equality_rows vars (put_in at.now written.now) (put_in reader.now read.now)) }
+    ensures over { IfOk result (λ rows. AllOver vars rows.items) }
 {
     let mut rows = Vec::new(alloc);
     for (i, subscript) in written.iter().enumerate() {
@@ -87,7 +91,8 @@ pub fn order_rows(
     requires xs_enough { common ≤ length xs.now }
     requires ys_within { AllByRecursion (IsSmallWithin vars) ys.now }
     requires xs_within { AllByRecursion (IsSmallWithin vars) xs.now }
-    ensures { IfOk result (λ rows. rows.items ≡ order_rows vars (replicate common upward) level ys.now xs.now) }
+    ensures rows { IfOk result (λ rows. rows.items ≡ order_rows vars (replicate common upward) level ys.now xs.now) }
+    ensures over { IfOk result (λ rows. AllOver vars rows.items) }
 {
     let mut rows = Vec::new(alloc);
     for i in 0..level {

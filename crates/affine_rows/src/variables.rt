@@ -1,6 +1,6 @@
 //! Forms that are a variable.
 
-ghost use Rattle.std.specs.Prelude.{◌≡◌, ◌≤◌, ◌<◌, ◌+◌, IfOk};
+ghost use Rattle.std.specs.Prelude.{◌≡◌, ◌≤◌, ◌<◌, ◌+◌, length, IfOk};
 ghost use Rattle.std.specs.List.{AllByRecursion};
 ghost use Rattle.affine_rows.specs.Rows.{variable, variables_from, IsSmallOver};
 
@@ -19,10 +19,17 @@ pub fn variable(alloc: Global, vars: usize, place: usize) -> Result<Form, Memory
 }
 
 /// So many variables in a row, from the first on, as forms over all variables. Want of memory is its only error.
-pub fn variables_from(alloc: Global, vars: usize, first: usize, count: usize) -> Result<Vec<Form>, Memory>
+pub fn variables_from(
+    alloc: Global,
+    vars: usize,
+    first: usize,
+    count: usize,
+) -> Result<Vec<Form>, Memory>
     requires there { first + count ≤ vars }
     requires few { vars ≤ 24 }
-    ensures { IfOk result (λ forms. forms.items ≡ variables_from vars first count) }
+    ensures forms { IfOk result (λ forms. forms.items ≡ variables_from vars first count) }
+    ensures many { IfOk result (λ forms. length forms.items ≡ count) }
+    ensures over { IfOk result (λ forms. AllByRecursion (IsSmallOver vars) forms.items) }
 {
     let mut forms = Vec::new(alloc);
     for place in first..first + count {

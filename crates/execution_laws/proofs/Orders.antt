@@ -1,10 +1,10 @@
 -- The instances of an execution are in the order of the levels.
-use Rattle.std.proofs.Common.{◌≡◌, refl, sym, ◌∙◌, ap, subst, inl, inr, ℕ, zero, suc, ◌<◌, Bool, true, false, List, [], ◌∷◌, ◌++◌, map, arith}
-use Rattle.std.specs.Prelude.{◌⊎◌, ◌&&◌, ◌<ℤ◌, if◌then◌else◌, Option, Some, None, IsSomeAnd, is_some, slice_get}
+use Rattle.std.proofs.Common.{◌≡◌, refl, sym, ◌∙◌, ap, subst, inl, inr, ℕ, zero, suc, ◌<◌, ◌≤◌, Bool, true, false, List, [], ◌∷◌, ◌++◌, map, arith, length}
+use Rattle.std.specs.Prelude.{◌⊎◌, ◌&&◌, ◌<ℤ◌, if◌then◌else◌, Option, Some, None, IsSomeAnd, is_some, slice_get, option_map}
 use Rattle.std.proofs.lemmas.Int.{ints}
 use Rattle.std.proofs.Math.IntN.{ℤ}
 use Rattle.iolb_model.specs.Form.{form_value}
-use Rattle.iolb_model.specs.Path.{first_of, item_path, row_path}
+use Rattle.iolb_model.specs.Path.{PathStep, first_of, item_path, row_path, rises}
 use Rattle.iolb_model.specs.Program.{Item, assign, loop, Row, done, next, AffineProgram, IsWellFormed, item_statements, row_statements}
 use Rattle.iolb_model.specs.Execution.{Instance, range, at_value, item_runs, row_runs, execution}
 use Rattle.execution_laws.specs.Domain.{IsWithin, InstancesAreExecutedOnce}
@@ -199,3 +199,52 @@ order_by_levels program parameters m n a b well p q = (
   same_place a b runs m n e p q before =
       let same : a ≡ b = let there : slice_get runs m ≡ slice_get runs n = ap (slice_get runs) e in cc in
       subst (λ (z : Instance). RowBefore program.tree z a) same (subst (λ (z : Instance). RowBefore program.tree a z) (sym same) before)
+
+-- the loops in common are no more than those around the first statement
+mutual
+  item_common-within : (item : Item) (t s : ℕ) → Rises (item_statements item) → IsSomeAnd (item_path item t) (λ path. Unit {0})
+      → IsSomeAnd (item_path item t) (λ path. length (item_common item t s) ≤ length path)
+  item_common-within (assign number) t s rise h = weaker (item_path (assign number) t) h where
+    weaker : (o : Option (List PathStep)) → IsSomeAnd o (λ path. Unit {0}) → IsSomeAnd o (λ path. 0 ≤ length path)
+    weaker None h = h
+    weaker (Some path) h = omega arith
+  item_common-within (loop name lower upper body) t s rise h =
+      longer (row_path body t) (row_common-within body t s rise (inside (row_path body t) h)) where
+        inside : (o : Option (List PathStep)) → IsSomeAnd (option_map (λ path. rises lower upper ∷ path) o) (λ path. Unit {0}) → IsSomeAnd o (λ path. Unit {0})
+        inside None h = h
+        inside (Some path) h = tt
+
+        longer : (o : Option (List PathStep)) → IsSomeAnd o (λ path. length (row_common body t s) ≤ length path)
+            → IsSomeAnd (option_map (λ path. rises lower upper ∷ path) o) (λ path. suc (length (row_common body t s)) ≤ length path)
+        longer None h = h
+        longer (Some path) h = omega arith
+
+  pub row_common-within : (row : Row) (t s : ℕ) → Rises (row_statements row) → IsSomeAnd (row_path row t) (λ path. Unit {0})
+      → IsSomeAnd (row_path row t) (λ path. length (row_common row t s) ≤ length path)
+  row_common-within done t s rise h = absurd h
+  row_common-within (next item row) t s rise h =
+      elim (either (item_path item t) (row_path row t) h) [
+        | inl here ↦ first (item_path item t) (row_path row t) (is_some (item_path item s)) refl here.0
+            (item_common-within item t s (Ordered-left ◌<◌ (item_statements item) (row_statements row) rise) here.1)
+            (λ e. in_one item row t rise (row_path-statement row t (λ path. Unit {0}) (some_there (row_path row t) e)) here.0)
+        | inr there ↦ second (item_path item t) (row_path row t) there.0 (row_common-within row t s (Ordered-right ◌<◌ (item_statements item) (row_statements row) rise) there.1)
+      ]
+    where
+      either : (o p : Option (List PathStep)) → IsSomeAnd (first_of o p) (λ path. Unit {0})
+          → ((is_some o ≡ true) × IsSomeAnd o (λ path. Unit {0})) ⊎ ((is_some o ≡ false) × IsSomeAnd p (λ path. Unit {0}))
+      either None p h = inr (refl, h)
+      either (Some path) p h = inl (refl, h)
+
+      second : (o p : Option (List PathStep)) → is_some o ≡ false → IsSomeAnd p (λ path. length (row_common row t s) ≤ length path)
+          → IsSomeAnd (first_of o p) (λ path. length (if is_some o && is_some (item_path item s) then item_common item t s else row_common row t s) ≤ length path)
+      second None p e h = h
+      second (Some path) p e h = absurd cc
+
+      first : (o p : Option (List PathStep)) (b : Bool) → b ≡ is_some (item_path item s) → is_some o ≡ true → IsSomeAnd o (λ path. length (item_common item t s) ≤ length path)
+          → (is_some (row_path row t) ≡ true → ⊥)
+          → IsSomeAnd (first_of o p) (λ path. length (if is_some o && is_some (item_path item s) then item_common item t s else row_common row t s) ≤ length path)
+      first None p b e there h none = absurd cc
+      first (Some path) p true e there h none = subst (λ (c : Bool). length (if c then item_common item t s else row_common row t s) ≤ length path) e h
+      first (Some path) p false e there h none =
+          subst (λ (c : Bool). length (if c then item_common item t s else row_common row t s) ≤ length path) e
+          (subst (λ (loops : List Direction). length loops ≤ length path) (sym (no_common row t s none)) (omega arith))

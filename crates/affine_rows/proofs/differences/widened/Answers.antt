@@ -15,4 +15,4 @@ new-requires-clause-small c =
     let zeros = replicate (c.loop-place._place - length c.args.form.now.coefficients) (pos 0) in
     subst (AllByRecursion (IsSmall (2 ^ 62))) (sym c.loop-place.invariant.so_far)
     (All-append (IsSmall (2 ^ 62)) c.args.form.now.coefficients zeros c.coef.ensures.legal.1.0
-      (All-replicate (IsSmall (2 ^ 62)) (c.loop-place._place - length c.args.form.now.coefficients) (pos 0) (lit< tt)))
+    (All-replicate (IsSmall (2 ^ 62)) (c.loop-place._place - length c.args.form.now.coefficients) (pos 0) (lit< tt)))
