@@ -76,7 +76,7 @@ mutual
           moved : (n : ℕ) → suc vars + n ≡ vars + suc n
           moved n = omega arith
 
-  row-stands : (program : AffineProgram) (vars : ℕ) (row : Row) (s : ℕ) → RowFits program vars row → IsSomeAnd (row_path row s) (λ path. Unit {0})
+  pub row-stands : (program : AffineProgram) (vars : ℕ) (row : Row) (s : ℕ) → RowFits program vars row → IsSomeAnd (row_path row s) (λ path. Unit {0})
       → IsSomeAnd (row_path row s) (StandsAt program vars s)
   row-stands program vars done s fits h = absurd h
   row-stands program vars (next item row) s fits h =

@@ -1,7 +1,6 @@
 -- What rows made of forms say of a point.
-use Rattle.std.proofs.Common.{◌≡◌, refl, sym, ◌∙◌, ap, subst, inl, inr, ℕ, zero, suc, ◌+◌, ◌-◌, ◌<◌, ◌≤◌, List, [], ◌∷◌, ◌++◌, length, map, replicate, get_or, arith}
-use Rattle.std.specs.Prelude.{◌⊎◌, ◌<ℤ◌, slice_set}
-use Rattle.std.specs.List.{AllByRecursion}
+use Rattle.std.proofs.Common.{◌≡◌, refl, sym, ◌∙◌, ap, subst, ℕ, zero, suc, ◌+◌, ◌-◌, ◌<◌, ◌≤◌, List, [], ◌∷◌, ◌++◌, length, map, replicate, get_or, arith}
+use Rattle.std.specs.Prelude.{◌<ℤ◌, slice_set}
 use Rattle.std.proofs.Math.IntN.{ℤ, pos, negsuc, ◌+ℤ◌, ◌-ℤ◌, ◌*ℤ◌}
 use lib.Signed.{◌≤ℤ◌}
 use Rattle.std.proofs.lemmas.Int.{ints}
@@ -11,7 +10,6 @@ use Rattle.iolb_model.specs.Form.{AffineForm, dot, form_value}
 use Rattle.iolb_model.specs.Path.{PathStep, rises}
 use Rattle.execution_laws.specs.Domain.{IsWithin}
 use Rattle.execution_laws.specs.Order.{Direction, upward, Precedes}
-use Rattle.affine_form.specs.Combination.{add_lists}
 use Rattle.affine_form.specs.Substitution.{substitution, values_at}
 use Rattle.affine_form.specs.System.{IsMet}
 use Rattle.affine_form.proofs.Combination.{dot-add_lists, dot-zeros}

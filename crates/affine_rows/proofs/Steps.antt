@@ -1,13 +1,10 @@
 -- One step of a walk along lists of forms.
-use Rattle.std.proofs.Common.{◌≡◌, refl, sym, ◌∙◌, ap, subst, ℕ, zero, suc, ◌+◌, ◌-◌, ◌<◌, ◌≤◌, List, [], ◌∷◌, ◌++◌, length, map, replicate, get_or, drop, arith}
-use Rattle.std.specs.List.{AllByRecursion}
+use Rattle.std.proofs.Common.{◌≡◌, sym, ◌∙◌, ap, ℕ, zero, suc, ◌+◌, ◌-◌, ◌<◌, ◌≤◌, List, [], ◌∷◌, ◌++◌, length, replicate, get_or, drop, arith}
 use Rattle.std.proofs.Math.IntN.{pos, negsuc}
 use Rattle.std.proofs.lemmas.List.{drop_more, drop_all, append_assoc, append-nil}
 use Rattle.iolb_model.specs.Form.{AffineForm}
-use Rattle.iolb_model.specs.Path.{PathStep, rises}
-use Rattle.execution_laws.specs.Order.{Direction, upward}
-use Rattle.affine_form.specs.Substitution.{substitution}
-use Rattle.affine_rows.specs.Rows.{difference, within_rows, equality_rows, put_in, order_rows, step_of, BoundsFit, IsSmallOver}
+use Rattle.execution_laws.specs.Order.{upward}
+use Rattle.affine_rows.specs.Rows.{difference, order_rows}
 
 -- two rows pushed
 two_more : (rows rest whole : List AffineForm) (f g : AffineForm) → rows ++ f ∷ g ∷ rest ≡ whole → ((rows ++ f ∷ []) ++ g ∷ []) ++ rest ≡ whole

@@ -187,3 +187,44 @@ domains_executed program parameters instance well = (
   λ at. row_runs-within program.tree parameters instance.statement instance.values (statements-rise program well) (Member-slice_get (execution program parameters) at.0 instance at.1),
   λ h. Member-place instance (execution program parameters) (row_runs-has program.tree parameters instance.statement instance.values h),
 )
+
+-- a statement that is among those of a row has a way to it
+mutual
+  item_path-there : (item : Item) (s : ℕ) → Member s (item_statements item) → IsSomeAnd (item_path item s) (λ path. Unit {0})
+  item_path-there (assign number) s (inl e) = subst (λ (b : Bool). IsSomeAnd {T = List PathStep} (if b then Some [] else None) (λ path. Unit {0})) (sym (eq-eqb number s (sym e))) tt
+  item_path-there (assign number) s (inr m) = absurd m
+  item_path-there (loop name lower upper body) s m = map-Some (λ path. rises lower upper ∷ path) (row_path body s) (λ path. Unit {0}) (row_path-there body s m)
+
+  pub row_path-there : (row : Row) (s : ℕ) → Member s (row_statements row) → IsSomeAnd (row_path row s) (λ path. Unit {0})
+  row_path-there done s m = absurd m
+  row_path-there (next item row) s m =
+      elim (Member-append s (item_statements item) (row_statements row) m) [
+        inl here ↦ first-left (item_path item s) (row_path row s) (λ path. Unit {0}) (item_path-there item s here)
+      | inr later ↦ either (item_path item s) (row_path row s) (row_path-there row s later) ] where
+        either : (o p : Option (List PathStep)) → IsSomeAnd p (λ path. Unit {0}) → IsSomeAnd (first_of o p) (λ path. Unit {0})
+        either None p h = h
+        either (Some path) p h = tt
+
+pub counted-has : (first count n : ℕ) → first ≤ n → n < first + count → Member n (range_with_len first count)
+counted-has first zero n p q = absurd (omega arith)
+counted-has first (suc count) n p q = elim (le-cases first n p) [ inl e ↦ inl (sym e) | inr less ↦ inr (counted-has (first + 1) count n (omega arith) (omega arith)) ] where
+  le-cases : (m n : ℕ) → m ≤ n → (m ≡ n) ⊎ (m < n)
+  le-cases zero zero p = inl refl
+  le-cases zero (suc n) p = inr (omega arith)
+  le-cases (suc m) zero p = absurd (omega arith)
+  le-cases (suc m) (suc n) p = elim (le-cases m n (omega arith)) [ inl e ↦ inl (ap suc e) | inr l ↦ inr (omega arith) ]
+
+counted-below : (first count n : ℕ) → Member n (range_with_len first count) → n < first + count
+counted-below first zero n m = absurd m
+counted-below first (suc count) n (inl e) = omega arith
+counted-below first (suc count) n (inr m) = omega (arith, counted-below (first + 1) count n m)
+
+-- a statement of a well-formed program has a way to it
+pub way-there : (program : AffineProgram) (s : ℕ) → IsWellFormed program → s < length program.statements → IsSomeAnd (row_path program.tree s) (λ path. Unit {0})
+way-there program s well below =
+    row_path-there program.tree s (subst (λ (ns : List ℕ). Member s ns) (sym well.numbered) (counted-has 0 (length program.statements) s (omega arith) (omega arith)))
+
+-- and a statement with a way to it is one of the program's
+pub way-below : (program : AffineProgram) (s : ℕ) (P : List PathStep → Type 0) → IsWellFormed program → IsSomeAnd (row_path program.tree s) P → s < length program.statements
+way-below program s P well h =
+    omega (arith, counted-below 0 (length program.statements) s (subst (λ (ns : List ℕ). Member s ns) well.numbered (row_path-statement program.tree s P h)))

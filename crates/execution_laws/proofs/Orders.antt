@@ -140,7 +140,7 @@ mutual
   item_common-turn (assign number) t s = refl
   item_common-turn (loop name lower upper body) t s = ap (λ (loops : List Direction). upward ∷ loops) (row_common-turn body t s)
 
-  row_common-turn : (row : Row) (t s : ℕ) → row_common row t s ≡ row_common row s t
+  pub row_common-turn : (row : Row) (t s : ℕ) → row_common row t s ≡ row_common row s t
   row_common-turn done t s = refl
   row_common-turn (next item row) t s =
       if-turn (has_both item t s) (has_both item s t) (item_common item t s) (row_common row t s) (item_common item s t) (row_common row s t)

@@ -1,4 +1,4 @@
-use Rattle.std.proofs.Common.{◌≡◌, ◌+◌, ◌<◌, ◌≤◌, ◌^◌, ◌++◌, ◌∷◌, [], ap, sym, ◌∙◌, arith, rules, length, take, pos, ℤ, List, FitsSigned, lit≤, ◌+ℤ◌, ◌-ℤ◌}
+use Rattle.std.proofs.Common.{◌≡◌, ◌<◌, ◌^◌, ◌++◌, ◌∷◌, [], ap, sym, ◌∙◌, arith, rules, length, take, pos, ℤ, List, FitsSigned, lit≤}
 use mir.Syntax.{w128}
 use Rattle.std.specs.Prelude.{unsigned_abs}
 use Rattle.std.proofs.lemmas.Int.{to_z-of_z}

@@ -1,6 +1,4 @@
-use Rattle.std.proofs.Common.{◌≡◌, ◌^◌, ◌∙◌, sym, ap, subst, arith, ◌≤◌, ◌<◌, ◌++◌, ◌∷◌, [], List, length, replicate, pos, negsuc}
-use Rattle.iolb_model.specs.Form.{AffineForm}
-use Rattle.affine_form.specs.Form.{variables, IsSmallForm}
+use Rattle.std.proofs.Common.{◌≡◌, ◌∙◌, sym, ap, subst, arith, replicate, pos, negsuc}
 use Rattle.affine_form.proofs.Lists.{All-read}
 use Rattle.affine_form.specs.System.{AllOver}
 use Rattle.affine_rows.specs.Rows.{difference, order_rows, IsSmallWithin}

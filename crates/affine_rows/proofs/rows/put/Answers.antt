@@ -1,4 +1,4 @@
-use Rattle.std.proofs.Common.{◌≡◌, ◌^◌, ◌∙◌, sym, subst, arith, ◌≤◌}
+use Rattle.std.proofs.Common.{◌^◌, sym, subst, ◌≤◌}
 use Rattle.iolb_model.specs.Form.{AffineForm}
 use Rattle.affine_form.specs.Form.{variables, IsSmallForm}
 use Rattle.affine_rows.proofs.RowLemmas.{small-substitution, variables-substitution}
