@@ -199,8 +199,9 @@ mutual
   row_path-there done s m = absurd m
   row_path-there (next item row) s m =
       elim (Member-append s (item_statements item) (row_statements row) m) [
-        inl here ↦ first-left (item_path item s) (row_path row s) (λ path. Unit {0}) (item_path-there item s here)
-      | inr later ↦ either (item_path item s) (row_path row s) (row_path-there row s later) ] where
+        | inl here ↦ first-left (item_path item s) (row_path row s) (λ path. Unit {0}) (item_path-there item s here)
+        | inr later ↦ either (item_path item s) (row_path row s) (row_path-there row s later)
+      ] where
         either : (o p : Option (List PathStep)) → IsSomeAnd p (λ path. Unit {0}) → IsSomeAnd (first_of o p) (λ path. Unit {0})
         either None p h = h
         either (Some path) p h = tt
