@@ -34,7 +34,7 @@ use Rattle.affine_rows.proofs.Meaning.{form_value-difference, within_rows-says, 
 use Rattle.affine_c.specs.Domain.{path_of, depth_of, domain_of}
 use Rattle.affine_c.proofs.Bounds.{StandsAt, row-stands}
 use Rattle.dep_quast.specs.Tree.{SourceClaim, Leaf, source, input, empty, blank, SelectionTree, leaf, test, leaf_at}
-use Rattle.dep_quast.specs.Levels.{levels, writers, writers_from}
+use Rattle.dep_quast.specs.Levels.{level_count, levels, writers, writers_from}
 use Rattle.dep_quast.specs.Context.{ReadOf, reference_of, variables_at, no_row, context, reader_point, parameter_point, reader_values, writer_values, variables_with, write_rows, earlier_write, earlier_writes, write_between, writes_between}
 use Rattle.dep_quast.specs.Claims.{AllHold, claims, leaf_claims, source_claims, follow_claims, pointless_claims, first_shown, context_system, inside_goals, cell_goals, before_goals, PlacedClaim, same, few}
 use Rattle.dep_quast.specs.Truth.{IsTrueLeaf, IsTrueTree, IsLevel, SourceFits, LeafFits, FitsUnder, ReadFits, source_at, ValidTreesAreTrue}
@@ -74,16 +74,13 @@ level-from (d ∷ loops) (suc level) t s (inl less) = level-from loops level t s
 level-from (d ∷ loops) (suc level) t s (inr last) = level-from loops level t s (inr (omega (arith, last.0), last.1))
 
 Member-levels : (program : AffineProgram) (t s level : ℕ) → HasLevel (common_loops program t s) level t s → Member level (levels program t s)
-Member-levels program t s level h =
-    elim (level-cases (common_loops program t s) level t s h) [
-      | inl less ↦ Member-append_left level (range_with_len 0 (length (common_loops program t s))) (if nat_lt t s then length (common_loops program t s) ∷ [] else [])
-          (counted-has 0 (length (common_loops program t s)) level (omega arith) (omega arith))
-      | inr last ↦ Member-append_right level (range_with_len 0 (length (common_loops program t s))) (if nat_lt t s then length (common_loops program t s) ∷ [] else [])
-          (by (nat_lt t s) refl last.0 last.1)
-    ] where
-      by : (b : Bool) → b ≡ nat_lt t s → level ≡ length (common_loops program t s) → t < s → Member level (if b then length (common_loops program t s) ∷ [] else [])
-      by true e last less = inl last
-      by false e last less = absurd (let true_test : nat_lt t s ≡ true = lt-ltb t s less in cc)
+Member-levels program t s level h = counted-has 0 (level_count program t s) level (omega arith) (below (nat_lt t s) refl (level-cases (common_loops program t s) level t s h)) where
+  below : (b : Bool) → b ≡ nat_lt t s → (level < length (common_loops program t s)) ⊎ ((level ≡ length (common_loops program t s)) × (t < s))
+      → level < 0 + (length (common_loops program t s) + (if b then 1 else 0))
+  below true e (inl less) = omega arith
+  below true e (inr last) = omega (arith, last.0)
+  below false e (inl less) = omega arith
+  below false e (inr last) = absurd (let true_test : nat_lt t s ≡ true = lt-ltb t s last.1 in cc)
 
 module _ (program : AffineProgram) (reader : ReadOf) (parameters : List ℤ) (place : ℕ) (values : List ℤ) (well : IsWellFormed program)
     (admitted : IsAdmitted program parameters) (reader-there : reader.statement < length program.statements) (here : IsAt program parameters place (record { statement = reader.statement; values = values })) where
@@ -133,7 +130,7 @@ module _ (program : AffineProgram) (reader : ReadOf) (parameters : List ℤ) (pl
   write_rows-met : (tests : List AffineForm) → ((rest : List ℤ) → IsMet tests ((parameters ++ values) ++ rest)) → (writer : ℕ) (z : List ℤ)
       → IsWithin (path_of program writer) parameters z
       → written_cell program parameters (record { statement = writer; values = z }) ≡ read_cell program parameters reader.statement reader.read values
-      → IsMet (write_rows program reader tests writer) ((parameters ++ values) ++ z)
+      → IsMet (write_rows program reader (context program reader tests) writer) ((parameters ++ values) ++ z)
   write_rows-met tests met writer z within same_cells =
       let point : List ℤ = (parameters ++ values) ++ z in
       let vars : ℕ = variables_with program reader writer in
@@ -195,7 +192,7 @@ module _ (program : AffineProgram) (reader : ReadOf) (parameters : List ℤ) (pl
 
   -- where the earlier writes are shown to have no point, no earlier instance writes the cell
   no_earlier : (tests : List AffineForm) → ((rest : List ℤ) → IsMet tests ((parameters ++ values) ++ rest))
-      → ((system : AffineSystem) → Member system (earlier_writes program reader tests) → (point : List ℤ) → IsMet system.rows point → ⊥)
+      → ((system : AffineSystem) → Member system (earlier_writes program reader (context program reader tests)) → (point : List ℤ) → IsMet system.rows point → ⊥)
       → source_at program parameters reader place values ≡ input_source (read_cell program parameters reader.statement reader.read values)
   no_earlier tests met none =
       ap (λ (o : Option ℕ). source_or o (read_cell program parameters reader.statement reader.read values))
@@ -206,11 +203,11 @@ module _ (program : AffineProgram) (reader : ReadOf) (parameters : List ℤ) (pl
       let z : List ℤ = found.0.values in
       let before = before-reader w z k found.1.0 less in
       let order : List AffineForm = order_rows (variables_with program reader w) (common_loops program w reader.statement) before.0 (writer_values program reader w (variables_with program reader w)) (reader_values program reader (variables_with program reader w)) in
-      none (earlier_write program reader tests w before.0)
-      (Member-flat_map (λ writer. map (earlier_write program reader tests writer) (levels program writer reader.statement)) w (writers program (reference_of program reader).array) (earlier_write program reader tests w before.0)
-      (writer-member w z k found.1.0 found.1.1) (Member-map (earlier_write program reader tests w) before.0 (levels program w reader.statement) before.1.0))
+      none (earlier_write program reader (context program reader tests) w before.0)
+      (Member-flat_map (λ writer. map (earlier_write program reader (context program reader tests) writer) (levels program writer reader.statement)) w (writers program (reference_of program reader).array) (earlier_write program reader (context program reader tests) w before.0)
+      (writer-member w z k found.1.0 found.1.1) (Member-map (earlier_write program reader (context program reader tests) w) before.0 (levels program w reader.statement) before.1.0))
       ((parameters ++ values) ++ z)
-      (All-append (λ row. pos 0 ≤ℤ form_value row ((parameters ++ values) ++ z)) (write_rows program reader tests w) order
+      (All-append (λ row. pos 0 ≤ℤ form_value row ((parameters ++ values) ++ z)) (write_rows program reader (context program reader tests) w) order
       (write_rows-met tests met w z (writer-within w z k found.1.0) found.1.1) before.1.1)))
 
   -- the source that is shown to be in its domain is executed, at some place
@@ -298,7 +295,7 @@ module _ (program : AffineProgram) (reader : ReadOf) (parameters : List ℤ) (pl
   -- where the writes between are shown to have no point, the source is the last write
   source-last : (tests : List AffineForm) (claim : SourceClaim) (at : ℕ) → ((rest : List ℤ) → IsMet tests ((parameters ++ values) ++ rest))
       → AllByRecursion (IsSmallOver (variables_at program reader)) claim.point
-      → ((system : AffineSystem) → Member system (writes_between program reader tests claim) → (point : List ℤ) → IsMet system.rows point → ⊥)
+      → ((system : AffineSystem) → Member system (writes_between program reader (context program reader tests) claim) → (point : List ℤ) → IsMet system.rows point → ⊥)
       → IsAt program parameters at (record { statement = claim.statement; values = values_at claim.point (parameters ++ values) }) → at < place
       → written_cell program parameters (record { statement = claim.statement; values = values_at claim.point (parameters ++ values) }) ≡ read_cell program parameters reader.statement reader.read values
       → source_at program parameters reader place values ≡ written_at at
@@ -317,14 +314,14 @@ module _ (program : AffineProgram) (reader : ReadOf) (parameters : List ℤ) (pl
       let first : List AffineForm = order_rows vars (common_loops program claim.statement w) after.0 claim.point (writer_values program reader w vars) in
       let second : List AffineForm = order_rows vars (common_loops program w reader.statement) before.0 (writer_values program reader w vars) (reader_values program reader vars) in
       let at_point : AffineForm → Type 0 = λ row. pos 0 ≤ℤ form_value row ((parameters ++ values) ++ z) in
-      none (write_between program reader tests claim w after.0 before.0)
-      (Member-flat_map (λ writer. flat_map (λ after. map (write_between program reader tests claim writer after) (levels program writer reader.statement)) (levels program claim.statement writer)) w
-      (writers program (reference_of program reader).array) (write_between program reader tests claim w after.0 before.0) (writer-member w z k found.1.0 found.1.1)
-      (Member-flat_map (λ after. map (write_between program reader tests claim w after) (levels program w reader.statement)) after.0 (levels program claim.statement w) (write_between program reader tests claim w after.0 before.0)
-      after.1.0 (Member-map (write_between program reader tests claim w after.0) before.0 (levels program w reader.statement) before.1.0)))
+      none (write_between program reader (context program reader tests) claim w after.0 before.0)
+      (Member-flat_map (λ writer. flat_map (λ after. map (write_between program reader (context program reader tests) claim writer after) (levels program writer reader.statement)) (levels program claim.statement writer)) w
+      (writers program (reference_of program reader).array) (write_between program reader (context program reader tests) claim w after.0 before.0) (writer-member w z k found.1.0 found.1.1)
+      (Member-flat_map (λ after. map (write_between program reader (context program reader tests) claim w after) (levels program w reader.statement)) after.0 (levels program claim.statement w) (write_between program reader (context program reader tests) claim w after.0 before.0)
+      after.1.0 (Member-map (write_between program reader (context program reader tests) claim w after.0) before.0 (levels program w reader.statement) before.1.0)))
       ((parameters ++ values) ++ z)
-      (All-append at_point (write_rows program reader tests w ++ first) second
-      (All-append at_point (write_rows program reader tests w) first (write_rows-met tests met w z (writer-within w z k found.1.0) found.1.1) after.1.1) before.1.1)))
+      (All-append at_point (write_rows program reader (context program reader tests) w ++ first) second
+      (All-append at_point (write_rows program reader (context program reader tests) w) first (write_rows-met tests met w z (writer-within w z k found.1.0) found.1.1) after.1.1) before.1.1)))
 
 -- a statement of a program fits on its way
 fits-at : (program : AffineProgram) (s : ℕ) → IsWellFormed program → s < length program.statements → StatementFits program (length program.parameters + depth_of program s) s
@@ -361,7 +358,7 @@ module _ (program : AffineProgram) (reader : ReadOf) (parameters : List ℤ) (pl
       let cells : List PlacedClaim = record { condition = 4; place = at ++ Key STATEMENT ∷ []; claim = same (statement_at program claim.statement).writes.array (reference_of program reader).array }
       ∷ follow_claims 4 (at ++ Key CELL ∷ []) system 0 (cell_goals program reader claim) claim.cell in
       let before : List PlacedClaim = follow_claims 5 (at ++ Key BEFORE ∷ []) system 0 (before_goals program reader claim) claim.before in
-      let between : List PlacedClaim = pointless_claims (at ++ Key BETWEEN ∷ []) 0 (writes_between program reader tests claim) claim.between in
+      let between : List PlacedClaim = pointless_claims (at ++ Key BETWEEN ∷ []) 0 (writes_between program reader (context program reader tests) claim) claim.between in
       let first_three = AllHold-left (inside ++ cells ++ before) between h in
       let last = AllHold-right (inside ++ cells ++ before) between h in
       let first_two = AllHold-left (inside ++ cells) before first_three in
@@ -387,7 +384,7 @@ module _ (program : AffineProgram) (reader : ReadOf) (parameters : List ℤ) (pl
         (
           found.1,
           source-last program reader parameters place values well admitted there.statement here tests claim found.0 met fits.forms
-              (λ written m. none-met (at ++ Key BETWEEN ∷ []) 0 (writes_between program reader tests claim) claim.between written (omega (arith, fits.between)) last m)
+              (λ written m. none-met (at ++ Key BETWEEN ∷ []) 0 (writes_between program reader (context program reader tests) claim) claim.between written (omega (arith, fits.between)) last m)
               found.1 less same_cells,
         ),
       )
@@ -397,7 +394,7 @@ module _ (program : AffineProgram) (reader : ReadOf) (parameters : List ℤ) (pl
   leaf-true tests at (source claim) met fits h = source-true tests at claim met fits h
   leaf-true tests at (input shown) met fits h =
       no_earlier program reader parameters place values well admitted there.statement here tests met
-      (λ written m. none-met (at ++ Key INPUT ∷ []) 0 (earlier_writes program reader tests) shown written (omega (arith, fits)) h.1 m)
+      (λ written m. none-met (at ++ Key INPUT ∷ []) 0 (earlier_writes program reader (context program reader tests)) shown written (omega (arith, fits)) h.1 m)
   leaf-true tests at (empty shown) met fits h =
       Shows-none (context_system program reader tests) shown h.1.0.0 h.1.0.1 (parameters ++ values)
       (subst (IsMet (context program reader tests)) (append-nil (parameters ++ values)) (context-met program reader parameters place values well admitted there.statement here tests met []))

@@ -93,7 +93,7 @@ source_claims program reader tests place claim =
     ++ record { condition = 4; place = place ++ Key STATEMENT ∷ []; claim = same (statement_at program claim.statement).writes.array (reference_of program reader).array }
     ∷ follow_claims 4 (place ++ Key CELL ∷ []) system 0 (cell_goals program reader claim) claim.cell
     ++ follow_claims 5 (place ++ Key BEFORE ∷ []) system 0 (before_goals program reader claim) claim.before
-    ++ pointless_claims (place ++ Key BETWEEN ∷ []) 0 (writes_between program reader tests claim) claim.between
+    ++ pointless_claims (place ++ Key BETWEEN ∷ []) 0 (writes_between program reader (context program reader tests) claim) claim.between
 
 -- What a leaf claims: an input that no write of the cell is earlier (condition 6), an empty leaf that no point comes
 -- there (7), and each that its system has few rows (2).
@@ -101,7 +101,7 @@ abbrev pub leaf_claims : AffineProgram → ReadOf → List AffineForm → List S
 leaf_claims program reader tests place (source claim) = source_claims program reader tests place claim
 leaf_claims program reader tests place (input shown) =
     record { condition = 2; place = place; claim = few (length (context program reader tests)) }
-    ∷ pointless_claims (place ++ Key INPUT ∷ []) 0 (earlier_writes program reader tests) shown
+    ∷ pointless_claims (place ++ Key INPUT ∷ []) 0 (earlier_writes program reader (context program reader tests)) shown
 leaf_claims program reader tests place (empty shown) =
     record { condition = 2; place = place ++ Key EMPTY ∷ []; claim = few (length (context program reader tests)) }
     ∷ record { condition = 7; place = place ++ Key EMPTY ∷ []; claim = pointless (context_system program reader tests) shown } ∷ []

@@ -51,36 +51,36 @@ writer_values program reader writer vars = variables_from vars (variables_at pro
 abbrev pub variables_with : AffineProgram → ReadOf → ℕ → ℕ
 variables_with program reader writer = variables_at program reader + depth_of program writer
 
--- the rows of a write by another statement of the cell that is read: those of the leaf, the writer's domain, and that
+-- the rows of a write by another statement of the cell that is read: those given, the writer's domain, and that
 -- the cells are one
 abbrev pub write_rows : AffineProgram → ReadOf → List AffineForm → ℕ → List AffineForm
-write_rows program reader tests writer =
+write_rows program reader rows writer =
     let vars = variables_with program reader writer in
     let params = parameter_point program vars in
     let values = writer_values program reader writer vars in
-    map (widened vars) (context program reader tests) ++ within_rows vars (path_of program writer) params values
+    map (widened vars) rows ++ within_rows vars (path_of program writer) params values
     ++ equality_rows vars (put_in (params ++ values) (statement_at program writer).writes.subscripts)
     (put_in (reader_point program reader vars) (reference_of program reader).subscripts)
 
 -- an earlier write of the cell: it comes before the reader at a level
 abbrev pub earlier_write : AffineProgram → ReadOf → List AffineForm → ℕ → ℕ → AffineSystem
-earlier_write program reader tests writer level = let vars = variables_with program reader writer in record {
+earlier_write program reader rows writer level = let vars = variables_with program reader writer in record {
   vars = vars;
-  rows = write_rows program reader tests writer
+  rows = write_rows program reader rows writer
       ++ order_rows vars (common_loops program writer reader.statement) level (writer_values program reader writer vars) (reader_values program reader vars);
 }
 
 -- the earlier writes: for each writer of the array, ascending, those at each level, ascending
 abbrev pub earlier_writes : AffineProgram → ReadOf → List AffineForm → List AffineSystem
-earlier_writes program reader tests =
-    flat_map (λ writer. map (earlier_write program reader tests writer) (levels program writer reader.statement))
+earlier_writes program reader rows =
+    flat_map (λ writer. map (earlier_write program reader rows writer) (levels program writer reader.statement))
     (writers program (reference_of program reader).array)
 
 -- a write of the cell between: it comes after the source at a level, and before the reader at a level
 abbrev pub write_between : AffineProgram → ReadOf → List AffineForm → SourceClaim → ℕ → ℕ → ℕ → AffineSystem
-write_between program reader tests claim writer after level = let vars = variables_with program reader writer in record {
+write_between program reader rows claim writer after level = let vars = variables_with program reader writer in record {
   vars = vars;
-  rows = write_rows program reader tests writer
+  rows = write_rows program reader rows writer
       ++ order_rows vars (common_loops program claim.statement writer) after claim.point (writer_values program reader writer vars)
       ++ order_rows vars (common_loops program writer reader.statement) level (writer_values program reader writer vars) (reader_values program reader vars);
 }
@@ -88,6 +88,6 @@ write_between program reader tests claim writer after level = let vars = variabl
 -- the writes between: for each writer of the array, ascending, those at each level after the source and each level
 -- before the reader, ascending
 abbrev pub writes_between : AffineProgram → ReadOf → List AffineForm → SourceClaim → List AffineSystem
-writes_between program reader tests claim =
-    flat_map (λ writer. flat_map (λ after. map (write_between program reader tests claim writer after) (levels program writer reader.statement)) (levels program claim.statement writer))
+writes_between program reader rows claim =
+    flat_map (λ writer. flat_map (λ after. map (write_between program reader rows claim writer after) (levels program writer reader.statement)) (levels program claim.statement writer))
     (writers program (reference_of program reader).array)

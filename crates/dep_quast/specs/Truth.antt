@@ -15,7 +15,7 @@ use Rattle.affine_rows.specs.Rows.{IsSmallOver}
 use Rattle.affine_c.specs.Domain.{depth_of}
 use Rattle.dep_quast.specs.Tree.{SourceClaim, Leaf, source, input as input_leaf, empty, blank, SelectionTree, leaf, test, leaf_at}
 use Rattle.dep_quast.specs.Levels.{levels}
-use Rattle.dep_quast.specs.Context.{ReadOf, reference_of, variables_at, no_row, earlier_writes, writes_between}
+use Rattle.dep_quast.specs.Context.{ReadOf, reference_of, variables_at, no_row, context, earlier_writes, writes_between}
 use Rattle.dep_quast.specs.Claims.{before_goals, IsValid}
 
 -- the source of the read at a place of the execution
@@ -54,12 +54,12 @@ pub record SourceFits (program : AffineProgram) (reader : ReadOf) (tests : List 
   pub inside : length claim.inside ≡ 2 * depth_of program claim.statement
   pub cell : length claim.cell ≡ 2 * length (reference_of program reader).subscripts
   pub before : length claim.before ≡ length (before_goals program reader claim)
-  pub between : length claim.between ≡ length (writes_between program reader tests claim)
+  pub between : length claim.between ≡ length (writes_between program reader (context program reader tests) claim)
 
 -- a leaf fits
 abbrev pub LeafFits : AffineProgram → ReadOf → List AffineForm → Leaf → Type 0
 LeafFits program reader tests (source claim) = SourceFits program reader tests claim
-LeafFits program reader tests (input_leaf shown) = length shown ≡ length (earlier_writes program reader tests)
+LeafFits program reader tests (input_leaf shown) = length shown ≡ length (earlier_writes program reader (context program reader tests))
 LeafFits program reader tests (empty shown) = ⊤
 LeafFits program reader tests blank = ⊤
 
