@@ -5,5 +5,8 @@ pub mod InFront
 pub mod Distinct
 pub mod Loops
 pub mod Sized
+pub mod Built
+pub mod WithinLimits
 pub mod Whole
 pub mod Readings
+pub mod Bounds

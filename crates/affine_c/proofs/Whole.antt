@@ -13,17 +13,9 @@ use Rattle.affine_c.specs.declared.statement.Statement.{Statement}
 use Rattle.affine_c.specs.declared.item.Item.{Item}
 use Rattle.affine_c.specs.Tree.{item_of, row_of}
 use Rattle.affine_c.specs.Parts.{ProgramParts, meaning, statement_of, array_of, step_of, IsProgram}
-
--- what the parts of a nest are
-pub record AreBuilt (nest : CopyNest) (parts : ProgramParts) (built : Statement) (inner : Item) : Type 0 where
-  pub params : parts.params ≡ parameter_names nest
-  pub assumed : parts.assumed ≡ record { vars = length (parameter_names nest); rows = parameters_positive (length (parameter_names nest)) }
-  pub arrays : map array_of parts.arrays ≡ nest_arrays nest
-  pub one_statement : parts.statements ≡ built ∷ []
-  pub statement : statement_of built ≡ nest_statement nest
-  pub bounds : map step_of built.bounds.items ≡ nest_steps (parameter_names nest) (length (parameter_names nest)) nest.loops
-  pub one_item : parts.tree ≡ inner ∷ []
-  pub item : item_of inner ≡ nest_item (parameter_names nest) (length (parameter_names nest)) nest.loops
+use Rattle.copy_nest.specs.Spelling.{IsCopyNest}
+use Rattle.affine_c.proofs.Built.{AreBuilt}
+use Rattle.affine_c.proofs.WithinLimits.{built_limits}
 
 abbrev from_five : List (List ℕ) → List AffineForm → List Array → List ModelStatement → Row → AffineProgram
 from_five p a r t v = record { parameters = p; assumptions = a; arrays = r; statements = t; tree = v }
@@ -46,8 +38,9 @@ built_meaning nest parts statement item built =
     (map statement_of parts.statements) (nest_statement nest ∷ []) (row_of parts.tree) (program_of nest).tree built.params (ap (λ (s : AffineSystem). s.rows) built.assumed) built.arrays
     (ap (map statement_of) built.one_statement ∙ ap (λ (s : ModelStatement). s ∷ []) built.statement) (tree_built nest parts statement item built)
 
-pub built_program : (nest : CopyNest) (parts : ProgramParts) (statement : Statement) (item : Item) → AreBuilt nest parts statement item → IsProgram parts
-built_program nest parts statement item built = record {
+pub built_program : (nest : CopyNest) (parts : ProgramParts) (statement : Statement) (item : Item) → IsCopyNest nest → AreBuilt nest parts statement item → IsProgram parts
+built_program nest parts statement item ok built = record {
+    limits = built_limits nest parts statement item ok built;
   well_formed = subst IsWellFormed (sym (built_meaning nest parts statement item built)) (nest_well_formed nest);
   assumed = ap (λ (s : AffineSystem). s.vars) built.assumed ∙ ap (λ (p : List (List ℕ)). length p) (sym built.params);
   bounds = subst (λ (all : List Statement). AllByRecursion (λ (placed : ℕ × Statement). row_path (row_of parts.tree) placed.0 ≡ Some (map step_of placed.1.bounds.items)) (enumerate_from 0 all)) (sym built.one_statement)

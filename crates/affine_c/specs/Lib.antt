@@ -1,3 +1,5 @@
+pub mod Limits
+pub mod Domain
 pub mod Tree
 pub mod Parts
 pub mod Fault

@@ -9,6 +9,7 @@ use Rattle.affine_c.specs.declared.reference.Reference.{Reference}
 use Rattle.affine_c.specs.declared.statement.Statement.{Statement}
 use Rattle.affine_c.specs.declared.item.Item.{Item}
 use Rattle.affine_c.specs.Tree.{row_of}
+use Rattle.affine_c.specs.Limits.{IsWithinLimits}
 
 -- what a program of the code holds
 pub record ProgramParts : Type 0 where
@@ -44,9 +45,10 @@ meaning parts = record {
 abbrev pub step_of : AffineForm × AffineForm → PathStep
 step_of bounds = rises bounds.0 bounds.1
 
--- What a program keeps: it is well formed, its assumptions are over the parameters, and each statement has the bounds
--- of the loops around it.
+-- What a program keeps: it is well formed, its assumptions are over the parameters, each statement has the bounds
+-- of the loops around it, and the parts are within their limits.
 pub record IsProgram (parts : ProgramParts) : Type 0 where
   pub well_formed : IsWellFormed (meaning parts)
   pub assumed : parts.assumed.vars ≡ length parts.params
   pub bounds : AllByRecursion (λ (placed : ℕ × Statement). row_path (row_of parts.tree) placed.0 ≡ Some (map step_of placed.1.bounds.items)) (enumerate_from 0 parts.statements)
+  pub limits : IsWithinLimits parts.params parts.assumed parts.arrays parts.statements

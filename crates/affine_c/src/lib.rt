@@ -3,6 +3,7 @@
 
 mod build;
 mod copies;
+mod domain;
 mod fault;
 mod item;
 mod names;

@@ -1,3 +1,7 @@
 pub mod Members
+pub mod Ordered
+pub mod Ranges
+pub mod Domains
+pub mod Orders
 pub mod Cells
 pub mod InputVertices

@@ -1,1 +1,3 @@
 pub mod Cold
+pub mod Domain
+pub mod Order

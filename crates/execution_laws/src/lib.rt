@@ -2,3 +2,5 @@
 #![tactic(auto)]
 
 pub mod cold;
+pub mod domain;
+pub mod order;

@@ -1,0 +1,4 @@
+pub mod LastWrites
+pub mod Shown
+pub mod Points
+pub mod Truths

@@ -1,0 +1,129 @@
+-- What a source tree claims: a list, leaf by leaf, `yes` before `no`.
+use Rattle.std.specs.Prelude.{◌≡◌, ℕ, suc, ◌≤◌, ◌+◌, ⊤, ◌⊎◌, List, [], ◌∷◌, ◌++◌, map, length}
+use Rattle.std.specs.List.{AllByRecursion}
+use Rattle.iolb_model.specs.Form.{AffineForm}
+use Rattle.iolb_model.specs.Program.{AffineProgram, statement_at}
+use Rattle.execution_laws.specs.Order.{common_loops}
+use Rattle.affine_form.specs.declared.place.Step.{Step}
+use Rattle.affine_form.specs.declared.place.Step.TheVariants.{Key, Index}
+use Rattle.affine_form.specs.declared.key.TheConstants.{BEFORE, BETWEEN, CELL, DOMAIN, EMPTY, INPUT, NO, STATEMENT, YES}
+use Rattle.affine_form.specs.Multipliers.{FarkasMultipliers}
+use Rattle.affine_form.specs.Shown.{Shows, minus_one}
+use Rattle.affine_form.specs.System.{AffineSystem}
+use Rattle.affine_rows.specs.Rows.{within_rows, equality_rows, put_in, order_rows}
+use Rattle.affine_c.specs.Domain.{path_of}
+use Rattle.dep_quast.specs.Tree.{SourceClaim, Leaf, source, input, empty, blank, SelectionTree, leaf, test}
+use Rattle.dep_quast.specs.Context.{ReadOf, reference_of, variables_at, no_row, context, reader_point, parameter_point, reader_values, earlier_writes, writes_between}
+
+-- A claim: so many rows are at most 128, two numbers are the same, a goal follows from a system, or a system has no
+-- point, the last two as multipliers show.
+pub data Claim : Type 0 where
+  few : ℕ → Claim
+  same : ℕ → ℕ → Claim
+  follows : AffineSystem → AffineForm → FarkasMultipliers → Claim
+  pointless : AffineSystem → FarkasMultipliers → Claim
+
+-- a claim holds
+abbrev pub Holds : Claim → Type 0
+Holds (few rows) = rows ≤ 128
+Holds (same a b) = a ≡ b
+Holds (follows system goal shown) = (1 ≤ shown.scale) × Shows system goal shown
+Holds (pointless system shown) = (1 ≤ shown.scale) × Shows system (minus_one system.vars) shown
+
+-- a claim with the number of its condition and its place
+pub record PlacedClaim : Type 0 where
+  pub condition : ℕ
+  pub place : List Step
+  pub claim : Claim
+
+-- that the goals follow, each by its multipliers, which stand in a list at this place
+abbrev pub follow_claims : ℕ → List Step → AffineSystem → ℕ → List AffineForm → List FarkasMultipliers → List PlacedClaim
+follow_claims condition place system index [] shown = []
+follow_claims condition place system index (goal ∷ goals) [] = []
+follow_claims condition place system index (goal ∷ goals) (m ∷ shown) =
+    record { condition = condition; place = place ++ Index index ∷ []; claim = follows system goal m }
+    ∷ follow_claims condition place system (suc index) goals shown
+
+-- that the systems have few rows and no point, each by its multipliers, which stand in a list at this place
+abbrev pub pointless_claims : List Step → ℕ → List AffineSystem → List FarkasMultipliers → List PlacedClaim
+pointless_claims place index [] shown = []
+pointless_claims place index (system ∷ systems) [] = []
+pointless_claims place index (system ∷ systems) (m ∷ shown) =
+    record { condition = 2; place = place ++ Index index ∷ []; claim = few (length system.rows) }
+    ∷ record { condition = 6; place = place ++ Index index ∷ []; claim = pointless system m }
+    ∷ pointless_claims place (suc index) systems shown
+
+-- the first member of the lists of a source, and the leaf itself if they have none
+abbrev pub first_shown : List Step → List FarkasMultipliers → List FarkasMultipliers → List FarkasMultipliers → List Step
+first_shown place (m ∷ inside) cell before = place ++ Key DOMAIN ∷ Index 0 ∷ []
+first_shown place [] (m ∷ cell) before = place ++ Key CELL ∷ Index 0 ∷ []
+first_shown place [] [] (m ∷ before) = place ++ Key BEFORE ∷ Index 0 ∷ []
+first_shown place [] [] [] = place
+
+-- the system of a leaf
+abbrev pub context_system : AffineProgram → ReadOf → List AffineForm → AffineSystem
+context_system program reader tests = record { vars = variables_at program reader; rows = context program reader tests }
+
+-- the rows which say that the source is in its statement's domain
+abbrev pub inside_goals : AffineProgram → ReadOf → SourceClaim → List AffineForm
+inside_goals program reader claim =
+    let vars = variables_at program reader in within_rows vars (path_of program claim.statement) (parameter_point program vars) claim.point
+
+-- the rows which say that the source writes the cell that is read
+abbrev pub cell_goals : AffineProgram → ReadOf → SourceClaim → List AffineForm
+cell_goals program reader claim =
+    let vars = variables_at program reader in
+    equality_rows vars (put_in (parameter_point program vars ++ claim.point) (statement_at program claim.statement).writes.subscripts)
+    (put_in (reader_point program reader vars) (reference_of program reader).subscripts)
+
+-- the rows which say that the source comes before the reader at its level
+abbrev pub before_goals : AffineProgram → ReadOf → SourceClaim → List AffineForm
+before_goals program reader claim =
+    let vars = variables_at program reader in
+    order_rows vars (common_loops program claim.statement reader.statement) claim.level claim.point (reader_values program reader vars)
+
+-- What a source claims: that the system has few rows (condition 2); the source is in its statement's domain (3); its
+-- statement writes the array that is read, and in it the cell (4); it comes before the reader (5); and no write of the
+-- cell lies between (6).
+abbrev pub source_claims : AffineProgram → ReadOf → List AffineForm → List Step → SourceClaim → List PlacedClaim
+source_claims program reader tests place claim =
+    let system = context_system program reader tests in
+    record { condition = 2; place = first_shown place claim.inside claim.cell claim.before; claim = few (length system.rows) }
+    ∷ follow_claims 3 (place ++ Key DOMAIN ∷ []) system 0 (inside_goals program reader claim) claim.inside
+    ++ record { condition = 4; place = place ++ Key STATEMENT ∷ []; claim = same (statement_at program claim.statement).writes.array (reference_of program reader).array }
+    ∷ follow_claims 4 (place ++ Key CELL ∷ []) system 0 (cell_goals program reader claim) claim.cell
+    ++ follow_claims 5 (place ++ Key BEFORE ∷ []) system 0 (before_goals program reader claim) claim.before
+    ++ pointless_claims (place ++ Key BETWEEN ∷ []) 0 (writes_between program reader (context program reader tests) claim) claim.between
+
+-- What a leaf claims: an input that no write of the cell is earlier (condition 6), an empty leaf that no point comes
+-- there (7), and each that its system has few rows (2).
+abbrev pub leaf_claims : AffineProgram → ReadOf → List AffineForm → List Step → Leaf → List PlacedClaim
+leaf_claims program reader tests place (source claim) = source_claims program reader tests place claim
+leaf_claims program reader tests place (input shown) =
+    record { condition = 2; place = place; claim = few (length (context program reader tests)) }
+    ∷ pointless_claims (place ++ Key INPUT ∷ []) 0 (earlier_writes program reader (context program reader tests)) shown
+leaf_claims program reader tests place (empty shown) =
+    record { condition = 2; place = place ++ Key EMPTY ∷ []; claim = few (length (context program reader tests)) }
+    ∷ record { condition = 7; place = place ++ Key EMPTY ∷ []; claim = pointless (context_system program reader tests) shown } ∷ []
+leaf_claims program reader tests place blank = record { condition = 2; place = place; claim = few (length (context program reader tests)) } ∷ []
+
+-- what a tree claims under these tests, at this place
+abbrev pub claims : AffineProgram → ReadOf → List AffineForm → List Step → SelectionTree → List PlacedClaim
+claims program reader tests place (leaf chosen) = leaf_claims program reader tests place chosen
+claims program reader tests place (test form above below) =
+    claims program reader (tests ++ form ∷ []) (place ++ Key YES ∷ []) above
+    ++ claims program reader (tests ++ no_row (variables_at program reader) form ∷ []) (place ++ Key NO ∷ []) below
+
+-- every claim of a tree holds
+abbrev pub AllHold : List PlacedClaim → Type 0
+AllHold placed = AllByRecursion (λ (p : PlacedClaim). Holds p.claim) placed
+
+-- the first claim that doesn't hold has this condition and this place
+abbrev pub FirstFails : List PlacedClaim → ℕ → List Step → Type 0
+FirstFails [] condition place = ⊥
+FirstFails (p ∷ later) condition place =
+    ((¬ Holds p.claim) × (p.condition ≡ condition) × (p.place ≡ place)) ⊎ (Holds p.claim × FirstFails later condition place)
+
+-- the tree is valid: every claim that it makes at a place holds
+abbrev pub IsValid : AffineProgram → ReadOf → List Step → SelectionTree → Type 0
+IsValid program reader place tree = AllHold (claims program reader [] place tree)

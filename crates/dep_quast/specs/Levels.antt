@@ -1,0 +1,24 @@
+-- The levels of the order of two statements, and the writers of an array.
+use Rattle.std.specs.Prelude.{ℕ, suc, ◌+◌, ◌==◌, nat_lt, if◌then◌else◌, List, [], ◌∷◌, length}
+use Rattle.std.specs.List.{range_with_len}
+use Rattle.iolb_model.specs.Program.{Statement, AffineProgram}
+use Rattle.execution_laws.specs.Order.{common_loops}
+
+-- How many levels there are at which an instance of t may come before one of s: one for each loop around both, and one
+-- more where t stands before s in the text.
+abbrev pub level_count : AffineProgram → ℕ → ℕ → ℕ
+level_count program t s = length (common_loops program t s) + (if nat_lt t s then 1 else 0)
+
+-- those levels, ascending
+abbrev pub levels : AffineProgram → ℕ → ℕ → List ℕ
+levels program t s = range_with_len 0 (level_count program t s)
+
+-- the numbers of the statements that write an array, counted from the first number
+abbrev pub writers_from : ℕ → List Statement → ℕ → List ℕ
+writers_from first [] array = []
+writers_from first (statement ∷ statements) array =
+    if statement.writes.array == array then first ∷ writers_from (suc first) statements array else writers_from (suc first) statements array
+
+-- the numbers of the statements that write an array, ascending
+abbrev pub writers : AffineProgram → ℕ → List ℕ
+writers program array = writers_from 0 program.statements array

@@ -1,0 +1,5 @@
+pub mod Tree
+pub mod Levels
+pub mod Context
+pub mod Claims
+pub mod Truth

@@ -1,0 +1,37 @@
+//! Source trees.
+
+use affine_form::{Form, Multipliers};
+
+/// A source tree of a read (a quasi-affine selection tree, Feautrier 1991). Its forms are over the parameters and the
+/// loop values of the reading statement.
+#[derive(Debug, Drop)]
+pub enum Quast {
+    /// Goes to `yes` where the form is at least 0, and to `no` where it is at most -1.
+    Test {
+        form: Form,
+        yes: Box<Quast>,
+        no: Box<Quast>,
+    },
+    /// The source is the instance of this statement at these loop values. The multipliers show that it is in its
+    /// statement's domain, that it writes the cell that is read, that it comes before the reader at this level of the
+    /// loops around both, and that no write of the cell lies between.
+    Source {
+        statement: u16,
+        level: u8,
+        point: Vec<Form>,
+        domain: Vec<Multipliers>,
+        cell: Vec<Multipliers>,
+        before: Vec<Multipliers>,
+        between: Vec<Multipliers>,
+    },
+    /// No earlier instance writes the cell. The multipliers show it, level by level of each writer of the array.
+    Input {
+        earlier: Vec<Multipliers>,
+    },
+    /// No point comes here. The multipliers show it.
+    Empty {
+        shown: Multipliers,
+    },
+    /// Nothing is claimed.
+    Blank,
+}
