@@ -1,0 +1,5 @@
+pub mod Expansions
+pub mod Factors
+pub mod Products
+pub mod Sums
+pub mod Trees

@@ -1,0 +1,4 @@
+pub mod Expansion
+pub mod Poly
+pub mod Top
+pub mod Tree
