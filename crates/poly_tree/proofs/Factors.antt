@@ -1,11 +1,14 @@
 -- Common factors of the coefficients.
-use Rattle.std.proofs.Common.{◌≡◌, ℕ, zero, suc, ◌+◌, ◌*◌, ◌<◌, ◌≤◌, List, [], ◌∷◌, ◌++◌, length, get_or, take, map, arith, subst, sym, refl, ◌∙◌, ap, Vec, Global}
+use Rattle.std.proofs.Common.{◌≡◌, ℕ, zero, suc, ◌+◌, ◌*◌, ◌<◌, ◌≤◌, List, [], ◌∷◌, ◌++◌, length, get_or, take, map, arith, subst, sym, refl, ◌∙◌, ap, ◌^◌, Vec, Global, FitsSigned}
+use lib.Signed.{◌≤ℤ◌}
+use mir.Syntax.{w128}
 use Rattle.std.proofs.Math.IntN.{ℤ, pos, negsuc, ◌+ℤ◌, ◌*ℤ◌, neg_ℤ}
 use Rattle.std.specs.Prelude.{unsigned_abs, int_div, int_rem}
 use Rattle.std.specs.Int.{◌∣◌, IsGcd}
 use Rattle.std.proofs.lemmas.Int.{ints, quot-rem}
-use Rattle.std.proofs.lemmas.Nat.Gcd.{mod-eq-zero_of_dvd, dvd_trans}
+use Rattle.std.proofs.lemmas.Nat.Gcd.{mod-eq-zero_of_dvd, dvd_trans, le_of_dvd, dvd-zero}
 use Rattle.std.proofs.lemmas.List.{take_more, take_all, map-append}
+use Rattle.std.proofs.Math.Nat.{eq-zero_of_zero-dvd}
 use Rattle.integer_laws.proofs.Ring.{mul_comm}
 use Rattle.poly_tree.specs.declared.tree.Tree.{Tree}
 use Rattle.poly_tree.specs.declared.tree.Tree.TheViews.{Over}
@@ -77,3 +80,20 @@ divided-over f t v qs trees k e all h =
     ∙ ap (over v) (sym (parts_from-scaled f (map expansion qs.items)))
     ∙ ap (λ (us : List Expansion). over v (parts_from us)) (h ∙ ap (map expansion) (take_all k trees all))
     ∙ sym e
+
+-- a content of a number of at least 1 is at least 1, and no greater
+pub content-above : (t : Expansion) (start : ℤ) (g : ℕ) → IsContent t (unsigned_abs start) g → pos 1 ≤ℤ start → 1 ≤ g
+content-above t start zero h some = absurd (omega (arith, ints, le_of_dvd (size start some) (zero-dvd (unsigned_abs start) h.divides_start))) where
+  size : (z : ℤ) → pos 1 ≤ℤ z → 0 < unsigned_abs z
+  size z p = omega (arith, ints)
+  zero-dvd : (n : ℕ) → 0 ∣ n → suc n ∣ n
+  zero-dvd n p = subst (λ (m : ℕ). suc n ∣ m) (sym (eq-zero_of_zero-dvd p)) (dvd-zero (suc n))
+content-above t start (suc g) h some = omega arith
+
+pub content-below : (t : Expansion) (start : ℤ) (g : ℕ) → IsContent t (unsigned_abs start) g → pos 1 ≤ℤ start → FitsSigned w128 start → g < 2 ^ 127
+content-below t start g h some fits = omega (arith, ints, le_of_dvd (size start some) h.divides_start, below start fits some) where
+  size : (z : ℤ) → pos 1 ≤ℤ z → 0 < unsigned_abs z
+  size z p = omega (arith, ints)
+  below : (z : ℤ) → FitsSigned w128 z → pos 1 ≤ℤ z → unsigned_abs z < 2 ^ 127
+  below (pos n) p q = omega (arith, p.sfits)
+  below (negsuc n) p q = absurd (omega (arith, ints))

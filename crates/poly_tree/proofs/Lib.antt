@@ -1,5 +1,11 @@
+pub mod DegreeBounds
+pub mod AffineLemmas
 pub mod Expansions
 pub mod Factors
+pub mod LinearLemmas
 pub mod Products
+pub mod Reduced
+pub mod SameLemmas
 pub mod Sums
 pub mod Trees
+pub mod Unique

@@ -1,7 +1,7 @@
 -- Trees as expansions.
 use Rattle.std.proofs.Common.{◌≡◌, ℕ, ◌+◌, ◌*◌, ◌<◌, ◌≤◌, List, [], ◌∷◌, ◌++◌, length, get_or, map, take, drop, arith, rules, subst, sym, refl, ◌∙◌, ap, Vec, Global, zero, suc, ◌-◌, Bool, true, false, Option, Some, None, IsTrue, IsSome, ◌↔◌, MatchBool, MatchOption, slice_get, unwrap_or}
 use Rattle.std.proofs.Math.IntN.{ℤ}
-use Rattle.std.proofs.lemmas.List.{drop_more, get_or-map, length-map, take_all, append-nil, length-append, map-append, same_from_push}
+use Rattle.std.proofs.lemmas.List.{drop_more, get_or_default, get_or-map, length-map, take_all, append-nil, length-append, map-append, same_from_push}
 use Rattle.std.specs.Option.{option_to_list}
 use Rattle.poly_tree.specs.declared.tree.Tree.{Tree}
 use Rattle.poly_tree.specs.declared.tree.Tree.TheViews.{Over}
@@ -9,7 +9,7 @@ use Rattle.poly_tree.specs.declared.tree.Tree.TheVariants.{Num, rolls-Num}
 use Rattle.poly_tree.specs.declared.tree.Tree.TheVariants.{rolls-Over}
 use Rattle.poly_tree.specs.declared.tree.Tree.TheOpen.{Over as over_layer, Num as num_layer}
 use Rattle.poly_tree.specs.declared.tree.Tree.TheFolds.{fold-roll-Tree}
-use Rattle.poly_tree.specs.Expansion.{Expansion, number, over, part, zero_expansion, EndsInZero, EndsNonzero, IsTrimmed, IsJoined, parts_from, weight, parts_weight, nodes, parts_nodes, scaled}
+use Rattle.poly_tree.specs.Expansion.{Expansion, Parts, number, over, none, part, zero_expansion, EndsInZero, EndsNonzero, IsTrimmed, IsJoined, parts_from, weight, parts_weight, nodes, parts_nodes, scaled}
 use Rattle.poly_tree.specs.Tree.{expansion, expansions, expansion_step, parts_of}
 use Rattle.poly_tree.proofs.Expansions.{weight-part, parts_from-scaled, EndsNonzero-end, IsTrimmed-more, IsJoined-over}
 
@@ -125,3 +125,31 @@ pub weight-back : (t : Expansion) (v : ℕ) (trees : List Tree) (done : ℕ) (u 
     → weight (expansion u) + parts_weight (parts_of (drop (length trees - done) trees)) ≤ weight t
 weight-back t v trees done u e below read =
     omega (arith, ap weight e, ap parts_weight (parts_of-back trees done u below read), parts_weight-drop (length trees - (done + 1)) trees)
+
+-- the parts as a list
+parts_list : Parts → List Expansion
+parts_list none = []
+parts_list (part t ps) = t ∷ parts_list ps
+
+parts_list-from : (ts : List Expansion) → parts_list (parts_from ts) ≡ ts
+unfolding parts_list
+parts_list-from [] = refl
+parts_list-from (t ∷ ts) = ap (λ (us : List Expansion). t ∷ us) (parts_list-from ts)
+
+over-parts : Expansion → Parts
+over-parts (number n) = none
+over-parts (over v ps) = ps
+
+-- trees of which equal polynomials are made are equal one by one
+pub same-parts : (t u : Expansion) (v w : ℕ) (xs ys : List Tree) → t ≡ over v (parts_of xs) → u ≡ over w (parts_of ys) → t ≡ u → expansions xs ≡ expansions ys
+unfolding over-parts
+same-parts t u v w xs ys e f h =
+    sym (parts_list-from (expansions xs)) ∙ ap (λ (s : Expansion). parts_list (over-parts s)) (sym e ∙ h ∙ f) ∙ parts_list-from (expansions ys)
+
+pub same-lengths : (xs ys : List Tree) → expansions xs ≡ expansions ys → length xs ≡ length ys
+same-lengths xs ys e = sym (length-map xs expansion) ∙ ap length e ∙ length-map ys expansion
+
+pub same-at : (xs ys : List Tree) (k : ℕ) (x y : Tree) → expansions xs ≡ expansions ys → k < length xs → k < length ys → x ≡ get_or xs k x → y ≡ get_or ys k y → expansion x ≡ expansion y
+same-at xs ys k x y e p q read_x read_y =
+    ap expansion read_x ∙ sym (get_or-map expansion xs k x (expansion x) p) ∙ ap (λ (us : List Expansion). get_or us k (expansion x)) e
+    ∙ get_or-map expansion ys k x (expansion x) q ∙ ap expansion (get_or_default ys k x y q ∙ sym read_y)

@@ -1,7 +1,7 @@
 -- Polynomials with whole-number coefficients, expanded variable by variable. (The recursive dense form of computer
 -- algebra, valued by Horner's rule; Knuth, The Art of Computer Programming, volume 2, section 4.6.)
 use Rattle.std.specs.Int.{◌∣◌}
-use Rattle.std.specs.Prelude.{◌≡◌, ◌≢◌, ℕ, zero, suc, ◌+◌, ◌-◌, ◌*◌, ◌<◌, ◌≤◌, ◌==◌, max, if◌then◌else◌, ℤ, pos, ◌+ℤ◌, ◌*ℤ◌, unsigned_abs, ◌⊎◌, List, [], ◌∷◌, ◌++◌, slice_index_or}
+use Rattle.std.specs.Prelude.{◌≡◌, ◌≢◌, ℕ, zero, suc, ◌+◌, ◌-◌, ◌*◌, ◌<◌, ◌≤◌, ◌==◌, max, if◌then◌else◌, ℤ, pos, ◌+ℤ◌, ◌*ℤ◌, unsigned_abs, ◌⊎◌, List, [], ◌∷◌, ◌++◌, length, slice_index_or}
 
 -- A polynomial is a number, or a polynomial in one variable: its parts are the coefficients of the variable's powers,
 -- from power 0 on.
@@ -217,3 +217,24 @@ pub record IsPartsContent (ps : Parts) (start factor : ℕ) : Type 0 where
   pub divides_start : factor ∣ start
   pub divides_all : DividesParts factor ps
   pub greatest : (k : ℕ) → k ∣ start → DividesParts k ps → k ∣ factor
+
+-- t is a multiple of a and a multiple of b, canonical where they are, and of degrees no higher than theirs
+pub record IsLinear (j : ℤ) (a : Expansion) (k : ℤ) (b t : Expansion) : Type 0 where
+  pub sum : (point : ℕ → ℤ) → value t point ≡ (j *ℤ value a point) +ℤ (k *ℤ value b point)
+  pub canonical : (bound : ℕ) → IsCanonical bound a → IsCanonical bound b → IsCanonical bound t
+  pub degrees : (d : ℕ) → DegreesAtMost d a → DegreesAtMost d b → DegreesAtMost d t
+
+-- the sum of the products with the values of the variables from one on
+abbrev pub products_from : List ℤ → ℕ → (ℕ → ℤ) → ℤ
+products_from [] v point = pos 0
+products_from (x ∷ xs) v point = (x *ℤ point v) +ℤ products_from xs (suc v) point
+
+-- t is a constant and coefficients times the variables from 0 on, so many
+pub record IsAffine (xs : List ℤ) (constant : ℤ) (t : Expansion) : Type 0 where
+  pub sum : (point : ℕ → ℤ) → value t point ≡ products_from xs 0 point +ℤ constant
+  pub canonical : IsCanonical (length xs) t
+  pub degrees : DegreesAtMost 1 t
+
+-- u is t and a multiple of a higher variable
+abbrev pub IsExtended : ℕ → ℤ → Expansion → Expansion → Type 0
+IsExtended v x t u = ((x ≡ pos 0) × (u ≡ t)) ⊎ ((x ≢ pos 0) × (u ≡ over v (part t (part (number x) none))))

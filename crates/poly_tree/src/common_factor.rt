@@ -10,8 +10,17 @@ use crate::tree::Tree;
 use affine_form::Memory;
 use std::alloc::Global;
 
+/// The greatest common divisor of a number of at least 1 and all numbers of a tree.
+pub(crate) fn common_factor(tree: &Tree, start: i128) -> i128
+    requires { pos 1 ≤ℤ start }
+    ensures some { pos 1 ≤ℤ result }
+    ensures content { IsContent (expansion tree.now) (unsigned_abs start) (unsigned_abs result) }
+{
+    content(tree, start.unsigned_abs()) as i128
+}
+
 /// The greatest common divisor of a number and all numbers of a tree.
-pub(crate) fn content(tree: &Tree, start: u128) -> u128
+fn content(tree: &Tree, start: u128) -> u128
     ensures { IsContent (expansion tree.now) start result }
 {
     match look(tree) {
@@ -59,7 +68,7 @@ pub(crate) fn divided(alloc: Global, tree: &Tree, factor: i128) -> Result<Tree, 
 }
 
 /// A number divided by one that divides it.
-fn quotient(number: i128, factor: i128) -> i128
+pub(crate) fn quotient(number: i128, factor: i128) -> i128
     requires some { pos 1 ≤ℤ factor }
     requires divides { unsigned_abs factor ∣ unsigned_abs number }
     ensures { factor *ℤ result ≡ number }

@@ -1,17 +1,24 @@
 //! Polynomials as canonical trees.
 #![tactic(auto)]
 
+mod affine;
 mod common_factor;
 mod copy;
+mod degrees;
+mod equal;
+mod fault;
 mod join;
+mod linear;
 mod mul;
 mod poly;
 mod raise;
 mod scale;
+mod size;
 mod sum;
 mod top;
 mod tree;
 mod weight;
 
+pub use fault::PolyFault;
 pub use poly::Poly;
 pub use tree::Tree;

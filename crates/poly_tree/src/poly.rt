@@ -1,9 +1,26 @@
 //! Polynomials over a denominator.
 
+ghost use Rattle.std.specs.Prelude.{◌≡◌, ◌*◌, ◌<◌, ◌≤◌, ◌^◌, ◌⊎◌, min, pos, ◌≤ℤ◌, unsigned_abs, ◌↔◌, IfOk, IsOk, IsTrue};
+ghost use Rattle.poly_tree.specs.Expansion.{IsCanonical, DegreesAtMost};
+ghost use Rattle.poly_tree.specs.Tree.{expansion};
+ghost use Rattle.poly_tree.specs.Poly.{IsDifferenceOf, IsForm, IsLegal, IsProductOf, IsReduced, IsSumOf, IsCombinationOf, IsSamePoly, ProductPassesDegree, SameValues, size};
+
+use crate::affine::form_tree;
+use crate::common_factor::{common_factor, divided, quotient};
+use crate::degrees::degrees_fit;
+use crate::equal::equal;
+use crate::fault::PolyFault;
+use crate::linear::linear;
+use crate::mul::mul;
+use crate::size::capped_product;
 use crate::tree::Tree;
+use crate::weight::weight_of;
+use affine_form::{Form, Memory};
+use std::alloc::Global;
 use std::marker::Model;
 
-/// A polynomial.
+/// A polynomial over a denominator: a canonical tree, of degree at most 8 in each variable, and a denominator of at
+/// least 1 that has no factor in common with all of its numbers. So equal functions have equal trees.
 #[derive(Debug, Drop)]
 pub struct Poly {
     tree: Tree,
@@ -11,9 +28,8 @@ pub struct Poly {
 }
 
 impl Model for Poly {
-    ghost use Rattle.std.specs.Prelude.{unsigned_abs};
-    ghost use Rattle.poly_tree.specs.Poly.{Quotient};
-
+    ghost use Rattle.std.specs.Prelude.{pos, ◌≤ℤ◌, unsigned_abs};
+    ghost use Rattle.poly_tree.specs.Poly.{IsLegal, Quotient};
     ghost use Rattle.poly_tree.specs.contracts.tree.Tree as tree_contract;
     ghost use Rattle.std.specs.Coded.{codes};
 
@@ -22,4 +38,151 @@ impl Model for Poly {
     ghost coded = { Prim.hlevel (codes, tree_contract.the_row.coded) };
 
     ghost view = { λ poly. record { tree = poly.tree; denominator = unsigned_abs poly.den } };
+
+    ghost invariant = { λ poly. IsLegal (record { tree = poly.tree; denominator = unsigned_abs poly.den })
+        × (pos 1 ≤ℤ poly.den) };
+}
+
+impl Poly {
+    /// The polynomial that a form is. Want of memory is its only error.
+    pub fn from_form(alloc: Global, form: &Form) -> Result<Poly, Memory>
+        ensures { IfOk result (λ poly. IsForm form.now poly) }
+    {
+        let tree = form_tree(alloc, form)?;
+        Ok(Poly { tree, den: 1 })
+    }
+
+    /// The tree.
+    pub fn tree(&self) -> &Tree
+        ensures tree { result.now ≡ self.now.tree }
+        ensures legal { IsLegal self.now }
+    {
+        &self.tree
+    }
+
+    /// The denominator, at least 1.
+    pub fn den(&self) -> i128
+        ensures denominator { result ≡ pos self.now.denominator }
+        ensures legal { IsLegal self.now }
+    {
+        self.den
+    }
+
+    /// The sum of two polynomials.
+    ///
+    /// # Errors
+    ///
+    /// `Wide` exactly where the product of the sizes reaches 2^125; `Memory` where there is none.
+    pub fn add(&self, alloc: Global, other: &Poly) -> Result<Poly, PolyFault>
+        ensures value { IfOk result (λ r. IsSumOf self.now other.now r) }
+        ensures narrow { IsOk result → size self.now * size other.now < 2 ^ 125 }
+        ensures wide { result ≡ Err PolyFault.Wide → 2 ^ 125 ≤ size self.now * size other.now }
+    {
+        combined(alloc, self, other, self.den())
+    }
+
+    /// A polynomial minus another.
+    ///
+    /// # Errors
+    ///
+    /// `Wide` exactly where the product of the sizes reaches 2^125; `Memory` where there is none.
+    pub fn sub(&self, alloc: Global, other: &Poly) -> Result<Poly, PolyFault>
+        ensures value { IfOk result (λ r. IsDifferenceOf self.now other.now r) }
+        ensures narrow { IsOk result → size self.now * size other.now < 2 ^ 125 }
+        ensures wide { result ≡ Err PolyFault.Wide → 2 ^ 125 ≤ size self.now * size other.now }
+    {
+        combined(alloc, self, other, -self.den())
+    }
+
+    /// Whether two polynomials have the same value at every point of whole numbers. Then their trees and denominators
+    /// are equal.
+    pub fn same(&self, other: &Poly) -> bool
+        ensures exact { IsTrue result ↔ SameValues self.now other.now }
+        ensures equal { IsTrue result → IsSamePoly self.now other.now }
+    {
+        if self.den() != other.den() {
+            return false;
+        }
+        if !equal(self.tree(), other.tree()) {
+            return false;
+        }
+        true
+    }
+
+    /// The product of two polynomials.
+    ///
+    /// # Errors
+    ///
+    /// `Wide` exactly where the product of the sizes reaches 2^126, or the product has a degree above 8; `Memory` where
+    /// there is none.
+    pub fn mul(&self, alloc: Global, other: &Poly) -> Result<Poly, PolyFault>
+        ensures value { IfOk result (λ r. IsProductOf self.now other.now r) }
+        ensures narrow { IsOk result → size self.now * size other.now < 2 ^ 126 }
+        ensures wide { result ≡ Err PolyFault.Wide
+            → (2 ^ 126 ≤ size self.now * size other.now) ⊎ ProductPassesDegree self.now other.now }
+    {
+        if size_product(self, other) >= 1 << 126 {
+            return Err(PolyFault::Wide);
+        }
+        let tree = mul(alloc, self.tree(), other.tree())?;
+        if !degrees_fit(&tree) {
+            return Err(PolyFault::Wide);
+        }
+        Ok(reduced(alloc, &tree, common_denominator(self, other))?)
+    }
+}
+
+/// A polynomial plus another one's numerator times a number of the first one's denominator's size, over the product of
+/// the denominators.
+fn combined(alloc: Global, a: &Poly, b: &Poly, factor: i128) -> Result<Poly, PolyFault>
+    requires { unsigned_abs factor ≡ a.now.denominator }
+    ensures value { IfOk result (λ r. IsCombinationOf a.now b.now factor r) }
+    ensures narrow { IsOk result → size a.now * size b.now < 2 ^ 125 }
+    ensures wide { result ≡ Err PolyFault.Wide → 2 ^ 125 ≤ size a.now * size b.now }
+{
+    if size_product(a, b) >= 1 << 125 {
+        return Err(PolyFault::Wide);
+    }
+    let tree = linear(alloc, a.tree(), b.den(), b.tree(), factor)?;
+    Ok(reduced(alloc, &tree, common_denominator(a, b))?)
+}
+
+/// The product of the denominators of two polynomials.
+fn common_denominator(a: &Poly, b: &Poly) -> i128
+    requires { a.now.denominator * b.now.denominator < 2 ^ 127 }
+    ensures product { result ≡ pos (a.now.denominator * b.now.denominator) }
+    ensures positive { pos 1 ≤ℤ result }
+{
+    a.den() * b.den()
+}
+
+/// The product of the sizes of two polynomials, or 2^126 if that is less.
+fn size_product(a: &Poly, b: &Poly) -> u128
+    ensures { result ≡ min (size a.now * size b.now) (2 ^ 126) }
+{
+    capped_product(size_of(a), size_of(b))
+}
+
+/// The size of a polynomial, or 2^126 if that is less.
+fn size_of(poly: &Poly) -> u128
+    ensures size { result ≡ min (size poly.now) (2 ^ 126) }
+    ensures legal { IsLegal poly.now }
+{
+    capped_product(weight_of(&poly.tree).max(1), poly.den.unsigned_abs())
+}
+
+/// The polynomial that a canonical tree over a denominator is, without common factors. Want of memory is its only
+/// error.
+fn reduced(alloc: Global, tree: &Tree, den: i128) -> Result<Poly, Memory>
+    requires positive { pos 1 ≤ℤ den }
+    requires canonical { IsCanonical (2 ^ 16) (expansion tree.now) }
+    requires degrees { DegreesAtMost 8 (expansion tree.now) }
+    ensures { IfOk result (λ r. IsReduced (expansion tree.now) (unsigned_abs den) r) }
+{
+    let factor = common_factor(tree, den);
+    let quotients = divided(alloc, tree, factor)?;
+    Ok(Poly {
+        tree: quotients,
+        den: quotient(den, factor),
+    })
 }

@@ -4,9 +4,8 @@ ghost use Rattle.std.specs.Prelude.{◌≡◌, ◌^◌, min};
 ghost use Rattle.poly_tree.specs.Expansion.{weight};
 ghost use Rattle.poly_tree.specs.Tree.{expansion};
 
+use crate::size::LIMIT;
 use crate::tree::Tree;
-
-const LIMIT: u128 = 1 << 126;
 
 /// The sum of the sizes of the numbers, or 2^126 if that is less.
 pub(crate) fn weight_of(tree: &Tree) -> u128
