@@ -1,17 +1,20 @@
 -- Forms as expansions.
-use Rattle.std.proofs.Common.{◌≡◌, ◌≢◌, ℕ, zero, suc, ◌+◌, ◌*◌, ◌<◌, ◌≤◌, ◌^◌, List, [], ◌∷◌, ◌++◌, length, get_or, take, arith, subst, sym, refl, ◌∙◌, ap, inl, inr, ◌⊎◌, lit≤, append_assoc}
-use Rattle.std.proofs.Math.IntN.{ℤ, pos, ◌+ℤ◌, ◌*ℤ◌}
+use Rattle.std.proofs.Common.{◌≡◌, ◌≢◌, ℕ, zero, suc, ◌+◌, ◌*◌, ◌<◌, ◌≤◌, ◌^◌, max, List, [], ◌∷◌, ◌++◌, length, get_or, take, arith, subst, sym, refl, ◌∙◌, ap, inl, inr, ◌⊎◌, lit≤, append_assoc}
+use Rattle.std.proofs.Math.IntN.{ℤ, pos, negsuc, ◌+ℤ◌, ◌-ℤ◌, ◌*ℤ◌}
+use Rattle.std.specs.Prelude.{unsigned_abs}
 use Rattle.std.specs.Int.{◌∣◌}
 use Rattle.std.proofs.lemmas.Int.{ints}
 use Rattle.std.proofs.lemmas.List.{take_more, length-take-le, get_or_at, length_push}
 use Rattle.std.proofs.lemmas.Nat.Gcd.{dvd_antisymm}
 use Rattle.std.proofs.Math.Nat.{one-dvd}
-use Rattle.integer_laws.proofs.Ring.{mul-zero, zero-mul, mul_comm}
+use Rattle.integer_laws.proofs.Ring.{mul-zero, zero-mul, mul_comm, mul-one}
 use Rattle.iolb_model.specs.Form.{AffineForm, dot, form_value}
 use Rattle.poly_tree.specs.declared.tree.Tree.{Tree}
-use Rattle.poly_tree.specs.Expansion.{Expansion, Parts, number, over, none, part, at, value, products_from, IsAffine, IsExtended, IsCanonical, AreCanonical, DegreesAtMost, PartsDegreesAtMost, DividesAll}
+use Rattle.poly_tree.specs.Expansion.{Expansion, Parts, number, over, none, part, at, put, value, weight, sizes, products_from, IsAffine, IsExtended, IsCanonical, AreCanonical, DegreesAtMost, PartsDegreesAtMost, DividesAll}
 use Rattle.poly_tree.specs.Tree.{expansion}
-use Rattle.poly_tree.specs.Poly.{Quotient, IsLegal, IsForm}
+use Rattle.poly_tree.specs.Poly.{Quotient, IsLegal, IsForm, IsPutIn, IsSubstitutionOf, IsShiftOf, SubstitutionPassesDegree, ShiftPassesDegree, PutPassesDegree, put_size, form_size}
+use Rattle.std.specs.List.{AllByRecursion}
+use Rattle.affine_form.specs.Form.{IsSmall, IsLegalForm}
 use Rattle.poly_tree.proofs.Expansions.{IsCanonical-more}
 
 products-push : (xs : List ℤ) (x : ℤ) (v : ℕ) (point : ℕ → ℤ) → products_from (xs ++ x ∷ []) v point ≡ products_from xs v point +ℤ (x *ℤ point (v + length xs))
@@ -28,6 +31,10 @@ products-push (y ∷ xs) x v point =
   regroup : (a b c : ℤ) → a +ℤ (b +ℤ c) ≡ (a +ℤ b) +ℤ c
   regroup a b c = omega (arith, ints)
 
+sizes-push : (xs : List ℤ) (x : ℤ) → sizes (xs ++ x ∷ []) ≡ sizes xs + unsigned_abs x
+sizes-push [] x = omega arith
+sizes-push (y ∷ xs) x = omega (arith, sizes-push xs x)
+
 number-injective : (x y : ℤ) → number x ≡ number y → x ≡ y
 number-injective x y e = cc
 
@@ -37,7 +44,10 @@ extended xs x constant v t u len h (inl e) = record {
     sum = λ point. ap (λ (s : Expansion). value s point) e.1 ∙ h.sum point
         ∙ ap (λ (z : ℤ). z +ℤ constant) (nothing (products_from xs 0 point) (x *ℤ point (0 + length xs)) (ap (λ (z : ℤ). z *ℤ point (0 + length xs)) e.0 ∙ zero-mul (point (0 + length xs))) ∙ sym (products-push xs x 0 point));
     canonical = subst (IsCanonical (length (xs ++ x ∷ []))) (sym e.1) (IsCanonical-more (length xs) (length (xs ++ x ∷ [])) t (omega (arith, length-push)) h.canonical);
-    degrees = subst (DegreesAtMost 1) (sym e.1) h.degrees } where
+    degrees = subst (DegreesAtMost 1) (sym e.1) h.degrees;
+    heavy = ap weight e.1 ∙ h.heavy ∙ ap (λ (n : ℕ). n + unsigned_abs constant) (light e.0 ∙ sym (sizes-push xs x)) } where
+  light : x ≡ pos 0 → sizes xs ≡ sizes xs + unsigned_abs x
+  light p = omega (arith, ap unsigned_abs p)
   length-push : length (xs ++ x ∷ []) ≡ length xs + 1
   length-push = length-append-one xs where
     length-append-one : (ys : List ℤ) → length (ys ++ x ∷ []) ≡ length ys + 1
@@ -53,7 +63,8 @@ extended xs x constant v t u len h (inr e) = record {
         ∙ ap (λ (z : ℤ). z +ℤ constant) (sym (products-push xs x 0 point));
     canonical = subst (IsCanonical (length (xs ++ x ∷ []))) (sym e.1)
         (omega (arith, length-push), (subst (λ (n : ℕ). IsCanonical n t) len h.canonical, (tt, tt)), λ p. e.0 (number-injective x (pos 0) p));
-    degrees = subst (DegreesAtMost 1) (sym e.1) (lit≤ tt, (h.degrees, (tt, tt))) } where
+    degrees = subst (DegreesAtMost 1) (sym e.1) (lit≤ tt, (h.degrees, (tt, tt)));
+    heavy = omega (arith, ap weight e.1, h.heavy, sizes-push xs x) } where
   length-push : length (xs ++ x ∷ []) ≡ length xs + 1
   length-push = length-append-one xs where
     length-append-one : (ys : List ℤ) → length (ys ++ x ∷ []) ≡ length ys + 1
@@ -105,3 +116,54 @@ pub form-affine : (form : AffineForm) (tree : Tree) → IsAffine form.coefficien
 form-affine form tree h = record {
     whole = refl;
     same = λ point le. h.sum (at point) ∙ ap (λ (z : ℤ). z +ℤ form.constant) (products-dot form.coefficients [] point 0 refl le) }
+
+-- the weight of a form of the program is small
+sizes-small : (xs : List ℤ) → AllByRecursion (IsSmall (2 ^ 62)) xs → sizes xs ≤ length xs * 2 ^ 62
+sizes-small [] h = omega arith
+sizes-small (x ∷ xs) h = omega (arith, h.0, sizes-small xs h.1)
+
+pub affine-light : (form : AffineForm) (t : Expansion) → IsLegalForm form → IsAffine form.coefficients form.constant t → weight t < 2 ^ 126
+affine-light form t legal h = omega (arith, h.heavy, sizes-small form.coefficients legal.1.0, legal.0, legal.1.1)
+
+pub affine-weight : (form : AffineForm) (t : Expansion) → IsAffine form.coefficients form.constant t → max 1 (weight t) ≡ form_size form
+affine-weight form t h = ap (max 1) h.heavy
+
+pub affine-value : (form : AffineForm) (t : Expansion) → IsAffine form.coefficients form.constant t → (point : List ℤ) → length form.coefficients ≤ length point → value t (at point) ≡ form_value form point
+affine-value form t h point le = h.sum (at point) ∙ ap (λ (z : ℤ). z +ℤ form.constant) (products-dot form.coefficients [] point 0 refl le)
+
+-- a form that is put in
+pub substitution-value : (a : Quotient) (v : ℕ) (form : AffineForm) (t : Expansion) (r : Quotient) → IsAffine form.coefficients form.constant t
+    → IsPutIn a v (λ point. value t (at point)) r → IsSubstitutionOf a v form r
+substitution-value a v form t r h p = λ point le.
+    p point ∙ ap (λ (z : ℤ). value (expansion a.tree) (put (at point) v z) *ℤ pos r.denominator) (affine-value form t h point le)
+
+pub substitution-wide : (a : Quotient) (v : ℕ) (form : AffineForm) (t : Expansion) → IsAffine form.coefficients form.constant t
+    → (2 ^ 126 ≤ put_size a v (max 1 (weight t))) ⊎ PutPassesDegree a v t → (2 ^ 126 ≤ put_size a v (form_size form)) ⊎ SubstitutionPassesDegree a v form
+substitution-wide a v form t h (inl p) = inl (subst (λ (n : ℕ). 2 ^ 126 ≤ put_size a v n) (affine-weight form t h) p)
+substitution-wide a v form t h (inr p) = inr (p.0, (p.1.0, (λ point le. p.1.1 (at point) ∙ ap (λ (z : ℤ). value (expansion a.tree) (put (at point) v z)) (affine-value form t h point le)), p.1.2))
+
+-- a variable minus 1 that is put in
+minus_one-inner : (v : ℕ) (s t : Expansion) → s ≡ number (negsuc 0) → IsExtended v (pos 1) s t → t ≡ over v (part (number (negsuc 0)) (part (number (pos 1)) none))
+minus_one-inner v s t e (inl h) = absurd (no h.0) where
+  no : pos 1 ≡ pos 0 → ⊥
+  no p = cc
+minus_one-inner v s t e (inr h) = h.1 ∙ ap (λ (u : Expansion). over v (part u (part (number (pos 1)) none))) e
+
+minus_one-value : (v : ℕ) (s t : Expansion) → s ≡ number (negsuc 0) → IsExtended v (pos 1) s t → (point : ℕ → ℤ) → value t point ≡ point v -ℤ pos 1
+minus_one-value v s t e h point =
+    ap (λ (u : Expansion). value u point) (minus_one-inner v s t e h)
+    ∙ ap (λ (z : ℤ). negsuc 0 +ℤ (point v *ℤ (pos 1 +ℤ z))) (mul-zero (point v)) ∙ ap (λ (z : ℤ). negsuc 0 +ℤ z) (mul-one (point v)) ∙ back (point v) where
+  back : (x : ℤ) → negsuc 0 +ℤ x ≡ x -ℤ pos 1
+  back x = omega (arith, ints)
+
+pub minus_one-weight : (v : ℕ) (s t : Expansion) → s ≡ number (negsuc 0) → IsExtended v (pos 1) s t → weight t ≡ 2
+minus_one-weight v s t e h = ap weight (minus_one-inner v s t e h)
+
+pub shift-value : (a : Quotient) (v : ℕ) (s t : Expansion) (r : Quotient) → s ≡ number (negsuc 0) → IsExtended v (pos 1) s t → IsPutIn a v (λ point. value t (at point)) r → IsShiftOf a v r
+shift-value a v s t r e h p = λ point.
+    p point ∙ ap (λ (z : ℤ). value (expansion a.tree) (put (at point) v z) *ℤ pos r.denominator) (minus_one-value v s t e h (at point))
+
+pub shift-wide : (a : Quotient) (v : ℕ) (s t : Expansion) → s ≡ number (negsuc 0) → IsExtended v (pos 1) s t
+    → (2 ^ 126 ≤ put_size a v (max 1 (weight t))) ⊎ PutPassesDegree a v t → (2 ^ 126 ≤ put_size a v 2) ⊎ ShiftPassesDegree a v
+shift-wide a v s t e h (inl p) = inl (subst (λ (n : ℕ). 2 ^ 126 ≤ put_size a v (max 1 n)) (minus_one-weight v s t e h) p)
+shift-wide a v s t e h (inr p) = inr (p.0, (p.1.0, (λ point. p.1.1 (at point) ∙ ap (λ (z : ℤ). value (expansion a.tree) (put (at point) v z)) (minus_one-value v s t e h (at point))), p.1.2))

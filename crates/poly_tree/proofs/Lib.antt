@@ -4,6 +4,7 @@ pub mod Expansions
 pub mod Factors
 pub mod LinearLemmas
 pub mod Products
+pub mod PutLemmas
 pub mod Reduced
 pub mod SameLemmas
 pub mod Sums

@@ -1,5 +1,6 @@
 -- Sums of multiples.
-use Rattle.std.proofs.Common.{◌≡◌, ◌≢◌, ℕ, zero, suc, ◌+◌, ◌*◌, ◌<◌, ◌≤◌, ◌^◌, max, min, arith, subst, sym, refl, ◌∙◌, ap, inl, inr, ◌⊎◌, mul-le-mul}
+use Rattle.std.proofs.Common.{◌≡◌, ◌≢◌, ℕ, zero, suc, ◌+◌, ◌*◌, ◌<◌, ◌≤◌, ◌^◌, max, min, arith, subst, sym, refl, ◌∙◌, ap, inl, inr, ◌⊎◌, ◌-◌, mul-le-mul}
+use Rattle.std.proofs.Math.Nat.{mul_assoc, pow-zero, pow-succ'}
 use Rattle.std.proofs.Math.IntN.{ℤ, pos, ◌+ℤ◌, ◌*ℤ◌}
 use Rattle.std.proofs.Math.IntN.{neg_ℤ}
 use Rattle.integer_laws.proofs.Ring.{mul_assoc_ℤ, mul_comm, mul-neg}
@@ -101,3 +102,36 @@ pub difference-value : (a b r : Quotient) (k : ℤ) → k ≡ neg_ℤ (pos a.den
 difference-value a b r k e h point =
     h point ∙ ap (λ (z : ℤ). ((numerator_at a point *ℤ pos b.denominator) +ℤ z) *ℤ pos r.denominator)
         (ap (λ (z : ℤ). numerator_at b point *ℤ z) e ∙ mul-neg (numerator_at b point) (pos a.denominator))
+
+-- a capped number, multiplied and capped
+pub capped-left : (x y limit : ℕ) → 1 ≤ y → min (min x limit * y) limit ≡ min (x * y) limit
+capped-left x y limit p = by (cut x) where
+  cut : (z : ℕ) → ((z ≤ limit) × (min z limit ≡ z)) ⊎ ((limit ≤ z) × (min z limit ≡ limit))
+  cut z = grind arith
+  room : (a b : ℕ) → limit ≤ a → 1 ≤ b → limit ≤ a * b
+  room a b h some = let k : limit * 1 ≤ a * b = mul-le-mul h some in omega arith
+  full : (a : ℕ) → limit ≤ a → min a limit ≡ limit
+  full a h = omega arith
+  by : ((x ≤ limit) × (min x limit ≡ x)) ⊎ ((limit ≤ x) × (min x limit ≡ limit)) → min (min x limit * y) limit ≡ min (x * y) limit
+  by (inl a) = ap (λ (n : ℕ). min (n * y) limit) a.1
+  by (inr a) = ap (λ (n : ℕ). min (n * y) limit) a.1 ∙ full (limit * y) (room limit y (omega arith) p) ∙ sym (full (x * y) (room x y a.0 p))
+
+-- a power of a number of at least 1 is at least 1
+pub power-some : (b n : ℕ) → 1 ≤ b → 1 ≤ b ^ n
+power-some b zero p = omega (arith, pow-zero b)
+power-some b (suc n) p = let r : 1 * 1 ≤ b * b ^ n = mul-le-mul p (power-some b n p) in omega (arith, pow-succ' b n)
+
+-- one factor more
+pub power-step : (product base left number limit m : ℕ) → 1 ≤ base → 1 ≤ left → min (product * base ^ left) limit ≡ m
+    → min (min (product * base) limit * base ^ (left - 1)) limit ≡ m
+power-step product base zero number limit m p q h = absurd (omega arith)
+power-step product base (suc left) number limit m p q h =
+    ap (λ (n : ℕ). min (min (product * base) limit * base ^ n) limit) (one left)
+    ∙ capped-left (product * base) (base ^ left) limit (power-some base left p)
+    ∙ ap (λ (n : ℕ). min n limit) (mul_assoc product base (base ^ left) ∙ ap (λ (n : ℕ). product * n) (sym (pow-succ' base left))) ∙ h where
+  one : (n : ℕ) → suc n - 1 ≡ n
+  one n = omega arith
+
+-- a capped measure
+pub capped-measure : (size limit power m : ℕ) → 1 ≤ power → min m limit ≡ min (min size limit * power) limit → min m limit ≡ min (size * power) limit
+capped-measure size limit power m p e = e ∙ capped-left size power limit p

@@ -5,17 +5,14 @@ use Rattle.std.specs.Prelude.{unsigned_abs}
 use Rattle.std.proofs.lemmas.Int.{ints, unsigned_abs-mul}
 use Rattle.std.proofs.lemmas.Bool.Decides.{nat_tests}
 use Rattle.integer_laws.proofs.Ring.{mul-cancel, mul-sub, mul-zero}
-use Rattle.poly_tree.specs.Expansion.{Expansion, Parts, number, over, none, part, zero_expansion, value, parts_value, IsCanonical, AreCanonical, HasTop, LastNonzero}
+use Rattle.poly_tree.specs.Expansion.{put, Expansion, Parts, number, over, none, part, zero_expansion, value, parts_value, IsCanonical, AreCanonical, HasTop, LastNonzero}
 
--- a point with another value of one variable
-put : (ℕ → ℤ) → ℕ → ℤ → ℕ → ℤ
-put point v x w = if w == v then x else point w
-
-put-same : (point : ℕ → ℤ) (v : ℕ) (x : ℤ) → put point v x v ≡ x
+-- at the variable itself, and below
+pub put-same : (point : ℕ → ℤ) (v : ℕ) (x : ℤ) → put point v x v ≡ x
 unfolding put
 put-same point v x = grind (arith, nat_tests)
 
-put-below : (point : ℕ → ℤ) (v : ℕ) (x : ℤ) (w : ℕ) → w < v → put point v x w ≡ point w
+pub put-below : (point : ℕ → ℤ) (v : ℕ) (x : ℤ) (w : ℕ) → w < v → put point v x w ≡ point w
 unfolding put
 put-below point v x w p = grind (arith, nat_tests)
 

@@ -229,12 +229,64 @@ abbrev pub products_from : List ℤ → ℕ → (ℕ → ℤ) → ℤ
 products_from [] v point = pos 0
 products_from (x ∷ xs) v point = (x *ℤ point v) +ℤ products_from xs (suc v) point
 
+-- the sum of the sizes of numbers
+abbrev pub sizes : List ℤ → ℕ
+sizes [] = 0
+sizes (x ∷ xs) = unsigned_abs x + sizes xs
+
 -- t is a constant and coefficients times the variables from 0 on, so many
 pub record IsAffine (xs : List ℤ) (constant : ℤ) (t : Expansion) : Type 0 where
   pub sum : (point : ℕ → ℤ) → value t point ≡ products_from xs 0 point +ℤ constant
   pub canonical : IsCanonical (length xs) t
   pub degrees : DegreesAtMost 1 t
+  pub heavy : weight t ≡ sizes xs + unsigned_abs constant
 
 -- u is t and a multiple of a higher variable
 abbrev pub IsExtended : ℕ → ℤ → Expansion → Expansion → Type 0
 IsExtended v x t u = ((x ≡ pos 0) × (u ≡ t)) ⊎ ((x ≢ pos 0) × (u ≡ over v (part t (part (number x) none))))
+
+-- a point with another value of one variable
+unfoldable pub put : (ℕ → ℤ) → ℕ → ℤ → ℕ → ℤ
+put point v x w = if w == v then x else point w
+
+-- the factor by which the weight grows with a power of a variable w, where a polynomial of some weight is put in for v
+abbrev pub growth : ℕ → ℕ → ℕ → ℕ
+growth v heavy w = if w == v then heavy else 1
+
+-- the sum of the sizes of the coefficients, each times a number for each power of a variable
+abbrev mutual
+  pub put_weight : ℕ → ℕ → Expansion → ℕ
+  put_weight v heavy (number n) = unsigned_abs n
+  put_weight v heavy (over w ps) = put_parts_weight v heavy (growth v heavy w) ps
+
+  pub put_parts_weight : ℕ → ℕ → ℕ → Parts → ℕ
+  put_parts_weight v heavy k none = 0
+  put_parts_weight v heavy k (part t ps) = put_weight v heavy t + k * put_parts_weight v heavy k ps
+
+-- u is t times a variable w, or times f where w is v
+pub record IsPutPower (v : ℕ) (f : Expansion) (w : ℕ) (t u : Expansion) : Type 0 where
+  pub times : (point : ℕ → ℤ) → value u point ≡ put point v (value f point) w *ℤ value t point
+  pub light : weight u ≤ growth v (max 1 (weight f)) w * weight t
+  pub canonical : (bound : ℕ) → w < bound → IsCanonical bound t → IsCanonical bound f → IsCanonical bound u
+
+-- u is t with f put in for v
+pub record IsPut (v : ℕ) (f t u : Expansion) : Type 0 where
+  pub same : (point : ℕ → ℤ) → value u point ≡ value t (put point v (value f point))
+  pub light : weight u ≤ put_weight v (max 1 (weight f)) t
+  pub canonical : (bound : ℕ) → IsCanonical bound t → IsCanonical bound f → IsCanonical bound u
+
+-- u is the polynomial in w with these parts, with f put in for v
+pub record IsPartsPut (v : ℕ) (f : Expansion) (w : ℕ) (ps : Parts) (u : Expansion) : Type 0 where
+  pub same : (point : ℕ → ℤ) → value u point ≡ parts_value ps (put point v (value f point) w) (put point v (value f point))
+  pub light : weight u ≤ put_parts_weight v (max 1 (weight f)) (growth v (max 1 (weight f)) w) ps
+  pub canonical : (bound : ℕ) → w < bound → AreCanonical w ps → IsCanonical bound f → IsCanonical bound u
+
+-- the degree in a variable of a polynomial that is canonical
+abbrev mutual
+  pub degree_in : ℕ → Expansion → ℕ
+  degree_in v (number n) = 0
+  degree_in v (over w ps) = if w == v then parts_count ps - 1 else parts_degree_in v ps
+
+  pub parts_degree_in : ℕ → Parts → ℕ
+  parts_degree_in v none = 0
+  parts_degree_in v (part t ps) = max (degree_in v t) (parts_degree_in v ps)

@@ -1,9 +1,9 @@
 -- Polynomials with whole-number coefficients over a common denominator.
-use Rattle.std.specs.Prelude.{◌≡◌, ◌≢◌, ℕ, ◌*◌, ◌≤◌, ◌<◌, ◌^◌, max, ℤ, pos, ◌+ℤ◌, ◌-ℤ◌, ◌*ℤ◌, List, length}
+use Rattle.std.specs.Prelude.{◌≡◌, ◌≢◌, ℕ, ◌*◌, ◌≤◌, ◌<◌, ◌^◌, max, ℤ, pos, ◌+ℤ◌, ◌-ℤ◌, ◌*ℤ◌, ◌+◌, unsigned_abs, List, length}
 use Rattle.iolb_model.specs.Form.{AffineForm, form_value}
 use Rattle.std.specs.Int.{◌∣◌}
 use Rattle.poly_tree.specs.declared.tree.Tree.{Tree}
-use Rattle.poly_tree.specs.Expansion.{Expansion, at, value, weight, scaled, IsCanonical, DegreesAtMost, DividesAll}
+use Rattle.poly_tree.specs.Expansion.{Expansion, at, put, sizes, degree_in, value, weight, scaled, IsCanonical, DegreesAtMost, DividesAll}
 use Rattle.poly_tree.specs.Tree.{expansion}
 
 -- a tree over a denominator
@@ -75,3 +75,43 @@ IsSamePoly a b = (expansion a.tree ≡ expansion b.tree) × (a.denominator ≡ b
 pub record IsForm (form : AffineForm) (q : Quotient) : Type 0 where
   pub whole : q.denominator ≡ 1
   pub same : (point : List ℤ) → length form.coefficients ≤ length point → numerator_at q point ≡ form_value form point
+
+-- r is a with f put in for a variable, at every point where f's value is known
+abbrev pub IsPutIn : Quotient → ℕ → (List ℤ → ℤ) → Quotient → Type 0
+IsPutIn a v f r = (point : List ℤ)
+    → (numerator_at r point *ℤ pos a.denominator) ≡ (value (expansion a.tree) (put (at point) v (f point)) *ℤ pos r.denominator)
+
+-- the size of a times the power of a number that is its degree in a variable
+abbrev pub put_size : Quotient → ℕ → ℕ → ℕ
+put_size a v heavy = size a * heavy ^ degree_in v (expansion a.tree)
+
+-- the greater of 1 and the sum of the sizes of a form's numbers
+abbrev pub form_size : AffineForm → ℕ
+form_size form = max 1 (sizes form.coefficients + unsigned_abs form.constant)
+
+-- a with f put in for a variable, as a canonical tree, has a degree above 8 in some variable
+abbrev pub PutPassesDegree : Quotient → ℕ → Expansion → Type 0
+PutPassesDegree a v f = (t : Expansion) × (IsCanonical (2 ^ 16) t
+    × ((point : ℕ → ℤ) → value t point ≡ value (expansion a.tree) (put point v (value f point))) × (¬ DegreesAtMost 8 t))
+
+-- the same for a form
+abbrev pub SubstitutionPassesDegree : Quotient → ℕ → AffineForm → Type 0
+SubstitutionPassesDegree a v form = (t : Expansion) × (IsCanonical (2 ^ 16) t
+    × ((point : List ℤ) → length form.coefficients ≤ length point → value t (at point) ≡ value (expansion a.tree) (put (at point) v (form_value form point)))
+    × (¬ DegreesAtMost 8 t))
+
+-- r is a with a form put in for a variable: at every point with the form's variables its value is a's, with the form's
+-- value for the variable's
+abbrev pub IsSubstitutionOf : Quotient → ℕ → AffineForm → Quotient → Type 0
+IsSubstitutionOf a v form r = (point : List ℤ) → length form.coefficients ≤ length point
+    → (numerator_at r point *ℤ pos a.denominator) ≡ (value (expansion a.tree) (put (at point) v (form_value form point)) *ℤ pos r.denominator)
+
+-- r is a with x - 1 put in for a variable x
+abbrev pub IsShiftOf : Quotient → ℕ → Quotient → Type 0
+IsShiftOf a v r = (point : List ℤ)
+    → (numerator_at r point *ℤ pos a.denominator) ≡ (value (expansion a.tree) (put (at point) v (at point v -ℤ pos 1)) *ℤ pos r.denominator)
+
+-- a with x - 1 put in for a variable x, as a canonical tree, has a degree above 8 in some variable
+abbrev pub ShiftPassesDegree : Quotient → ℕ → Type 0
+ShiftPassesDegree a v = (t : Expansion) × (IsCanonical (2 ^ 16) t
+    × ((point : List ℤ) → value t (at point) ≡ value (expansion a.tree) (put (at point) v (at point v -ℤ pos 1))) × (¬ DegreesAtMost 8 t))

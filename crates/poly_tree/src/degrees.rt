@@ -1,7 +1,7 @@
 //! Degrees of trees.
 
-ghost use Rattle.std.specs.Prelude.{◌↔◌, IsTrue};
-ghost use Rattle.poly_tree.specs.Expansion.{DegreesAtMost};
+ghost use Rattle.std.specs.Prelude.{◌≡◌, ◌↔◌, IsTrue};
+ghost use Rattle.poly_tree.specs.Expansion.{DegreesAtMost, degree_in};
 ghost use Rattle.poly_tree.specs.Tree.{expansion};
 
 use crate::top::{Top, look};
@@ -23,6 +23,25 @@ pub(crate) fn degrees_fit(tree: &Tree) -> bool
                 }
             }
             true
+        }
+    }
+}
+
+/// The degree of a canonical tree in a variable.
+pub(crate) fn degree_in(tree: &Tree, var: u16) -> usize
+    ensures { result ≡ degree_in var (expansion tree.now) }
+{
+    match look(tree) {
+        Top::Number(_) => 0,
+        Top::Over(v, parts) => {
+            if v == var {
+                return parts.len().saturating_sub(1);
+            }
+            let mut degree = 0;
+            for part in parts {
+                degree = degree_in(part, var).max(degree);
+            }
+            degree
         }
     }
 }

@@ -11,6 +11,7 @@ mod join;
 mod linear;
 mod mul;
 mod poly;
+mod put;
 mod raise;
 mod scale;
 mod size;

@@ -1,18 +1,19 @@
 //! Polynomials over a denominator.
 
-ghost use Rattle.std.specs.Prelude.{◌≡◌, ◌*◌, ◌<◌, ◌≤◌, ◌^◌, ◌⊎◌, min, pos, ◌≤ℤ◌, unsigned_abs, ◌↔◌, IfOk, IsOk, IsTrue};
-ghost use Rattle.poly_tree.specs.Expansion.{IsCanonical, DegreesAtMost};
+ghost use Rattle.std.specs.Prelude.{◌≡◌, ◌*◌, ◌<◌, ◌≤◌, ◌^◌, ◌⊎◌, min, max, pos, ◌≤ℤ◌, unsigned_abs, ◌↔◌, IfOk, IsOk, IsTrue};
+ghost use Rattle.poly_tree.specs.Expansion.{IsCanonical, DegreesAtMost, at, value, weight};
 ghost use Rattle.poly_tree.specs.Tree.{expansion};
-ghost use Rattle.poly_tree.specs.Poly.{IsDifferenceOf, IsForm, IsLegal, IsProductOf, IsReduced, IsSumOf, IsCombinationOf, IsSamePoly, ProductPassesDegree, SameValues, size};
+ghost use Rattle.poly_tree.specs.Poly.{IsDifferenceOf, IsForm, IsLegal, IsProductOf, IsPutIn, IsReduced, IsShiftOf, IsSubstitutionOf, IsSumOf, IsCombinationOf, IsSamePoly, ProductPassesDegree, PutPassesDegree, SameValues, ShiftPassesDegree, SubstitutionPassesDegree, form_size, put_size, size};
 
-use crate::affine::form_tree;
+use crate::affine::{form_tree, with_variable};
 use crate::common_factor::{common_factor, divided, quotient};
-use crate::degrees::degrees_fit;
+use crate::degrees::{degree_in, degrees_fit};
 use crate::equal::equal;
 use crate::fault::PolyFault;
 use crate::linear::linear;
 use crate::mul::mul;
-use crate::size::capped_product;
+use crate::put::put;
+use crate::size::{capped_power, capped_product};
 use crate::tree::Tree;
 use crate::weight::weight_of;
 use affine_form::{Form, Memory};
@@ -94,6 +95,38 @@ impl Poly {
         combined(alloc, self, other, -self.den())
     }
 
+    /// The polynomial with a form put in for a variable.
+    ///
+    /// # Errors
+    ///
+    /// With e the degree in the variable and f the greater of 1 and the sum of the sizes of the form's numbers, `Wide`
+    /// exactly where the size times f^e reaches 2^126, or the answer has a degree above 8; `Memory` where there is none.
+    pub fn substitute(&self, alloc: Global, var: u16, form: &Form) -> Result<Poly, PolyFault>
+        ensures value { IfOk result (λ r. IsSubstitutionOf self.now var form.now r) }
+        ensures narrow { IsOk result → put_size self.now var (form_size form.now) < 2 ^ 126 }
+        ensures wide { result ≡ Err PolyFault.Wide
+            → (2 ^ 126 ≤ put_size self.now var (form_size form.now)) ⊎ SubstitutionPassesDegree self.now var form.now }
+    {
+        let inner = form_tree(alloc, form)?;
+        put_in(alloc, self, var, &inner)
+    }
+
+    /// The polynomial with `x - 1` put in for a variable `x`.
+    ///
+    /// # Errors
+    ///
+    /// With e the degree in the variable, `Wide` exactly where the size times 2^e reaches 2^126, or the answer has a
+    /// degree above 8; `Memory` where there is none.
+    pub fn shift(&self, alloc: Global, var: u16) -> Result<Poly, PolyFault>
+        ensures value { IfOk result (λ r. IsShiftOf self.now var r) }
+        ensures narrow { IsOk result → put_size self.now var 2 < 2 ^ 126 }
+        ensures wide { result ≡ Err PolyFault.Wide
+            → (2 ^ 126 ≤ put_size self.now var 2) ⊎ ShiftPassesDegree self.now var }
+    {
+        let inner = with_variable(alloc, Tree::Num(-1), var, 1)?;
+        put_in(alloc, self, var, &inner)
+    }
+
     /// Whether two polynomials have the same value at every point of whole numbers. Then their trees and denominators
     /// are equal.
     pub fn same(&self, other: &Poly) -> bool
@@ -130,6 +163,34 @@ impl Poly {
         }
         Ok(reduced(alloc, &tree, common_denominator(self, other))?)
     }
+}
+
+/// A polynomial with a canonical tree put in for a variable.
+fn put_in(alloc: Global, poly: &Poly, var: u16, inner: &Tree) -> Result<Poly, PolyFault>
+    requires canonical { IsCanonical (2 ^ 16) (expansion inner.now) }
+    requires light { weight (expansion inner.now) < 2 ^ 126 }
+    ensures value { IfOk result (λ r. IsPutIn poly.now var (λ point. value (expansion inner.now) (at point)) r) }
+    ensures narrow { IsOk result → put_size poly.now var (max 1 (weight (expansion inner.now))) < 2 ^ 126 }
+    ensures wide { result ≡ Err PolyFault.Wide
+        → (2 ^ 126 ≤ put_size poly.now var (max 1 (weight (expansion inner.now)))) ⊎ PutPassesDegree poly.now var (expansion inner.now) }
+{
+    if put_size_of(poly, var, inner) >= 1 << 126 {
+        return Err(PolyFault::Wide);
+    }
+    let tree = put(alloc, poly.tree(), var, inner)?;
+    if !degrees_fit(&tree) {
+        return Err(PolyFault::Wide);
+    }
+    Ok(reduced(alloc, &tree, poly.den())?)
+}
+
+/// The size of a polynomial times the weight of a tree to the power of the degree in a variable, or at least 2^126 if
+/// that is.
+fn put_size_of(poly: &Poly, var: u16, inner: &Tree) -> u128
+    requires { weight (expansion inner.now) < 2 ^ 126 }
+    ensures { min result (2 ^ 126) ≡ min (put_size poly.now var (max 1 (weight (expansion inner.now)))) (2 ^ 126) }
+{
+    capped_power(size_of(poly), weight_of(inner).max(1), degree_in(poly.tree(), var))
 }
 
 /// A polynomial plus another one's numerator times a number of the first one's denominator's size, over the product of
