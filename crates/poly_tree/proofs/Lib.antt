@@ -1,5 +1,6 @@
 pub mod DegreeBounds
 pub mod AffineLemmas
+pub mod EvaluateLemmas
 pub mod Expansions
 pub mod Factors
 pub mod LinearLemmas

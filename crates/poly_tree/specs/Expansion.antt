@@ -290,3 +290,13 @@ abbrev mutual
   pub parts_degree_in : ℕ → Parts → ℕ
   parts_degree_in v none = 0
   parts_degree_in v (part t ps) = max (degree_in v t) (parts_degree_in v ps)
+
+-- the sum over the terms of the coefficient's size times the powers of the sizes of the variables' values, each at least 1
+abbrev mutual
+  pub size_at : Expansion → (ℕ → ℤ) → ℕ
+  size_at (number n) point = unsigned_abs n
+  size_at (over v ps) point = parts_size_at ps (max 1 (unsigned_abs (point v))) point
+
+  pub parts_size_at : Parts → ℕ → (ℕ → ℤ) → ℕ
+  parts_size_at none k point = 0
+  parts_size_at (part t ps) k point = size_at t point + k * parts_size_at ps k point

@@ -6,6 +6,7 @@ mod common_factor;
 mod copy;
 mod degrees;
 mod equal;
+mod evaluate;
 mod fault;
 mod join;
 mod linear;
@@ -19,7 +20,9 @@ mod sum;
 mod top;
 mod tree;
 mod weight;
+mod wide;
 
 pub use fault::PolyFault;
 pub use poly::Poly;
 pub use tree::Tree;
+pub use wide::Wide;

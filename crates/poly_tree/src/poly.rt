@@ -1,14 +1,15 @@
 //! Polynomials over a denominator.
 
-ghost use Rattle.std.specs.Prelude.{◌≡◌, ◌*◌, ◌<◌, ◌≤◌, ◌^◌, ◌⊎◌, min, max, pos, ◌≤ℤ◌, unsigned_abs, ◌↔◌, IfOk, IsOk, IsTrue};
-ghost use Rattle.poly_tree.specs.Expansion.{IsCanonical, DegreesAtMost, at, value, weight};
+ghost use Rattle.std.specs.Prelude.{◌≡◌, ◌*◌, ◌<◌, ◌≤◌, ◌^◌, ◌⊎◌, min, max, pos, ◌≤ℤ◌, unsigned_abs, ◌↔◌, IfOk, IsErr, IsOk, IsTrue, length};
+ghost use Rattle.poly_tree.specs.Expansion.{IsCanonical, DegreesAtMost, at, size_at, value, weight};
 ghost use Rattle.poly_tree.specs.Tree.{expansion};
-ghost use Rattle.poly_tree.specs.Poly.{IsDifferenceOf, IsForm, IsLegal, IsProductOf, IsPutIn, IsReduced, IsShiftOf, IsSubstitutionOf, IsSumOf, IsCombinationOf, IsSamePoly, ProductPassesDegree, PutPassesDegree, SameValues, ShiftPassesDegree, SubstitutionPassesDegree, form_size, put_size, size};
+ghost use Rattle.poly_tree.specs.Poly.{IsDifferenceOf, IsForm, IsLegal, IsProductOf, IsPutIn, IsReduced, IsShiftOf, IsSubstitutionOf, IsSumOf, IsCombinationOf, IsSamePoly, ProductPassesDegree, PutPassesDegree, SameValues, ShiftPassesDegree, SubstitutionPassesDegree, form_size, numerator_at, put_size, size};
 
 use crate::affine::{form_tree, with_variable};
 use crate::common_factor::{common_factor, divided, quotient};
 use crate::degrees::{degree_in, degrees_fit};
 use crate::equal::equal;
+use crate::evaluate::{size_at, value_at};
 use crate::fault::PolyFault;
 use crate::linear::linear;
 use crate::mul::mul;
@@ -16,6 +17,7 @@ use crate::put::put;
 use crate::size::{capped_power, capped_product};
 use crate::tree::Tree;
 use crate::weight::weight_of;
+use crate::wide::Wide;
 use affine_form::{Form, Memory};
 use std::alloc::Global;
 use std::marker::Model;
@@ -67,6 +69,23 @@ impl Poly {
         ensures legal { IsLegal self.now }
     {
         self.den
+    }
+
+    /// The denominator times the value at a point. The polynomial uses only variables that the point has.
+    ///
+    /// # Errors
+    ///
+    /// `Wide` exactly where the sum over the terms of the coefficient's size times the powers of the sizes of the
+    /// variables' values, each at least 1, reaches 2^126.
+    pub fn numer(&self, point: &[i128]) -> Result<i128, Wide>
+        requires { IsCanonical (length point.now) (expansion self.now.tree) }
+        ensures value { IfOk result (λ n. n ≡ numerator_at self.now point.now) }
+        ensures exact { IsErr result ↔ (2 ^ 126 ≤ size_at (expansion self.now.tree) (at point.now)) }
+    {
+        if size_at(self.tree(), point) >= 1 << 126 {
+            return Err(Wide);
+        }
+        Ok(value_at(self.tree(), point))
     }
 
     /// The sum of two polynomials.
