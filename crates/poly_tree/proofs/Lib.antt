@@ -9,5 +9,6 @@ pub mod PutLemmas
 pub mod Reduced
 pub mod SameLemmas
 pub mod Sums
+pub mod TermLemmas
 pub mod Trees
 pub mod Unique

@@ -1,6 +1,7 @@
 -- Polynomials with whole-number coefficients, expanded variable by variable. (The recursive dense form of computer
 -- algebra, valued by Horner's rule; Knuth, The Art of Computer Programming, volume 2, section 4.6.)
 use Rattle.std.specs.Int.{◌∣◌}
+use Rattle.iolb_model.specs.Polynomial.{int_power}
 use Rattle.std.specs.Prelude.{◌≡◌, ◌≢◌, ℕ, zero, suc, ◌+◌, ◌-◌, ◌*◌, ◌<◌, ◌≤◌, ◌==◌, max, if◌then◌else◌, ℤ, pos, ◌+ℤ◌, ◌*ℤ◌, unsigned_abs, ◌⊎◌, List, [], ◌∷◌, ◌++◌, length, slice_index_or}
 
 -- A polynomial is a number, or a polynomial in one variable: its parts are the coefficients of the variable's powers,
@@ -300,3 +301,15 @@ abbrev mutual
   pub parts_size_at : Parts → ℕ → (ℕ → ℤ) → ℕ
   parts_size_at none k point = 0
   parts_size_at (part t ps) k point = size_at t point + k * parts_size_at ps k point
+
+-- the product of the powers of the variables from one on
+abbrev pub powers_from : List ℕ → ℕ → (ℕ → ℤ) → ℤ
+powers_from [] v point = pos 1
+powers_from (e ∷ es) v point = int_power (point v) e *ℤ powers_from es (suc v) point
+
+-- t is a coefficient times powers of the variables from 0 on, so many, each at most 8
+pub record IsMonomial (x : ℤ) (es : List ℕ) (t : Expansion) : Type 0 where
+  pub product : (point : ℕ → ℤ) → value t point ≡ x *ℤ powers_from es 0 point
+  pub light : weight t ≤ unsigned_abs x
+  pub canonical : IsCanonical (length es) t
+  pub degrees : DegreesAtMost 8 t

@@ -1,4 +1,5 @@
 pub mod Expansion
 pub mod Poly
+pub mod Terms
 pub mod Top
 pub mod Tree

@@ -17,6 +17,7 @@ mod raise;
 mod scale;
 mod size;
 mod sum;
+mod terms;
 mod top;
 mod tree;
 mod weight;
@@ -26,3 +27,6 @@ pub use fault::PolyFault;
 pub use poly::Poly;
 pub use tree::Tree;
 pub use wide::Wide;
+
+#[cfg(test)]
+mod tests;

@@ -253,7 +253,7 @@ fn size_of(poly: &Poly) -> u128
 
 /// The polynomial that a canonical tree over a denominator is, without common factors. Want of memory is its only
 /// error.
-fn reduced(alloc: Global, tree: &Tree, den: i128) -> Result<Poly, Memory>
+pub(crate) fn reduced(alloc: Global, tree: &Tree, den: i128) -> Result<Poly, Memory>
     requires positive { pos 1 ≤ℤ den }
     requires canonical { IsCanonical (2 ^ 16) (expansion tree.now) }
     requires degrees { DegreesAtMost 8 (expansion tree.now) }
