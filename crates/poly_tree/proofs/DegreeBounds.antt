@@ -1,5 +1,5 @@
 -- Degrees of trees.
-use Rattle.std.proofs.Common.{◌≡◌, ℕ, suc, ◌+◌, ◌-◌, ◌==◌, if◌then◌else◌, ◌<◌, ◌≤◌, List, [], ◌∷◌, length, take, arith, subst, sym, refl, ◌∙◌, ap}
+use Rattle.std.proofs.Common.{◌≡◌, ℕ, ◌+◌, ◌-◌, ◌==◌, if◌then◌else◌, ◌≤◌, List, length, take, arith, subst, sym, ◌∙◌, ap}
 use Rattle.std.proofs.lemmas.List.{take_all, length-map}
 use Rattle.std.proofs.lemmas.Bool.Decides.{nat_tests}
 use Rattle.poly_tree.specs.declared.tree.Tree.{Tree}
@@ -22,5 +22,5 @@ degrees-from d t v trees k e few all h =
 pub degree_in-here : (v w : ℕ) (t : Expansion) (trees : List Tree) → t ≡ over w (parts_of trees) → w ≡ v → degree_in v t ≡ length trees - 1
 degree_in-here v w t trees e same =
     ap (degree_in v) e ∙ tested (parts_count (parts_of trees) - 1) (parts_degree_in v (parts_of trees)) ∙ ap (λ (n : ℕ). n - 1) (count trees) where
-  tested : (m n : ℕ) → (if w == v then m else n) ≡ m
-  tested m n = grind (arith, nat_tests)
+      tested : (m n : ℕ) → (if w == v then m else n) ≡ m
+      tested m n = grind (arith, nat_tests)

@@ -1,8 +1,8 @@
 -- Values of expansions and their measure.
-use Rattle.std.proofs.Common.{◌≡◌, ℕ, zero, suc, ◌+◌, ◌-◌, ◌*◌, ◌<◌, ◌≤◌, ◌^◌, max, min, List, [], ◌∷◌, length, get_or, drop, arith, subst, sym, refl, ◌∙◌, ap, mul-le-mul, mul-le-mul_left, mul-le-mul_right}
-use Rattle.std.proofs.Math.IntN.{ℤ, pos, ◌+ℤ◌, ◌*ℤ◌}
+use Rattle.std.proofs.Common.{◌≡◌, ℕ, zero, suc, ◌+◌, ◌-◌, ◌*◌, ◌<◌, ◌≤◌, ◌^◌, max, min, List, [], ◌∷◌, length, get_or, drop, arith, subst, sym, ◌∙◌, ap, mul-le-mul, mul-le-mul_right}
+use Rattle.std.proofs.Math.IntN.{ℤ, pos, ◌*ℤ◌}
 use Rattle.std.specs.Prelude.{unsigned_abs}
-use Rattle.std.proofs.lemmas.Int.{ints, unsigned_abs-mul}
+use Rattle.std.proofs.lemmas.Int.{unsigned_abs-mul}
 use Rattle.std.proofs.lemmas.List.{get_or_default}
 use Rattle.affine_form.proofs.Sizes.{size-add}
 use Rattle.poly_tree.specs.declared.tree.Tree.{Tree}
@@ -46,8 +46,8 @@ size-step s r k limit a b p e f =
     let h = capped-left r k limit p in
     let turned : r * k ≡ k * r = turn r k in
     omega (arith, h) where
-  turn : (x y : ℕ) → x * y ≡ y * x
-  turn x y = omega arith
+      turn : (x y : ℕ) → x * y ≡ y * x
+      turn x y = omega arith
 
 -- a part of a canonical polynomial is canonical below the same bound
 canonical-at : (bound : ℕ) (trees : List Tree) (k : ℕ) (d : Tree) → k < length trees → AreCanonical bound (parts_of trees) → IsCanonical bound (expansion (get_or trees k d))

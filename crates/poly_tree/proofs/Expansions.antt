@@ -1,11 +1,9 @@
 -- Expansions by lists of their parts.
-use Rattle.std.proofs.Common.{◌≡◌, ◌≢◌, ℕ, zero, suc, ◌+◌, ◌*◌, ◌<◌, ◌≤◌, List, [], ◌∷◌, ◌++◌, length, get_or, drop, map, replicate, arith, subst, sym, refl, ◌∙◌, ap, append_assoc}
-use Rattle.std.proofs.Math.IntN.{ℤ, pos, negsuc, ◌+ℤ◌, ◌*ℤ◌}
-use Rattle.std.specs.Prelude.{unsigned_abs}
-use Rattle.std.proofs.lemmas.Int.{ints, unsigned_abs-mul}
-use Rattle.std.proofs.Math.Nat.{mul-add}
-use Rattle.integer_laws.proofs.Ring.{mul-zero, mul_assoc_ℤ, mul_comm}
-use Rattle.poly_tree.specs.Expansion.{Expansion, Parts, number, over, none, part, zero_expansion, parts_from, value, parts_value, weight, parts_weight, scaled, parts_scaled, LastNonzero, EndsNonzero, EndsInZero, HasTop, IsCanonical, AreCanonical, IsTrimmed, IsJoined, parts_count, DegreesAtMost, PartsDegreesAtMost}
+use Rattle.std.proofs.Common.{◌≡◌, ◌≢◌, ℕ, zero, suc, ◌+◌, ◌<◌, ◌≤◌, List, [], ◌∷◌, ◌++◌, length, get_or, map, arith, subst, sym, refl, ◌∙◌, ap}
+use Rattle.std.proofs.Math.IntN.{ℤ, pos, ◌+ℤ◌, ◌*ℤ◌}
+use Rattle.std.proofs.lemmas.Int.{ints}
+use Rattle.integer_laws.proofs.Ring.{mul-zero}
+use Rattle.poly_tree.specs.Expansion.{Expansion, number, over, part, zero_expansion, parts_from, value, parts_value, weight, parts_weight, scaled, parts_scaled, LastNonzero, EndsNonzero, HasTop, IsCanonical, AreCanonical, IsTrimmed, IsJoined, parts_count, PartsDegreesAtMost}
 
 -- a zero at the end has no value
 parts_value-zero : (ts : List Expansion) (x : ℤ) (point : ℕ → ℤ) → parts_value (parts_from (ts ++ zero_expansion ∷ [])) x point ≡ parts_value (parts_from ts) x point
@@ -43,11 +41,12 @@ IsTrimmed-start ts = record { same = λ x point. refl; light = omega arith; cano
 -- one zero more is taken off
 pub IsTrimmed-more : (old ts front : List Expansion) → ts ≡ front ++ zero_expansion ∷ [] → IsTrimmed old ts → IsTrimmed old front
 IsTrimmed-more old ts front e h = record {
-    same = λ x point. h.same x point ∙ ap (λ (us : List Expansion). parts_value (parts_from us) x point) e ∙ parts_value-zero front x point;
-    light = omega (arith, h.light, ap (λ (us : List Expansion). parts_weight (parts_from us)) e, parts_weight-zero front);
-    canonical = λ bound c. AreCanonical-front bound front zero_expansion (subst (λ (us : List Expansion). AreCanonical bound (parts_from us)) e (h.canonical bound c));
-    count = omega (arith, h.count, ap (λ (us : List Expansion). parts_count (parts_from us)) e, parts_count-push front zero_expansion);
-    degrees = λ d c. degrees-front d front zero_expansion (subst (λ (us : List Expansion). PartsDegreesAtMost d (parts_from us)) e (h.degrees d c)) }
+  same = λ x point. h.same x point ∙ ap (λ (us : List Expansion). parts_value (parts_from us) x point) e ∙ parts_value-zero front x point;
+  light = omega (arith, h.light, ap (λ (us : List Expansion). parts_weight (parts_from us)) e, parts_weight-zero front);
+  canonical = λ bound c. AreCanonical-front bound front zero_expansion (subst (λ (us : List Expansion). AreCanonical bound (parts_from us)) e (h.canonical bound c));
+  count = omega (arith, h.count, ap (λ (us : List Expansion). parts_count (parts_from us)) e, parts_count-push front zero_expansion);
+  degrees = λ d c. degrees-front d front zero_expansion (subst (λ (us : List Expansion). PartsDegreesAtMost d (parts_from us)) e (h.degrees d c));
+}
 
 -- the last of parts that end in one that isn't zero
 LastNonzero-end : (t : Expansion) (ts : List Expansion) (u : Expansion) → u ≢ zero_expansion → LastNonzero t (parts_from (ts ++ u ∷ []))
@@ -74,18 +73,20 @@ IsCanonical-more bound more (over v ps) le h = (omega (arith, h.0), h.1, h.2)
 -- two or more trimmed parts joined
 pub IsJoined-over : (v : ℕ) (old ts : List Expansion) → IsTrimmed old ts → EndsNonzero ts → 2 ≤ length ts → IsJoined v (parts_from old) (over v (parts_from ts))
 IsJoined-over v old ts h ends many = record {
-    same = λ point. sym (h.same (point v) point);
-    light = h.light;
-    canonical = λ bound below c. (below, h.canonical v c, HasTop-from ts many ends);
-    degrees = λ d few c. (omega (arith, h.count), h.degrees d c) }
+  same = λ point. sym (h.same (point v) point);
+  light = h.light;
+  canonical = λ bound below c. (below, h.canonical v c, HasTop-from ts many ends);
+  degrees = λ d few c. (omega (arith, h.count), h.degrees d c);
+}
 
 -- one trimmed part joined
 pub IsJoined-one : (v : ℕ) (old : List Expansion) (t : Expansion) → IsTrimmed old (t ∷ []) → IsJoined v (parts_from old) t
 IsJoined-one v old t h = record {
-    same = λ point. alone (value t point) (point v) ∙ sym (h.same (point v) point);
-    light = omega (arith, h.light);
-    canonical = λ bound below c. IsCanonical-more v bound t (omega arith) (h.canonical v c).0;
-    degrees = λ d few c. (h.degrees d c).0 } where
+  same = λ point. alone (value t point) (point v) ∙ sym (h.same (point v) point);
+  light = omega (arith, h.light);
+  canonical = λ bound below c. IsCanonical-more v bound t (omega arith) (h.canonical v c).0;
+  degrees = λ d few c. (h.degrees d c).0;
+} where
   alone : (a x : ℤ) → a ≡ a +ℤ (x *ℤ pos 0)
   alone a x = sym (ap (λ (y : ℤ). a +ℤ y) (mul-zero x) ∙ plus a) where
     plus : (y : ℤ) → y +ℤ pos 0 ≡ y
@@ -94,10 +95,11 @@ IsJoined-one v old t h = record {
 -- no trimmed part joined
 pub IsJoined-none : (v : ℕ) (old : List Expansion) → IsTrimmed old [] → IsJoined v (parts_from old) zero_expansion
 IsJoined-none v old h = record {
-    same = λ point. sym (h.same (point v) point);
-    light = omega arith;
-    canonical = λ bound below c. tt;
-    degrees = λ d few c. tt }
+  same = λ point. sym (h.same (point v) point);
+  light = omega arith;
+  canonical = λ bound below c. tt;
+  degrees = λ d few c. tt;
+}
 
 -- a part is no heavier than all
 pub weight-part : (ts : List Expansion) (k : ℕ) (d : Expansion) → k < length ts → weight (get_or ts k d) ≤ parts_weight (parts_from ts)

@@ -1,5 +1,5 @@
 -- Common factors of the coefficients.
-use Rattle.std.proofs.Common.{◌≡◌, ℕ, zero, suc, ◌+◌, ◌*◌, ◌<◌, ◌≤◌, List, [], ◌∷◌, ◌++◌, length, get_or, take, map, arith, subst, sym, refl, ◌∙◌, ap, ◌^◌, Vec, Global, FitsSigned}
+use Rattle.std.proofs.Common.{◌≡◌, ℕ, zero, suc, ◌+◌, ◌<◌, ◌≤◌, List, [], ◌∷◌, ◌++◌, length, get_or, take, map, arith, subst, sym, ◌∙◌, ap, ◌^◌, Vec, Global, FitsSigned}
 use lib.Signed.{◌≤ℤ◌}
 use mir.Syntax.{w128}
 use Rattle.std.proofs.Math.IntN.{ℤ, pos, negsuc, ◌+ℤ◌, ◌*ℤ◌, neg_ℤ}
@@ -12,7 +12,7 @@ use Rattle.std.proofs.Math.Nat.{eq-zero_of_zero-dvd}
 use Rattle.integer_laws.proofs.Ring.{mul_comm}
 use Rattle.poly_tree.specs.declared.tree.Tree.{Tree}
 use Rattle.poly_tree.specs.declared.tree.Tree.TheViews.{Over}
-use Rattle.poly_tree.specs.Expansion.{Expansion, Parts, number, over, none, part, parts_from, scaled, parts_scaled, DividesAll, DividesParts, IsContent, IsPartsContent}
+use Rattle.poly_tree.specs.Expansion.{Expansion, Parts, number, over, none, part, parts_from, scaled, DividesAll, DividesParts, IsContent, IsPartsContent}
 use Rattle.poly_tree.specs.Tree.{expansion, expansions, parts_of}
 use Rattle.poly_tree.proofs.Expansions.{parts_from-scaled}
 use Rattle.poly_tree.proofs.Trees.{expansion-Over}
@@ -23,15 +23,17 @@ exact-quotient n d h = mul_comm d (int_div n d) ∙ drop_zero (int_div n d *ℤ 
   none : (m : ℤ) → unsigned_abs d ∣ unsigned_abs m → int_rem m d ≡ pos 0
   none (pos a) p = ap pos (mod-eq-zero_of_dvd (unsigned_abs d) p)
   none (negsuc a) p = ap (λ (k : ℕ). neg_ℤ (pos k)) (mod-eq-zero_of_dvd (unsigned_abs d) p)
+
   drop_zero : (x r y : ℤ) → r ≡ pos 0 → x +ℤ r ≡ y → x ≡ y
   drop_zero x r y p q = omega (arith, ints)
 
 -- the content of a number
 pub content-number : (t : Expansion) (n : ℤ) (start size g : ℕ) → t ≡ number n → size ≡ unsigned_abs n → IsGcd start size g → IsContent t start g
 content-number t n start size g e is h = record {
-    divides_start = h.0;
-    divides_all = subst (DividesAll g) (sym e) (subst (λ (m : ℕ). g ∣ m) is h.1);
-    greatest = λ k p q. h.2 k p (subst (λ (m : ℕ). k ∣ m) (sym is) (subst (DividesAll k) e q)) }
+  divides_start = h.0;
+  divides_all = subst (DividesAll g) (sym e) (subst (λ (m : ℕ). g ∣ m) is h.1);
+  greatest = λ k p q. h.2 k p (subst (λ (m : ℕ). k ∣ m) (sym is) (subst (DividesAll k) e q));
+}
 
 divides-push : (k : ℕ) (ts : List Expansion) (u : Expansion) → DividesParts k (parts_from ts) → DividesAll k u → DividesParts k (parts_from (ts ++ u ∷ []))
 divides-push k [] u p q = (q, tt)
@@ -55,11 +57,12 @@ pub content-push : (trees : List Tree) (i : ℕ) (u : Tree) (start f g : ℕ) �
     → IsPartsContent (parts_of (take i trees)) start f → IsContent (expansion u) f g → IsPartsContent (parts_of (take (i + 1) trees)) start g
 content-push trees i u start f g below read h here =
     let more : expansions (take (i + 1) trees) ≡ expansions (take i trees) ++ expansion u ∷ []
-        = ap expansions (take_more trees i u below ∙ ap (λ (w : Tree). take i trees ++ w ∷ []) (sym read)) ∙ map-append expansion (take i trees) (u ∷ []) in
+    = ap expansions (take_more trees i u below ∙ ap (λ (w : Tree). take i trees ++ w ∷ []) (sym read)) ∙ map-append expansion (take i trees) (u ∷ []) in
     subst (λ (us : List Expansion). IsPartsContent (parts_from us) start g) (sym more) (record {
-        divides_start = dvd_trans g here.divides_start h.divides_start;
-        divides_all = divides-push g (expansions (take i trees)) (expansion u) (divides-less-parts g f (parts_of (take i trees)) here.divides_start h.divides_all) here.divides_all;
-        greatest = λ k p q. let both = divides-front k (expansions (take i trees)) (expansion u) q in here.greatest k (h.greatest k p both.0) both.1 })
+      divides_start = dvd_trans g here.divides_start h.divides_start;
+      divides_all = divides-push g (expansions (take i trees)) (expansion u) (divides-less-parts g f (parts_of (take i trees)) here.divides_start h.divides_all) here.divides_all;
+      greatest = λ k p q. let both = divides-front k (expansions (take i trees)) (expansion u) q in here.greatest k (h.greatest k p both.0) both.1;
+    })
 
 -- a part is divided by what divides all
 divides-at : (k : ℕ) (trees : List Tree) (i : ℕ) (d : Tree) → i < length trees → DividesParts k (parts_of trees) → DividesAll k (expansion (get_or trees i d))
@@ -86,6 +89,7 @@ pub content-above : (t : Expansion) (start : ℤ) (g : ℕ) → IsContent t (uns
 content-above t start zero h some = absurd (omega (arith, ints, le_of_dvd (size start some) (zero-dvd (unsigned_abs start) h.divides_start))) where
   size : (z : ℤ) → pos 1 ≤ℤ z → 0 < unsigned_abs z
   size z p = omega (arith, ints)
+
   zero-dvd : (n : ℕ) → 0 ∣ n → suc n ∣ n
   zero-dvd n p = subst (λ (m : ℕ). suc n ∣ m) (sym (eq-zero_of_zero-dvd p)) (dvd-zero (suc n))
 content-above t start (suc g) h some = omega arith
@@ -94,6 +98,7 @@ pub content-below : (t : Expansion) (start : ℤ) (g : ℕ) → IsContent t (uns
 content-below t start g h some fits = omega (arith, ints, le_of_dvd (size start some) h.divides_start, below start fits some) where
   size : (z : ℤ) → pos 1 ≤ℤ z → 0 < unsigned_abs z
   size z p = omega (arith, ints)
+
   below : (z : ℤ) → FitsSigned w128 z → pos 1 ≤ℤ z → unsigned_abs z < 2 ^ 127
   below (pos n) p q = omega (arith, p.sfits)
   below (negsuc n) p q = absurd (omega (arith, ints))

@@ -1,6 +1,6 @@
 -- Polynomials without common factors.
-use Rattle.std.proofs.Common.{◌≡◌, ◌≢◌, ℕ, zero, suc, ◌+◌, ◌*◌, ◌<◌, ◌≤◌, ◌^◌, arith, subst, sym, refl, ◌∙◌, ap}
-use Rattle.std.proofs.Math.IntN.{ℤ, pos, negsuc, ◌+ℤ◌, ◌*ℤ◌}
+use Rattle.std.proofs.Common.{◌≡◌, ℕ, zero, suc, ◌*◌, ◌≤◌, ◌^◌, arith, subst, sym, refl, ◌∙◌, ap}
+use Rattle.std.proofs.Math.IntN.{ℤ, pos, negsuc, ◌*ℤ◌}
 use Rattle.std.proofs.Math.Nat.{mul-dvd-mul_left, dvd_of_mul-dvd-mul_left, one-dvd}
 use Rattle.std.specs.Prelude.{unsigned_abs}
 use Rattle.std.specs.Int.{◌∣◌}
@@ -9,9 +9,9 @@ use Rattle.std.proofs.lemmas.Int.{ints, unsigned_abs-mul}
 use Rattle.std.proofs.lemmas.Nat.Gcd.{dvd_antisymm}
 use Rattle.integer_laws.proofs.Ring.{mul-zero}
 use Rattle.poly_tree.specs.declared.tree.Tree.{Tree}
-use Rattle.poly_tree.specs.Expansion.{Expansion, Parts, number, over, none, part, zero_expansion, scaled, parts_scaled, parts_count, IsCanonical, AreCanonical, HasTop, LastNonzero, DegreesAtMost, PartsDegreesAtMost, DividesAll, DividesParts, IsContent}
+use Rattle.poly_tree.specs.Expansion.{Expansion, Parts, number, over, none, part, scaled, parts_scaled, parts_count, IsCanonical, AreCanonical, HasTop, LastNonzero, DegreesAtMost, PartsDegreesAtMost, DividesAll, DividesParts, IsContent}
 use Rattle.poly_tree.specs.Tree.{expansion}
-use Rattle.poly_tree.specs.Poly.{Quotient, IsLegal, IsReduced}
+use Rattle.poly_tree.specs.Poly.{IsLegal, IsReduced}
 
 -- what is canonical as a multiple is so itself
 mutual
@@ -74,8 +74,8 @@ primitive t tree f q start some content e is k p h =
     let of_all : DividesAll (factor * k) t = subst (DividesAll (factor * k)) e (divides-scaled k f (expansion tree) h) in
     let of_factor : factor * k ∣ factor * 1 = subst (λ (m : ℕ). factor * k ∣ m) (one factor) (content.greatest (factor * k) of_start of_all) in
     dvd_antisymm (dvd_of_mul-dvd-mul_left k some of_factor) (one-dvd k) where
-  one : (n : ℕ) → n ≡ n * 1
-  one n = omega arith
+      one : (n : ℕ) → n ≡ n * 1
+      one n = omega arith
 
 sizes : (f q den : ℤ) → (f *ℤ q) ≡ den → unsigned_abs f * unsigned_abs q ≡ unsigned_abs den
 sizes f q den e = sym (unsigned_abs-mul f q) ∙ ap unsigned_abs e
@@ -94,22 +94,25 @@ above (negsuc m) (negsuc n) den p d e = absurd (omega (arith, ints))
 -- a canonical tree divided by its content is a legal polynomial
 pub legal-reduced : (t : Expansion) (tree : Tree) (f q den : ℤ) → pos 1 ≤ℤ f → pos 1 ≤ℤ den → IsContent t (unsigned_abs den) (unsigned_abs f) → scaled f (expansion tree) ≡ t → (f *ℤ q) ≡ den
     → IsCanonical (2 ^ 16) t → DegreesAtMost 8 t → IsLegal (record { tree = tree; denominator = unsigned_abs q }) × (pos 1 ≤ℤ q)
-legal-reduced t tree f q den some positive content e is canonical degrees =
-    (record {
-        canonical = unscaled (2 ^ 16) f (expansion tree) (subst (IsCanonical (2 ^ 16)) (sym e) canonical);
-        degrees = unscaled-degrees 8 f (expansion tree) (subst (DegreesAtMost 8) (sym e) degrees);
-        positive = at_least_one q (above f q den some positive is);
-        primitive = primitive t tree f q (unsigned_abs den) (at_least_one f some) content e (sizes f q den is) },
-     above f q den some positive is)
+legal-reduced t tree f q den some positive content e is canonical degrees = (
+  record {
+    canonical = unscaled (2 ^ 16) f (expansion tree) (subst (IsCanonical (2 ^ 16)) (sym e) canonical);
+    degrees = unscaled-degrees 8 f (expansion tree) (subst (DegreesAtMost 8) (sym e) degrees);
+    positive = at_least_one q (above f q den some positive is);
+    primitive = primitive t tree f q (unsigned_abs den) (at_least_one f some) content e (sizes f q den is);
+  },
+  above f q den some positive is,
+)
 
 -- and it is the tree over the denominator
 pub is-reduced : (t : Expansion) (tree : Tree) (f q den : ℤ) → pos 1 ≤ℤ f → scaled f (expansion tree) ≡ t → (f *ℤ q) ≡ den
     → IsReduced t (unsigned_abs den) (record { tree = tree; denominator = unsigned_abs q })
 is-reduced t tree f q den some e is = record {
-    factor = unsigned_abs f;
-    some = at_least_one f some;
-    tree = ap (λ (z : ℤ). scaled z (expansion tree)) (same f some) ∙ e;
-    over = sizes f q den is } where
+  factor = unsigned_abs f;
+  some = at_least_one f some;
+  tree = ap (λ (z : ℤ). scaled z (expansion tree)) (same f some) ∙ e;
+  over = sizes f q den is;
+} where
   same : (z : ℤ) → pos 1 ≤ℤ z → pos (unsigned_abs z) ≡ z
   same (pos n) p = refl
   same (negsuc n) p = absurd (omega (arith, ints))

@@ -1,16 +1,16 @@
 -- Polynomials with the same values have the same trees and denominators.
-use Rattle.std.proofs.Common.{◌≡◌, ◌≢◌, ℕ, zero, suc, ◌+◌, ◌-◌, ◌*◌, ◌/◌, ◌%◌, ◌<◌, ◌≤◌, ◌^◌, List, [], ◌∷◌, ◌++◌, length, get_or, arith, subst, sym, refl, ◌∙◌, ap, inl, inr, ◌⊎◌}
-use Rattle.std.proofs.Math.IntN.{ℤ, pos, negsuc, ◌+ℤ◌, ◌-ℤ◌, ◌*ℤ◌}
+use Rattle.std.proofs.Common.{◌≡◌, ◌≢◌, ℕ, zero, suc, ◌+◌, ◌-◌, ◌*◌, ◌/◌, ◌<◌, ◌≤◌, ◌^◌, List, [], ◌∷◌, ◌++◌, length, arith, subst, sym, refl, ◌∙◌, ap, inl, inr, ◌⊎◌}
+use Rattle.std.proofs.Math.IntN.{ℤ, pos, ◌*ℤ◌}
 use Rattle.std.specs.Prelude.{unsigned_abs}
 use Rattle.std.specs.Int.{◌∣◌}
-use Rattle.std.proofs.lemmas.Int.{ints, unsigned_abs-mul}
+use Rattle.std.proofs.lemmas.Int.{unsigned_abs-mul}
 use Rattle.std.proofs.lemmas.List.{get_or_append_left, get_or_push, length-append}
-use Rattle.std.proofs.lemmas.Nat.Gcd.{dvd_antisymm, dvd_refl, dvd-zero, dvd_trans, mod-eq-zero_of_dvd}
-use Rattle.std.proofs.Math.Nat.{one-dvd, dvd_of_mul-dvd-mul_left, dvd-mul_right, dvd-mul_left, dvd-mul_right_of_dvd, dvd-add, dvd-sub}
+use Rattle.std.proofs.lemmas.Nat.Gcd.{dvd_refl, dvd-zero, mod-eq-zero_of_dvd}
+use Rattle.std.proofs.Math.Nat.{dvd_of_mul-dvd-mul_left, dvd-mul_right, dvd-mul_left, dvd-add, dvd-sub}
 use Rattle.integer_laws.proofs.Ring.{mul_comm, mul-cancel}
 use Rattle.poly_tree.specs.Expansion.{Expansion, Parts, number, over, none, part, at, value, scaled, parts_scaled, IsCanonical, DividesAll, DividesParts}
 use Rattle.poly_tree.specs.Tree.{expansion}
-use Rattle.poly_tree.specs.Poly.{Quotient, numerator_at, IsLegal, SameValues, IsSamePoly}
+use Rattle.poly_tree.specs.Poly.{Quotient, numerator_at, IsLegal, SameValues}
 use Rattle.poly_tree.proofs.Products.{value-scaled, canonical-scaled}
 use Rattle.poly_tree.proofs.Unique.{agree, unique}
 
@@ -30,6 +30,7 @@ at-listed point zero w p = absurd (omega arith)
 at-listed point (suc n) w p = by (λ less. at-listed point n w less) (cases w n p) where
   cases : (x m : ℕ) → x < suc m → (x ≡ m) ⊎ (x < m)
   cases x m q = grind arith
+
   by : (w < n → at (listed point n) w ≡ point w) → (w ≡ n) ⊎ (w < n) → at (listed point n ++ point n ∷ []) w ≡ point w
   by f (inl e) = ap (λ (k : ℕ). at (listed point n ++ point n ∷ []) k) e ∙ get_or_push (listed point n) (point n) (pos 1) n (length-listed point n) ∙ ap point (sym e)
   by f (inr less) = get_or_append_left (listed point n) (point n ∷ []) (pos 1) w (omega (arith, length-listed point n)) ∙ f less
@@ -53,32 +54,38 @@ common fuel (suc x) zero p = record { factor = suc x; first = dvd_refl (suc x); 
 common zero (suc x) (suc y) p = absurd (omega arith)
 common (suc fuel) (suc x) (suc y) p =
     by (λ le. common fuel (suc x) (y - x) (omega arith)) (λ more. common fuel (x - y) (suc y) (omega arith)) (order x y) where
-  order : (m n : ℕ) → (m ≤ n) ⊎ (n < m)
-  order m n = grind arith
-  sum : (a b n : ℕ) → n ≡ a + b → a + b ≡ n
-  sum a b n e = sym e
-  less : (a b n z : ℕ) → n ≡ a + b → n * z - a * z ≡ b * z
-  less a b n z e = rw e (spread a b z) where
-    spread : (i j m : ℕ) → (i + j) * m - i * m ≡ j * m
-    spread i j m = omega (arith, distribute i j m) where
-      distribute : (r s n : ℕ) → (r + s) * n ≡ r * n + s * n
-      distribute r s n = omega arith
-  by : (x ≤ y → Common (suc x) (y - x)) → (y < x → Common (x - y) (suc y)) → (x ≤ y) ⊎ (y < x) → Common (suc x) (suc y)
-  by f g (inl le) =
-      let c = f le in
-      record {
-          factor = c.factor; first = c.first;
-          second = subst (λ (n : ℕ). c.factor ∣ n) (sum (suc x) (y - x) (suc y) (omega arith)) (dvd-add c.factor c.first c.second);
-          some = c.some;
-          of_multiples = λ z k a b. c.of_multiples z k a (subst (λ (n : ℕ). k ∣ n) (less (suc x) (y - x) (suc y) z (omega arith)) (dvd-sub k b a)) }
-  by f g (inr more) =
-      let c = g more in
-      record {
-          factor = c.factor;
-          first = subst (λ (n : ℕ). c.factor ∣ n) (sum (suc y) (x - y) (suc x) (omega arith)) (dvd-add c.factor c.second c.first);
-          second = c.second;
-          some = λ q. c.some (omega arith);
-          of_multiples = λ z k a b. c.of_multiples z k (subst (λ (n : ℕ). k ∣ n) (less (suc y) (x - y) (suc x) z (omega arith)) (dvd-sub k a b)) b }
+      order : (m n : ℕ) → (m ≤ n) ⊎ (n < m)
+      order m n = grind arith
+
+      sum : (a b n : ℕ) → n ≡ a + b → a + b ≡ n
+      sum a b n e = sym e
+
+      less : (a b n z : ℕ) → n ≡ a + b → n * z - a * z ≡ b * z
+      less a b n z e = rw e (spread a b z) where
+        spread : (i j m : ℕ) → (i + j) * m - i * m ≡ j * m
+        spread i j m = omega (arith, distribute i j m) where
+          distribute : (r s n : ℕ) → (r + s) * n ≡ r * n + s * n
+          distribute r s n = omega arith
+
+      by : (x ≤ y → Common (suc x) (y - x)) → (y < x → Common (x - y) (suc y)) → (x ≤ y) ⊎ (y < x) → Common (suc x) (suc y)
+      by f g (inl le) =
+          let c = f le in
+          record {
+            factor = c.factor;
+            first = c.first;
+            second = subst (λ (n : ℕ). c.factor ∣ n) (sum (suc x) (y - x) (suc y) (omega arith)) (dvd-add c.factor c.first c.second);
+            some = c.some;
+            of_multiples = λ z k a b. c.of_multiples z k a (subst (λ (n : ℕ). k ∣ n) (less (suc x) (y - x) (suc y) z (omega arith)) (dvd-sub k b a));
+          }
+      by f g (inr more) =
+          let c = g more in
+          record {
+            factor = c.factor;
+            first = subst (λ (n : ℕ). c.factor ∣ n) (sum (suc y) (x - y) (suc x) (omega arith)) (dvd-add c.factor c.second c.first);
+            second = c.second;
+            some = λ q. c.some (omega arith);
+            of_multiples = λ z k a b. c.of_multiples z k (subst (λ (n : ℕ). k ∣ n) (less (suc y) (x - y) (suc x) z (omega arith)) (dvd-sub k a b)) b;
+          }
 
 -- what divides all multiples divides all coefficients
 mutual
@@ -116,8 +123,8 @@ denominator-is a b legal c some h =
     let divides : k ∣ a.denominator = subst (λ (m : ℕ). k ∣ m) whole (dvd-mul_left k c.factor) in
     let one : k ≡ 1 = legal.primitive k divides (gauss b.denominator a.denominator c k (expansion a.tree) some whole h) in
     sym whole ∙ ap (λ (m : ℕ). c.factor * m) one ∙ single c.factor where
-  single : (n : ℕ) → n * 1 ≡ n
-  single n = omega arith
+      single : (n : ℕ) → n * 1 ≡ n
+      single n = omega arith
 
 turn : (x y : ℕ) → Common x y → Common y x
 turn x y c = record { factor = c.factor; first = c.second; second = c.first; some = λ p. some p c.factor c.second; of_multiples = λ z k a b. c.of_multiples z k b a } where
@@ -133,13 +140,14 @@ nonzero (suc n) p = λ e. absurd cc
 pub same-multiples : (a b : Quotient) → IsLegal a → IsLegal b → SameValues a b → scaled (pos b.denominator) (expansion a.tree) ≡ scaled (pos a.denominator) (expansion b.tree)
 same-multiples a b la lb h =
     unique (2 ^ 16) (scaled (pos b.denominator) (expansion a.tree)) (scaled (pos a.denominator) (expansion b.tree)) left right
-        (everywhere (2 ^ 16) (scaled (pos b.denominator) (expansion a.tree)) (scaled (pos a.denominator) (expansion b.tree)) left right
-            (λ point. value-scaled (pos b.denominator) (expansion a.tree) (at point) ∙ mul_comm (pos b.denominator) (numerator_at a point) ∙ h point
-                ∙ mul_comm (numerator_at b point) (pos a.denominator) ∙ sym (value-scaled (pos a.denominator) (expansion b.tree) (at point)))) where
-  left : IsCanonical (2 ^ 16) (scaled (pos b.denominator) (expansion a.tree))
-  left = canonical-scaled (2 ^ 16) (pos b.denominator) (expansion a.tree) (nonzero b.denominator lb.positive) la.canonical
-  right : IsCanonical (2 ^ 16) (scaled (pos a.denominator) (expansion b.tree))
-  right = canonical-scaled (2 ^ 16) (pos a.denominator) (expansion b.tree) (nonzero a.denominator la.positive) lb.canonical
+    (everywhere (2 ^ 16) (scaled (pos b.denominator) (expansion a.tree)) (scaled (pos a.denominator) (expansion b.tree)) left right
+    (λ point. value-scaled (pos b.denominator) (expansion a.tree) (at point) ∙ mul_comm (pos b.denominator) (numerator_at a point) ∙ h point
+    ∙ mul_comm (numerator_at b point) (pos a.denominator) ∙ sym (value-scaled (pos a.denominator) (expansion b.tree) (at point)))) where
+      left : IsCanonical (2 ^ 16) (scaled (pos b.denominator) (expansion a.tree))
+      left = canonical-scaled (2 ^ 16) (pos b.denominator) (expansion a.tree) (nonzero b.denominator lb.positive) la.canonical
+
+      right : IsCanonical (2 ^ 16) (scaled (pos a.denominator) (expansion b.tree))
+      right = canonical-scaled (2 ^ 16) (pos a.denominator) (expansion b.tree) (nonzero a.denominator la.positive) lb.canonical
 
 pub same-denominators : (a b : Quotient) → IsLegal a → IsLegal b → SameValues a b → a.denominator ≡ b.denominator
 unfolding turn
@@ -154,11 +162,11 @@ same-denominators a b la lb h =
 pub same-trees : (a b : Quotient) → IsLegal a → IsLegal b → SameValues a b → expansion a.tree ≡ expansion b.tree
 same-trees a b la lb h =
     unique (2 ^ 16) (expansion a.tree) (expansion b.tree) la.canonical lb.canonical
-        (everywhere (2 ^ 16) (expansion a.tree) (expansion b.tree) la.canonical lb.canonical
-            (λ point. cancel b.denominator (numerator_at a point) (numerator_at b point) lb.positive (h point ∙ ap (λ (n : ℕ). numerator_at b point *ℤ pos n) (same-denominators a b la lb h)))) where
-  cancel : (n : ℕ) (x y : ℤ) → 1 ≤ n → (x *ℤ pos n) ≡ (y *ℤ pos n) → x ≡ y
-  cancel zero x y p e = absurd (omega arith)
-  cancel (suc n) x y p e = mul-cancel n x y (mul_comm (pos (suc n)) x ∙ e ∙ mul_comm y (pos (suc n)))
+    (everywhere (2 ^ 16) (expansion a.tree) (expansion b.tree) la.canonical lb.canonical
+    (λ point. cancel b.denominator (numerator_at a point) (numerator_at b point) lb.positive (h point ∙ ap (λ (n : ℕ). numerator_at b point *ℤ pos n) (same-denominators a b la lb h)))) where
+      cancel : (n : ℕ) (x y : ℤ) → 1 ≤ n → (x *ℤ pos n) ≡ (y *ℤ pos n) → x ≡ y
+      cancel zero x y p e = absurd (omega arith)
+      cancel (suc n) x y p e = mul-cancel n x y (mul_comm (pos (suc n)) x ∙ e ∙ mul_comm y (pos (suc n)))
 
 -- the same trees and denominators have the same values
 pub same-values : (a b : Quotient) → expansion a.tree ≡ expansion b.tree → a.denominator ≡ b.denominator → SameValues a b

@@ -1,12 +1,12 @@
 -- Sums of expansions, part by part.
-use Rattle.std.proofs.Common.{◌≡◌, ℕ, zero, suc, ◌+◌, ◌*◌, ◌<◌, ◌≤◌, max, List, [], ◌∷◌, ◌++◌, length, get_or, map, arith, subst, sym, refl, ◌∙◌, ap, inl, inr, ◌⊎◌}
+use Rattle.std.proofs.Common.{◌≡◌, ℕ, zero, suc, ◌+◌, ◌<◌, ◌≤◌, max, List, [], ◌∷◌, ◌++◌, length, get_or, arith, subst, sym, refl, ◌∙◌, ap, inl, inr, ◌⊎◌}
 use Rattle.std.proofs.Math.IntN.{ℤ, pos, ◌+ℤ◌, ◌*ℤ◌}
 use Rattle.std.proofs.lemmas.Int.{ints}
-use Rattle.std.proofs.lemmas.List.{get_or_append_left, get_or_push, map-append, length-map, get_or_past}
+use Rattle.std.proofs.lemmas.List.{get_or_append_left, get_or_push, map-append, length-map}
 use borrow.Author.Count.{below_more}
 use Rattle.integer_laws.proofs.Ring.{mul-add, mul-zero, add_pairs}
 use Rattle.poly_tree.specs.declared.tree.Tree.{Tree}
-use Rattle.poly_tree.specs.Expansion.{Expansion, Parts, number, over, none, part, zero_expansion, parts_from, value, parts_value, weight, parts_weight, nodes, parts_nodes, IsCanonical, AreCanonical, IsJoined, IsSum, IsOver, IsPartsIn, IsHighest, TopBelow, TopAtMost, DegreesAtMost, PartsDegreesAtMost}
+use Rattle.poly_tree.specs.Expansion.{Expansion, Parts, number, over, zero_expansion, parts_from, value, parts_value, weight, parts_weight, nodes, parts_nodes, IsCanonical, AreCanonical, IsJoined, IsSum, IsOver, IsPartsIn, IsHighest, TopBelow, TopAtMost, DegreesAtMost, PartsDegreesAtMost}
 use Rattle.poly_tree.specs.Tree.{expansion, expansions, part_at}
 use Rattle.affine_form.proofs.Sizes.{size-add}
 use Rattle.poly_tree.proofs.Expansions.{parts_count-length}
@@ -14,11 +14,13 @@ use Rattle.poly_tree.proofs.Expansions.{parts_count-length}
 -- the higher of two variables
 pub highest-both : (a b : Expansion) (v w m : ℕ) (ps qs : Parts) → a ≡ over v ps → b ≡ over w qs → m ≡ max v w → IsHighest m a b
 highest-both a b v w m ps qs e f is = record {
-    one = which (v_or_w m v w is);
-    first = subst (TopAtMost m) (sym e) (omega arith);
-    second = subst (TopAtMost m) (sym f) (omega arith) } where
+  one = which (v_or_w m v w is);
+  first = subst (TopAtMost m) (sym e) (omega arith);
+  second = subst (TopAtMost m) (sym f) (omega arith);
+} where
   v_or_w : (n x y : ℕ) → n ≡ max x y → (n ≡ x) ⊎ (n ≡ y)
   v_or_w n x y h = grind arith
+
   which : (m ≡ v) ⊎ (m ≡ w) → IsOver m a ⊎ IsOver m b
   which (inl h) = inl (ps, e ∙ ap (λ (x : ℕ). over x ps) (sym h))
   which (inr h) = inr (qs, f ∙ ap (λ (x : ℕ). over x qs) (sym h))
@@ -131,9 +133,14 @@ weight-tail (t ∷ ts) = refl
 pub sums-weight : (xs ys zs : List Expansion) → AllSums xs ys zs → parts_weight (parts_from zs) ≤ parts_weight (parts_from xs) + parts_weight (parts_from ys)
 sums-weight xs ys [] h = omega arith
 sums-weight xs ys (c ∷ zs) h =
-    omega (arith, weight-tail xs, weight-tail ys, (h 0 (omega arith)).light,
-        sums-weight (tail_of xs) (tail_of ys) zs (λ k p. subst (λ (u : Expansion). IsSum u (get_or (tail_of ys) k zero_expansion) (get_or zs k zero_expansion)) (get_or-tail xs k)
-            (subst (λ (u : Expansion). IsSum (get_or xs (suc k) zero_expansion) u (get_or zs k zero_expansion)) (get_or-tail ys k) (h (suc k) (omega arith)))))
+    omega (
+      arith,
+      weight-tail xs,
+      weight-tail ys,
+      (h 0 (omega arith)).light,
+      sums-weight (tail_of xs) (tail_of ys) zs (λ k p. subst (λ (u : Expansion). IsSum u (get_or (tail_of ys) k zero_expansion) (get_or zs k zero_expansion)) (get_or-tail xs k)
+          (subst (λ (u : Expansion). IsSum (get_or xs (suc k) zero_expansion) u (get_or zs k zero_expansion)) (get_or-tail ys k) (h (suc k) (omega arith)))),
+    )
 
 canonical-at : (bound : ℕ) (ts : List Expansion) (k : ℕ) → AreCanonical bound (parts_from ts) → IsCanonical bound (get_or ts k zero_expansion)
 canonical-at bound [] k h = tt
@@ -173,24 +180,26 @@ highest-below bound v a b h p q = by h.one where
 pub sum-joined : (v : ℕ) (a b t : Expansion) (xs ys zs : List Expansion) → IsPartsIn v a xs → IsPartsIn v b ys → IsHighest v a b
     → length xs ≤ length zs → length ys ≤ length zs → length zs ≤ max (length xs) (length ys) → AllSums xs ys zs → IsJoined v (parts_from zs) t → IsSum a b t
 sum-joined v a b t xs ys zs p q high le_x le_y le_z sums joined = record {
-    sum = λ point. joined.same point ∙ sums-value xs ys zs (point v) point sums le_x le_y
-        ∙ ap (λ (y : ℤ). y +ℤ parts_value (parts_from ys) (point v) point) (parts_in-value v a xs p point)
-        ∙ ap (λ (y : ℤ). value a point +ℤ y) (parts_in-value v b ys q point);
-    light = omega (arith, joined.light, sums-weight xs ys zs sums, parts_in-weight v a xs p, parts_in-weight v b ys q);
-    canonical = λ bound ca cb. joined.canonical bound (highest-below bound v a b high ca cb)
-        (sums-canonical v xs ys zs sums (parts_in-canonical bound v a xs p ca) (parts_in-canonical bound v b ys q cb));
-    degrees = λ d da db.
-        let x = parts_in-degrees d v a xs p da in
-        let y = parts_in-degrees d v b ys q db in
-        joined.degrees d (omega (arith, parts_count-length zs, x.0, y.0, le_z)) (degrees-each d zs (λ k r. (sums k r).degrees d (degrees-at d xs k x.1) (degrees-at d ys k y.1))) }
+  sum = λ point. joined.same point ∙ sums-value xs ys zs (point v) point sums le_x le_y
+      ∙ ap (λ (y : ℤ). y +ℤ parts_value (parts_from ys) (point v) point) (parts_in-value v a xs p point)
+      ∙ ap (λ (y : ℤ). value a point +ℤ y) (parts_in-value v b ys q point);
+  light = omega (arith, joined.light, sums-weight xs ys zs sums, parts_in-weight v a xs p, parts_in-weight v b ys q);
+  canonical = λ bound ca cb. joined.canonical bound (highest-below bound v a b high ca cb)
+      (sums-canonical v xs ys zs sums (parts_in-canonical bound v a xs p ca) (parts_in-canonical bound v b ys q cb));
+  degrees = λ d da db.
+      let x = parts_in-degrees d v a xs p da in
+      let y = parts_in-degrees d v b ys q db in
+      joined.degrees d (omega (arith, parts_count-length zs, x.0, y.0, le_z)) (degrees-each d zs (λ k r. (sums k r).degrees d (degrees-at d xs k x.1) (degrees-at d ys k y.1)));
+}
 
 -- the sum of two numbers
 pub sum-numbers : (a b : Expansion) (m n : ℤ) (t : Expansion) → a ≡ number m → b ≡ number n → t ≡ number (m +ℤ n) → IsSum a b t
 sum-numbers a b m n t e f g = record {
-    sum = λ point. ap (λ (u : Expansion). value u point) g ∙ sym (ap (λ (u : Expansion). value u point +ℤ value b point) e ∙ ap (λ (u : Expansion). m +ℤ value u point) f);
-    light = omega (arith, ap weight e, ap weight f, ap weight g, size-add m n);
-    canonical = λ bound p q. subst (IsCanonical bound) (sym g) tt;
-    degrees = λ d p q. subst (DegreesAtMost d) (sym g) tt }
+  sum = λ point. ap (λ (u : Expansion). value u point) g ∙ sym (ap (λ (u : Expansion). value u point +ℤ value b point) e ∙ ap (λ (u : Expansion). m +ℤ value u point) f);
+  light = omega (arith, ap weight e, ap weight f, ap weight g, size-add m n);
+  canonical = λ bound p q. subst (IsCanonical bound) (sym g) tt;
+  degrees = λ d p q. subst (DegreesAtMost d) (sym g) tt;
+}
 
 -- one sum more
 pub sums-push : (xs ys : List Expansion) (zs : List Tree) (t : Tree) (n : ℕ) → length zs ≡ n
@@ -199,7 +208,7 @@ pub sums-push : (xs ys : List Expansion) (zs : List Tree) (t : Tree) (n : ℕ) �
     → (k : ℕ) → k < n + 1 → IsSum (get_or xs k zero_expansion) (get_or ys k zero_expansion) (part_at (zs ++ t ∷ []) k)
 sums-push xs ys zs t n len before here =
     below_more (λ (k : ℕ). IsSum (get_or xs k zero_expansion) (get_or ys k zero_expansion) (part_at (zs ++ t ∷ []) k)) n
-        (λ k p. subst (IsSum (get_or xs k zero_expansion) (get_or ys k zero_expansion)) (sym (pushed k ∙ get_or_append_left (expansions zs) (expansion t ∷ []) zero_expansion k (omega (arith, length-map zs expansion)))) (before k p))
-        (subst (IsSum (get_or xs n zero_expansion) (get_or ys n zero_expansion)) (sym (pushed n ∙ get_or_push (expansions zs) (expansion t) zero_expansion n (length-map zs expansion ∙ len))) here) where
-  pushed : (k : ℕ) → part_at (zs ++ t ∷ []) k ≡ get_or (expansions zs ++ expansion t ∷ []) k zero_expansion
-  pushed k = ap (λ (us : List Expansion). get_or us k zero_expansion) (map-append expansion zs (t ∷ []))
+    (λ k p. subst (IsSum (get_or xs k zero_expansion) (get_or ys k zero_expansion)) (sym (pushed k ∙ get_or_append_left (expansions zs) (expansion t ∷ []) zero_expansion k (omega (arith, length-map zs expansion)))) (before k p))
+    (subst (IsSum (get_or xs n zero_expansion) (get_or ys n zero_expansion)) (sym (pushed n ∙ get_or_push (expansions zs) (expansion t) zero_expansion n (length-map zs expansion ∙ len))) here) where
+      pushed : (k : ℕ) → part_at (zs ++ t ∷ []) k ≡ get_or (expansions zs ++ expansion t ∷ []) k zero_expansion
+      pushed k = ap (λ (us : List Expansion). get_or us k zero_expansion) (map-append expansion zs (t ∷ []))

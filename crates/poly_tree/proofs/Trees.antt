@@ -1,7 +1,7 @@
 -- Trees as expansions.
-use Rattle.std.proofs.Common.{◌≡◌, ℕ, ◌+◌, ◌*◌, ◌<◌, ◌≤◌, List, [], ◌∷◌, ◌++◌, length, get_or, map, take, drop, arith, rules, subst, sym, refl, ◌∙◌, ap, Vec, Global, zero, suc, ◌-◌, Bool, true, false, Option, Some, None, IsTrue, IsSome, ◌↔◌, MatchBool, MatchOption, slice_get, unwrap_or}
+use Rattle.std.proofs.Common.{◌≡◌, ℕ, ◌+◌, ◌<◌, ◌≤◌, List, [], ◌∷◌, ◌++◌, length, get_or, map, take, drop, arith, subst, sym, refl, ◌∙◌, ap, Vec, Global, zero, suc, ◌-◌, Bool, true, false, Option, Some, None, IsTrue, ◌↔◌, MatchBool, slice_get, unwrap_or}
 use Rattle.std.proofs.Math.IntN.{ℤ}
-use Rattle.std.proofs.lemmas.List.{drop_more, get_or_default, get_or-map, length-map, take_all, append-nil, length-append, map-append, same_from_push}
+use Rattle.std.proofs.lemmas.List.{drop_more, get_or_default, get_or-map, length-map, take_all, append-nil, map-append, same_from_push}
 use Rattle.std.specs.Option.{option_to_list}
 use Rattle.poly_tree.specs.declared.tree.Tree.{Tree}
 use Rattle.poly_tree.specs.declared.tree.Tree.TheViews.{Over}
@@ -69,8 +69,8 @@ front_of (x ∷ []) t e = ([], ap (λ (y : Tree). expansion y ∷ []) (sym (ap (
 front_of (x ∷ y ∷ ys) t e =
     let rest = front_of (y ∷ ys) t (e ∙ ap (λ (n : ℕ). slice_get (x ∷ y ∷ ys) n) (last-suc (length ys))) in
     (expansion x ∷ rest.0, ap (λ (us : List Expansion). expansion x ∷ us) rest.1) where
-  last-suc : (n : ℕ) → suc (suc n) - 1 ≡ suc (suc n - 1)
-  last-suc n = omega arith
+      last-suc : (n : ℕ) → suc (suc n) - 1 ≡ suc (suc n - 1)
+      last-suc n = omega arith
 
 -- whether they end in zero
 pub ends_by : (trees : List Tree) (t : Tree) (b : Bool) → Some t ≡ slice_get trees (length trees - 1) → IsTrue b ↔ (expansion t ≡ zero_expansion)
@@ -80,9 +80,8 @@ ends_by trees t true e h =
     (found.0, found.1 ∙ ap (λ (u : Expansion). found.0 ++ u ∷ []) (h.0 refl))
 ends_by trees t false e h =
     let found = front_of trees t e in EndsNonzero-end (expansions trees) found.0 (expansion t) found.1 (λ is. absurd (no (h.1 is))) where
-  no : IsTrue false → ⊥
-  no e = cc
-
+      no : IsTrue false → ⊥
+      no e = cc
 
 -- a zero is taken off the end
 pub popped : (old : List Expansion) (trees rest : List Tree) (o : Option Tree) → trees ≡ rest ++ option_to_list o → EndsInZero (expansions trees)
@@ -99,7 +98,7 @@ pub joined-over : (v : ℕ) (old : List Tree) (qs : Vec Tree Global) → IsTrimm
     → IsJoined v (parts_of old) (expansion (Over v qs))
 joined-over v old qs trimmed ends many =
     subst (IsJoined v (parts_of old)) (sym (expansion-Over v qs))
-        (IsJoined-over v (expansions old) (expansions qs.items) trimmed ends (subst (λ (n : ℕ). 2 ≤ n) (sym (length-map qs.items expansion)) many))
+    (IsJoined-over v (expansions old) (expansions qs.items) trimmed ends (subst (λ (n : ℕ). 2 ≤ n) (sym (length-map qs.items expansion)) many))
 
 -- the parts from one earlier on
 pub parts_of-back : (trees : List Tree) (done : ℕ) (u : Tree) → done < length trees → u ≡ get_or trees (length trees - 1 - done) u
@@ -109,10 +108,11 @@ parts_of-back trees done u below read =
     ∙ ap parts_of (drop_more trees (length trees - 1 - done) u (omega arith))
     ∙ ap (λ (n : ℕ). part (expansion (get_or trees (length trees - 1 - done) u)) (parts_of (drop n trees))) (next (length trees) done below)
     ∙ ap (λ (w : Tree). part (expansion w) (parts_of (drop (length trees - done) trees))) (sym read) where
-  first : (n m : ℕ) → n - (m + 1) ≡ n - 1 - m
-  first n m = omega arith
-  next : (n m : ℕ) → m < n → n - 1 - m + 1 ≡ n - m
-  next n m p = omega arith
+      first : (n m : ℕ) → n - (m + 1) ≡ n - 1 - m
+      first n m = omega arith
+
+      next : (n m : ℕ) → m < n → n - 1 - m + 1 ≡ n - m
+      next n m p = omega arith
 
 -- the parts from a place on are no heavier than all
 parts_weight-drop : (n : ℕ) (trees : List Tree) → parts_weight (parts_of (drop n trees)) ≤ parts_weight (parts_of trees)

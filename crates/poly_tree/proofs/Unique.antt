@@ -1,6 +1,6 @@
 -- Canonical polynomials with the same values are the same.
-use Rattle.std.proofs.Common.{◌≡◌, ◌≢◌, ℕ, zero, suc, ◌+◌, ◌*◌, ◌<◌, ◌≤◌, ◌==◌, Bool, true, false, List, [], ◌∷◌, ◌++◌, length, get_or, arith, subst, sym, refl, ◌∙◌, ap, inl, inr, ◌⊎◌, if◌then◌else◌}
-use Rattle.std.proofs.Math.IntN.{ℤ, pos, negsuc, ◌+ℤ◌, ◌-ℤ◌, ◌*ℤ◌, neg_ℤ}
+use Rattle.std.proofs.Common.{◌≡◌, ℕ, zero, suc, ◌*◌, ◌<◌, arith, subst, sym, refl, ◌∙◌, ap, inl, inr, ◌⊎◌}
+use Rattle.std.proofs.Math.IntN.{ℤ, pos, negsuc, ◌+ℤ◌, ◌-ℤ◌, ◌*ℤ◌}
 use Rattle.std.specs.Prelude.{unsigned_abs}
 use Rattle.std.proofs.lemmas.Int.{ints, unsigned_abs-mul}
 use Rattle.std.proofs.lemmas.Bool.Decides.{nat_tests}
@@ -33,9 +33,11 @@ root : (a f : ℤ) → (a +ℤ (pos (suc (unsigned_abs a)) *ℤ f)) ≡ pos 0 �
 root a f e = from (unsigned_abs a) (unsigned_abs f) (sizes a (pos (suc (unsigned_abs a)) *ℤ f) e ∙ unsigned_abs-mul (pos (suc (unsigned_abs a))) f) (nothing a) where
   sizes : (x y : ℤ) → (x +ℤ y) ≡ pos 0 → unsigned_abs x ≡ unsigned_abs y
   sizes x y p = omega (arith, ints)
+
   nothing : (x : ℤ) → unsigned_abs x ≡ 0 → x ≡ pos 0
   nothing (pos n) p = ap pos p
   nothing (negsuc n) p = absurd (omega arith)
+
   from : (m n : ℕ) → m ≡ suc m * n → (m ≡ 0 → a ≡ pos 0) → a ≡ pos 0
   from m zero p q = q (omega arith)
   from m (suc n) p q = absurd (omega arith)
@@ -45,6 +47,7 @@ roots : (a b f g : ℤ) → (a +ℤ (pos (suc (unsigned_abs (a -ℤ b))) *ℤ f)
 roots a b f g e = same (root (a -ℤ b) (f -ℤ g) (apart (pos (suc (unsigned_abs (a -ℤ b))) *ℤ f) (pos (suc (unsigned_abs (a -ℤ b))) *ℤ g) (pos (suc (unsigned_abs (a -ℤ b))) *ℤ (f -ℤ g)) (mul-sub (pos (suc (unsigned_abs (a -ℤ b)))) f g) e)) where
   same : (a -ℤ b) ≡ pos 0 → a ≡ b
   same p = omega (arith, ints)
+
   apart : (x y z : ℤ) → z ≡ x -ℤ y → (a +ℤ x) ≡ (b +ℤ y) → ((a -ℤ b) +ℤ z) ≡ pos 0
   apart x y z p q = omega (arith, ints)
 
@@ -81,6 +84,7 @@ at-put v ps point x c =
 -- a canonical polynomial that is 0 everywhere is zero
 mutual
   unfolding AllZero
+
   zero-tree : (bound : ℕ) (t : Expansion) → IsCanonical bound t → ((point : ℕ → ℤ) → value t point ≡ pos 0) → t ≡ zero_expansion
   zero-tree bound (number n) c h = ap number (h (λ (w : ℕ). pos 0))
   zero-tree bound (over v ps) c h =
@@ -90,9 +94,10 @@ mutual
   zero-parts v none c h = tt
   zero-parts v (part t ps) c h =
       let first : (point : ℕ → ℤ) → value t point ≡ pos 0
-          = λ point. root (value t point) (parts_value ps (pos (suc (unsigned_abs (value t point)))) point) (h (unsigned_abs (value t point)) point) in
-      (zero-tree v t c.0 first,
-       zero-parts v ps c.1 (λ x point. tails x (value t point) (pos 0) (parts_value ps (pos (suc x)) point) (pos 0) (first point) (h x point ∙ zero_sum x)))
+      = λ point. root (value t point) (parts_value ps (pos (suc (unsigned_abs (value t point)))) point) (h (unsigned_abs (value t point)) point) in (
+        zero-tree v t c.0 first,
+        zero-parts v ps c.1 (λ x point. tails x (value t point) (pos 0) (parts_value ps (pos (suc x)) point) (pos 0) (first point) (h x point ∙ zero_sum x)),
+      )
 
 -- no canonical polynomial in lower variables has the values of one in a variable
 low : (w : ℕ) (t : Expansion) (qs : Parts) → AreCanonical w qs → HasTop qs → ((x : ℕ) (point : ℕ → ℤ) → value t point ≡ parts_value qs (pos (suc x)) point) → ⊥
@@ -102,17 +107,18 @@ low w t (part u none) c top h = top
 low w t (part u (part s qs)) c top h =
     let rest = part s qs in
     let same : (point : ℕ → ℤ) → value t point ≡ value u point
-        = λ point. roots (value t point) (value u point) (pos 0) (parts_value (part s qs) (pos (suc (unsigned_abs (value t point -ℤ value u point)))) point)
-            (plus (value t point) (unsigned_abs (value t point -ℤ value u point)) ∙ h (unsigned_abs (value t point -ℤ value u point)) point) in
+    = λ point. roots (value t point) (value u point) (pos 0) (parts_value (part s qs) (pos (suc (unsigned_abs (value t point -ℤ value u point)))) point)
+    (plus (value t point) (unsigned_abs (value t point -ℤ value u point)) ∙ h (unsigned_abs (value t point -ℤ value u point)) point) in
     let zeros = zero-parts w (part s qs) c.1 (λ x point. sym (tails x (value t point) (value u point) (pos 0) (parts_value (part s qs) (pos (suc x)) point) (same point)
-        (plus (value t point) x ∙ h x point))) in
+    (plus (value t point) x ∙ h x point))) in
     last zeros where
-  plus : (a : ℤ) (n : ℕ) → (a +ℤ (pos (suc n) *ℤ pos 0)) ≡ a
-  plus a n = ap (λ (y : ℤ). a +ℤ y) (mul-zero (pos (suc n))) ∙ nothing a where
-    nothing : (y : ℤ) → y +ℤ pos 0 ≡ y
-    nothing y = omega (arith, ints)
-  last : AllZero (part s qs) → ⊥
-  last z = zero-last s qs z.0 z.1 top
+      plus : (a : ℤ) (n : ℕ) → (a +ℤ (pos (suc n) *ℤ pos 0)) ≡ a
+      plus a n = ap (λ (y : ℤ). a +ℤ y) (mul-zero (pos (suc n))) ∙ nothing a where
+        nothing : (y : ℤ) → y +ℤ pos 0 ≡ y
+        nothing y = omega (arith, ints)
+
+      last : AllZero (part s qs) → ⊥
+      last z = zero-last s qs z.0 z.1 top
 
 -- there is no part, or the last isn't zero
 Ends : Parts → Type 0
@@ -136,6 +142,7 @@ compare v w = grind arith
 -- canonical polynomials of the same values are the same
 mutual
   unfolding Ends AllZero
+
   pub unique : (bound : ℕ) (t u : Expansion) → IsCanonical bound t → IsCanonical bound u → ((point : ℕ → ℤ) → value t point ≡ value u point) → t ≡ u
   unique bound (number m) (number n) c d h = ap number (h (λ (w : ℕ). pos 0))
   unique bound (number m) (over w qs) c d h =
@@ -144,14 +151,14 @@ mutual
       absurd (low v (number n) ps c.1 c.2 (λ x point. sym (h (put point v (pos (suc x)))) ∙ at-put v ps point (pos (suc x)) c.1))
   unique bound (over v ps) (over w qs) c d h =
       by (λ (e : v ≡ w). unique-parts w ps qs (subst (λ (y : ℕ). AreCanonical y ps) e c.1) d.1 (ends-top ps c.2) (ends-top qs d.2)
-            (λ x point. sym (at-put w ps point (pos (suc x)) (subst (λ (y : ℕ). AreCanonical y ps) e c.1)) ∙ ap (λ (y : ℕ). value (over y ps) (put point w (pos (suc x)))) (sym e) ∙ h (put point w (pos (suc x))) ∙ at-put w qs point (pos (suc x)) d.1))
-         (compare v w) where
-    by : ((v ≡ w) → ps ≡ qs) → (v ≡ w) ⊎ ((v < w) ⊎ (w < v)) → over v ps ≡ over w qs
-    by f (inl e) = ap (λ (y : ℕ). over y ps) e ∙ ap (over w) (f e)
-    by f (inr (inl less)) =
-        absurd (low w (over v ps) qs d.1 d.2 (λ x point. sym (agree w (over v ps) (put point w (pos (suc x))) point (less, c.1, c.2) (put-below point w (pos (suc x)))) ∙ h (put point w (pos (suc x))) ∙ at-put w qs point (pos (suc x)) d.1))
-    by f (inr (inr more)) =
-        absurd (low v (over w qs) ps c.1 c.2 (λ x point. sym (agree v (over w qs) (put point v (pos (suc x))) point (more, d.1, d.2) (put-below point v (pos (suc x)))) ∙ sym (h (put point v (pos (suc x)))) ∙ at-put v ps point (pos (suc x)) c.1))
+      (λ x point. sym (at-put w ps point (pos (suc x)) (subst (λ (y : ℕ). AreCanonical y ps) e c.1)) ∙ ap (λ (y : ℕ). value (over y ps) (put point w (pos (suc x)))) (sym e) ∙ h (put point w (pos (suc x))) ∙ at-put w qs point (pos (suc x)) d.1))
+      (compare v w) where
+        by : ((v ≡ w) → ps ≡ qs) → (v ≡ w) ⊎ ((v < w) ⊎ (w < v)) → over v ps ≡ over w qs
+        by f (inl e) = ap (λ (y : ℕ). over y ps) e ∙ ap (over w) (f e)
+        by f (inr (inl less)) =
+            absurd (low w (over v ps) qs d.1 d.2 (λ x point. sym (agree w (over v ps) (put point w (pos (suc x))) point (less, c.1, c.2) (put-below point w (pos (suc x)))) ∙ h (put point w (pos (suc x))) ∙ at-put w qs point (pos (suc x)) d.1))
+        by f (inr (inr more)) =
+            absurd (low v (over w qs) ps c.1 c.2 (λ x point. sym (agree v (over w qs) (put point v (pos (suc x))) point (more, d.1, d.2) (put-below point v (pos (suc x)))) ∙ sym (h (put point v (pos (suc x)))) ∙ at-put v ps point (pos (suc x)) c.1))
 
   unique-parts : (v : ℕ) (ps qs : Parts) → AreCanonical v ps → AreCanonical v qs → Ends ps → Ends qs → ((x : ℕ) (point : ℕ → ℤ) → parts_value ps (pos (suc x)) point ≡ parts_value qs (pos (suc x)) point) → ps ≡ qs
   unique-parts v none none c d e f h = refl
@@ -159,7 +166,7 @@ mutual
   unique-parts v (part t ps) none c d e f h = let z = zero-parts v (part t ps) c h in absurd (zero-last t ps z.0 z.1 e)
   unique-parts v (part t ps) (part u qs) c d e f h =
       let same : (point : ℕ → ℤ) → value t point ≡ value u point
-          = λ point. roots (value t point) (value u point) (parts_value ps (pos (suc (unsigned_abs (value t point -ℤ value u point)))) point) (parts_value qs (pos (suc (unsigned_abs (value t point -ℤ value u point)))) point) (h (unsigned_abs (value t point -ℤ value u point)) point) in
+      = λ point. roots (value t point) (value u point) (parts_value ps (pos (suc (unsigned_abs (value t point -ℤ value u point)))) point) (parts_value qs (pos (suc (unsigned_abs (value t point -ℤ value u point)))) point) (h (unsigned_abs (value t point -ℤ value u point)) point) in
       ap (λ (s : Expansion). part s ps) (unique v t u c.0 d.0 same)
       ∙ ap (part u) (unique-parts v ps qs c.1 d.1 (ends-rest t ps e) (ends-rest u qs f)
-          (λ x point. tails x (value t point) (value u point) (parts_value ps (pos (suc x)) point) (parts_value qs (pos (suc x)) point) (same point) (h x point)))
+      (λ x point. tails x (value t point) (value u point) (parts_value ps (pos (suc x)) point) (parts_value qs (pos (suc x)) point) (same point) (h x point)))

@@ -2,7 +2,7 @@
 -- algebra, valued by Horner's rule; Knuth, The Art of Computer Programming, volume 2, section 4.6.)
 use Rattle.std.specs.Int.{◌∣◌}
 use Rattle.iolb_model.specs.Polynomial.{int_power}
-use Rattle.std.specs.Prelude.{◌≡◌, ◌≢◌, ℕ, zero, suc, ◌+◌, ◌-◌, ◌*◌, ◌<◌, ◌≤◌, ◌==◌, max, if◌then◌else◌, ℤ, pos, ◌+ℤ◌, ◌*ℤ◌, unsigned_abs, ◌⊎◌, List, [], ◌∷◌, ◌++◌, length, slice_index_or}
+use Rattle.std.specs.Prelude.{◌≡◌, ◌≢◌, ℕ, suc, ◌+◌, ◌-◌, ◌*◌, ◌<◌, ◌≤◌, ◌==◌, max, if◌then◌else◌, ℤ, pos, ◌+ℤ◌, ◌*ℤ◌, unsigned_abs, ◌⊎◌, List, [], ◌∷◌, ◌++◌, length, slice_index_or}
 
 -- A polynomial is a number, or a polynomial in one variable: its parts are the coefficients of the variable's powers,
 -- from power 0 on.

@@ -1,5 +1,5 @@
 -- Polynomials with whole-number coefficients over a common denominator.
-use Rattle.std.specs.Prelude.{◌≡◌, ◌≢◌, ℕ, ◌*◌, ◌≤◌, ◌<◌, ◌^◌, max, ℤ, pos, ◌+ℤ◌, ◌-ℤ◌, ◌*ℤ◌, ◌+◌, unsigned_abs, List, length}
+use Rattle.std.specs.Prelude.{◌≡◌, ℕ, ◌*◌, ◌≤◌, ◌^◌, max, ℤ, pos, ◌+ℤ◌, ◌-ℤ◌, ◌*ℤ◌, ◌+◌, unsigned_abs, List, length}
 use Rattle.iolb_model.specs.Form.{AffineForm, form_value}
 use Rattle.std.specs.Int.{◌∣◌}
 use Rattle.poly_tree.specs.declared.tree.Tree.{Tree}

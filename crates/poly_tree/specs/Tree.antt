@@ -1,5 +1,5 @@
 -- The code's trees as expansions.
-use Rattle.std.specs.Prelude.{ℕ, ℤ, List, map, slice_index_or, pos}
+use Rattle.std.specs.Prelude.{ℕ, List, map, slice_index_or, pos}
 use Rattle.poly_tree.specs.declared.tree.Tree.{Tree}
 use Rattle.poly_tree.specs.declared.tree.Tree.TheOpen.{Tree-F, Num, Over}
 use Rattle.poly_tree.specs.declared.tree.Tree.TheFolds.{fold-Tree}

@@ -22,7 +22,12 @@ pub(crate) fn form_tree(alloc: Global, form: &Form) -> Result<Tree, Memory>
 }
 
 /// A tree and a multiple of a higher variable.
-pub(crate) fn with_variable(alloc: Global, tree: Tree, var: u16, coefficient: i128) -> Result<Tree, Memory>
+pub(crate) fn with_variable(
+    alloc: Global,
+    tree: Tree,
+    var: u16,
+    coefficient: i128,
+) -> Result<Tree, Memory>
     ensures { IfOk result (λ t. IsExtended var coefficient (expansion tree) (expansion t)) }
 {
     if coefficient == 0 {

@@ -11,7 +11,13 @@ use affine_form::Memory;
 use std::alloc::Global;
 
 /// A multiple of a tree and one of another. Want of memory is its only error.
-pub(crate) fn linear(alloc: Global, a: &Tree, a_factor: i128, b: &Tree, b_factor: i128) -> Result<Tree, Memory>
+pub(crate) fn linear(
+    alloc: Global,
+    a: &Tree,
+    a_factor: i128,
+    b: &Tree,
+    b_factor: i128,
+) -> Result<Tree, Memory>
     requires first { a_factor ≢ pos 0 }
     requires second { b_factor ≢ pos 0 }
     requires light { unsigned_abs a_factor * weight (expansion a.now) + unsigned_abs b_factor * weight (expansion b.now) < 2 ^ 127 }

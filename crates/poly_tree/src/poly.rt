@@ -15,6 +15,7 @@ use crate::linear::linear;
 use crate::mul::mul;
 use crate::put::put;
 use crate::size::{capped_power, capped_product};
+use crate::top::{Top, look};
 use crate::tree::Tree;
 use crate::weight::weight_of;
 use crate::wide::Wide;
@@ -69,6 +70,16 @@ impl Poly {
         ensures legal { IsLegal self.now }
     {
         self.den
+    }
+
+    /// Whether the polynomial uses only variables below a number.
+    pub fn uses_below(&self, variables: usize) -> bool
+        ensures { IsTrue result ↔ IsCanonical variables (expansion self.now.tree) }
+    {
+        match look(self.tree()) {
+            Top::Number(_) => true,
+            Top::Over(v, _) => usize::from(v) < variables,
+        }
     }
 
     /// The denominator times the value at a point. The polynomial uses only variables that the point has.
@@ -209,7 +220,11 @@ fn put_size_of(poly: &Poly, var: u16, inner: &Tree) -> u128
     requires { weight (expansion inner.now) < 2 ^ 126 }
     ensures { min result (2 ^ 126) ≡ min (put_size poly.now var (max 1 (weight (expansion inner.now)))) (2 ^ 126) }
 {
-    capped_power(size_of(poly), weight_of(inner).max(1), degree_in(poly.tree(), var))
+    capped_power(
+        size_of(poly),
+        weight_of(inner).max(1),
+        degree_in(poly.tree(), var),
+    )
 }
 
 /// A polynomial plus another one's numerator times a number of the first one's denominator's size, over the product of

@@ -23,7 +23,11 @@ impl Poly {
     ///
     /// `Wide` exactly where the greater of 1 and the sum of the coefficients' sizes, times the denominator, reaches
     /// 2^126; `Memory` where there is none.
-    pub fn from_terms(alloc: Global, terms: &[(i128, Vec<u8>)], den: i128) -> Result<Poly, PolyFault>
+    pub fn from_terms(
+        alloc: Global,
+        terms: &[(i128, Vec<u8>)],
+        den: i128,
+    ) -> Result<Poly, PolyFault>
         requires positive { pos 1 ≤ℤ den }
         requires exponents { AllByRecursion HasExponents (terms_of terms.now) }
         requires apart { AreApart (terms_of terms.now) }

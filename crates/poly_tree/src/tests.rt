@@ -6,13 +6,13 @@ use crate::{Poly, PolyFault};
 use std::alloc::Global;
 use std::test::Fail;
 
-fn quadratic(alloc: Global, square: i8, linear: i8, den: i8) -> Result<Poly, PolyFault>
+fn quadratic(alloc: Global, square: i8, linear: i8, den: i8) -> Result<Poly, Fail>
     requires { pos 1 ≤ℤ den }
 {
     let first = vec![in alloc; 2]?;
     let second = vec![in alloc; 1]?;
     let terms = vec![in alloc; (i128::from(square), first), (i128::from(linear), second)]?;
-    Poly::from_terms(alloc, &terms, i128::from(den))
+    Ok(Poly::from_terms(alloc, &terms, i128::from(den))?)
 }
 
 #[test]
@@ -35,6 +35,8 @@ fn compares_values(rt: HostRuntime) -> Result<(), Fail> {
     assert!(rt; half.same(&quadratic(alloc, 2, -2, 4)?));
     assert!(rt; !half.same(&quadratic(alloc, 1, -1, 1)?));
     assert_eq!(rt; half.den(), 2);
+    assert!(rt; half.uses_below(1));
+    assert_eq!(rt; half.numer(&[4]), Ok(12));
     Ok(())
 }
 

@@ -1,9 +1,9 @@
-use Rattle.std.proofs.Common.{◌≡◌, ◌<◌, arith, sym, ap, ◌∙◌, subst, length, take, rules, FitsSigned}
+use Rattle.std.proofs.Common.{◌<◌, arith, ap, ◌∙◌, rules, FitsSigned}
 use Rattle.std.specs.Prelude.{unsigned_abs}
 use mir.Syntax.{w128}
 use Rattle.std.proofs.lemmas.Int.{to_z-of_z}
-use Rattle.poly_tree.specs.Expansion.{nodes, IsContent, Expansion}
-use Rattle.poly_tree.specs.Tree.{expansion, expansions, parts_of}
+use Rattle.poly_tree.specs.Expansion.{nodes}
+use Rattle.poly_tree.specs.Tree.{expansion}
 use Rattle.poly_tree.proofs.Factors.{content-number, content-push}
 use Rattle.poly_tree.proofs.Trees.{nodes-below}
 use Rattle.poly_tree.proofs.common_factor.+content.Goals as goal

@@ -1,10 +1,9 @@
-use Rattle.std.proofs.Common.{◌≡◌, ◌<◌, arith, sym, ap, ◌∙◌, subst, length, take, map, ℤ, pos, rules, FitsSigned}
+use Rattle.std.proofs.Common.{◌≡◌, ◌<◌, arith, sym, ap, ◌∙◌, subst, take, map, ℤ, rules, FitsSigned}
 use Rattle.std.specs.Prelude.{unsigned_abs}
-use lib.Signed.{◌≤ℤ◌}
 use mir.Syntax.{w128}
 use Rattle.std.proofs.lemmas.Int.{to_z-of_z}
-use Rattle.poly_tree.specs.Expansion.{nodes, Expansion, scaled, DividesAll, number}
-use Rattle.poly_tree.specs.Tree.{expansion, expansions, parts_of}
+use Rattle.poly_tree.specs.Expansion.{nodes, scaled, DividesAll, number}
+use Rattle.poly_tree.specs.Tree.{expansion}
 use Rattle.poly_tree.proofs.Factors.{divides-read, divided-over}
 use Rattle.poly_tree.proofs.Trees.{nodes-below, expansion-Num}
 use Rattle.poly_tree.proofs.common_factor.+divided.Goals as goal
@@ -14,9 +13,11 @@ divided-requires t c =
     let tree = expansion c.args.tree.now in
     let u = c.part-item.result in
     let fewer : nodes (expansion u) < nodes tree = nodes-below tree c.in-Over.var c.in-Over.parts.now c.loop-part.part-index u c.in-Over.ensures c.loop-part-test.true c.part-item.is in
-    let d : nodes (expansion u) < t = omega (arith, c.decreases) in
-    (d, rw (to_z-of_z w128 c.args.factor c.ranges.factor)
-        (c.requires.some, divides-read (unsigned_abs c.args.factor) tree c.in-Over.var c.in-Over.parts.now c.loop-part.part-index u c.in-Over.ensures c.loop-part-test.true c.part-item.is c.requires.divides))
+    let d : nodes (expansion u) < t = omega (arith, c.decreases) in (
+      d,
+      rw (to_z-of_z w128 c.args.factor c.ranges.factor)
+          (c.requires.some, divides-read (unsigned_abs c.args.factor) tree c.in-Over.var c.in-Over.parts.now c.loop-part.part-index u c.in-Over.ensures c.loop-part-test.true c.part-item.is c.requires.divides),
+    )
 
 pub returns-in-Number : goal.returns-in-Number
 returns-in-Number t c =
@@ -39,4 +40,4 @@ pub returns-after-loop-part : goal.returns-after-loop-part
 returns-after-loop-part t c =
     let f = c.args.factor in
     divided-over f (expansion c.args.tree.now) c.in-Over.var c.loop-part.quotients c.in-Over.parts.now c.loop-part.part-index c.in-Over.ensures c.loop-part-test.false
-        (subst (λ (g : ℤ). map (scaled g) (map expansion c.loop-part.quotients.items) ≡ map expansion (take c.loop-part.part-index c.in-Over.parts.now)) (to_z-of_z w128 f c.ranges.factor) c.loop-part.invariant)
+    (subst (λ (g : ℤ). map (scaled g) (map expansion c.loop-part.quotients.items) ≡ map expansion (take c.loop-part.part-index c.in-Over.parts.now)) (to_z-of_z w128 f c.ranges.factor) c.loop-part.invariant)

@@ -1,6 +1,5 @@
-use Rattle.std.proofs.Common.{◌≡◌, ◌<◌, ◌≤◌, ◌^◌, arith, subst, sym, ap, ◌∙◌, ℕ, ℤ, pos, FitsSigned, to_z, of_z}
+use Rattle.std.proofs.Common.{◌<◌, ◌≤◌, ◌^◌, arith, subst, ap, ◌∙◌, ℕ}
 use Rattle.std.specs.Prelude.{unsigned_abs}
-use lib.Signed.{◌≤ℤ◌}
 use mir.Syntax.{w128}
 use Rattle.std.proofs.lemmas.Int.{ints, to_z-of_z, to_z_pos}
 use Rattle.poly_tree.specs.Expansion.{IsContent}

@@ -1,4 +1,4 @@
-use Rattle.std.proofs.Common.{◌≡◌, FitsSigned, ap, ◌∙◌, arith, pos, ℤ, ◌*ℤ◌, to_z}
+use Rattle.std.proofs.Common.{FitsSigned, arith, pos}
 use Rattle.std.proofs.lemmas.Int.{ints, quot_is, quot_fits}
 use Rattle.std.specs.Prelude.{int_div}
 use lib.Signed.{◌<ℤ◌}

@@ -1,6 +1,5 @@
-use Rattle.std.proofs.Common.{◌≡◌, ◌<◌, ◌-◌, ℕ, arith, ap, ◌∙◌, sym}
-use Rattle.std.proofs.lemmas.Bool.Decides.{nat_tests}
-use Rattle.poly_tree.specs.Expansion.{nodes, degree_in}
+use Rattle.std.proofs.Common.{◌<◌, arith, ◌∙◌, sym}
+use Rattle.poly_tree.specs.Expansion.{nodes}
 use Rattle.poly_tree.specs.Tree.{expansion}
 use Rattle.poly_tree.proofs.DegreeBounds.{degree_in-here}
 use Rattle.poly_tree.proofs.Trees.{nodes-below}

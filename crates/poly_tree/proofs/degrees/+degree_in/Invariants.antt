@@ -1,5 +1,5 @@
 use Rattle.std.proofs.Common.{◌≡◌, max, drop}
-use Rattle.poly_tree.specs.Expansion.{parts_degree_in, degree_in, nodes}
+use Rattle.poly_tree.specs.Expansion.{parts_degree_in, nodes}
 use Rattle.poly_tree.specs.Tree.{expansion, parts_of}
 use Rattle.poly_tree.proofs.degrees.+degree_in.Given as goal
 

@@ -1,4 +1,4 @@
-use Rattle.std.proofs.Common.{◌≡◌, ◌<◌, ◌≤◌, ◌*◌, ◌+◌, ◌-◌, ◌^◌, ℕ, min, max, length, drop, arith, sym, ap, ◌∙◌}
+use Rattle.std.proofs.Common.{◌≡◌, ◌<◌, ◌≤◌, ◌*◌, ◌+◌, ◌-◌, ◌^◌, ℕ, min, length, drop, arith, sym, ap, ◌∙◌}
 use Rattle.poly_tree.specs.Expansion.{Parts, part, nodes, at, size_at, parts_size_at}
 use Rattle.poly_tree.specs.Tree.{expansion, parts_of}
 use Rattle.poly_tree.proofs.EvaluateLemmas.{size-step, canonical-read}
@@ -28,5 +28,5 @@ loop-done-preserved t c =
     let same : parts_of (drop (length parts - (c.loop-done.done + 1)) parts) ≡ part (expansion u) rest = parts_of-back parts c.loop-done.done u c.loop-done-test.true c.index-parts-parts.is in
     c.min-total.ensures
     ∙ size-step (size_at (expansion u) p) (parts_size_at rest base p) base limit c.size_at-part.result c.capped_product.result some c.size_at-part.ensures
-        (c.capped_product.ensures ∙ ap (λ (n : ℕ). min (n * base) limit) c.loop-done.invariant)
+    (c.capped_product.ensures ∙ ap (λ (n : ℕ). min (n * base) limit) c.loop-done.invariant)
     ∙ ap (λ (ps : Parts). min (parts_size_at ps base p) limit) (sym same)

@@ -1,7 +1,7 @@
-use Rattle.std.proofs.Common.{◌≡◌, ◌<◌, ◌≤◌, ◌*◌, ◌+◌, ◌-◌, ◌^◌, ◌+ℤ◌, ◌*ℤ◌, ℕ, ℤ, pos, length, get_or, drop, arith, rules, sym, ap, ◌∙◌, FitsSigned, to_z}
+use Rattle.std.proofs.Common.{◌≡◌, ◌<◌, ◌+◌, ◌-◌, ◌+ℤ◌, ◌*ℤ◌, ℤ, pos, length, get_or, drop, arith, rules, sym, ap, ◌∙◌, FitsSigned, to_z}
 use mir.Syntax.{w128}
 use Rattle.std.proofs.lemmas.Int.{to_z-of_z}
-use Rattle.poly_tree.specs.Expansion.{Parts, part, nodes, at, value, parts_value, size_at, parts_size_at}
+use Rattle.poly_tree.specs.Expansion.{Parts, part, nodes, at, value, parts_value}
 use Rattle.poly_tree.specs.Tree.{expansion, parts_of}
 use Rattle.poly_tree.proofs.EvaluateLemmas.{canonical-read, variable-below, size_at-back, horner-room, at-read}
 use Rattle.poly_tree.proofs.Trees.{nodes-below, parts_of-back}
@@ -31,8 +31,8 @@ horner_step-total-requires t c =
     let fits_x : FitsSigned w128 x = search rules in
     let read : x ≡ at point v = at-read point v c.from.result c.from.ensures (variable-below (length point) tree v (parts_of parts) c.in-Over.ensures c.requires.canonical) in
     rw (to_z-of_z w128 a fits_a, to_z-of_z w128 x fits_x)
-        (horner-room tree v parts c.loop-done.done c.index-parts-parts.result (at point) a x (to_z w128 c.loop-done.total-bits) c.in-Over.ensures c.loop-done-test.true c.index-parts-parts.is
-            c.value_at-part.ensures read c.loop-done.invariant c.requires.small)
+    (horner-room tree v parts c.loop-done.done c.index-parts-parts.result (at point) a x (to_z w128 c.loop-done.total-bits) c.in-Over.ensures c.loop-done-test.true c.index-parts-parts.is
+    c.value_at-part.ensures read c.loop-done.invariant c.requires.small)
 
 pub loop-done-preserved : goal.loop-done-preserved
 loop-done-preserved t c =

@@ -1,4 +1,3 @@
-use Rattle.std.proofs.Common.{◌≡◌, ◌<◌, ℕ, List, [], ◌∷◌, ◌++◌, take, length, sym, ap, ◌∙◌, rules, arith, Bool, true, false, subst, refl, Option, Some}
 use Rattle.poly_tree.proofs.Trees.{ends_by}
 use Rattle.poly_tree.proofs.join.ends_in_zero.Goals as goal
 

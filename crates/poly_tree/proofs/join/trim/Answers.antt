@@ -1,7 +1,7 @@
-use Rattle.std.proofs.Common.{◌≡◌, [], ◌∷◌, ◌++◌, map, List, subst}
+use Rattle.std.proofs.Common.{List, subst}
 use Rattle.poly_tree.specs.declared.tree.Tree.{Tree}
 use Rattle.poly_tree.specs.Expansion.{EndsInZero}
-use Rattle.poly_tree.specs.Tree.{expansion, expansions}
+use Rattle.poly_tree.specs.Tree.{expansions}
 use Rattle.poly_tree.proofs.Trees.{popped}
 use Rattle.poly_tree.proofs.join.trim.Goals as goal
 

@@ -30,4 +30,4 @@ returns c =
     let first : expansion c.in_ok-first.first ≡ scaled j a = simp (to_z-of_z w128 j c.ranges.a_factor) at c.in_ok-first.ensures in
     let second : expansion c.in_ok-second.second ≡ scaled k b = simp (to_z-of_z w128 k c.ranges.b_factor) at c.in_ok-second.ensures in
     IfOk-map (λ (t : Tree). IsSum (expansion c.in_ok-first.first) (expansion c.in_ok-second.second) (expansion t)) (λ (t : Tree). IsLinear j a k b (expansion t)) c.sum.result
-        (λ t s. linear-from j k a b (expansion c.in_ok-first.first) (expansion c.in_ok-second.second) (expansion t) c.requires.first c.requires.second first second s) c.sum.ensures
+    (λ t s. linear-from j k a b (expansion c.in_ok-first.first) (expansion c.in_ok-second.second) (expansion t) c.requires.first c.requires.second first second s) c.sum.ensures

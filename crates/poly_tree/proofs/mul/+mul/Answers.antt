@@ -1,7 +1,6 @@
-use Rattle.std.proofs.Common.{◌≡◌, ◌≤◌, ◌<◌, ◌+◌, ◌*◌, ◌-◌, ◌^◌, length, get_or, drop, arith, sym, ap, ◌∙◌, subst, ℕ, List, ◌∷◌, mul-le-mul_right}
-use Rattle.poly_tree.specs.Expansion.{Expansion, Parts, part, nodes, weight, parts_weight, IsProduct, IsPartsProduct, number}
-use Rattle.poly_tree.specs.Tree.{expansion, expansions, parts_of}
-use Rattle.poly_tree.specs.declared.tree.Tree.{Tree}
+use Rattle.std.proofs.Common.{◌≡◌, ◌≤◌, ◌<◌, ◌+◌, ◌*◌, ◌-◌, ◌^◌, length, drop, arith, mul-le-mul_right}
+use Rattle.poly_tree.specs.Expansion.{part, nodes, weight, parts_weight}
+use Rattle.poly_tree.specs.Tree.{expansion, parts_of}
 use Rattle.poly_tree.proofs.Products.{product-part, product-room}
 use Rattle.poly_tree.proofs.Trees.{nodes-below, weight-below, parts_of-back, weight-back}
 use Rattle.poly_tree.proofs.mul.+mul.Goals as goal
@@ -24,10 +23,10 @@ sum-requires t c =
     let parts = c.in-Over.parts.now in
     let u = c.index-parts-parts.result in
     let whole : weight (expansion u) + parts_weight (parts_of (drop (length parts - c.loop-done.done) parts)) ≤ weight (expansion c.args.a.now)
-        = weight-back (expansion c.args.a.now) c.in-Over.var parts c.loop-done.done u c.in-Over.ensures c.loop-done-test.true c.index-parts-parts.is in
+    = weight-back (expansion c.args.a.now) c.in-Over.var parts c.loop-done.done u c.in-Over.ensures c.loop-done-test.true c.index-parts-parts.is in
     product-room (weight (expansion u)) (parts_weight (parts_of (drop (length parts - c.loop-done.done) parts))) (weight (expansion c.args.a.now)) (weight (expansion c.args.b.now))
-        (weight (expansion c.in_ok-product-in-Over.product)) (weight (expansion c.in_ok-raised-in-Over.raised)) (2 ^ 127)
-        c.in_ok-product-in-Over.ensures.light (omega (arith, c.in_ok-raised-in-Over.ensures.light, c.loop-done.invariant.light)) whole c.requires
+    (weight (expansion c.in_ok-product-in-Over.product)) (weight (expansion c.in_ok-raised-in-Over.raised)) (2 ^ 127)
+    c.in_ok-product-in-Over.ensures.light (omega (arith, c.in_ok-raised-in-Over.ensures.light, c.loop-done.invariant.light)) whole c.requires
 
 pub loop-done-preserved : goal.loop-done-preserved
 loop-done-preserved t c =
@@ -35,7 +34,7 @@ loop-done-preserved t c =
     let parts = c.in-Over.parts.now in
     let u = c.index-parts-parts.result in
     let same : parts_of (drop (length parts - (c.loop-done.done + 1)) parts) ≡ part (expansion u) (parts_of (drop (length parts - c.loop-done.done) parts))
-        = parts_of-back parts c.loop-done.done u c.loop-done-test.true c.index-parts-parts.is in
+    = parts_of-back parts c.loop-done.done u c.loop-done-test.true c.index-parts-parts.is in
     rw same (product-part v (parts_of (drop (length parts - c.loop-done.done) parts)) (expansion u) (expansion c.args.b.now) (expansion c.in_ok-product-in-Over.product)
-        (expansion c.in_ok-raised-in-Over.raised) (expansion c.loop-done.total) (expansion c.in_ok-total-in-Over.total)
-        c.loop-done.invariant c.in_ok-product-in-Over.ensures c.in_ok-raised-in-Over.ensures c.in_ok-total-in-Over.ensures)
+    (expansion c.in_ok-raised-in-Over.raised) (expansion c.loop-done.total) (expansion c.in_ok-total-in-Over.total)
+    c.loop-done.invariant c.in_ok-product-in-Over.ensures c.in_ok-raised-in-Over.ensures c.in_ok-total-in-Over.ensures)

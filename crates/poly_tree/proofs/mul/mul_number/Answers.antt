@@ -13,5 +13,5 @@ returns c =
     let b = expansion c.args.b.now in
     let nonzero : n ≢ pos 0 = λ e. c.if-a-eq0.false (ap (of_z w128) e) in
     IfOk-map (λ (t : Tree). expansion t ≡ scaled n b) (λ (t : Tree). IsProduct (number n) b (expansion t)) c.scale.result
-        (λ t e. product-number n (number n) b (expansion t) nonzero refl e)
-        (subst (λ (k : ℤ). IfOk c.scale.result (λ (t : Tree). expansion t ≡ scaled k b)) (to_z-of_z w128 n c.ranges.a) c.scale.ensures)
+    (λ t e. product-number n (number n) b (expansion t) nonzero refl e)
+    (subst (λ (k : ℤ). IfOk c.scale.result (λ (t : Tree). expansion t ≡ scaled k b)) (to_z-of_z w128 n c.ranges.a) c.scale.ensures)

@@ -1,12 +1,12 @@
-use Rattle.std.proofs.Common.{◌≡◌, ◌<◌, ◌≤◌, ◌*◌, ◌*ℤ◌, ◌^◌, ℕ, ℤ, List, ap, ◌∙◌, sym, subst, arith, inr, lit≤, pos, max, min, refl, FitsSigned, rules}
+use Rattle.std.proofs.Common.{◌≡◌, ◌<◌, ◌*ℤ◌, ◌^◌, ℕ, ℤ, ap, ◌∙◌, subst, arith, inr, pos, max, refl, FitsSigned, rules}
 use mir.Syntax.{w128}
 use Rattle.std.proofs.lemmas.Int.{to_z-of_z}
 use Rattle.std.specs.Prelude.{unsigned_abs}
 use Rattle.poly_tree.specs.declared.tree.Tree.{Tree}
-use Rattle.poly_tree.specs.Expansion.{Expansion, at, weight, value, put, put_weight, IsPut, IsCanonical, DegreesAtMost}
-use Rattle.poly_tree.specs.Poly.{size, put_size, Quotient, IsReduced}
+use Rattle.poly_tree.specs.Expansion.{Expansion, at, weight, IsPut}
+use Rattle.poly_tree.specs.Poly.{put_size, Quotient, IsReduced}
 use Rattle.poly_tree.specs.Tree.{expansion}
-use Rattle.poly_tree.proofs.LinearLemmas.{below-cap, reduced-value}
+use Rattle.poly_tree.proofs.LinearLemmas.{reduced-value}
 use Rattle.poly_tree.proofs.PutLemmas.{put-room}
 use Rattle.poly_tree.proofs.poly.put_in.Goals as goal
 

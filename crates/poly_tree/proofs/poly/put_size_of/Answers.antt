@@ -1,7 +1,7 @@
-use Rattle.std.proofs.Common.{◌≡◌, ◌*◌, ◌^◌, ℕ, min, max, ap, ◌∙◌, sym, arith}
+use Rattle.std.proofs.Common.{◌≡◌, ◌*◌, ◌^◌, ℕ, min, max, ap, ◌∙◌, arith}
 use Rattle.poly_tree.specs.declared.tree.Tree.{Tree}
 use Rattle.poly_tree.specs.Expansion.{weight, degree_in}
-use Rattle.poly_tree.specs.Poly.{size, put_size}
+use Rattle.poly_tree.specs.Poly.{size}
 use Rattle.poly_tree.specs.Tree.{expansion}
 use Rattle.poly_tree.proofs.LinearLemmas.{capped-left, power-some}
 use Rattle.poly_tree.proofs.poly.put_size_of.Goals as goal

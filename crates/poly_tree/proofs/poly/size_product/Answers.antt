@@ -1,4 +1,4 @@
-use Rattle.std.proofs.Common.{◌≡◌, ◌*◌, ◌^◌, ℕ, min, ap, ◌∙◌}
+use Rattle.std.proofs.Common.{◌*◌, ◌^◌, ℕ, min, ap, ◌∙◌}
 use Rattle.poly_tree.specs.Expansion.{weight}
 use Rattle.poly_tree.specs.Poly.{size}
 use Rattle.poly_tree.specs.Tree.{expansion}
@@ -11,6 +11,6 @@ returns c =
     let b = c.args.b.now in
     let limit = 2 ^ 126 in
     (c.capped_product.ensures
-        ∙ ap (λ (n : ℕ). min (n * c.size_of-2.result) limit) c.size_of.ensures.size
-        ∙ ap (λ (n : ℕ). min (min (size a) limit * n) limit) c.size_of-2.ensures.size
-        ∙ capped (size a) (size b) limit (size-some (weight (expansion a.tree)) a.denominator c.size_of.ensures.legal.positive) (size-some (weight (expansion b.tree)) b.denominator c.size_of-2.ensures.legal.positive))
+    ∙ ap (λ (n : ℕ). min (n * c.size_of-2.result) limit) c.size_of.ensures.size
+    ∙ ap (λ (n : ℕ). min (min (size a) limit * n) limit) c.size_of-2.ensures.size
+    ∙ capped (size a) (size b) limit (size-some (weight (expansion a.tree)) a.denominator c.size_of.ensures.legal.positive) (size-some (weight (expansion b.tree)) b.denominator c.size_of-2.ensures.legal.positive))

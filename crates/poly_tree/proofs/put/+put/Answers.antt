@@ -1,6 +1,6 @@
-use Rattle.std.proofs.Common.{◌≡◌, ◌≤◌, ◌<◌, ◌+◌, ◌*◌, ◌-◌, ◌^◌, max, length, drop, arith, sym, ap, ◌∙◌, subst, ℕ, mul-le-mul_left}
-use Rattle.poly_tree.specs.Expansion.{Expansion, Parts, part, nodes, weight, growth, put_weight, put_parts_weight, IsPartsPut}
-use Rattle.poly_tree.specs.Tree.{expansion, expansions, parts_of}
+use Rattle.std.proofs.Common.{◌≡◌, ◌≤◌, ◌<◌, ◌+◌, ◌*◌, ◌-◌, max, length, drop, arith, mul-le-mul_left}
+use Rattle.poly_tree.specs.Expansion.{part, nodes, weight, growth, put_parts_weight}
+use Rattle.poly_tree.specs.Tree.{expansion, parts_of}
 use Rattle.poly_tree.proofs.PutLemmas.{put-part, put_weight-back}
 use Rattle.poly_tree.proofs.Trees.{nodes-below, parts_of-back}
 use Rattle.poly_tree.proofs.put.+put.Goals as goal
@@ -46,7 +46,7 @@ loop-done-preserved t c =
     let parts = c.in-Over.parts.now in
     let u = c.index-parts-parts.result in
     let same : parts_of (drop (length parts - (c.loop-done.done + 1)) parts) ≡ part (expansion u) (parts_of (drop (length parts - c.loop-done.done) parts))
-        = parts_of-back parts c.loop-done.done u c.loop-done-test.true c.index-parts-parts.is in
+    = parts_of-back parts c.loop-done.done u c.loop-done-test.true c.index-parts-parts.is in
     rw same (put-part c.args.var (expansion c.args.inner.now) v (parts_of (drop (length parts - c.loop-done.done) parts)) (expansion u) (expansion c.in_ok-part-in-Over.part)
-        (expansion c.in_ok-raised-in-Over.raised) (expansion c.loop-done.total) (expansion c.in_ok-total-in-Over.total)
-        c.loop-done.invariant c.in_ok-part-in-Over.ensures c.in_ok-raised-in-Over.ensures c.in_ok-total-in-Over.ensures)
+    (expansion c.in_ok-raised-in-Over.raised) (expansion c.loop-done.total) (expansion c.in_ok-total-in-Over.total)
+    c.loop-done.invariant c.in_ok-part-in-Over.ensures c.in_ok-raised-in-Over.ensures c.in_ok-total-in-Over.ensures)

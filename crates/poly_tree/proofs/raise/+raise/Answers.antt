@@ -1,4 +1,4 @@
-use Rattle.std.proofs.Common.{◌≡◌, ◌<◌, length, arith, sym, ap, ◌∙◌, subst, ℕ}
+use Rattle.std.proofs.Common.{◌≡◌, ◌<◌, length, arith, sym, ◌∙◌, subst, ℕ}
 use Rattle.std.proofs.lemmas.List.{length-map}
 use Rattle.poly_tree.specs.Expansion.{nodes}
 use Rattle.poly_tree.specs.Tree.{expansion, expansions}
@@ -21,4 +21,4 @@ returns-after-loop-part t c =
     let left : length xs ≡ c.loop-part.part-index = omega (arith, length-map c.in-Over.parts.now expansion, c.loop-part-test.false, c.loop-part.auto.part-index-end) in
     let right : length ys ≡ c.loop-part.part-index = length-map c.loop-part.raised.items expansion ∙ c.loop-part.invariant.count in
     raised-over c.in-Over.v c.args.var (expansion c.args.tree.now) (expansion c.join.result) xs ys c.in-Over.ensures c.if-v-var.true (left ∙ sym right)
-        (λ k p. c.loop-part.invariant.parts k (subst (λ (n : ℕ). k < n) left p)) c.join.ensures
+    (λ k p. c.loop-part.invariant.parts k (subst (λ (n : ℕ). k < n) left p)) c.join.ensures

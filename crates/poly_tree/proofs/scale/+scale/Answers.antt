@@ -1,4 +1,4 @@
-use Rattle.std.proofs.Common.{◌≡◌, subst, map, take, ℤ, ◌≤◌, ◌<◌, ◌*◌, arith, rules, mul-le-mul_left}
+use Rattle.std.proofs.Common.{◌≡◌, subst, map, take, ℤ, ◌≤◌, ◌<◌, ◌*◌, arith, mul-le-mul_left}
 use Rattle.std.specs.Prelude.{unsigned_abs}
 use mir.Syntax.{w128}
 use Rattle.std.proofs.lemmas.Int.{to_z-of_z}
@@ -22,4 +22,4 @@ pub returns-after-loop-part : goal.returns-after-loop-part
 returns-after-loop-part t c =
     let f = c.args.factor in
     scaled-over f (expansion c.args.tree.now) c.in-Over.var c.loop-part.multiples c.in-Over.parts.now c.loop-part.part-index c.in-Over.ensures c.loop-part-test.false
-        (subst (λ (g : ℤ). map expansion c.loop-part.multiples.items ≡ map (scaled g) (map expansion (take c.loop-part.part-index c.in-Over.parts.now))) (to_z-of_z w128 f c.ranges.factor) c.loop-part.invariant)
+    (subst (λ (g : ℤ). map expansion c.loop-part.multiples.items ≡ map (scaled g) (map expansion (take c.loop-part.part-index c.in-Over.parts.now))) (to_z-of_z w128 f c.ranges.factor) c.loop-part.invariant)

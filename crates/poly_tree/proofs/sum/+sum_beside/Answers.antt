@@ -1,7 +1,7 @@
-use Rattle.std.proofs.Common.{◌≡◌, ◌≤◌, ◌<◌, ◌+◌, ℕ, length, get_or, List, max, arith, rules, sym, ap, ◌∙◌, subst}
+use Rattle.std.proofs.Common.{◌≡◌, ◌≤◌, ◌<◌, ◌+◌, ℕ, length, get_or, max, arith, ap, ◌∙◌, subst}
 use Rattle.std.proofs.lemmas.List.{length-map, length_push}
 use Rattle.poly_tree.specs.Expansion.{Expansion, weight, nodes, IsSum, zero_expansion}
-use Rattle.poly_tree.specs.Tree.{expansion, expansions, part_at}
+use Rattle.poly_tree.specs.Tree.{expansion, expansions}
 use Rattle.poly_tree.proofs.Sums.{pair-fewer, pair-light, sum-joined, sums-push}
 use Rattle.poly_tree.proofs.sum.+sum_beside.Goals as goal
 
@@ -28,11 +28,12 @@ loop-power-preserved t c =
     let k = c.loop-power.power in
     let u = c.in_ok-sum_beside.field-0 in
     let s : IsSum (get_or xs k zero_expansion) (get_or ys k zero_expansion) (expansion u)
-        = subst (λ (x : Expansion). IsSum x (get_or ys k zero_expansion) (expansion u)) c.part_or-x.ensures
-            (subst (λ (y : Expansion). IsSum (expansion c.part_or-x.result.now) y (expansion u)) c.part_or-y.ensures c.in_ok-sum_beside.ensures) in
+    = subst (λ (x : Expansion). IsSum x (get_or ys k zero_expansion) (expansion u)) c.part_or-x.ensures
+    (subst (λ (y : Expansion). IsSum (expansion c.part_or-x.result.now) y (expansion u)) c.part_or-y.ensures c.in_ok-sum_beside.ensures) in
     rw c.in_ok-push.ensures.items (record {
-        count = length_push c.loop-power.parts.items u ∙ ap (λ (n : ℕ). n + 1) c.loop-power.invariant.count;
-        sums = sums-push xs ys c.loop-power.parts.items u k c.loop-power.invariant.count c.loop-power.invariant.sums s })
+      count = length_push c.loop-power.parts.items u ∙ ap (λ (n : ℕ). n + 1) c.loop-power.invariant.count;
+      sums = sums-push xs ys c.loop-power.parts.items u k c.loop-power.invariant.count c.loop-power.invariant.sums s;
+    })
 
 pub returns : goal.returns
 returns t c =
@@ -47,4 +48,4 @@ returns t c =
     let second : length ys ≤ length zs = omega (arith, length-map c.parts_in-second.result.now expansion, c.max-power-end.ensures, c.loop-power-test.false, count) in
     let third : length zs ≤ max (length xs) (length ys) = omega (arith, length-map c.parts_in-first.result.now expansion, length-map c.parts_in-second.result.now expansion, c.max-power-end.ensures, c.loop-power.auto.power-end, count) in
     sum-joined v a b (expansion c.join.result) xs ys zs c.parts_in-first.ensures c.parts_in-second.ensures c.in-Some.ensures first second third
-        (λ k p. c.loop-power.invariant.sums k (subst (λ (n : ℕ). k < n) count p)) c.join.ensures
+    (λ k p. c.loop-power.invariant.sums k (subst (λ (n : ℕ). k < n) count p)) c.join.ensures

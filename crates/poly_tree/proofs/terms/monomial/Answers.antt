@@ -11,5 +11,5 @@ loop-var-preserved c =
     let es = c.args.exponents.now in
     let i = c.loop-var.var in
     rw (to_z-of_z w128 c.args.coefficient c.ranges.coefficient)
-        (monomial-push c.args.coefficient es i (get_or es i 0) 0 (expansion c.loop-var.tree) (expansion c.in_ok-tree.tree) c.loop-var-test.true refl c.requires.low
-            (subst (λ (k : ℤ). IsMonomial k (take i es) (expansion c.loop-var.tree)) (to_z-of_z w128 c.args.coefficient c.ranges.coefficient) c.loop-var.invariant) c.in_ok-tree.ensures)
+    (monomial-push c.args.coefficient es i (get_or es i 0) 0 (expansion c.loop-var.tree) (expansion c.in_ok-tree.tree) c.loop-var-test.true refl c.requires.low
+    (subst (λ (k : ℤ). IsMonomial k (take i es) (expansion c.loop-var.tree)) (to_z-of_z w128 c.args.coefficient c.ranges.coefficient) c.loop-var.invariant) c.in_ok-tree.ensures)

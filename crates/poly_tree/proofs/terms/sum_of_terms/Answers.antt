@@ -1,8 +1,7 @@
-use Rattle.std.proofs.Common.{get_or, refl, sym, subst, take, ap, ℤ, ◌<◌, ◌+◌, ◌^◌, FitsSigned, rules, arith, ℕ, Vec, Global}
+use Rattle.std.proofs.Common.{subst, ap, ℤ, FitsSigned, rules, arith, ℕ, Vec, Global}
 use mir.Syntax.{w128}
 use Rattle.std.proofs.lemmas.Int.{to_z-of_z}
-use Rattle.std.specs.Prelude.{unsigned_abs}
-use Rattle.poly_tree.specs.Expansion.{IsMonomial, weight}
+use Rattle.poly_tree.specs.Expansion.{IsMonomial}
 use Rattle.poly_tree.specs.Tree.{expansion}
 use Rattle.poly_tree.proofs.TermLemmas.{terms-push_read, exponents-read, terms-room}
 use Rattle.poly_tree.proofs.terms.sum_of_terms.Goals as goal
@@ -29,4 +28,4 @@ loop-coefficient-preserved c =
     let fits : FitsSigned w128 x.0 = search rules in
     let m : IsMonomial x.0 c.as_slice.result.now (expansion c.in_ok-term.term) = subst (λ (k : ℤ). IsMonomial k c.as_slice.result.now (expansion c.in_ok-term.term)) (to_z-of_z w128 x.0 fits) c.in_ok-term.ensures in
     terms-push_read c.args.terms.now c.loop-coefficient.coefficient-index x c.as_slice.result.now (expansion c.loop-coefficient.total) (expansion c.in_ok-term.term) (expansion c.in_ok-total.total)
-        c.requires.exponents c.loop-coefficient-test.true c.loop-coefficient-item.is c.as_slice.ensures.value c.loop-coefficient.invariant m c.in_ok-total.ensures
+    c.requires.exponents c.loop-coefficient-test.true c.loop-coefficient-item.is c.as_slice.ensures.value c.loop-coefficient.invariant m c.in_ok-total.ensures

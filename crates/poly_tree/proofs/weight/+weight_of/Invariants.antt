@@ -1,4 +1,4 @@
-use Rattle.std.proofs.Common.{◌≡◌, ◌≤◌, ◌*◌, ◌^◌, ◌+◌, min, drop, map, take}
+use Rattle.std.proofs.Common.{◌≡◌, ◌≤◌, ◌^◌, ◌+◌, min, drop}
 use Rattle.poly_tree.specs.Expansion.{weight, parts_weight}
 use Rattle.poly_tree.specs.Tree.{expansion, parts_of}
 use Rattle.poly_tree.proofs.weight.+weight_of.Given as goal

@@ -1,10 +1,10 @@
-use Rattle.std.proofs.Common.{◌≡◌, ◌<◌, ◌≤◌, ◌*◌, ◌^◌, ℕ, ℤ, List, ap, ◌∙◌, sym, subst, arith, inr, lit≤, pos, FitsSigned, rules}
+use Rattle.std.proofs.Common.{◌<◌, ◌*◌, ◌^◌, ℕ, ap, ◌∙◌, subst, arith, inr, lit≤, FitsSigned, rules}
 use mir.Syntax.{w128}
 use Rattle.std.proofs.lemmas.Int.{to_z-of_z}
 use Rattle.std.specs.Prelude.{unsigned_abs}
 use Rattle.poly_tree.specs.declared.tree.Tree.{Tree}
-use Rattle.poly_tree.specs.Expansion.{Expansion, at, weight, IsProduct, IsCanonical, DegreesAtMost}
-use Rattle.poly_tree.specs.Poly.{size, Quotient, IsReduced}
+use Rattle.poly_tree.specs.Expansion.{at, weight, IsProduct}
+use Rattle.poly_tree.specs.Poly.{size, IsReduced}
 use Rattle.poly_tree.specs.Tree.{expansion}
 use Rattle.poly_tree.proofs.LinearLemmas.{below-cap, weight-room, denominator-room, product-value}
 use Rattle.poly_tree.proofs.poly.Poly.mul.Goals as goal
@@ -29,8 +29,8 @@ pub returns-then-not-degrees_fit-clause-wide : goal.returns-then-not-degrees_fit
 returns-then-not-degrees_fit-clause-wide c = λ e.
     let t = expansion c.in_ok-tree.tree in
     let product : IsProduct (expansion c.args.self.now.tree) (expansion c.args.other.now.tree) t
-        = subst (λ (u : Tree). IsProduct (expansion u) (expansion c.args.other.now.tree) t) c.tree.ensures.tree
-            (subst (λ (u : Tree). IsProduct (expansion c.tree.result.now) (expansion u) t) c.tree-2.ensures.tree c.in_ok-tree.ensures) in
+    = subst (λ (u : Tree). IsProduct (expansion u) (expansion c.args.other.now.tree) t) c.tree.ensures.tree
+    (subst (λ (u : Tree). IsProduct (expansion c.tree.result.now) (expansion u) t) c.tree-2.ensures.tree c.in_ok-tree.ensures) in
     inr (t, (product.canonical (2 ^ 16) c.tree.ensures.legal.canonical c.tree-2.ensures.legal.canonical, λ point. product.product (at point), λ h. let yes = c.degrees_fit.ensures.1 h in let no = c.if-not-degrees_fit.true in cc))
 
 pub returns-clause-value : goal.returns-clause-value
@@ -40,9 +40,9 @@ returns-clause-value c =
     let t = expansion c.in_ok-tree.tree in
     let r = c.in_ok-reduced.field-0 in
     let product : IsProduct (expansion a.tree) (expansion b.tree) t
-        = subst (λ (u : Tree). IsProduct (expansion u) (expansion b.tree) t) c.tree.ensures.tree
-            (subst (λ (u : Tree). IsProduct (expansion c.tree.result.now) (expansion u) t) c.tree-2.ensures.tree c.in_ok-tree.ensures) in
+    = subst (λ (u : Tree). IsProduct (expansion u) (expansion b.tree) t) c.tree.ensures.tree
+    (subst (λ (u : Tree). IsProduct (expansion c.tree.result.now) (expansion u) t) c.tree-2.ensures.tree c.in_ok-tree.ensures) in
     let fits_d : FitsSigned w128 c.common_denominator.result = search rules in
     let n : IsReduced t (a.denominator * b.denominator) r
-        = subst (λ (m : ℕ). IsReduced t m r) (ap unsigned_abs (to_z-of_z w128 c.common_denominator.result fits_d ∙ c.common_denominator.ensures.product)) c.in_ok-reduced.ensures in
+    = subst (λ (m : ℕ). IsReduced t m r) (ap unsigned_abs (to_z-of_z w128 c.common_denominator.result fits_d ∙ c.common_denominator.ensures.product)) c.in_ok-reduced.ensures in
     product-value a b r t product n

@@ -1,4 +1,3 @@
-use Rattle.std.proofs.Common.{refl}
 use Rattle.std.proofs.Math.IntN.{negsuc}
 use Rattle.poly_tree.specs.declared.tree.Tree.TheVariants.{Num}
 use Rattle.poly_tree.specs.Expansion.{at, value}
@@ -13,7 +12,7 @@ pub returns-clause-value : goal.returns-clause-value
 returns-clause-value c =
     let t = expansion c.in_ok-inner.inner in
     IfOk-map (IsPutIn c.args.self.now c.args.var (λ point. value t (at point))) (IsShiftOf c.args.self.now c.args.var) c.put_in.result
-        (λ r. shift-value c.args.self.now c.args.var (expansion (Num (negsuc 0))) t r (expansion-Num (negsuc 0)) c.in_ok-inner.ensures) c.put_in.ensures.value
+    (λ r. shift-value c.args.self.now c.args.var (expansion (Num (negsuc 0))) t r (expansion-Num (negsuc 0)) c.in_ok-inner.ensures) c.put_in.ensures.value
 
 pub returns-clause-wide : goal.returns-clause-wide
 returns-clause-wide c = λ e. shift-wide c.args.self.now c.args.var (expansion (Num (negsuc 0))) (expansion c.in_ok-inner.inner) (expansion-Num (negsuc 0)) c.in_ok-inner.ensures (c.put_in.ensures.wide e)

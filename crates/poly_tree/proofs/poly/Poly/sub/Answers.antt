@@ -1,8 +1,8 @@
-use Rattle.std.proofs.Common.{◌≡◌, ap, ◌∙◌, subst, arith, rules, pos, ℤ, FitsSigned, to_z, of_z}
+use Rattle.std.proofs.Common.{◌≡◌, arith, pos, to_z, of_z}
 use Rattle.std.proofs.Math.IntN.{neg_ℤ, ◌-ℤ◌}
 use mir.Syntax.{w128}
-use Rattle.std.proofs.lemmas.Int.{ints, to_z-of_z}
-use Rattle.poly_tree.specs.Poly.{Quotient, IsCombinationOf, IsDifferenceOf}
+use Rattle.std.proofs.lemmas.Int.{ints}
+use Rattle.poly_tree.specs.Poly.{IsCombinationOf, IsDifferenceOf}
 use Rattle.poly_tree.proofs.LinearLemmas.{difference-value}
 use Rattle.poly_tree.proofs.Products.{IfOk-map}
 use Rattle.poly_tree.proofs.poly.Poly.sub.Goals as goal

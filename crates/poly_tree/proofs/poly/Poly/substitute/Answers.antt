@@ -12,7 +12,7 @@ pub returns-clause-value : goal.returns-clause-value
 returns-clause-value c =
     let t = expansion c.in_ok-inner.inner in
     IfOk-map (IsPutIn c.args.self.now c.args.var (λ point. value t (at point))) (IsSubstitutionOf c.args.self.now c.args.var c.args.form.now) c.put_in.result
-        (λ r. substitution-value c.args.self.now c.args.var c.args.form.now t r c.in_ok-inner.ensures.affine) c.put_in.ensures.value
+    (λ r. substitution-value c.args.self.now c.args.var c.args.form.now t r c.in_ok-inner.ensures.affine) c.put_in.ensures.value
 
 pub returns-clause-wide : goal.returns-clause-wide
 returns-clause-wide c = λ e. substitution-wide c.args.self.now c.args.var c.args.form.now (expansion c.in_ok-inner.inner) c.in_ok-inner.ensures.affine (c.put_in.ensures.wide e)
