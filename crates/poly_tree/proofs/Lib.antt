@@ -4,6 +4,7 @@ pub mod EvaluateLemmas
 pub mod Expansions
 pub mod Factors
 pub mod LinearLemmas
+pub mod PrintedLemmas
 pub mod Products
 pub mod PutLemmas
 pub mod Reduced

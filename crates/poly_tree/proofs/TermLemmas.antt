@@ -93,7 +93,7 @@ past (e ∷ es) v point le =
     ap (λ (z : ℤ). int_power z e *ℤ powers_from es (suc v) (at point)) (get_or_past point v (pos 1) le)
     ∙ ap (λ (z : ℤ). z *ℤ powers_from es (suc v) (at point)) (power-one e) ∙ one-mul (powers_from es (suc v) (at point)) ∙ past es (suc v) point (omega arith)
 
-powers-monomial : (es : List ℕ) (front ps : List ℤ) (v : ℕ) → length front ≡ v → powers_from es v (at (front ++ ps)) ≡ monomial es ps
+pub powers-monomial : (es : List ℕ) (front ps : List ℤ) (v : ℕ) → length front ≡ v → powers_from es v (at (front ++ ps)) ≡ monomial es ps
 powers-monomial [] front ps v e = refl
 powers-monomial (f ∷ es) front [] v e = past (f ∷ es) v (front ++ []) (omega (arith, nothing front)) where
   nothing : (xs : List ℤ) → length (xs ++ []) ≡ length xs

@@ -12,6 +12,7 @@ mod join;
 mod linear;
 mod mul;
 mod poly;
+pub mod printed_law;
 mod put;
 mod raise;
 mod scale;
