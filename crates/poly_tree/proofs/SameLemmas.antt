@@ -3,12 +3,14 @@ use Rattle.std.proofs.Common.{◌≡◌, ◌≢◌, ℕ, zero, suc, ◌+◌, ◌
 use Rattle.std.proofs.Math.IntN.{ℤ, pos, ◌*ℤ◌}
 use Rattle.std.specs.Prelude.{unsigned_abs}
 use Rattle.std.specs.Int.{◌∣◌}
-use Rattle.std.proofs.lemmas.Int.{unsigned_abs-mul}
+use Rattle.std.proofs.lemmas.Int.{ints, unsigned_abs-mul}
 use Rattle.std.proofs.lemmas.List.{get_or_append_left, get_or_push, length-append}
 use Rattle.std.proofs.lemmas.Nat.Gcd.{dvd_refl, dvd-zero, mod-eq-zero_of_dvd}
 use Rattle.std.proofs.Math.Nat.{dvd_of_mul-dvd-mul_left, dvd-mul_right, dvd-mul_left, dvd-add, dvd-sub}
 use Rattle.integer_laws.proofs.Ring.{mul_comm, mul-cancel}
-use Rattle.poly_tree.specs.Expansion.{Expansion, Parts, number, over, none, part, at, value, scaled, parts_scaled, IsCanonical, DividesAll, DividesParts}
+use lib.Signed.{◌≤ℤ◌}
+use Rattle.poly_tree.specs.declared.tree.Tree.{Tree}
+use Rattle.poly_tree.specs.Expansion.{DegreesAtMost, Expansion, Parts, number, over, none, part, at, value, scaled, parts_scaled, IsCanonical, DividesAll, DividesParts}
 use Rattle.poly_tree.specs.Tree.{expansion}
 use Rattle.poly_tree.specs.Poly.{Quotient, numerator_at, IsLegal, SameValues}
 use Rattle.poly_tree.proofs.Products.{value-scaled, canonical-scaled}
@@ -171,3 +173,18 @@ same-trees a b la lb h =
 -- the same trees and denominators have the same values
 pub same-values : (a b : Quotient) → expansion a.tree ≡ expansion b.tree → a.denominator ≡ b.denominator → SameValues a b
 same-values a b e f = λ point. ap (λ (t : Expansion). value t (at point) *ℤ pos b.denominator) e ∙ ap (λ (n : ℕ). numerator_at b point *ℤ pos n) (sym f)
+
+-- a legal polynomial's copy is legal
+pub legal-copy : (a : Quotient) (tree : Tree) (d : ℤ) → IsLegal a → expansion tree ≡ expansion a.tree → d ≡ pos a.denominator → IsLegal (record { tree = tree; denominator = unsigned_abs d }) × (pos 1 ≤ℤ d)
+legal-copy a tree d legal e f =
+    let size : a.denominator ≡ unsigned_abs d = sym (ap unsigned_abs f) in (
+      record {
+        canonical = subst (IsCanonical (2 ^ 16)) (sym e) legal.canonical;
+        degrees = subst (DegreesAtMost 8) (sym e) legal.degrees;
+        positive = subst (λ (n : ℕ). 1 ≤ n) size legal.positive;
+        primitive = λ k p q. legal.primitive k (subst (λ (n : ℕ). k ∣ n) (sym size) p) (subst (DividesAll k) e q);
+      },
+      subst (λ (z : ℤ). pos 1 ≤ℤ z) (sym f) (above a.denominator legal.positive),
+    ) where
+      above : (n : ℕ) → 1 ≤ n → pos 1 ≤ℤ pos n
+      above n p = omega (arith, ints)

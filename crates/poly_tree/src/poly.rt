@@ -7,6 +7,7 @@ ghost use Rattle.poly_tree.specs.Poly.{IsDifferenceOf, IsForm, IsLegal, IsProduc
 
 use crate::affine::{form_tree, with_variable};
 use crate::common_factor::{common_factor, divided, quotient};
+use crate::copy::copied;
 use crate::degrees::{degree_in, degrees_fit};
 use crate::equal::equal;
 use crate::evaluate::{size_at, value_at};
@@ -54,6 +55,17 @@ impl Poly {
     {
         let tree = form_tree(alloc, form)?;
         Ok(Poly { tree, den: 1 })
+    }
+
+    /// A copy of the polynomial. Want of memory is its only error.
+    pub fn try_clone(&self, alloc: Global) -> Result<Poly, Memory>
+        ensures { IfOk result (λ poly. IsSamePoly poly self.now) }
+    {
+        let tree = copied(alloc, self.tree())?;
+        Ok(Poly {
+            tree,
+            den: self.den(),
+        })
     }
 
     /// The tree.
