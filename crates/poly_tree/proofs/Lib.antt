@@ -1,0 +1,15 @@
+pub mod DegreeBounds
+pub mod AffineLemmas
+pub mod EvaluateLemmas
+pub mod Expansions
+pub mod Factors
+pub mod LinearLemmas
+pub mod PrintedLemmas
+pub mod Products
+pub mod PutLemmas
+pub mod Reduced
+pub mod SameLemmas
+pub mod Sums
+pub mod TermLemmas
+pub mod Trees
+pub mod Unique

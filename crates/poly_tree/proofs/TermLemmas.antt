@@ -1,0 +1,186 @@
+-- Polynomials by their terms.
+use Rattle.std.proofs.Common.{◌≡◌, ℕ, zero, suc, ◌+◌, ◌*◌, ◌<◌, ◌≤◌, max, min, List, [], ◌∷◌, ◌++◌, length, get_or, take, drop, replicate, arith, subst, sym, refl, ◌∙◌, ap, append_assoc, mul-le-mul, Vec, Global}
+use Rattle.std.proofs.Math.IntN.{ℤ, pos, ◌+ℤ◌, ◌*ℤ◌}
+use Rattle.std.specs.Prelude.{unsigned_abs}
+use Rattle.std.specs.List.{AllByRecursion}
+use Rattle.std.proofs.lemmas.Int.{ints}
+use Rattle.std.proofs.lemmas.List.{take_more, length-take-le, length_push, get_or_at, get_or_past, take-append-drop, map-append}
+use Rattle.integer_laws.proofs.Ring.{mul-zero, one-mul, mul-one, mul_assoc_ℤ, mul_comm}
+use Rattle.iolb_model.specs.Polynomial.{Term, int_power, monomial, terms_value}
+use Rattle.affine_form.proofs.Lists.{All-at}
+use Rattle.poly_tree.specs.Expansion.{Expansion, zero_expansion, parts_from, parts_count, at, value, parts_value, weight, parts_weight, powers_from, IsCanonical, AreCanonical, DegreesAtMost, PartsDegreesAtMost, IsJoined, IsSum, IsMonomial}
+use Rattle.poly_tree.specs.Terms.{term_of, terms_of, terms_weight, HasExponents, IsTermsSum, IsTermsOver}
+use Rattle.poly_tree.specs.Poly.{Quotient, IsReduced}
+use Rattle.poly_tree.proofs.Expansions.{IsCanonical-more}
+use Rattle.poly_tree.proofs.LinearLemmas.{capped-left, reduced-value}
+
+raised-parts : ℕ → Expansion → List Expansion
+raised-parts e t = replicate e zero_expansion ++ t ∷ []
+
+parts-value : (e : ℕ) (t : Expansion) (x : ℤ) (point : ℕ → ℤ) → parts_value (parts_from (raised-parts e t)) x point ≡ int_power x e *ℤ value t point
+unfolding raised-parts
+parts-value zero t x point = ap (λ (y : ℤ). value t point +ℤ y) (mul-zero x) ∙ plus (value t point) ∙ sym (one-mul (value t point)) where
+  plus : (y : ℤ) → y +ℤ pos 0 ≡ y
+  plus y = omega (arith, ints)
+parts-value (suc e) t x point = plus (x *ℤ parts_value (parts_from (raised-parts e t)) x point) ∙ ap (λ (y : ℤ). x *ℤ y) (parts-value e t x point) ∙ sym (mul_assoc_ℤ x (int_power x e) (value t point)) where
+  plus : (y : ℤ) → pos 0 +ℤ y ≡ y
+  plus y = omega (arith, ints)
+
+parts-weight : (e : ℕ) (t : Expansion) → parts_weight (parts_from (raised-parts e t)) ≡ weight t
+unfolding raised-parts
+parts-weight zero t = plus (weight t) where
+  plus : (n : ℕ) → n + 0 ≡ n
+  plus n = omega arith
+parts-weight (suc e) t = plus (parts_weight (parts_from (raised-parts e t))) ∙ parts-weight e t where
+  plus : (n : ℕ) → 0 + n ≡ n
+  plus n = omega arith
+
+parts-canonical : (e v : ℕ) (t : Expansion) → IsCanonical v t → AreCanonical v (parts_from (raised-parts e t))
+unfolding raised-parts
+parts-canonical zero v t h = (h, tt)
+parts-canonical (suc e) v t h = (tt, parts-canonical e v t h)
+
+parts-count : (e : ℕ) (t : Expansion) → parts_count (parts_from (raised-parts e t)) ≡ e + 1
+unfolding raised-parts
+parts-count zero t = refl
+parts-count (suc e) t = omega (arith, parts-count e t)
+
+parts-degrees : (e d : ℕ) (t : Expansion) → DegreesAtMost d t → PartsDegreesAtMost d (parts_from (raised-parts e t))
+unfolding raised-parts
+parts-degrees zero d t h = (h, tt)
+parts-degrees (suc e) d t h = (tt, parts-degrees e d t h)
+
+powers-push : (es : List ℕ) (e v : ℕ) (point : ℕ → ℤ) → powers_from (es ++ e ∷ []) v point ≡ powers_from es v point *ℤ int_power (point (v + length es)) e
+powers-push [] e v point = mul-one (int_power (point v) e) ∙ ap (λ (n : ℕ). int_power (point n) e) (plus v) ∙ sym (one-mul (int_power (point (v + 0)) e)) where
+  plus : (n : ℕ) → n ≡ n + 0
+  plus n = omega arith
+powers-push (f ∷ es) e v point =
+    ap (λ (z : ℤ). int_power (point v) f *ℤ z) (powers-push es e (suc v) point ∙ ap (λ (n : ℕ). powers_from es (suc v) point *ℤ int_power (point n) e) (shift v (length es)))
+    ∙ sym (mul_assoc_ℤ (int_power (point v) f) (powers_from es (suc v) point) (int_power (point (v + suc (length es))) e)) where
+      shift : (m n : ℕ) → suc m + n ≡ m + suc n
+      shift m n = omega arith
+
+-- one variable more
+powered : (c : ℤ) (es : List ℕ) (e v : ℕ) (t u : Expansion) → length es ≡ v → e ≤ 8 → IsMonomial c es t → IsJoined v (parts_from (raised-parts e t)) u → IsMonomial c (es ++ e ∷ []) u
+powered c es e v t u len low h joined = record {
+  product = λ point. joined.same point ∙ parts-value e t (point v) point ∙ ap (λ (z : ℤ). int_power (point v) e *ℤ z) (h.product point)
+      ∙ turn (int_power (point v) e) c (powers_from es 0 point) ∙ ap (λ (n : ℕ). c *ℤ (powers_from es 0 point *ℤ int_power (point n) e)) (place (length es) len) ∙ ap (λ (z : ℤ). c *ℤ z) (sym (powers-push es e 0 point));
+  light = omega (arith, joined.light, parts-weight e t, h.light);
+  canonical = joined.canonical (length (es ++ e ∷ [])) (omega (arith, length_push es e)) (parts-canonical e v t (subst (λ (n : ℕ). IsCanonical n t) len h.canonical));
+  degrees = joined.degrees 8 (omega (arith, parts-count e t)) (parts-degrees e 8 t h.degrees);
+} where
+  place : (n : ℕ) → n ≡ v → v ≡ 0 + n
+  place n p = omega arith
+
+  turn : (x y z : ℤ) → x *ℤ (y *ℤ z) ≡ y *ℤ (z *ℤ x)
+  turn x y z = mul_comm x (y *ℤ z) ∙ mul_assoc_ℤ y z x
+
+pub monomial-push : (c : ℤ) (es : List ℕ) (i e d : ℕ) (t u : Expansion) → i < length es → e ≡ get_or es i d → AllByRecursion (λ f. f ≤ 8) es → IsMonomial c (take i es) t
+    → IsJoined i (parts_from (replicate e zero_expansion ++ t ∷ [])) u → IsMonomial c (take (i + 1) es) u
+unfolding raised-parts
+monomial-push c es i e d t u below read low h joined =
+    subst (λ (fs : List ℕ). IsMonomial c fs u) (sym (take_more es i d below ∙ ap (λ (f : ℕ). take i es ++ f ∷ []) (sym read)))
+    (powered c (take i es) e i t u (length-take-le i es (omega arith)) (subst (λ (f : ℕ). f ≤ 8) (sym read) (All-at (λ f. f ≤ 8) es i d low below)) h joined)
+
+power-one : (e : ℕ) → int_power (pos 1) e ≡ pos 1
+power-one zero = refl
+power-one (suc e) = one-mul (int_power (pos 1) e) ∙ power-one e
+
+-- variables that a point doesn't have are 1
+past : (es : List ℕ) (v : ℕ) (point : List ℤ) → length point ≤ v → powers_from es v (at point) ≡ pos 1
+past [] v point le = refl
+past (e ∷ es) v point le =
+    ap (λ (z : ℤ). int_power z e *ℤ powers_from es (suc v) (at point)) (get_or_past point v (pos 1) le)
+    ∙ ap (λ (z : ℤ). z *ℤ powers_from es (suc v) (at point)) (power-one e) ∙ one-mul (powers_from es (suc v) (at point)) ∙ past es (suc v) point (omega arith)
+
+pub powers-monomial : (es : List ℕ) (front ps : List ℤ) (v : ℕ) → length front ≡ v → powers_from es v (at (front ++ ps)) ≡ monomial es ps
+powers-monomial [] front ps v e = refl
+powers-monomial (f ∷ es) front [] v e = past (f ∷ es) v (front ++ []) (omega (arith, nothing front)) where
+  nothing : (xs : List ℤ) → length (xs ++ []) ≡ length xs
+  nothing [] = refl
+  nothing (x ∷ xs) = ap suc (nothing xs)
+powers-monomial (f ∷ es) front (p ∷ ps) v e =
+    ap (λ (z : ℤ). int_power z f *ℤ powers_from es (suc v) (at (front ++ p ∷ ps))) (get_or_at front p ps (pos 1) v e)
+    ∙ ap (λ (ys : List ℤ). int_power p f *ℤ powers_from es (suc v) (at ys)) (sym (append_assoc front (p ∷ []) ps))
+    ∙ ap (λ (z : ℤ). int_power p f *ℤ z) (powers-monomial es (front ++ p ∷ []) ps (suc v) (omega (arith, length_push front p)))
+
+terms_value-push : (ts : List Term) (t : Term) (point : List ℤ) → terms_value (ts ++ t ∷ []) point ≡ terms_value ts point +ℤ (t.coefficient *ℤ monomial t.exponents point)
+terms_value-push [] t point = flip (t.coefficient *ℤ monomial t.exponents point) where
+  flip : (a : ℤ) → a +ℤ pos 0 ≡ pos 0 +ℤ a
+  flip a = omega (arith, ints)
+terms_value-push (s ∷ ts) t point = ap (λ (z : ℤ). (s.coefficient *ℤ monomial s.exponents point) +ℤ z) (terms_value-push ts t point)
+    ∙ regroup (s.coefficient *ℤ monomial s.exponents point) (terms_value ts point) (t.coefficient *ℤ monomial t.exponents point) where
+      regroup : (a b c : ℤ) → a +ℤ (b +ℤ c) ≡ (a +ℤ b) +ℤ c
+      regroup a b c = omega (arith, ints)
+
+terms_weight-append : (ts us : List Term) → terms_weight (ts ++ us) ≡ terms_weight ts + terms_weight us
+terms_weight-append [] us = omega arith
+terms_weight-append (t ∷ ts) us = omega (arith, terms_weight-append ts us)
+
+terms_more : (pairs : List (ℤ × Vec ℕ Global)) (i : ℕ) (d : ℤ × Vec ℕ Global) → i < length pairs → terms_of (take (i + 1) pairs) ≡ terms_of (take i pairs) ++ term_of (get_or pairs i d) ∷ []
+terms_more pairs i d below = ap terms_of (take_more pairs i d below) ∙ map-append term_of (take i pairs) (get_or pairs i d ∷ [])
+
+-- the terms up to a place and the next are no heavier than all
+pub terms-room : (pairs : List (ℤ × Vec ℕ Global)) (i : ℕ) (d : ℤ × Vec ℕ Global) (c : ℤ) → i < length pairs → c ≡ (get_or pairs i d).0
+    → terms_weight (terms_of (take i pairs)) + unsigned_abs c ≤ terms_weight (terms_of pairs)
+terms-room pairs i d c below e =
+    let whole : terms_weight (terms_of pairs) ≡ terms_weight (terms_of (take (i + 1) pairs)) + terms_weight (terms_of (drop (i + 1) pairs))
+    = ap (λ (ps : List (ℤ × Vec ℕ Global)). terms_weight (terms_of ps)) (sym (take-append-drop (i + 1) pairs)) ∙ ap terms_weight (map-append term_of (take (i + 1) pairs) (drop (i + 1) pairs)) ∙ terms_weight-append (terms_of (take (i + 1) pairs)) (terms_of (drop (i + 1) pairs)) in
+    let more = ap terms_weight (terms_more pairs i d below) ∙ terms_weight-append (terms_of (take i pairs)) (term_of (get_or pairs i d) ∷ []) in
+    omega (arith, whole, more, ap unsigned_abs e)
+
+-- the exponents of a term that is read
+pub exponents-at : (pairs : List (ℤ × Vec ℕ Global)) (i : ℕ) (d : ℤ × Vec ℕ Global) → AllByRecursion HasExponents (terms_of pairs) → i < length pairs → HasExponents (term_of (get_or pairs i d))
+exponents-at [] i d h p = absurd (omega arith)
+exponents-at (x ∷ pairs) zero d h p = h.0
+exponents-at (x ∷ pairs) (suc i) d h p = exponents-at pairs i d h.1 (omega arith)
+
+-- no terms
+pub terms-none : (t : Expansion) → t ≡ zero_expansion → IsTermsSum [] 24 t
+terms-none t e = record {
+  sum = λ point. ap (λ (s : Expansion). value s (at point)) e;
+  light = omega (arith, ap weight e);
+  canonical = subst (IsCanonical 24) (sym e) tt;
+  degrees = subst (DegreesAtMost 8) (sym e) tt;
+}
+
+-- one term more
+pub terms-push : (pairs : List (ℤ × Vec ℕ Global)) (i : ℕ) (d : ℤ × Vec ℕ Global) (total m t : Expansion) → AllByRecursion HasExponents (terms_of pairs) → i < length pairs
+    → IsTermsSum (terms_of (take i pairs)) 24 total → IsMonomial (get_or pairs i d).0 (get_or pairs i d).1.items m → IsSum total m t → IsTermsSum (terms_of (take (i + 1) pairs)) 24 t
+terms-push pairs i d total m t low below h mono added =
+    let here = get_or pairs i d in
+    let before = terms_of (take i pairs) in
+    subst (λ (ts : List Term). IsTermsSum ts 24 t) (sym (terms_more pairs i d below)) (record {
+      sum = λ point. added.sum (at point) ∙ ap (λ (z : ℤ). z +ℤ value m (at point)) (h.sum point)
+          ∙ ap (λ (z : ℤ). terms_value before point +ℤ z) (mono.product (at point) ∙ ap (λ (z : ℤ). here.0 *ℤ z) (powers-monomial here.1.items [] point 0 refl))
+          ∙ sym (terms_value-push before (term_of here) point);
+      light = omega (arith, added.light, h.light, mono.light, terms_weight-append before (term_of here ∷ []));
+      canonical = added.canonical 24 h.canonical (IsCanonical-more (length here.1.items) 24 m (exponents-at pairs i d low below).0 mono.canonical);
+      degrees = added.degrees 8 h.degrees mono.degrees;
+    })
+
+-- the capped size of terms
+pub terms-capped : (w d m limit : ℕ) → 1 ≤ d → 1 ≤ limit → m ≡ min (max (min w limit) 1 * d) limit → m ≡ min (max 1 w * d) limit
+terms-capped w d m limit p q e =
+    e ∙ ap (λ (n : ℕ). min (n * d) limit) (cap w) ∙ capped-left (max 1 w) d limit p where
+      cap : (n : ℕ) → max (min n limit) 1 ≡ min (max 1 n) limit
+      cap n = omega arith
+
+-- a small size is of small terms
+pub terms-small : (w d limit : ℕ) → 1 ≤ d → max 1 w * d < limit → w < limit
+terms-small w d limit p h = let r : w * 1 ≤ max 1 w * d = mul-le-mul (omega arith) p in omega arith
+
+pub terms-over : (terms : List Term) (t : Expansion) (d : ℕ) (r : Quotient) → IsTermsSum terms 24 t → IsReduced t d r → IsTermsOver terms d r
+terms-over terms t d r h reduced = λ point. reduced-value t d r reduced (at point) ∙ ap (λ (z : ℤ). z *ℤ pos r.denominator) (h.sum point)
+
+pub terms-push_read : (pairs : List (ℤ × Vec ℕ Global)) (i : ℕ) (x : ℤ × Vec ℕ Global) (es : List ℕ) (total m t : Expansion) → AllByRecursion HasExponents (terms_of pairs) → i < length pairs → x ≡ get_or pairs i x → es ≡ x.1.items
+    → IsTermsSum (terms_of (take i pairs)) 24 total → IsMonomial x.0 es m → IsSum total m t → IsTermsSum (terms_of (take (i + 1) pairs)) 24 t
+terms-push_read pairs i x es total m t low below read same h mono added =
+    terms-push pairs i x total m t low below h
+    (subst (λ (y : ℤ × Vec ℕ Global). IsMonomial y.0 y.1.items m) read (subst (λ (fs : List ℕ). IsMonomial x.0 fs m) same mono)) added
+
+pub exponents-read : (pairs : List (ℤ × Vec ℕ Global)) (i : ℕ) (x : ℤ × Vec ℕ Global) (es : List ℕ) → AllByRecursion HasExponents (terms_of pairs) → i < length pairs → x ≡ get_or pairs i x → es ≡ x.1.items
+    → (length es ≤ 24) × AllByRecursion (λ e. e ≤ 8) es
+exponents-read pairs i x es low below read same =
+    let h = exponents-at pairs i x low below in
+    subst (λ (fs : List ℕ). (length fs ≤ 24) × AllByRecursion (λ e. e ≤ 8) fs) (sym same) (subst (λ (y : ℤ × Vec ℕ Global). HasExponents (term_of y)) (sym read) h)

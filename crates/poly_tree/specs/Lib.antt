@@ -1,0 +1,6 @@
+pub mod Expansion
+pub mod Poly
+pub mod Printed
+pub mod Terms
+pub mod Top
+pub mod Tree

@@ -1,0 +1,60 @@
+-- A polynomial's terms in the order in which they are printed.
+use Rattle.std.specs.Prelude.{◌≡◌, ℕ, zero, suc, ◌-◌, ◌==◌, nat_lt, if◌then◌else◌, ◌||◌, ◌&&◌, Bool, false, ℤ, pos, negsuc, List, [], ◌∷◌, ◌++◌, map, replicate, length, sum}
+use Rattle.iolb_model.specs.Polynomial.{Term, Polynomial, numerator}
+use Rattle.poly_tree.specs.Expansion.{Expansion, Parts, number, over, none, part}
+use Rattle.poly_tree.specs.Poly.{Quotient, IsLegal, numerator_at}
+use Rattle.poly_tree.specs.Tree.{expansion}
+
+-- exponents of variables below one, and then its own
+abbrev pub with_exponent : ℕ → ℕ → List ℕ → List ℕ
+with_exponent v zero es = es
+with_exponent v (suc e) es = es ++ (replicate (v - length es) 0 ++ suc e ∷ [])
+
+-- a term in variables below one, times a power of it
+abbrev pub with_power : ℕ → ℕ → Term → Term
+with_power v e term = record { coefficient = term.coefficient; exponents = with_exponent v e term.exponents }
+
+-- a number as a term; 0 is none
+abbrev pub number_terms : ℤ → List Term
+number_terms (pos zero) = []
+number_terms (pos (suc n)) = record { coefficient = pos (suc n); exponents = [] } ∷ []
+number_terms (negsuc n) = record { coefficient = negsuc n; exponents = [] } ∷ []
+
+-- the terms whose coefficient isn't 0, the powers of the highest variable rising
+abbrev mutual
+  pub expansion_terms : Expansion → List Term
+  expansion_terms (number n) = number_terms n
+  expansion_terms (over v ps) = parts_terms v 0 ps
+
+  pub parts_terms : ℕ → ℕ → Parts → List Term
+  parts_terms v e none = []
+  parts_terms v e (part t ps) = map (with_power v e) (expansion_terms t) ++ parts_terms v (suc e) ps
+
+-- whether the first exponent that differs is greater; exponents past the end are 0
+abbrev pub is_greater : List ℕ → List ℕ → Bool
+is_greater [] fs = false
+is_greater (e ∷ es) [] = nat_lt 0 e || is_greater es []
+is_greater (e ∷ es) (f ∷ fs) = nat_lt f e || ((e == f) && is_greater es fs)
+
+-- whether a term is printed before another: by falling total degree, ties by the first exponent that differs
+abbrev pub is_printed_before : Term → Term → Bool
+is_printed_before s t =
+    nat_lt (sum t.exponents) (sum s.exponents) || ((sum s.exponents == sum t.exponents) && is_greater s.exponents t.exponents)
+
+-- a term put before the first that is printed after it
+abbrev pub insert_term : Term → List Term → List Term
+insert_term term [] = term ∷ []
+insert_term term (t ∷ ts) = if is_printed_before term t then term ∷ (t ∷ ts) else t ∷ insert_term term ts
+
+-- terms in the order in which they are printed
+abbrev pub in_print_order : List Term → List Term
+in_print_order [] = []
+in_print_order (t ∷ ts) = insert_term t (in_print_order ts)
+
+-- the polynomial that a tree over a denominator is, by its terms in the order in which they are printed
+abbrev pub polynomial_of : Quotient → Polynomial
+polynomial_of q = record { terms = in_print_order (expansion_terms (expansion q.tree)); denominator = q.denominator }
+
+-- its numerator is the tree's value at every point
+abbrev pub TermsHaveTheValue : Type 0
+TermsHaveTheValue = (q : Quotient) → IsLegal q → (point : List ℤ) → numerator (polynomial_of q) point ≡ numerator_at q point

@@ -1,0 +1,58 @@
+//! Values of trees.
+
+ghost use Rattle.std.specs.Prelude.{◌≡◌, ◌+◌, ◌*◌, ◌<◌, ◌^◌, ◌+ℤ◌, ◌*ℤ◌, length, min, unsigned_abs};
+ghost use Rattle.poly_tree.specs.Expansion.{IsCanonical, at, size_at, value};
+ghost use Rattle.poly_tree.specs.Tree.{expansion};
+
+use crate::size::{LIMIT, capped_product};
+use crate::top::{Top, look};
+use crate::tree::Tree;
+
+/// The sum over a tree's terms of the coefficient's size times the powers of the sizes of the variables' values, each
+/// at least 1; or 2^126 if that is less.
+pub(crate) fn size_at(tree: &Tree, point: &[i128]) -> u128
+    requires { IsCanonical (length point.now) (expansion tree.now) }
+    ensures { result ≡ min (size_at (expansion tree.now) (at point.now)) (2 ^ 126) }
+{
+    match look(tree) {
+        Top::Number(number) => number.unsigned_abs().min(LIMIT),
+        Top::Over(v, parts) => {
+            let base = point[usize::from(v)].unsigned_abs().max(1);
+            let mut total = 0;
+            for done in 0..parts.len() {
+                let part = size_at(&parts[parts.len() - 1 - done], point);
+                total = (part + capped_product(total, base)).min(LIMIT);
+            }
+            total
+        }
+    }
+}
+
+/// The value of a tree.
+pub(crate) fn value_at(tree: &Tree, point: &[i128]) -> i128
+    requires canonical { IsCanonical (length point.now) (expansion tree.now) }
+    requires small { size_at (expansion tree.now) (at point.now) < 2 ^ 126 }
+    ensures { result ≡ value (expansion tree.now) (at point.now) }
+{
+    match look(tree) {
+        Top::Number(number) => number,
+        Top::Over(v, parts) => {
+            let x = point[usize::from(v)];
+            let mut total = 0;
+            for done in 0..parts.len() {
+                let part = value_at(&parts[parts.len() - 1 - done], point);
+                total = horner_step(part, x, total);
+            }
+            total
+        }
+    }
+}
+
+/// A step of Horner's rule.
+fn horner_step(part: i128, x: i128, total: i128) -> i128
+    requires { unsigned_abs part + unsigned_abs x * unsigned_abs total < 2 ^ 127 }
+    ensures { result ≡ part +ℤ (x *ℤ total) }
+{
+    let product = x * total;
+    part + product
+}

@@ -1,0 +1,33 @@
+//! Polynomials as canonical trees.
+#![tactic(auto)]
+
+mod affine;
+mod common_factor;
+mod copy;
+mod degrees;
+mod equal;
+mod evaluate;
+mod fault;
+mod join;
+mod linear;
+mod mul;
+mod poly;
+pub mod printed_law;
+mod put;
+mod raise;
+mod scale;
+mod size;
+mod sum;
+mod terms;
+mod top;
+mod tree;
+mod weight;
+mod wide;
+
+pub use fault::PolyFault;
+pub use poly::Poly;
+pub use tree::Tree;
+pub use wide::Wide;
+
+#[cfg(test)]
+mod tests;
