@@ -40,7 +40,7 @@ built_meaning nest parts statement item built =
 
 pub built_program : (nest : CopyNest) (parts : ProgramParts) (statement : Statement) (item : Item) → IsCopyNest nest → AreBuilt nest parts statement item → IsProgram parts
 built_program nest parts statement item ok built = record {
-    limits = built_limits nest parts statement item ok built;
+  limits = built_limits nest parts statement item ok built;
   well_formed = subst IsWellFormed (sym (built_meaning nest parts statement item built)) (nest_well_formed nest);
   assumed = ap (λ (s : AffineSystem). s.vars) built.assumed ∙ ap (λ (p : List (List ℕ)). length p) (sym built.params);
   bounds = subst (λ (all : List Statement). AllByRecursion (λ (placed : ℕ × Statement). row_path (row_of parts.tree) placed.0 ≡ Some (map step_of placed.1.bounds.items)) (enumerate_from 0 all)) (sym built.one_statement)

@@ -71,7 +71,7 @@ statement_limits : (nest : CopyNest) (parts : ProgramParts) (statement : Stateme
 statement_limits nest parts statement item ok built =
     let steps : List PathStep = nest_steps (parameter_names nest) (length (parameter_names nest)) nest.loops in
     let depth : length statement.bounds.items ≡ length nest.loops =
-      sym (length-map statement.bounds.items step_of) ∙ ap (λ (s : List PathStep). length s) built.bounds ∙ steps_long (parameter_names nest) (length (parameter_names nest)) nest.loops in
+    sym (length-map statement.bounds.items step_of) ∙ ap (λ (s : List PathStep). length s) built.bounds ∙ steps_long (parameter_names nest) (length (parameter_names nest)) nest.loops in
     let reads : length statement.reads.items ≡ 1 = sym (length-map statement.reads.items access_of) ∙ ap (λ (s : ModelStatement). length s.reads) built.statement in
     record {
       depth = omega (arith, depth, ok.few_loops);
@@ -79,7 +79,7 @@ statement_limits nest parts statement item ok built =
       written = subst (λ (s : ModelStatement). IsSmallAccess s.writes) (sym built.statement) (access_small (length (parameter_names nest) + length nest.loops) (λ (name : List ℕ). length (parameter_names nest) + place_of name (loop_names nest)) nest.written.subscripts);
       reads = omega (arith, reads);
       read = unmapped access_of IsSmallAccess statement.reads.items (subst (λ (s : ModelStatement). AllByRecursion IsSmallAccess s.reads) (sym built.statement)
-        (access_small (length (parameter_names nest) + length nest.loops) (λ (name : List ℕ). length (parameter_names nest) + place_of name (loop_names nest)) nest.read.subscripts, tt));
+          (access_small (length (parameter_names nest) + length nest.loops) (λ (name : List ℕ). length (parameter_names nest) + place_of name (loop_names nest)) nest.read.subscripts, tt));
     }
 
 pub built_limits : (nest : CopyNest) (parts : ProgramParts) (statement : Statement) (item : Item) → IsCopyNest nest → AreBuilt nest parts statement item
@@ -88,7 +88,7 @@ built_limits nest parts statement item ok built =
     let few : length (parameter_names nest) ≤ length nest.loops = few_parameters nest in
     let names : length parts.params ≡ length (parameter_names nest) = ap (λ (p : List (List ℕ)). length p) built.params in
     let rows : length parts.assumed.rows ≡ length (parameter_names nest) =
-      ap (λ (s : AffineSystem). length s.rows) built.assumed ∙ length-map-range_with_len (variable_less_one (length (parameter_names nest))) 0 (length (parameter_names nest)) in
+    ap (λ (s : AffineSystem). length s.rows) built.assumed ∙ length-map-range_with_len (variable_less_one (length (parameter_names nest))) 0 (length (parameter_names nest)) in
     let arrays : length parts.arrays ≡ 2 = sym (length-map parts.arrays array_of) ∙ ap (λ (a : List Array). length a) built.arrays in
     let statements : length parts.statements ≡ 1 = ap (λ (s : List Statement). length s) built.one_statement in
     let read_ranks : length nest.read.subscripts ≤ 4 = omega (arith, ok.read_each.0, ok.few_loops) in
