@@ -1,13 +1,12 @@
 -- Reading from the front of a text gives what is spelled there, and all that is spelled is read.
-use Rattle.std.proofs.Common.{◌≡◌, refl, sym, ◌∙◌, ap, subst, inl, inr, ℕ, zero, suc, ◌+◌, ◌-◌, ◌<◌, ◌≤◌, Bool, true, false, cond, not, List, [], ◌∷◌, ◌++◌, length, take, drop, arith}
-use Rattle.std.specs.Prelude.{◌==◌, ◌||◌, ◌&&◌, codes, bytes_eq, Option, Some, None, option_and_then, IsTrue, ◌⊎◌, nat_le}
+use Rattle.std.proofs.Common.{◌≡◌, refl, sym, ◌∙◌, ap, subst, inl, inr, ℕ, ◌+◌, Bool, true, false, cond, not, List, [], ◌∷◌, ◌++◌, length, take, drop, arith}
+use Rattle.std.specs.Prelude.{◌==◌, ◌||◌, ◌&&◌, bytes_eq, Option, Some, None, option_and_then, IsTrue, ◌⊎◌, nat_le}
 use Rattle.std.specs.List.{AllByRecursion, prefix_len, list_all}
 use Rattle.std.proofs.lemmas.Option.{option_and_then_some, cond_some, same_Some}
 use Rattle.std.proofs.lemmas.List.{append_assoc, take-append-drop, take_at, drop_at}
 use Rattle.std.proofs.lemmas.Bool.{eqb-true, leb-true, le-leb, false_from_ne_true}
 use Rattle.std.proofs.lemmas.Bool.Decides.{Decides-eqb}
 use Rattle.std.proofs.lemmas.Slice.Eq.{slice_eq-Decides}
-use Rattle.copy_nest.specs.Nest.{CopyLoop, CopyAccess, CopyNest}
 use Rattle.copy_nest.specs.Spelling.{is_letter, is_digit, is_name_byte, is_among, keywords, IsName, AreBlanks, AreSpelled}
 use Rattle.affine_c.specs.Reading.{is_blank, after_blanks, after_start, after_word, after_words, longest, is_name, name_at}
 

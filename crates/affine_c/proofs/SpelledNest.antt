@@ -1,14 +1,14 @@
 -- A copy nest is read exactly where it is spelled.
-use Rattle.std.proofs.Common.{◌≡◌, refl, sym, ◌∙◌, ap, subst, inl, inr, ℕ, zero, suc, ◌+◌, ◌-◌, ◌<◌, ◌≤◌, Bool, true, false, cond, not, List, [], ◌∷◌, ◌++◌, length, take, drop, arith}
-use Rattle.std.specs.Prelude.{◌==◌, ◌||◌, ◌&&◌, codes, bytes_eq, Option, Some, None, option_and_then, option_map, IsTrue, ◌⊎◌, flat_map}
-use Rattle.std.specs.List.{AllByRecursion, prefix_len, list_all}
+use Rattle.std.proofs.Common.{◌≡◌, refl, sym, ◌∙◌, ap, subst, ℕ, zero, suc, ◌≤◌, Bool, true, false, cond, List, [], ◌∷◌, ◌++◌, length, arith}
+use Rattle.std.specs.Prelude.{◌||◌, codes, bytes_eq, Option, Some, None, option_and_then, option_map, flat_map}
+use Rattle.std.specs.List.{AllByRecursion, list_all}
 use Rattle.std.specs.Option.{option_map_or}
 use Rattle.std.proofs.lemmas.Option.{option_and_then_some, cond_some, same_Some}
 use Rattle.std.proofs.lemmas.List.{append_assoc}
 use Rattle.copy_nest.specs.Nest.{CopyLoop, CopyAccess, CopyNest}
-use Rattle.copy_nest.specs.Spelling.{is_name_byte, keywords, is_among, IsName, AreBlanks, AreSpelled, loop_words, subscript_words, access_words, nest_words}
+use Rattle.copy_nest.specs.Spelling.{is_name_byte, IsName, AreBlanks, AreSpelled, loop_words, subscript_words, access_words, nest_words}
 use Rattle.affine_c.specs.Reading.{is_blank, after_blanks, after_start, after_word, after_words, longest, name_at, header_end, header_bound, header_rest, header_at, with_first, headers_at, subscript_end, subscript_at, subscripts_at, access_from, access_at, at_end, statement_end, statement_read, statement_rest, nest_at}
-use Rattle.affine_c.proofs.Spelled.{after_blanks-word, and_parts, and_true, bytes_equal, bytes_refl, IsFirm, AreFirm, BeginsOther, word_sound, word_complete, words_sound, words_complete, longest_word, longest_sound, IsName-bytes, IsName-firm, name_sound, name_complete}
+use Rattle.affine_c.proofs.Spelled.{after_blanks-word, and_parts, and_true, bytes_equal, BeginsOther, word_sound, word_complete, words_sound, words_complete, longest_word, longest_sound, IsName-bytes, IsName-firm, name_sound, name_complete}
 
 -- an image of an option that is there
 map_some : {A B P : Type 0} (f : A → B) (o : Option A) (y : B) → option_map f o ≡ Some y → ((x : A) → o ≡ Some x → f x ≡ y → P) → P

@@ -1,14 +1,14 @@
 -- The copy nest of a text is the one of which it is the text.
-use Rattle.std.proofs.Common.{◌≡◌, refl, sym, ◌∙◌, ap, subst, inl, inr, ℕ, zero, suc, ◌+◌, ◌-◌, ◌<◌, ◌≤◌, Bool, true, false, cond, not, List, [], ◌∷◌, ◌++◌, length, map, take, drop, arith}
-use Rattle.std.specs.Prelude.{◌==◌, ◌||◌, ◌&&◌, codes, bytes_eq, nat_le, Option, Some, None, option_and_then, IsTrue, ◌⊎◌}
+use Rattle.std.proofs.Common.{◌≡◌, refl, sym, ◌∙◌, ap, subst, inl, inr, ℕ, ◌-◌, Bool, true, false, cond, not, List, [], ◌∷◌, ◌++◌, length, map, take, drop, arith}
+use Rattle.std.specs.Prelude.{◌||◌, codes, bytes_eq, Option, Some, None, option_and_then, IsTrue, ◌⊎◌}
 use Rattle.std.specs.List.{AllByRecursion, IsDistinct, list_all}
 use Rattle.std.specs.Option.{option_map_or}
 use Rattle.std.proofs.lemmas.Bool.{eqb-true, eq-eqb, leb-true, le-leb, false_from_ne_true}
-use Rattle.std.proofs.lemmas.Option.{option_and_then_some, cond_some, same_Some}
+use Rattle.std.proofs.lemmas.Option.{option_and_then_some, cond_some}
 use Rattle.std.proofs.lemmas.List.{append_assoc, append-nil, take-append-drop, take_at, drop_at, length-append}
-use Rattle.copy_nest.specs.Nest.{CopyLoop, CopyAccess, CopyNest, loop_names, parameter_names, program_of}
-use Rattle.copy_nest.specs.Spelling.{is_among, IsName, AreSpelled, IsCopyNest, nest_words, IsTextOf, ReadsAsProgram}
-use Rattle.affine_c.specs.Reading.{after_start, nest_at, before_end, without_newline, body_of, none_among, each_among, all_differ, all_of, copy_tests, is_copy_nest, if_copies, nest_of}
+use Rattle.copy_nest.specs.Nest.{CopyLoop, CopyNest, loop_names, parameter_names}
+use Rattle.copy_nest.specs.Spelling.{is_among, IsName, AreSpelled, IsCopyNest, nest_words, IsTextOf}
+use Rattle.affine_c.specs.Reading.{after_start, nest_at, before_end, without_newline, body_of, none_among, all_differ, all_of, copy_tests, is_copy_nest, if_copies, nest_of}
 use Rattle.affine_c.proofs.Spelled.{or_parts, and_parts, and_true, bytes_equal, bytes_refl, after_start-some, after_start-is}
 use Rattle.affine_c.proofs.SpelledNest.{HasNames, AreNames, nest_sound, nest_complete}
 
@@ -99,7 +99,7 @@ All-none_among : (words names : List (List ℕ)) → AllByRecursion (λ (n : Lis
 All-none_among words [] h = refl
 All-none_among words (n ∷ names) h = and_true (not (is_among words n)) (none_among words names) (ap not h.0) (All-none_among words names h.1)
 
-eq_turned : (a b : List ℕ) → bytes_eq a b ≡ false → bytes_eq b a ≡ false
+pub eq_turned : (a b : List ℕ) → bytes_eq a b ≡ false → bytes_eq b a ≡ false
 eq_turned a b e = false_from_ne_true (bytes_eq b a) (λ f. let same : bytes_eq a b ≡ true = subst (λ (z : List ℕ). bytes_eq a z ≡ true) (sym (bytes_equal b a f)) (bytes_refl a) in cc)
 
 -- no name is the first, as a row of names that differ from it

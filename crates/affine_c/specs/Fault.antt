@@ -1,5 +1,5 @@
 -- Which fault a text has.
-use Rattle.std.specs.Prelude.{◌≡◌, ⊤, ℕ}
+use Rattle.std.specs.Prelude.{◌≡◌, ⊤}
 use Rattle.affine_c.specs.declared.fault.ProgramFault.{ProgramFault}
 use Rattle.affine_c.specs.declared.fault.ProgramError.{ProgramError}
 use Rattle.affine_c.specs.declared.fault.ProgramError.TheVariants.{Fault, Memory}

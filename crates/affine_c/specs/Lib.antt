@@ -5,3 +5,4 @@ pub mod Parts
 pub mod Fault
 pub mod Reading
 pub mod Views
+pub mod Build

@@ -1,6 +1,6 @@
 -- How a copy nest is read from the front of its text. What a text is stands in `copy_nest`; these functions are what
 -- the reader's parts give, and the laws about them lead from one to the other.
-use Rattle.std.specs.Prelude.{ℕ, zero, suc, ◌-◌, ◌==◌, ◌||◌, ◌&&◌, nat_le, Bool, true, false, not, if◌then◌else◌, List, [], ◌∷◌, length, take, drop, codes, bytes_eq, Option, Some, None, option_and_then, option_map}
+use Rattle.std.specs.Prelude.{ℕ, zero, suc, ◌-◌, ◌==◌, ◌||◌, ◌&&◌, nat_le, Bool, true, false, not, if◌then◌else◌, List, [], ◌∷◌, ◌++◌, length, take, drop, codes, bytes_eq, Option, Some, None, option_and_then, option_map}
 use Rattle.std.specs.List.{prefix_len, list_all}
 use Rattle.std.specs.Option.{option_map_or}
 use Rattle.copy_nest.specs.Nest.{CopyLoop, CopyAccess, CopyNest, loop_names, parameter_names}
@@ -131,6 +131,10 @@ each_among words names = list_all (λ name. is_among words name) names
 abbrev pub all_differ : List (List ℕ) → Bool
 all_differ [] = true
 all_differ (name ∷ names) = none_among (name ∷ []) names && all_differ names
+
+-- one name more, where it isn't there
+abbrev pub with_new : List (List ℕ) → List ℕ → List (List ℕ)
+with_new names name = if is_among names name then names else names ++ name ∷ []
 
 -- whether all of these tests pass
 abbrev pub all_of : List Bool → Bool

@@ -1,6 +1,5 @@
 -- What the code's tree of items means.
-use Rattle.std.specs.Prelude.{ℕ, List, [], ◌∷◌, map}
-use Rattle.iolb_model.specs.Form.{AffineForm}
+use Rattle.std.specs.Prelude.{List, [], ◌∷◌, map}
 use Rattle.iolb_model.specs.Program.{assign, loop, done, next, Item as ModelItem, Row as ModelRow}
 use Rattle.affine_c.specs.declared.item.Item.{Item}
 use Rattle.affine_c.specs.declared.item.Item.TheOpen.{Item-F, Loop, Assign}

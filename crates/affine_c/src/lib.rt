@@ -1,6 +1,8 @@
 //! Affine loop programs: their type, and their text in C.
 #![tactic(auto)]
 
+mod build;
+mod copies;
 mod domain;
 mod fault;
 mod item;

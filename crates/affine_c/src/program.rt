@@ -35,6 +35,26 @@ impl Model for Program {
 }
 
 impl Program {
+    /// The program of these parts.
+    pub(crate) fn from_parts(
+        params: Vec<Name>,
+        assumed: System,
+        arrays: Vec<(Name, u8)>,
+        statements: Vec<Statement>,
+        tree: Vec<Item>,
+    ) -> Program
+        requires { IsProgram (record { params = params.items; assumed = assumed; arrays = arrays.items; statements = statements.items; tree = tree.items }) }
+        ensures { result ≡ record { params = params.items; assumed = assumed; arrays = arrays.items; statements = statements.items; tree = tree.items } }
+    {
+        Program {
+            params,
+            assumed,
+            arrays,
+            statements,
+            tree,
+        }
+    }
+
     /// The parameters' names, in order of first sight.
     pub fn params(&self) -> &[Name]
         ensures params { result.now ≡ self.now.params }

@@ -1,7 +1,7 @@
 //! Words at the front of a text.
 
 ghost use Rattle.std.specs.Prelude.{◌≡◌, ◌≤◌, length, map, option_copied};
-ghost use Rattle.std.specs.List.{prefix_len};
+ghost use Rattle.std.specs.List.{list_all, prefix_len};
 ghost use Rattle.copy_nest.specs.Spelling.{is_letter, is_name_byte};
 ghost use Rattle.affine_c.specs.Reading.{is_blank, after_blanks, after_start, after_word, after_words, before_end, longest};
 
@@ -90,4 +90,16 @@ fn run_length(bytes: &[u8]) -> usize
         }
     }
     bytes.len()
+}
+
+/// Whether there are blanks alone.
+pub(crate) fn are_blanks(bytes: &[u8]) -> bool
+    ensures { result ≡ list_all is_blank bytes.now }
+{
+    for b in bytes {
+        if !is_blank_byte(*b) {
+            return false;
+        }
+    }
+    true
 }

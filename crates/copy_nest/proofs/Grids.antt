@@ -1,7 +1,7 @@
 -- The points of a grid differ, and there are as many as the product of the sizes.
-use Rattle.std.proofs.Common.{◌≡◌, refl, sym, ◌∙◌, ap, subst, inl, inr, ℕ, zero, suc, ◌+◌, ◌*◌, ◌<◌, ◌≤◌, Bool, true, false, cond, not, List, [], ◌∷◌, ◌++◌, length, map, get_or, arith}
-use Rattle.std.specs.Prelude.{ℤ, pos, negsuc, ◌+ℤ◌, ◌≤ℤ◌, ◌<ℤ◌, flat_map}
-use Rattle.std.specs.List.{AllByRecursion, IsDistinct}
+use Rattle.std.proofs.Common.{◌≡◌, refl, ◌∙◌, ap, ℕ, zero, suc, ◌*◌, List, [], ◌∷◌, ◌++◌, length, map, arith}
+use Rattle.std.specs.Prelude.{ℤ, pos, ◌+ℤ◌, ◌<ℤ◌, flat_map}
+use Rattle.std.specs.List.{AllByRecursion}
 use Rattle.std.proofs.lemmas.Int.{ints}
 use Rattle.std.proofs.lemmas.List.{length-append, length-map}
 use Rattle.iolb_model.specs.Execution.{rising}
@@ -47,6 +47,7 @@ rising_above low first zero h = tt
 rising_above low first (suc count) h = (below low first h, rising_above low (first +ℤ pos 1) count (next low first h)) where
   below : (a b : ℤ) → a <ℤ b → a ≡ b → ⊥
   below a b l e = omega (arith, ints)
+
   next : (a b : ℤ) → a <ℤ b → a <ℤ (b +ℤ pos 1)
   next a b l = omega (arith, ints)
 
@@ -67,17 +68,17 @@ heads_apart : (value : ℤ) (point : List ℤ) (points : List (List ℤ)) (value
     → AllByRecursion (λ (q : List ℤ). value ∷ point ≡ q → ⊥) (flat_map (λ (w : ℤ). map (λ (x : List ℤ). w ∷ x) points) values)
 heads_apart value point points values h =
     All-flat_map (λ (q : List ℤ). value ∷ point ≡ q → ⊥) (λ (w : ℤ). map (λ (x : List ℤ). w ∷ x) points) values
-      (All-weaker (λ (y : ℤ). value ≡ y → ⊥) (λ (w : ℤ). AllByRecursion (λ (q : List ℤ). value ∷ point ≡ q → ⊥) (map (λ (x : List ℤ). w ∷ x) points))
-        (λ w apart. All-map (λ (q : List ℤ). value ∷ point ≡ q → ⊥) (λ (x : List ℤ). w ∷ x) points (All-every (λ (x : List ℤ). value ∷ point ≡ w ∷ x → ⊥) (λ x e. apart (same_head value w point x e)) points)) values h)
+    (All-weaker (λ (y : ℤ). value ≡ y → ⊥) (λ (w : ℤ). AllByRecursion (λ (q : List ℤ). value ∷ point ≡ q → ⊥) (map (λ (x : List ℤ). w ∷ x) points))
+    (λ w apart. All-map (λ (q : List ℤ). value ∷ point ≡ q → ⊥) (λ (x : List ℤ). w ∷ x) points (All-every (λ (x : List ℤ). value ∷ point ≡ w ∷ x → ⊥) (λ x e. apart (same_head value w point x e)) points)) values h)
 
 Differ-product : (points : List (List ℤ)) (values : List ℤ) → Differ points → Differ values → Differ (flat_map (λ (w : ℤ). map (λ (x : List ℤ). w ∷ x) points) values)
 Differ-product points [] h k = tt
 Differ-product points (value ∷ values) h k =
     Differ-append (map (λ (x : List ℤ). value ∷ x) points) (flat_map (λ (w : ℤ). map (λ (x : List ℤ). w ∷ x) points) values)
-      (Differ-map (λ (x : List ℤ). value ∷ x) (same_tail value) points h)
-      (Differ-product points values h k.1)
-      (All-map (λ (p : List ℤ). AllByRecursion (λ (q : List ℤ). p ≡ q → ⊥) (flat_map (λ (w : ℤ). map (λ (x : List ℤ). w ∷ x) points) values)) (λ (x : List ℤ). value ∷ x) points
-        (All-every (λ (x : List ℤ). AllByRecursion (λ (q : List ℤ). value ∷ x ≡ q → ⊥) (flat_map (λ (w : ℤ). map (λ (y : List ℤ). w ∷ y) points) values)) (λ x. heads_apart value x points values k.0) points))
+    (Differ-map (λ (x : List ℤ). value ∷ x) (same_tail value) points h)
+    (Differ-product points values h k.1)
+    (All-map (λ (p : List ℤ). AllByRecursion (λ (q : List ℤ). p ≡ q → ⊥) (flat_map (λ (w : ℤ). map (λ (x : List ℤ). w ∷ x) points) values)) (λ (x : List ℤ). value ∷ x) points
+    (All-every (λ (x : List ℤ). AllByRecursion (λ (q : List ℤ). value ∷ x ≡ q → ⊥) (flat_map (λ (w : ℤ). map (λ (y : List ℤ). w ∷ y) points) values)) (λ x. heads_apart value x points values k.0) points))
 
 pub Differ-grid : (sizes : List ℕ) → Differ (grid sizes)
 Differ-grid [] = (tt, tt)
@@ -96,8 +97,8 @@ length-product : (points : List (List ℤ)) (values : List ℤ) → length (flat
 length-product points [] = omega arith
 length-product points (value ∷ values) = length-append (map (λ (x : List ℤ). value ∷ x) points) (flat_map (λ (w : ℤ). map (λ (x : List ℤ). w ∷ x) points) values)
     ∙ (let first : length (map (λ (x : List ℤ). value ∷ x) points) ≡ length points = length-map points (λ (x : List ℤ). value ∷ x) in
-       let rest : length (flat_map (λ (w : ℤ). map (λ (x : List ℤ). w ∷ x) points) values) ≡ length values * length points = length-product points values in
-       omega arith)
+    let rest : length (flat_map (λ (w : ℤ). map (λ (x : List ℤ). w ∷ x) points) values) ≡ length values * length points = length-product points values in
+    omega arith)
 
 pub length-grid : (sizes : List ℕ) → length (grid sizes) ≡ product sizes
 length-grid [] = refl
@@ -110,5 +111,5 @@ pub lengths-grid : (sizes : List ℕ) → AllByRecursion (λ (x : List ℤ). len
 lengths-grid [] = (refl, tt)
 lengths-grid (size ∷ sizes) = All-flat_map (λ (x : List ℤ). length x ≡ suc (length sizes)) (λ (w : ℤ). map (λ (x : List ℤ). w ∷ x) (grid sizes)) (rising (pos 0) size)
     (All-every (λ (w : ℤ). AllByRecursion (λ (x : List ℤ). length x ≡ suc (length sizes)) (map (λ (x : List ℤ). w ∷ x) (grid sizes)))
-      (λ w. All-map (λ (x : List ℤ). length x ≡ suc (length sizes)) (λ (x : List ℤ). w ∷ x) (grid sizes)
-        (All-weaker (λ (x : List ℤ). length x ≡ length sizes) (λ (x : List ℤ). suc (length x) ≡ suc (length sizes)) (λ x e. ap suc e) (grid sizes) (lengths-grid sizes))) (rising (pos 0) size))
+    (λ w. All-map (λ (x : List ℤ). length x ≡ suc (length sizes)) (λ (x : List ℤ). w ∷ x) (grid sizes)
+    (All-weaker (λ (x : List ℤ). length x ≡ length sizes) (λ (x : List ℤ). suc (length x) ≡ suc (length sizes)) (λ x e. ap suc e) (grid sizes) (lengths-grid sizes))) (rising (pos 0) size))

@@ -3,3 +3,5 @@ pub mod Runs
 pub mod Undone
 pub mod Product
 pub mod Copies
+pub mod Paths
+pub mod Sizes

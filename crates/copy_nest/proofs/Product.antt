@@ -1,6 +1,6 @@
 -- The product of the parameters has at admitted values the value that is the product of the sizes.
-use Rattle.std.proofs.Common.{◌≡◌, refl, sym, ◌∙◌, ap, subst, inl, inr, ℕ, zero, suc, ◌+◌, ◌-◌, ◌*◌, ◌<◌, ◌≤◌, Bool, true, false, cond, not, List, [], ◌∷◌, ◌++◌, length, map, get_or, arith}
-use Rattle.std.specs.Prelude.{ℤ, pos, negsuc, ◌+ℤ◌, ◌*ℤ◌, ◌≤ℤ◌, ◌==◌, count_by}
+use Rattle.std.proofs.Common.{◌≡◌, refl, sym, ◌∙◌, ap, subst, ℕ, zero, suc, ◌+◌, ◌<◌, ◌≤◌, Bool, cond, List, [], ◌∷◌, length, map, get_or, arith}
+use Rattle.std.specs.Prelude.{ℤ, pos, negsuc, ◌*ℤ◌, ◌≤ℤ◌, ◌==◌, count_by}
 use Rattle.std.specs.List.{AllByRecursion, range_with_len}
 use Rattle.std.proofs.lemmas.Int.{ints}
 use Rattle.std.proofs.lemmas.Bool.{eq-eqb, ne_eqb}
@@ -37,7 +37,7 @@ powers-more c d first zero (x ∷ xs) others more l =
 powers-more c d first (suc place) (x ∷ xs) others more l =
     ap (λ (n : ℕ). int_power x n *ℤ powers d (first + 1) xs) (others first (λ e. omega (arith, e)))
     ∙ ap (λ (z : ℤ). int_power x (c first) *ℤ z) (powers-more c d (first + 1) place xs (λ j apart. others j (λ e. apart (omega (arith, e))))
-      (subst (λ (n : ℕ). d n ≡ suc (c n)) (omega arith) more) (omega (arith, l)))
+    (subst (λ (n : ℕ). d n ≡ suc (c n)) (omega arith) more) (omega (arith, l)))
     ∙ swap_first (int_power x (c first)) (get_or xs place (pos 0)) (powers c (first + 1) xs)
 
 -- no powers at all
@@ -59,11 +59,11 @@ pub product_value : (names : List (List ℕ)) (parameters : List ℤ) (loops : L
 product_value names parameters [] h = powers-none (uses names []) 0 parameters (λ j. refl)
 product_value names parameters (l ∷ loops) h =
     powers-more (uses names loops) (uses names (l ∷ loops)) 0 (place_of l.bound names) parameters
-      (λ j apart. uses-cons names l loops j ∙ ap (λ (b : Bool). cond b 1 0 + uses names loops j) (ne_eqb (place_of l.bound names) j (λ e. apart (omega (arith, e)))) ∙ omega arith)
-      (uses-cons names l loops (0 + place_of l.bound names) ∙ ap (λ (b : Bool). cond b 1 0 + uses names loops (0 + place_of l.bound names)) (eq-eqb (place_of l.bound names) (0 + place_of l.bound names) (omega arith)) ∙ omega arith)
-      h.0.0
+    (λ j apart. uses-cons names l loops j ∙ ap (λ (b : Bool). cond b 1 0 + uses names loops j) (ne_eqb (place_of l.bound names) j (λ e. apart (omega (arith, e)))) ∙ omega arith)
+    (uses-cons names l loops (0 + place_of l.bound names) ∙ ap (λ (b : Bool). cond b 1 0 + uses names loops (0 + place_of l.bound names)) (eq-eqb (place_of l.bound names) (0 + place_of l.bound names) (omega arith)) ∙ omega arith)
+    h.0.0
     ∙ ap (λ (z : ℤ). get_or parameters (place_of l.bound names) (pos 0) *ℤ z) (product_value names parameters loops h.1)
     ∙ ap (λ (z : ℤ). z *ℤ pos (product (map (size_of names parameters) loops))) (as_natural (get_or parameters (place_of l.bound names) (pos 0)) h.0.1) where
-  as_natural : (z : ℤ) → pos 0 ≤ℤ z → z ≡ pos (natural z)
-  as_natural (pos n) p = refl
-  as_natural (negsuc n) p = absurd (omega (arith, ints, p))
+      as_natural : (z : ℤ) → pos 0 ≤ℤ z → z ≡ pos (natural z)
+      as_natural (pos n) p = refl
+      as_natural (negsuc n) p = absurd (omega (arith, ints, p))

@@ -1,6 +1,6 @@
 -- The execution of a copy nest is the grid of its loop values, and no instance writes a cell that is read.
-use Rattle.std.proofs.Common.{◌≡◌, refl, sym, ◌∙◌, ap, subst, inl, inr, ℕ, zero, suc, ◌+◌, ◌*◌, ◌<◌, ◌≤◌, Bool, true, false, cond, not, List, [], ◌∷◌, ◌++◌, length, map, get_or, set, replicate, arith}
-use Rattle.std.specs.Prelude.{ℤ, pos, negsuc, ◌+ℤ◌, ◌-ℤ◌, ◌*ℤ◌, flat_map, Option, Some, None, slice_get, ◌==◌, ◌&&◌}
+use Rattle.std.proofs.Common.{◌≡◌, refl, sym, ◌∙◌, ap, ℕ, zero, suc, ◌<◌, Bool, false, cond, List, [], ◌∷◌, ◌++◌, length, map, get_or, set, replicate, arith}
+use Rattle.std.specs.Prelude.{ℤ, pos, negsuc, ◌+ℤ◌, ◌-ℤ◌, flat_map, Option, Some, None, slice_get, ◌==◌, ◌&&◌}
 use Rattle.std.specs.List.{AllByRecursion}
 use Rattle.std.specs.Option.{option_map_or}
 use Rattle.std.specs.Ordering.{int_eq}
@@ -8,11 +8,11 @@ use lib.Pointwise.{pointwise}
 use Rattle.std.proofs.lemmas.Int.{ints}
 use Rattle.std.proofs.lemmas.List.{append_assoc, append-nil, get_or_append_left, length-append, map-append}
 use Rattle.integer_laws.proofs.Ring.{zero-mul, one-mul}
-use Rattle.iolb_model.specs.Form.{AffineForm, dot, form_value}
-use Rattle.iolb_model.specs.Program.{AffineProgram, Statement, Access, statement_at, Item, assign, loop, Row, done, next, no_statement}
+use Rattle.iolb_model.specs.Form.{dot, form_value}
+use Rattle.iolb_model.specs.Program.{statement_at, done, next}
 use Rattle.iolb_model.specs.Execution.{Instance, natural, rising, range, at_value, item_runs, row_runs, execution}
-use Rattle.iolb_model.specs.Source.{Cell, same_cell, cell_of, written_cell, writes_at, last_write_before}
-use Rattle.copy_nest.specs.Nest.{CopyLoop, CopyNest, place_of, variable_less_one, zero_form, nest_item, program_of, parameter_names, access_of}
+use Rattle.iolb_model.specs.Source.{Cell, same_cell, written_cell, last_write_before}
+use Rattle.copy_nest.specs.Nest.{CopyLoop, CopyNest, place_of, variable_less_one, zero_form, nest_item, program_of, parameter_names}
 use Rattle.copy_nest.specs.Count.{grid}
 
 pub dot-zeros : (n : ℕ) (xs : List ℤ) → dot (replicate n (pos 0)) xs ≡ pos 0
@@ -41,13 +41,13 @@ below_parameter names parameters xs variables r wide h =
     let inside : r < variables = omega (arith, h, wide, length-append parameters xs) in
     let zeros : dot (replicate variables (pos 0)) (parameters ++ xs) ≡ pos 0 = dot-zeros variables (parameters ++ xs) in
     let unit : dot (set (replicate variables (pos 0)) r (pos 1)) (parameters ++ xs) ≡ get_or parameters r (pos 0) =
-      dot-unit variables r (parameters ++ xs) inside ∙ get_or_append_left parameters xs (pos 0) r h in
+    dot-unit variables r (parameters ++ xs) inside ∙ get_or_append_left parameters xs (pos 0) r h in
     range_is (dot (replicate variables (pos 0)) (parameters ++ xs)) (dot (set (replicate variables (pos 0)) r (pos 1)) (parameters ++ xs)) (get_or parameters r (pos 0)) zeros unit where
-  range_is : (a b c : ℤ) → a ≡ pos 0 → b ≡ c → range (a +ℤ pos 0) (b +ℤ negsuc 0) ≡ rising (pos 0) (natural c)
-  range_is a b c e f =
-    let low : a +ℤ pos 0 ≡ pos 0 = omega (arith, ints) in
-    let count : (((b +ℤ negsuc 0) -ℤ (a +ℤ pos 0)) +ℤ pos 1) ≡ c = omega (arith, ints) in
-    ap (λ (z : ℤ). rising z (natural (((b +ℤ negsuc 0) -ℤ (a +ℤ pos 0)) +ℤ pos 1))) low ∙ ap (λ (z : ℤ). rising (pos 0) (natural z)) count
+      range_is : (a b c : ℤ) → a ≡ pos 0 → b ≡ c → range (a +ℤ pos 0) (b +ℤ negsuc 0) ≡ rising (pos 0) (natural c)
+      range_is a b c e f =
+          let low : a +ℤ pos 0 ≡ pos 0 = omega (arith, ints) in
+          let count : (((b +ℤ negsuc 0) -ℤ (a +ℤ pos 0)) +ℤ pos 1) ≡ c = omega (arith, ints) in
+          ap (λ (z : ℤ). rising z (natural (((b +ℤ negsuc 0) -ℤ (a +ℤ pos 0)) +ℤ pos 1))) low ∙ ap (λ (z : ℤ). rising (pos 0) (natural z)) count
 
 map-at_value : (value : ℤ) (points : List (List ℤ)) → map (at_value value) (map instance_at points) ≡ map instance_at (map (λ (x : List ℤ). value ∷ x) points)
 map-at_value value [] = refl
@@ -71,14 +71,14 @@ nest_runs names parameters [] xs variables wide h = refl
 nest_runs names parameters (l ∷ loops) xs variables wide h =
     let inner : List (List ℤ) = grid (map (size_of names parameters) loops) in
     let body : (value : ℤ) → map (at_value value) (row_runs (next (nest_item names (suc variables) loops) done) ((parameters ++ xs) ++ value ∷ [])) ≡ map instance_at (map (λ (x : List ℤ). value ∷ x) inner) =
-      λ value. ap (map (at_value value)) (append-nil (item_runs (nest_item names (suc variables) loops) ((parameters ++ xs) ++ value ∷ []))
-        ∙ ap (item_runs (nest_item names (suc variables) loops)) (append_assoc parameters xs (value ∷ []))
-        ∙ nest_runs names parameters loops (xs ++ value ∷ []) (suc variables) (length-more parameters xs value variables wide) h.1)
-        ∙ map-at_value value inner in
+    λ value. ap (map (at_value value)) (append-nil (item_runs (nest_item names (suc variables) loops) ((parameters ++ xs) ++ value ∷ []))
+    ∙ ap (item_runs (nest_item names (suc variables) loops)) (append_assoc parameters xs (value ∷ []))
+    ∙ nest_runs names parameters loops (xs ++ value ∷ []) (suc variables) (length-more parameters xs value variables wide) h.1)
+    ∙ map-at_value value inner in
     ap (flat_map (λ (value : ℤ). map (at_value value) (row_runs (next (nest_item names (suc variables) loops) done) ((parameters ++ xs) ++ value ∷ []))))
-      (below_parameter names parameters xs variables (place_of l.bound names) wide h.0)
+    (below_parameter names parameters xs variables (place_of l.bound names) wide h.0)
     ∙ flat_map-same (λ (value : ℤ). map (at_value value) (row_runs (next (nest_item names (suc variables) loops) done) ((parameters ++ xs) ++ value ∷ [])))
-      (λ (value : ℤ). map instance_at (map (λ (x : List ℤ). value ∷ x) inner)) body (rising (pos 0) (size_of names parameters l))
+    (λ (value : ℤ). map instance_at (map (λ (x : List ℤ). value ∷ x) inner)) body (rising (pos 0) (size_of names parameters l))
     ∙ map-flat_map instance_at (λ (value : ℤ). map (λ (x : List ℤ). value ∷ x) inner) (rising (pos 0) (size_of names parameters l))
 
 -- the execution of a copy nest is its loop values in lexicographic order
@@ -107,6 +107,6 @@ no_write_before nest parameters runs cell zero e = refl
 no_write_before nest parameters runs cell (suc place) e =
     ap (λ (b : Bool). cond b (Some place) (last_write_before (program_of nest) parameters runs cell place)) (at (slice_get runs place))
     ∙ no_write_before nest parameters runs cell place e where
-  at : (o : Option Instance) → option_map_or (λ (instance : Instance). same_cell (written_cell (program_of nest) parameters instance) cell) o false ≡ false
-  at None = refl
-  at (Some instance) = other_array (written_cell (program_of nest) parameters instance) cell (written_array nest parameters instance) e
+      at : (o : Option Instance) → option_map_or (λ (instance : Instance). same_cell (written_cell (program_of nest) parameters instance) cell) o false ≡ false
+      at None = refl
+      at (Some instance) = other_array (written_cell (program_of nest) parameters instance) cell (written_array nest parameters instance) e

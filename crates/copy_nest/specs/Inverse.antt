@@ -1,5 +1,5 @@
 -- Matrices that undo the order of a reference's subscripts.
-use Rattle.std.specs.Prelude.{◌≡◌, ℕ, zero, suc, ◌+◌, ◌<◌, ◌⊎◌, ℤ, pos, ◌*ℤ◌, ◌+ℤ◌, List, [], ◌∷◌, map, length, drop, replicate, slice_set, slice_index_or, ◌==◌, if◌then◌else◌}
+use Rattle.std.specs.Prelude.{◌≡◌, ℕ, ◌<◌, ◌⊎◌, ℤ, pos, List, [], map, drop, slice_index_or, ◌==◌, if◌then◌else◌}
 use Rattle.iolb_model.specs.Form.{AffineForm, dot}
 use Rattle.iolb_model.specs.Program.{Access}
 

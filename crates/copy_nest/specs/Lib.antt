@@ -3,3 +3,4 @@ pub mod Spelling
 pub mod Inverse
 pub mod Count
 pub mod Loads
+pub mod Steps

@@ -1,9 +1,9 @@
 -- Copy nests: one to four loops, each from 0 to below a parameter, around one statement that copies a cell of one
 -- array into a cell of another. The program that such a nest means.
-use Rattle.std.specs.Prelude.{◌≡◌, ◌≢◌, ℕ, suc, ◌+◌, ◌-◌, ◌≤◌, ℤ, pos, negsuc, Bool, List, [], ◌∷◌, ◌++◌, map, length, replicate, slice_set, bytes_eq, Contains, IsPermutation}
-use Rattle.std.specs.List.{AllByRecursion, IsDistinct, range_with_len, position_or_len}
+use Rattle.std.specs.Prelude.{ℕ, suc, ◌+◌, pos, negsuc, List, [], ◌∷◌, map, length, replicate, slice_set, bytes_eq}
+use Rattle.std.specs.List.{range_with_len, position_or_len}
 use Rattle.iolb_model.specs.Form.{AffineForm}
-use Rattle.iolb_model.specs.Program.{Access, Statement, Item, assign, loop, Row, done, next, Array, AffineProgram}
+use Rattle.iolb_model.specs.Program.{Access, Statement, Item, assign, loop, done, next, Array, AffineProgram}
 use Rattle.iolb_model.specs.Graph.{distinct}
 
 -- a loop from 0 to below a parameter: the loop's name, and the parameter's
@@ -57,7 +57,7 @@ abbrev pub access_of : CopyNest → ℕ → CopyAccess → Access
 access_of nest number access = record {
   array = number;
   subscripts = map (λ (name : List ℕ). variable (length (parameter_names nest) + length nest.loops)
-    (length (parameter_names nest) + place_of name (loop_names nest))) access.subscripts
+      (length (parameter_names nest) + place_of name (loop_names nest))) access.subscripts;
 }
 
 -- the array of a reference
@@ -68,12 +68,20 @@ array_of access = record { name = access.array; rank = length access.subscripts 
 abbrev pub parameters_positive : ℕ → List AffineForm
 parameters_positive count = map (variable_less_one count) (range_with_len 0 count)
 
+-- the arrays: the one that is written, and the one that is read
+abbrev pub nest_arrays : CopyNest → List Array
+nest_arrays nest = array_of nest.written ∷ array_of nest.read ∷ []
+
+-- the statement
+abbrev pub nest_statement : CopyNest → Statement
+nest_statement nest = record { writes = access_of nest 0 nest.written; reads = access_of nest 1 nest.read ∷ [] }
+
 -- the program of a copy nest
 abbrev pub program_of : CopyNest → AffineProgram
 program_of nest = record {
   parameters = parameter_names nest;
   assumptions = parameters_positive (length (parameter_names nest));
-  arrays = array_of nest.written ∷ array_of nest.read ∷ [];
-  statements = (record { writes = access_of nest 0 nest.written; reads = access_of nest 1 nest.read ∷ [] }) ∷ [];
-  tree = next (nest_item (parameter_names nest) (length (parameter_names nest)) nest.loops) done
+  arrays = nest_arrays nest;
+  statements = nest_statement nest ∷ [];
+  tree = next (nest_item (parameter_names nest) (length (parameter_names nest)) nest.loops) done;
 }

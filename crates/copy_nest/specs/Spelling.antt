@@ -1,6 +1,6 @@
 -- The texts of copy nests: between a line `#pragma scop` and a line `#pragma endscop` the words of the nest, parted
 -- by spaces and newlines alone.
-use Rattle.std.specs.Prelude.{◌≡◌, ℕ, ◌≤◌, ◌⊎◌, ◌==◌, ◌||◌, ◌&&◌, nat_le, Bool, false, IsTrue, List, [], ◌∷◌, ◌++◌, map, length, flat_map, codes, bytes_eq, Contains}
+use Rattle.std.specs.Prelude.{◌≡◌, ℕ, ◌≤◌, ◌⊎◌, ◌==◌, ◌||◌, ◌&&◌, nat_le, Bool, false, IsTrue, List, [], ◌∷◌, ◌++◌, length, flat_map, codes, bytes_eq}
 use Rattle.std.specs.List.{AllByRecursion, IsDistinct, list_any}
 use Rattle.iolb_model.specs.Program.{AffineProgram}
 use Rattle.copy_nest.specs.Nest.{CopyLoop, CopyAccess, CopyNest, loop_names, parameter_names, program_of}

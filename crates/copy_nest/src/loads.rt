@@ -6,5 +6,4 @@ ghost use Rattle.copy_nest.specs.Loads.{CopiesAreLoaded};
 /// input cells, so that every complete pebbling makes at least as many loads as the product of the loops' parameters.
 pub fn copies_are_loaded()
     ensures { CopiesAreLoaded }
-{
-}
+{}

@@ -1,8 +1,7 @@
 -- The whole numbers are a commutative ring, and products of numbers of at least 0 are at least 0.
-use Rattle.std.proofs.Common.{◌≡◌, refl, sym, ◌∙◌, ap, ℕ, zero, suc, ◌+◌, ◌*◌, arith}
-use Rattle.std.proofs.Math.Nat.{mul_assoc}
+use Rattle.std.proofs.Common.{◌≡◌, refl, sym, ◌∙◌, ap, ℕ, zero, suc, arith}
 use Rattle.std.proofs.lemmas.Int.{ints}
-use Rattle.std.proofs.Math.IntN.{ℤ, pos, negsuc, ◌+ℤ◌, ◌-ℤ◌, ◌*ℤ◌, neg_ℤ, suc_ℤ, pred_ℤ, suc_ℤ-*ℤ, pred_ℤ-*ℤ, *ℤ_comm, suc_ℤ-+ℤ, pred_ℤ-+ℤ, +ℤ_one, -ℤ_one, zero-*ℤ, *ℤ-zero, ℤ_ind, +ℤ_idl}
+use Rattle.std.proofs.Math.IntN.{ℤ, pos, negsuc, ◌+ℤ◌, ◌-ℤ◌, ◌*ℤ◌, neg_ℤ, suc_ℤ-*ℤ, pred_ℤ-*ℤ, *ℤ_comm, suc_ℤ-+ℤ, pred_ℤ-+ℤ, +ℤ_one, -ℤ_one, zero-*ℤ, *ℤ-zero, ℤ_ind, +ℤ_idl}
 use lib.Signed.{◌≤ℤ◌}
 
 pub add_assoc : (x y z : ℤ) → (x +ℤ y) +ℤ z ≡ x +ℤ (y +ℤ z)
@@ -27,10 +26,12 @@ pub add-mul : (a b c : ℤ) → (a +ℤ b) *ℤ c ≡ (a *ℤ c) +ℤ (b *ℤ c)
 add-mul a b c = ℤ_ind (λ (x : ℤ). (x +ℤ b) *ℤ c ≡ (x *ℤ c) +ℤ (b *ℤ c)) start up down a where
   start : (pos 0 +ℤ b) *ℤ c ≡ (pos 0 *ℤ c) +ℤ (b *ℤ c)
   start = ap (λ (z : ℤ). z *ℤ c) (+ℤ_idl b) ∙ sym (+ℤ_idl (b *ℤ c)) ∙ ap (λ (z : ℤ). z +ℤ (b *ℤ c)) (sym (zero-*ℤ c))
+
   up : (n : ℕ) → (pos n +ℤ b) *ℤ c ≡ (pos n *ℤ c) +ℤ (b *ℤ c) → ((pos n +ℤ pos 1) +ℤ b) *ℤ c ≡ ((pos n +ℤ pos 1) *ℤ c) +ℤ (b *ℤ c)
   up n h = ap (λ (z : ℤ). (z +ℤ b) *ℤ c) (+ℤ_one (pos n)) ∙ ap (λ (z : ℤ). z *ℤ c) (suc_ℤ-+ℤ (pos n) b) ∙ suc_ℤ-*ℤ (pos n +ℤ b) c
       ∙ ap (λ (z : ℤ). z +ℤ c) h ∙ add_turn (pos n *ℤ c) (b *ℤ c) c
       ∙ ap (λ (z : ℤ). z +ℤ (b *ℤ c)) (sym (suc_ℤ-*ℤ (pos n) c) ∙ ap (λ (z : ℤ). z *ℤ c) (sym (+ℤ_one (pos n))))
+
   down : (n : ℕ) → (neg_ℤ (pos n) +ℤ b) *ℤ c ≡ (neg_ℤ (pos n) *ℤ c) +ℤ (b *ℤ c) → ((neg_ℤ (pos n) +ℤ neg_ℤ (pos 1)) +ℤ b) *ℤ c ≡ ((neg_ℤ (pos n) +ℤ neg_ℤ (pos 1)) *ℤ c) +ℤ (b *ℤ c)
   down n h = ap (λ (z : ℤ). (z +ℤ b) *ℤ c) (-ℤ_one (neg_ℤ (pos n))) ∙ ap (λ (z : ℤ). z *ℤ c) (pred_ℤ-+ℤ (neg_ℤ (pos n)) b) ∙ pred_ℤ-*ℤ (neg_ℤ (pos n) +ℤ b) c
       ∙ ap (λ (z : ℤ). z -ℤ c) h ∙ add_turn (neg_ℤ (pos n) *ℤ c) (b *ℤ c) (neg_ℤ c)
@@ -56,6 +57,7 @@ pub neg-mul : (a b : ℤ) → neg_ℤ a *ℤ b ≡ neg_ℤ (a *ℤ b)
 neg-mul a b = opposite (a *ℤ b) (neg_ℤ a *ℤ b) (sym (add-mul a (neg_ℤ a) b) ∙ ap (λ (z : ℤ). z *ℤ b) (cancelled a) ∙ zero-*ℤ b) where
   cancelled : (x : ℤ) → x +ℤ neg_ℤ x ≡ pos 0
   cancelled x = omega (arith, ints)
+
   opposite : (x y : ℤ) → x +ℤ y ≡ pos 0 → y ≡ neg_ℤ x
   opposite x y h = omega (arith, ints)
 
@@ -72,15 +74,20 @@ pub mul_assoc_ℤ : (a b c : ℤ) → (a *ℤ b) *ℤ c ≡ a *ℤ (b *ℤ c)
 mul_assoc_ℤ a b c = ℤ_ind (λ (x : ℤ). (x *ℤ b) *ℤ c ≡ x *ℤ (b *ℤ c)) start up down a where
   start : (pos 0 *ℤ b) *ℤ c ≡ pos 0 *ℤ (b *ℤ c)
   start = ap (λ (z : ℤ). z *ℤ c) (zero-*ℤ b) ∙ zero-*ℤ c ∙ sym (zero-*ℤ (b *ℤ c))
+
   step : (x y : ℤ) → (x *ℤ b) *ℤ c ≡ x *ℤ (b *ℤ c) → (y *ℤ b) *ℤ c ≡ y *ℤ (b *ℤ c) → ((x +ℤ y) *ℤ b) *ℤ c ≡ (x +ℤ y) *ℤ (b *ℤ c)
   step x y p q = ap (λ (z : ℤ). z *ℤ c) (add-mul x y b) ∙ add-mul (x *ℤ b) (y *ℤ b) c ∙ ap (λ (z : ℤ). z +ℤ ((y *ℤ b) *ℤ c)) p
       ∙ ap (λ (z : ℤ). (x *ℤ (b *ℤ c)) +ℤ z) q ∙ sym (add-mul x y (b *ℤ c))
+
   unit : (pos 1 *ℤ b) *ℤ c ≡ pos 1 *ℤ (b *ℤ c)
   unit = ap (λ (z : ℤ). z *ℤ c) (one-mul b) ∙ sym (one-mul (b *ℤ c))
+
   minus : (neg_ℤ (pos 1) *ℤ b) *ℤ c ≡ neg_ℤ (pos 1) *ℤ (b *ℤ c)
   minus = ap (λ (z : ℤ). z *ℤ c) (neg-mul (pos 1) b ∙ ap neg_ℤ (one-mul b)) ∙ neg-mul b c ∙ ap neg_ℤ (sym (one-mul (b *ℤ c))) ∙ sym (neg-mul (pos 1) (b *ℤ c))
+
   up : (n : ℕ) → (pos n *ℤ b) *ℤ c ≡ pos n *ℤ (b *ℤ c) → ((pos n +ℤ pos 1) *ℤ b) *ℤ c ≡ (pos n +ℤ pos 1) *ℤ (b *ℤ c)
   up n h = step (pos n) (pos 1) h unit
+
   down : (n : ℕ) → (neg_ℤ (pos n) *ℤ b) *ℤ c ≡ neg_ℤ (pos n) *ℤ (b *ℤ c) → ((neg_ℤ (pos n) +ℤ neg_ℤ (pos 1)) *ℤ b) *ℤ c ≡ (neg_ℤ (pos n) +ℤ neg_ℤ (pos 1)) *ℤ (b *ℤ c)
   down n h = step (neg_ℤ (pos n)) (neg_ℤ (pos 1)) h minus
 
@@ -103,9 +110,11 @@ pub mul-cancel : (n : ℕ) (a b : ℤ) → pos (suc n) *ℤ a ≡ pos (suc n) *�
 mul-cancel n a b h = same (none (a -ℤ b) (mul-sub (pos (suc n)) a b ∙ difference (pos (suc n) *ℤ a) (pos (suc n) *ℤ b) h)) where
   difference : (x y : ℤ) → x ≡ y → x -ℤ y ≡ pos 0
   difference x y e = omega (arith, ints)
+
   none : (z : ℤ) → pos (suc n) *ℤ z ≡ pos 0 → z ≡ pos 0
   none (pos zero) e = refl
   none (pos (suc k)) e = absurd (grind (arith, ints))
   none (negsuc k) e = absurd (grind (arith, ints))
+
   same : a -ℤ b ≡ pos 0 → a ≡ b
   same e = omega (arith, ints)

@@ -1,10 +1,9 @@
 -- Where a certificate fits a program, and what it has to meet.
-use Rattle.std.specs.Prelude.{◌≡◌, ℕ, ◌*◌, ℤ, List, map, length, take, drop}
+use Rattle.std.specs.Prelude.{◌≡◌, ◌*◌, ℤ, List, map, length, take, drop}
 use Rattle.std.specs.List.{range_with_len}
 use Rattle.iolb_model.specs.Program.{AffineProgram}
 use Rattle.execution_laws.specs.Cold.{read_at}
 use Rattle.affine_form.specs.Matrix.{IntegerMatrix}
-use Rattle.affine_c.specs.Parts.{ProgramParts, meaning}
 use Rattle.copy_nest.specs.Nest.{CopyNest, program_of}
 use Rattle.copy_nest.specs.Spelling.{IsCopyNest}
 use Rattle.copy_nest.specs.Inverse.{IsScaledInverse, loop_coefficients}

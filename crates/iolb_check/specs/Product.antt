@@ -1,6 +1,6 @@
 -- Products of parameters.
 use Rattle.std.specs.Prelude.{ℕ, pos, List, [], ◌∷◌}
-use Rattle.iolb_model.specs.Polynomial.{Term, Polynomial}
+use Rattle.iolb_model.specs.Polynomial.{Polynomial}
 
 -- the product of the parameters' powers, as a polynomial
 abbrev pub product_of : List ℕ → Polynomial

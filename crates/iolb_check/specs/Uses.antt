@@ -1,5 +1,5 @@
 -- How many loops run to below each parameter.
-use Rattle.std.specs.Prelude.{ℕ, ◌==◌, ℤ, pos, List, map, count_by}
+use Rattle.std.specs.Prelude.{ℕ, ◌==◌, pos, List, map, count_by}
 use Rattle.std.specs.List.{position_or_len, range_with_len}
 use Rattle.std.specs.Ordering.{int_eq}
 use Rattle.iolb_model.specs.Form.{AffineForm}

@@ -1,6 +1,4 @@
 -- What a bound's values mean.
-use Rattle.std.specs.Prelude.{ℕ, pos, List, [], ◌∷◌, map}
-use Rattle.iolb_model.specs.Polynomial.{Term, Polynomial}
 use Rattle.iolb_model.specs.Bound.{BoundTerm, cold}
 use Rattle.iolb_check.specs.declared.bound.Value.{Value}
 use Rattle.iolb_check.specs.declared.bound.Value.TheVariants.{Cold}

@@ -70,7 +70,7 @@ fn matrix_place(alloc: Global, row: usize, col: usize) -> Result<Place, Memory>
         Step::Key(key::INVERSE),
         Step::Key(key::MATRIX),
         Step::Index(row as u64),
-        Step::Index(col as u64)
+        Step::Index(col as u64),
     ]?;
     Ok(Place::new(steps))
 }

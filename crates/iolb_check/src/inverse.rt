@@ -37,7 +37,13 @@ fn combination(row: &[i32], forms: &[Form], place: usize) -> i128
 
 /// The first column in which a matrix's row of this number, times the coefficients of the forms past so many, isn't
 /// the row of `scale` times the identity.
-fn first_in_row(row: &[i32], forms: &[Form], parameters: usize, scale: u32, number: usize) -> Option<usize>
+fn first_in_row(
+    row: &[i32],
+    forms: &[Form],
+    parameters: usize,
+    scale: u32,
+    number: usize,
+) -> Option<usize>
     requires few { length row.now ≤ 6 }
     requires few_parameters { parameters ≤ 24 }
     requires as_many { length row.now ≡ length forms.now }

@@ -29,7 +29,7 @@ abbrev pub first_board : ComputationGraph → Board
 first_board graph = record {
   red = replicate (vertices graph) false;
   blue = replicate graph.instances false ++ replicate graph.inputs true;
-  computed = replicate (vertices graph) false
+  computed = replicate (vertices graph) false;
 }
 
 -- the predecessors of an instance

@@ -58,5 +58,5 @@ computation_graph program parameters =
       instances = length runs;
       inputs = length cells;
       predecessors = map (predecessors_of program parameters runs cells) (placed runs);
-      last_writers = map (is_last_writer program parameters runs) (placed runs)
+      last_writers = map (is_last_writer program parameters runs) (placed runs);
     }

@@ -64,18 +64,18 @@ pub loaded_before_reader : (graph : ComputationGraph) (s : ℕ) (v n : ℕ) → 
 loaded_before_reader graph s v n input read board [] allowed white before after = cc
 loaded_before_reader graph s v n input read board (Load w ∷ moves) allowed white before after =
     or_true (nat_eq v w) (is_loaded v moves) (λ apart. loaded_before_reader graph s v n input read (board_after board (Load w)) moves allowed.1
-      (marked_other board.red v w true (eqb-false v w apart) ∙ white) before after)
+    (marked_other board.red v w true (eqb-false v w apart) ∙ white) before after)
 loaded_before_reader graph s v n input read board (Store w ∷ moves) allowed white before after =
     loaded_before_reader graph s v n input read (board_after board (Store w)) moves allowed.1 white before after
 loaded_before_reader graph s v n input read board (Compute w ∷ moves) allowed white before after =
     loaded_before_reader graph s v n input read (board_after board (Compute w)) moves allowed.1
-      (marked_other board.red v w true (λ (same : v ≡ w). absurd (omega (arith, allowed.0.0, same, input))) ∙ white)
-      (marked_other board.computed n w true (λ (same : n ≡ w). not_computed same) ∙ before) after where
-  not_computed : n ≡ w → ⊥
-  not_computed same =
-      let reads : Contains (predecessors_at graph w) v = subst (λ (m : ℕ). Contains (predecessors_at graph m) v) same read in
-      let red : marked board.red v ≡ true = All-contains (λ (u : ℕ). IsTrue (marked board.red u)) (predecessors_at graph w) v (All-from_recursion (λ (u : ℕ). IsTrue (marked board.red u)) (predecessors_at graph w) allowed.0.2) reads in
-      cc
+    (marked_other board.red v w true (λ (same : v ≡ w). absurd (omega (arith, allowed.0.0, same, input))) ∙ white)
+    (marked_other board.computed n w true (λ (same : n ≡ w). not_computed same) ∙ before) after where
+      not_computed : n ≡ w → ⊥
+      not_computed same =
+          let reads : Contains (predecessors_at graph w) v = subst (λ (m : ℕ). Contains (predecessors_at graph m) v) same read in
+          let red : marked board.red v ≡ true = All-contains (λ (u : ℕ). IsTrue (marked board.red u)) (predecessors_at graph w) v (All-from_recursion (λ (u : ℕ). IsTrue (marked board.red u)) (predecessors_at graph w) allowed.0.2) reads in
+          cc
 loaded_before_reader graph s v n input read board (Drop w ∷ moves) allowed white before after =
     loaded_before_reader graph s v n input read (board_after board (Drop w)) moves allowed.1 (unmarked board.red v w white) before after
 loaded_before_reader graph s v n input read board (Erase w ∷ moves) allowed white before after =
@@ -90,7 +90,7 @@ unmarked_at_first (suc n) (suc v) = unmarked_at_first n v
 pub read_input_loaded : (graph : ComputationGraph) (s : ℕ) (moves : List Move) (v : ℕ) → IsCompletePebbling graph s moves → IsReadInput graph v → is_loaded v moves ≡ true
 read_input_loaded graph s moves v game input =
     loaded_before_reader graph s v input.reader input.input input.read (first_board graph) moves game.allowed
-      (unmarked_at_first (graph.instances + graph.inputs) v) (unmarked_at_first (graph.instances + graph.inputs) input.reader) (game.computed input.reader input.there)
+    (unmarked_at_first (graph.instances + graph.inputs) v) (unmarked_at_first (graph.instances + graph.inputs) input.reader) (game.computed input.reader input.there)
 
 by_eqb : {P : Type 0} (a b : ℕ) → (a ≡ b → P) → (nat_eq a b ≡ false → P) → P
 by_eqb a b same apart = elim (cases_eq a b) [ inl e ↦ same e | inr e ↦ apart (ne_eqb a b e) ]
@@ -101,9 +101,9 @@ each_loaded : (graph : ComputationGraph) (s : ℕ) (moves : List Move) (inputs :
 each_loaded graph s moves [] game read q h = cc
 each_loaded graph s moves (v ∷ inputs) game read q h =
     by_eqb q v (λ (same : q ≡ v). subst (λ (u : ℕ). is_member nat_eq (loaded moves) u ≡ true) (sym same) (read_input_loaded graph s moves v game read.0))
-      (λ (apart : nat_eq q v ≡ false). each_loaded graph s moves inputs game read.1 q (rw apart at h))
+    (λ (apart : nat_eq q v ≡ false). each_loaded graph s moves inputs game read.1 q (rw apart at h))
 
 pub read_inputs_loaded : ReadInputsAreLoaded
 read_inputs_loaded graph s moves inputs game apart read =
     subst (λ (n : ℕ). length inputs ≤ n) (sym (loads-loaded moves))
-      (length-le_from_is_member nat_eq_equiv inputs (loaded moves) apart (each_loaded graph s moves inputs game read))
+    (length-le_from_is_member nat_eq_equiv inputs (loaded moves) apart (each_loaded graph s moves inputs game read))

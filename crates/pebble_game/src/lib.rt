@@ -2,6 +2,8 @@
 //! is stands in `iolb_model`; here are laws of all complete pebblings.
 #![tactic(auto)]
 
+pub mod graph;
 pub mod inputs;
 
+pub use graph::Graph;
 pub use iolb_model::game::Move;

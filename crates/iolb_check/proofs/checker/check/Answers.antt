@@ -1,17 +1,14 @@
-use Rattle.std.proofs.Common.{rules, ◌≡◌, sym, ◌∙◌, ap, subst, [], ◌∷◌, ℕ, ◌+◌, ◌<◌, ◌≤◌, length, List, get_or, arith, refl}
+use Rattle.std.proofs.Common.{◌≡◌, sym, ◌∙◌, ap, subst, [], ◌∷◌, ℕ, ◌+◌, ◌<◌, length, List, get_or}
 use Rattle.std.specs.Prelude.{ℤ}
 use Rattle.std.specs.List.{AllByRecursion}
 use Rattle.iolb_model.specs.Form.{AffineForm}
-use Rattle.iolb_model.specs.Program.{AffineProgram}
-use Rattle.iolb_model.specs.Bound.{Bound, BoundTerm, cold}
-use Rattle.iolb_model.specs.Headline.{BoundHolds}
+use Rattle.iolb_model.specs.Bound.{Bound, cold}
 use Rattle.affine_form.specs.Matrix.{IntegerMatrix}
 use Rattle.affine_c.specs.declared.statement.Statement.{Statement}
 use Rattle.affine_c.specs.Parts.{ProgramParts, meaning, IsProgram}
-use Rattle.copy_nest.specs.Nest.{CopyNest, program_of, access_of}
+use Rattle.copy_nest.specs.Nest.{CopyNest, access_of}
 use Rattle.copy_nest.specs.Inverse.{IsScaledInverse}
 use Rattle.copy_nest.specs.Count.{copy_bound}
-use Rattle.copy_nest.proofs.Copies.{copies_loaded}
 use Rattle.iolb_check.specs.Certificate.{FitsNest, MeetsConditions, matrix_rows, read_coefficients}
 use Rattle.affine_form.specs.System.{AffineSystem}
 use Rattle.iolb_check.specs.Uses.{unit_place, all_uses}
@@ -32,14 +29,14 @@ wide_of : (parts : ProgramParts) (nest : CopyNest) (st : Statement) → NestFact
 wide_of parts nest st facts forms e n f =
     let loops : length forms ≡ length nest.loops = ap length e ∙ facts.as_many in
     subst (λ (fs : List AffineForm). AllByRecursion (λ (form : AffineForm). length form.coefficients ≡ n + length fs) fs) (sym e)
-      (subst (λ (m : ℕ). AllByRecursion (λ (form : AffineForm). length form.coefficients ≡ m + length (access_of nest 1 nest.read).subscripts) (access_of nest 1 nest.read).subscripts) (sym f)
-        (subst (λ (m : ℕ). AllByRecursion (λ (form : AffineForm). length form.coefficients ≡ length parts.params + m) (access_of nest 1 nest.read).subscripts) (sym facts.as_many) facts.wide))
+    (subst (λ (m : ℕ). AllByRecursion (λ (form : AffineForm). length form.coefficients ≡ m + length (access_of nest 1 nest.read).subscripts) (access_of nest 1 nest.read).subscripts) (sym f)
+    (subst (λ (m : ℕ). AllByRecursion (λ (form : AffineForm). length form.coefficients ≡ length parts.params + m) (access_of nest 1 nest.read).subscripts) (sym facts.as_many) facts.wide))
 
 pub first_difference-requires-clause-there : goal.first_difference-requires-clause-there
 first_difference-requires-clause-there c =
     let facts : NestFacts c.args.program.now c.requires.0 c.index-statements-0.result = facts_of c.args.program.now c.args.certificate.now c.requires.0 c.requires.1 c.statements.ensures.kept c.statements.result.now c.statements.ensures.statements c.index-statements-0.result c.index-statements-0.is in
     wide_of c.args.program.now c.requires.0 c.index-statements-0.result facts c.as_slice-forms.result.now (c.as_slice-forms.ensures.value ∙ facts.read c.index-read.result.now c.index-read.ensures)
-      c.vars-parameters.result (c.vars-parameters.ensures.vars ∙ ap (λ (s : AffineSystem). s.vars) c.assumed.ensures.assumed ∙ c.assumed.ensures.kept.assumed)
+    c.vars-parameters.result (c.vars-parameters.ensures.vars ∙ ap (λ (s : AffineSystem). s.vars) c.assumed.ensures.assumed ∙ c.assumed.ensures.kept.assumed)
 
 pub parameter_uses-requires-clause-few : goal.parameter_uses-requires-clause-few
 parameter_uses-requires-clause-few c =
@@ -51,20 +48,20 @@ parameter_uses-requires-clause-there c =
     let facts : NestFacts c.args.program.now c.requires.0 c.index-statements-0.result = facts_of c.args.program.now c.args.certificate.now c.requires.0 c.requires.1 c.statements.ensures.kept c.statements.result.now c.statements.ensures.statements c.index-statements-0.result c.index-statements-0.is in
     let params : c.vars-parameters.result ≡ length c.args.program.now.params = c.vars-parameters.ensures.vars ∙ ap (λ (s : AffineSystem). s.vars) c.assumed.ensures.assumed ∙ c.assumed.ensures.kept.assumed in
     subst (λ (n : ℕ). AllByRecursion (λ (b : AffineForm × AffineForm). unit_place b.1 < n) c.as_slice.result.now) (sym params)
-      (subst (λ (l : List (AffineForm × AffineForm)). AllByRecursion (λ (b : AffineForm × AffineForm). unit_place b.1 < length c.args.program.now.params) l) (sym c.as_slice.ensures.value) facts.bounds_there)
+    (subst (λ (l : List (AffineForm × AffineForm)). AllByRecursion (λ (b : AffineForm × AffineForm). unit_place b.1 < length c.args.program.now.params) l) (sym c.as_slice.ensures.value) facts.bounds_there)
 
 bound_of : (c : goal.In-Ok-one_cold_term) → c.in-Ok-one_cold_term.bound ≡ copy_bound c.requires.0
 bound_of c =
     let facts : NestFacts c.args.program.now c.requires.0 c.index-statements-0.result = facts_of c.args.program.now c.args.certificate.now c.requires.0 c.requires.1 c.statements.ensures.kept c.statements.result.now c.statements.ensures.statements c.index-statements-0.result c.index-statements-0.is in
     let params : c.vars-parameters.result ≡ length c.args.program.now.params = c.vars-parameters.ensures.vars ∙ ap (λ (s : AffineSystem). s.vars) c.assumed.ensures.assumed ∙ c.assumed.ensures.kept.assumed in
     let uses : c.in-Ok.uses.items ≡ all_uses c.index-statements-0.result.bounds.items (length c.args.program.now.params) =
-      c.in-Ok.ensures ∙ ap (λ (l : List (AffineForm × AffineForm)). all_uses l c.vars-parameters.result) c.as_slice.ensures.value ∙ ap (all_uses c.index-statements-0.result.bounds.items) params in
+    c.in-Ok.ensures ∙ ap (λ (l : List (AffineForm × AffineForm)). all_uses l c.vars-parameters.result) c.as_slice.ensures.value ∙ ap (all_uses c.index-statements-0.result.bounds.items) params in
     bound_is c.args.program.now c.requires.0 c.index-statements-0.result facts c.requires.1.program_is c.in-Ok-one_cold_term.bound
-      (c.in-Ok-one_cold_term.ensures
-      ∙ ap (λ (a : AffineSystem). one_term a.rows c.new.result) c.assumed-2.ensures.assumed
-      ∙ ap (one_term c.args.program.now.assumed.rows) (c.new.ensures ∙ ap product_of uses)) where
-  one_term : List AffineForm → Polynomial → Bound
-  one_term rows p = record { assumptions = rows; branches = (cold p ∷ []) ∷ [] }
+    (c.in-Ok-one_cold_term.ensures
+    ∙ ap (λ (a : AffineSystem). one_term a.rows c.new.result) c.assumed-2.ensures.assumed
+    ∙ ap (one_term c.args.program.now.assumed.rows) (c.new.ensures ∙ ap product_of uses)) where
+      one_term : List AffineForm → Polynomial → Bound
+      one_term rows p = record { assumptions = rows; branches = (cold p ∷ []) ∷ [] }
 
 -- the coefficients that were compared are those of the program's read
 coefficients_of : (parts : ProgramParts) (nest : CopyNest) (st : Statement) → NestFacts parts nest st → (forms : List AffineForm) → forms ≡ (access_of nest 1 nest.read).subscripts → (n : ℕ) → n ≡ length parts.params
@@ -79,8 +76,8 @@ returns-in-Ok-one_cold_term-clause-holds c =
     let facts : NestFacts c.args.program.now c.requires.0 c.index-statements-0.result = facts_of c.args.program.now c.args.certificate.now c.requires.0 c.requires.1 c.statements.ensures.kept c.statements.result.now c.statements.ensures.statements c.index-statements-0.result c.index-statements-0.is in
     let params : c.vars-parameters.result ≡ length c.args.program.now.params = c.vars-parameters.ensures.vars ∙ ap (λ (s : AffineSystem). s.vars) c.assumed.ensures.assumed ∙ c.assumed.ensures.kept.assumed in
     let coefficients : coefficients_past c.vars-parameters.result c.as_slice-forms.result.now ≡ read_coefficients (meaning c.args.program.now) =
-      coefficients_of c.args.program.now c.requires.0 c.index-statements-0.result facts c.as_slice-forms.result.now (c.as_slice-forms.ensures.value ∙ facts.read c.index-read.result.now c.index-read.ensures) c.vars-parameters.result params in
+    coefficients_of c.args.program.now c.requires.0 c.index-statements-0.result facts c.as_slice-forms.result.now (c.as_slice-forms.ensures.value ∙ facts.read c.index-read.result.now c.index-read.ensures) c.vars-parameters.result params in
     let meets : MeetsConditions (meaning c.args.program.now) c.args.certificate.now =
-      subst (λ (rows : List (List ℤ)). IsScaledInverse 1 c.args.certificate.now.rows (matrix_rows c.args.certificate.now) rows) coefficients
-        (subst (λ (m : IntegerMatrix). IsScaledInverse 1 m.rows (matrix_rows m) (coefficients_past c.vars-parameters.result c.as_slice-forms.result.now)) c.matrix.ensures c.in_default.ensures.none) in
+    subst (λ (rows : List (List ℤ)). IsScaledInverse 1 c.args.certificate.now.rows (matrix_rows c.args.certificate.now) rows) coefficients
+    (subst (λ (m : IntegerMatrix). IsScaledInverse 1 m.rows (matrix_rows m) (coefficients_past c.vars-parameters.result c.as_slice-forms.result.now)) c.matrix.ensures c.in_default.ensures.none) in
     holds c.args.program.now c.requires.0 c.args.certificate.now c.requires.1 meets c.in-Ok-one_cold_term.bound (bound_of c)

@@ -1,9 +1,9 @@
-use Rattle.std.proofs.Common.{◌≡◌, sym, ◌∙◌, ap, subst, inl, inr, ℕ, ◌+◌, ◌*◌, ◌<◌, ◌≤◌, List, length, take, drop, arith, rules}
-use Rattle.std.specs.Prelude.{ℤ, ◌⊎◌}
-use Rattle.iolb_model.specs.Form.{AffineForm, dot}
-use Rattle.copy_nest.specs.Inverse.{product_entry, scaled_entry, ComesBefore}
+use Rattle.std.proofs.Common.{◌≡◌, sym, ◌∙◌, ap, subst, inl, inr, ℕ, ◌+◌, ◌<◌, List, arith}
+use Rattle.std.specs.Prelude.{ℤ}
+use Rattle.iolb_model.specs.Form.{dot}
+use Rattle.copy_nest.specs.Inverse.{product_entry, scaled_entry}
 use Rattle.iolb_check.specs.Certificate.{matrix_rows}
-use Rattle.iolb_check.specs.Columns.{coefficients_past, AgreesBelow, coefficients_at}
+use Rattle.iolb_check.specs.Columns.{coefficients_past, coefficients_at}
 use Rattle.iolb_check.proofs.Entries.{entry_is}
 use Rattle.iolb_check.proofs.inverse.first_difference.Goals as goal
 
@@ -13,15 +13,16 @@ returns-in-Some-clause-some c =
     let part : List ℤ = c.entries_of-entries.result.now in
     let rows_in : row < c.args.matrix.now.rows = omega (arith, c.loop-row-test.true, c.rows-row-end.ensures.rows) in
     let is : (col : ℕ) → product_entry (matrix_rows c.args.matrix.now) (coefficients_past c.args.parameters c.args.forms.now) row col ≡ dot part (coefficients_at (c.args.parameters + col) c.args.forms.now) =
-      λ col. entry_is c.args.matrix.now c.args.parameters row col c.args.forms.now rows_in ∙ ap (λ (l : List ℤ). dot l (coefficients_at (c.args.parameters + col) c.args.forms.now)) (sym c.entries_of-entries.ensures.entries) in
+    λ col. entry_is c.args.matrix.now c.args.parameters row col c.args.forms.now rows_in ∙ ap (λ (l : List ℤ). dot l (coefficients_at (c.args.parameters + col) c.args.forms.now)) (sym c.entries_of-entries.ensures.entries) in
     record {
       row_there = rows_in;
       col_there = omega (arith, c.in-Some.ensures.inside, c.entries_of-entries.ensures.len, c.requires.rows, c.requires.columns);
       differs = λ e. c.in-Some.ensures.differs (sym (is c.in-Some.col) ∙ e);
       none_before = λ row' col' l m before. elim before [
-          inl less ↦ entry_is c.args.matrix.now c.args.parameters row' col' c.args.forms.now l ∙ c.loop-row.invariant row' less col' (omega (arith, m, c.requires.rows, c.requires.columns))
+        | inl less ↦ entry_is c.args.matrix.now c.args.parameters row' col' c.args.forms.now l ∙ c.loop-row.invariant row' less col' (omega (arith, m, c.requires.rows, c.requires.columns))
         | inr both ↦ subst (λ (r : ℕ). product_entry (matrix_rows c.args.matrix.now) (coefficients_past c.args.parameters c.args.forms.now) r col' ≡ scaled_entry c.args.scale r col') (sym both.0)
-            (is col' ∙ c.in-Some.ensures.before col' both.1) ]
+            (is col' ∙ c.in-Some.ensures.before col' both.1)
+      ];
     }
 
 pub returns-clause-none : goal.returns-clause-none

@@ -1,0 +1,11 @@
+pub mod Powers
+pub mod Loops
+pub mod Sinks
+pub mod Branches
+pub mod Ranges
+pub mod Growing
+pub mod Keys
+pub mod Entries
+pub mod Shapes
+pub mod Assumptions
+pub mod Stops

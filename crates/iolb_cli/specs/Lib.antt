@@ -1,0 +1,13 @@
+pub mod Status
+pub mod Words
+pub mod Reading
+pub mod PlainCertificate
+pub mod CertificateText
+pub mod PointerText
+pub mod Powers
+pub mod Lines
+pub mod Stop
+pub mod Judged
+pub mod Outcome
+pub mod Written
+pub mod Headline

@@ -1,0 +1,54 @@
+//! The program `iolb`: checks certificates of lower bounds on the loads of affine loop nests.
+#![tactic(auto)]
+
+mod bound_lines;
+mod call;
+mod cert_error;
+mod certificate_text;
+mod checking;
+mod json_numbers;
+mod lines;
+mod loop_parts;
+mod matrix_entries;
+mod plain_certificate;
+mod pointer_text;
+mod product_text;
+mod status;
+mod stop;
+mod sums;
+#[cfg(test)]
+mod tests;
+mod words;
+mod writing;
+
+use crate::status::Status;
+use iolb_host::{StdFiles, StdSink};
+use std::process::ExitCode;
+use std::{env, io};
+
+/// The words after the program's name.
+fn words_of(rt: &HostRuntime) -> io::Result<Vec<String>> {
+    let mut words = Vec::new(rt.alloc());
+    for word in env::args(rt)?.skip(1) {
+        words.push(word)?;
+    }
+    Ok(words)
+}
+
+/// Calls the program with the system's files and streams. A word that is no text is refused as no words are.
+fn called(rt: &HostRuntime) -> Status {
+    let alloc = rt.alloc();
+    let mut out = StdSink::output(rt);
+    let mut err = StdSink::error(rt);
+    let words = match words_of(rt) {
+        Ok(words) => words,
+        Err(error) if error.kind() == io::ErrorKind::InvalidData => Vec::new(alloc),
+        Err(_) => return writing::no_memory(&mut err),
+    };
+    let mut files = StdFiles::new(rt);
+    call::run(alloc, &words, &mut files, &mut out, &mut err)
+}
+
+fn main(rt: HostRuntime) -> ExitCode {
+    ExitCode::from(called(&rt).number())
+}
