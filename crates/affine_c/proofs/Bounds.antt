@@ -1,19 +1,19 @@
 -- The bounds of the loops around a statement.
 use Rattle.std.proofs.Common.{◌≡◌, refl, sym, ◌∙◌, ap, subst, inl, inr, ℕ, zero, suc, ◌+◌, ◌<◌, ◌≤◌, ◌^◌, Bool, true, false, List, [], ◌∷◌, length, map, get_or, arith}
 use Rattle.std.specs.Prelude.{◌⊎◌, ◌==◌, if◌then◌else◌, ⊤, Option, Some, None, IsSomeAnd, option_map, unwrap_or, is_some}
-use Rattle.std.specs.List.{AllByRecursion, enumerate_from, range_with_len}
+use Rattle.std.specs.List.{AllByRecursion, enumerate_from}
 use Rattle.std.proofs.lemmas.Bool.{eqb-true}
 use Rattle.std.proofs.lemmas.List.{length-map}
 use Rattle.iolb_model.specs.Form.{AffineForm}
 use Rattle.iolb_model.specs.Path.{PathStep, rises, first_of, item_path, row_path}
-use Rattle.iolb_model.specs.Program.{Item, assign, loop, Row, done, next, AffineProgram, IsWellFormed, IsOver, StatementFits, ItemFits, RowFits}
+use Rattle.iolb_model.specs.Program.{Item, assign, loop, Row, done, next, AffineProgram, IsOver, StatementFits, ItemFits, RowFits}
 use Rattle.execution_laws.specs.Order.{common_loops, row_common}
 use Rattle.execution_laws.proofs.Domains.{statements-rise}
 use Rattle.execution_laws.proofs.Orders.{row_common-within}
-use Rattle.affine_form.specs.Form.{variables, IsSmallForm}
+use Rattle.affine_form.specs.Form.{IsSmallForm}
 use Rattle.affine_form.proofs.Lists.{All-at}
 use Rattle.affine_form.specs.System.{AffineSystem}
-use Rattle.affine_rows.specs.Rows.{BoundsFit, IsSmallOver, variables_from, within_rows}
+use Rattle.affine_rows.specs.Rows.{BoundsFit, variables_from, within_rows}
 use Rattle.affine_c.specs.declared.statement.Statement.{Statement}
 use Rattle.affine_c.specs.declared.item.Item.{Item as CodeItem}
 use Rattle.affine_c.specs.Tree.{row_of}

@@ -1,6 +1,7 @@
 pub mod Spelled
 pub mod SpelledNest
 pub mod TextOfNest
+pub mod Bounds
 pub mod InFront
 pub mod Distinct
 pub mod Loops
@@ -8,5 +9,5 @@ pub mod Sized
 pub mod Built
 pub mod WithinLimits
 pub mod Whole
+pub mod NestLimits
 pub mod Readings
-pub mod Bounds

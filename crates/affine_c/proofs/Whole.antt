@@ -12,6 +12,7 @@ use Rattle.copy_nest.proofs.Paths.{statement_path, nest_well_formed}
 use Rattle.affine_c.specs.declared.statement.Statement.{Statement}
 use Rattle.affine_c.specs.declared.item.Item.{Item}
 use Rattle.affine_c.specs.Tree.{item_of, row_of}
+use Rattle.affine_c.specs.Limits.{IsWithinLimits}
 use Rattle.affine_c.specs.Parts.{ProgramParts, meaning, statement_of, array_of, step_of, IsProgram}
 use Rattle.copy_nest.specs.Spelling.{IsCopyNest}
 use Rattle.affine_c.proofs.Built.{AreBuilt}
@@ -38,11 +39,12 @@ built_meaning nest parts statement item built =
     (map statement_of parts.statements) (nest_statement nest ∷ []) (row_of parts.tree) (program_of nest).tree built.params (ap (λ (s : AffineSystem). s.rows) built.assumed) built.arrays
     (ap (map statement_of) built.one_statement ∙ ap (λ (s : ModelStatement). s ∷ []) built.statement) (tree_built nest parts statement item built)
 
-pub built_program : (nest : CopyNest) (parts : ProgramParts) (statement : Statement) (item : Item) → IsCopyNest nest → AreBuilt nest parts statement item → IsProgram parts
-built_program nest parts statement item ok built = record {
-  limits = built_limits nest parts statement item ok built;
+pub built_program : (nest : CopyNest) (parts : ProgramParts) (statement : Statement) (item : Item) → AreBuilt nest parts statement item
+    → IsWithinLimits parts.params parts.assumed parts.arrays parts.statements → IsProgram parts
+built_program nest parts statement item built within = record {
   well_formed = subst IsWellFormed (sym (built_meaning nest parts statement item built)) (nest_well_formed nest);
   assumed = ap (λ (s : AffineSystem). s.vars) built.assumed ∙ ap (λ (p : List (List ℕ)). length p) (sym built.params);
   bounds = subst (λ (all : List Statement). AllByRecursion (λ (placed : ℕ × Statement). row_path (row_of parts.tree) placed.0 ≡ Some (map step_of placed.1.bounds.items)) (enumerate_from 0 all)) (sym built.one_statement)
       ((ap (λ (row : Row). row_path row 0) (tree_built nest parts statement item built) ∙ statement_path nest ∙ ap (λ (steps : List PathStep). Some steps) (sym built.bounds)), tt);
+  limits = within;
 }

@@ -1,6 +1,5 @@
 -- Iteration domains, as systems of rows.
 use Rattle.std.specs.Prelude.{ℕ, ◌+◌, List, [], length, unwrap_or}
-use Rattle.iolb_model.specs.Form.{AffineForm}
 use Rattle.iolb_model.specs.Path.{PathStep, row_path}
 use Rattle.iolb_model.specs.Program.{AffineProgram}
 use Rattle.affine_form.specs.System.{AffineSystem}

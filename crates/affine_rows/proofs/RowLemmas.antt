@@ -146,7 +146,7 @@ pub length-variables : (vars first count : ℕ) → length (variables_from vars 
 length-variables vars first zero = refl
 length-variables vars first (suc count) = ap suc (length-variables vars (suc first) count)
 
-set-small : (limit : ℕ) (xs : List ℤ) (k : ℕ) (y : ℤ) → AllByRecursion (IsSmall limit) xs → IsSmall limit y → AllByRecursion (IsSmall limit) (slice_set xs k y)
+pub set-small : (limit : ℕ) (xs : List ℤ) (k : ℕ) (y : ℤ) → AllByRecursion (IsSmall limit) xs → IsSmall limit y → AllByRecursion (IsSmall limit) (slice_set xs k y)
 set-small limit [] k y h p = tt
 set-small limit (x ∷ xs) zero y h p = (p, h.1)
 set-small limit (x ∷ xs) (suc k) y h p = (h.0, set-small limit xs k y h.1 p)

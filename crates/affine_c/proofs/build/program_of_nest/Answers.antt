@@ -6,8 +6,8 @@ use Rattle.copy_nest.specs.Nest.{CopyLoop, place_of, nest_item, parameter_names,
 use Rattle.copy_nest.specs.Spelling.{IsName}
 use Rattle.affine_c.specs.declared.nest_text.Header.{Header}
 use Rattle.affine_c.specs.Parts.{ProgramParts}
-use Rattle.affine_c.proofs.Built.{AreBuilt}
-use Rattle.affine_c.proofs.Whole.{built_program}
+use Rattle.affine_c.proofs.Whole.{AreBuilt, built_program}
+use Rattle.affine_c.proofs.NestLimits.{limits_built}
 use Rattle.affine_c.specs.Views.{loop_view, nest_view}
 use Rattle.affine_c.proofs.Sized.{parameters_long, parameters_few, bounds_there, parameters_named}
 use Rattle.affine_c.proofs.build.program_of_nest.Goals as goal
@@ -54,4 +54,6 @@ built c = record {
 }
 
 pub from_parts-requires : goal.from_parts-requires
-from_parts-requires c = built_program (nest_view c.args.nest.now) (parts c) c.in_ok-statement.statement c.in_ok-item.item c.requires.copies (built c)
+from_parts-requires c =
+    built_program (nest_view c.args.nest.now) (parts c) c.in_ok-statement.statement c.in_ok-item.item (built c)
+    (limits_built (nest_view c.args.nest.now) (parts c) c.in_ok-statement.statement c.in_ok-item.item c.requires.copies (built c))

@@ -1,4 +1,4 @@
-use Rattle.std.proofs.Common.{◌≡◌, drop, length}
+use Rattle.std.proofs.Common.{◌≡◌, drop}
 use Rattle.execution_laws.specs.Order.{row_common}
 use Rattle.affine_c.specs.Tree.{row_of}
 use Rattle.affine_c.proofs.domain.+common_in.Given as goal

@@ -1,6 +1,3 @@
-use Rattle.std.proofs.Common.{◌≡◌, ◌≤◌, length, arith, subst, sym, refl}
-use Rattle.iolb_model.specs.Program.{Row}
-use Rattle.execution_laws.specs.Order.{row_common}
 use Rattle.affine_c.proofs.Bounds.{common-few}
 use Rattle.affine_c.proofs.program.Program.common.Goals as goal
 
