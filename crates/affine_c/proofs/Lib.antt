@@ -6,8 +6,6 @@ pub mod InFront
 pub mod Distinct
 pub mod Loops
 pub mod Sized
-pub mod Built
-pub mod WithinLimits
 pub mod Whole
 pub mod NestLimits
 pub mod Readings

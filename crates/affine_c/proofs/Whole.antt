@@ -14,9 +14,17 @@ use Rattle.affine_c.specs.declared.item.Item.{Item}
 use Rattle.affine_c.specs.Tree.{item_of, row_of}
 use Rattle.affine_c.specs.Limits.{IsWithinLimits}
 use Rattle.affine_c.specs.Parts.{ProgramParts, meaning, statement_of, array_of, step_of, IsProgram}
-use Rattle.copy_nest.specs.Spelling.{IsCopyNest}
-use Rattle.affine_c.proofs.Built.{AreBuilt}
-use Rattle.affine_c.proofs.WithinLimits.{built_limits}
+
+-- what the parts of a nest are
+pub record AreBuilt (nest : CopyNest) (parts : ProgramParts) (built : Statement) (inner : Item) : Type 0 where
+  pub params : parts.params ≡ parameter_names nest
+  pub assumed : parts.assumed ≡ record { vars = length (parameter_names nest); rows = parameters_positive (length (parameter_names nest)) }
+  pub arrays : map array_of parts.arrays ≡ nest_arrays nest
+  pub one_statement : parts.statements ≡ built ∷ []
+  pub statement : statement_of built ≡ nest_statement nest
+  pub bounds : map step_of built.bounds.items ≡ nest_steps (parameter_names nest) (length (parameter_names nest)) nest.loops
+  pub one_item : parts.tree ≡ inner ∷ []
+  pub item : item_of inner ≡ nest_item (parameter_names nest) (length (parameter_names nest)) nest.loops
 
 abbrev from_five : List (List ℕ) → List AffineForm → List Array → List ModelStatement → Row → AffineProgram
 from_five p a r t v = record { parameters = p; assumptions = a; arrays = r; statements = t; tree = v }
