@@ -1,5 +1,5 @@
--- The texts of copy nests: between a line `#pragma scop` and a line `#pragma endscop` the words of the nest, parted
--- by spaces and newlines alone.
+-- The texts of copy nests: between a line `#pragma scop` and a line `#pragma endscop` the words of the nest,
+-- with any spaces and newlines between them.
 use Rattle.std.specs.Prelude.{◌≡◌, ℕ, ◌≤◌, ◌⊎◌, ◌==◌, ◌||◌, ◌&&◌, nat_le, Bool, false, IsTrue, List, [], ◌∷◌, ◌++◌, length, flat_map, codes, bytes_eq}
 use Rattle.std.specs.List.{AllByRecursion, IsDistinct, list_any}
 use Rattle.iolb_model.specs.Program.{AffineProgram}
@@ -24,7 +24,7 @@ keywords = codes "for" ∷ codes "if" ∷ codes "else" ∷ codes "int" ∷ codes
 abbrev pub is_among : List (List ℕ) → List ℕ → Bool
 is_among words word = list_any (bytes_eq word) words
 
--- A name begins with a letter and goes on with letters and digits; it has at most 64 bytes and isn't a word of C.
+-- A name begins with a letter or `_` and goes on with these and digits; it has at most 64 bytes and isn't a word of C.
 abbrev pub IsName : List ℕ → Type 0
 IsName [] = ⊥
 IsName (b ∷ bytes) = IsTrue (is_letter b) × AllByRecursion (λ c. IsTrue (is_name_byte c)) bytes × (length (b ∷ bytes) ≤ 64)

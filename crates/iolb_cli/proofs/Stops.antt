@@ -144,6 +144,7 @@ headline call output error status outcome e = said_bound (subst (λ (s : Status)
     holds_program = done.accepted.holds_program;
     holds_certificate = done.accepted.holds_certificate;
     meets = done.accepted.meets;
+    bound_is = done.accepted.bound_is;
     printed = subst (Gains output) done.accepted.printed gains;
     error_stays = stays;
     holds = done.accepted.holds;

@@ -34,12 +34,12 @@ upper_bound (rises lower upper) = upper
 abbrev pub loop_pair : PathStep → Data
 loop_pair (rises lower upper) = number_lists (form_numbers lower ∷ form_numbers upper ∷ [])
 
--- the place of a loop's parameter: the first variable whose coefficient in the upper bound is 1
+-- the place of the parameter of a copy nest's loop: the first variable whose coefficient in the upper bound is 1
 abbrev pub parameter_place : PathStep → ℕ
 parameter_place step = position_or_len (λ z. int_eq z (pos 1)) (upper_bound step).coefficients
 
--- That a loop's parameter is at least 1 follows from its assumption alone: multipliers with the constant 1 and 1 for
--- the assumption. (Farkas 1902.)
+-- That a loop's last value is at least its first less 1, so the parameter at least 0, follows from the parameter's
+-- assumption alone: multipliers with the constant 1 and 1 for the assumption. (Farkas 1902.)
 abbrev pub shown_by : ℕ → List ℤ
 shown_by place = pos 1 ∷ pos 1 ∷ pos place ∷ pos 1 ∷ []
 

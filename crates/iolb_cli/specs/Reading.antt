@@ -5,7 +5,7 @@ use Rattle.iolb_host.specs.declared.files.FileFault.TheVariants.{Missing, TooLon
 use Rattle.iolb_host.specs.Count.{Rose}
 use Rattle.iolb_host.specs.Files.{FileMap, content_of}
 
--- The bytes that a read gave: at most so many, and where the files tell their content, those under the name.
+-- What a read may give: at most so many bytes, and where the files tell their content, those under the name.
 pub record IsContent (files : Option FileMap) (name : List ℕ) (most : ℕ) (bytes : List ℕ) : Type 0 where
   pub few : length bytes ≤ most
   pub told : IfSome files (λ map. content_of map name ≡ Some bytes)

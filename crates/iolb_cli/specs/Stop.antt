@@ -31,13 +31,13 @@ program_most = 4194304
 abbrev pub certificate_most : ℕ
 certificate_most = 67108864
 
--- the file of this name holds the text of this program
+-- the file of this name holds the text of this program; where the files don't tell their content, it may
 pub record HoldsProgram (files : Option FileMap) (name : List ℕ) (program : AffineProgram) : Type 0 where
   pub bytes : List ℕ
   pub content : IsContent files name program_most bytes
   pub reads : ReadsAsProgram bytes program
 
--- the file of this name holds the text of this program's certificate with this matrix
+-- the file of this name holds, or may hold, the text of this program's certificate with this matrix
 pub record HoldsCertificate (files : Option FileMap) (name : List ℕ) (program : AffineProgram) (matrix : IntegerMatrix) : Type 0 where
   pub bytes : List ℕ
   pub content : IsContent files name certificate_most bytes
