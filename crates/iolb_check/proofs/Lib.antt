@@ -1,3 +1,4 @@
 pub mod Entries
 pub mod UsesLemmas
+pub mod Positive
 pub mod NestParts

@@ -26,9 +26,12 @@ use Rattle.iolb_model.specs.Polynomial.{Polynomial}
 use Rattle.iolb_model.specs.Bound.{Bound, cold}
 use Rattle.iolb_model.specs.Headline.{BoundHolds}
 use Rattle.iolb_check.specs.Certificate.{read_coefficients, matrix_rows, FitsNest, MeetsConditions}
-use Rattle.iolb_check.specs.Product.{product_of}
+use Rattle.poly_tree.specs.Printed.{power_product}
 use Rattle.iolb_check.specs.Uses.{unit_place, uses_of, all_uses}
 use Rattle.iolb_check.specs.Columns.{coefficients_past}
+use Rattle.copy_nest.proofs.Sizes.{length-distinct}
+use Rattle.iolb_check.proofs.UsesLemmas.{length-all_uses, all_uses-low}
+use Rattle.iolb_check.proofs.Positive.{exponents_positive}
 
 one_statement : (parts : ProgramParts) (nest : CopyNest) → meaning parts ≡ program_of nest → length parts.statements ≡ 1
 one_statement parts nest e = sym (length-map parts.statements statement_of) ∙ ap (λ (p : AffineProgram). length p.statements) e
@@ -112,6 +115,10 @@ subscripts_wide : (names : List (List ℕ)) (variables : ℕ) (f : List ℕ → 
 subscripts_wide [] variables f = tt
 subscripts_wide (name ∷ names) variables f = (length-set (replicate variables (pos 0)) (f name) (pos 1) ∙ length-replicate variables (pos 0), subscripts_wide names variables f)
 
+All-weaker_ℕ : (m n : ℕ) (xs : List ℕ) → m ≤ n → AllByRecursion (λ e. e ≤ m) xs → AllByRecursion (λ e. e ≤ n) xs
+All-weaker_ℕ m n [] le h = tt
+All-weaker_ℕ m n (x ∷ xs) le h = (omega (arith, le, h.0), All-weaker_ℕ m n xs le h.1)
+
 -- What the parts of a copy nest's program are: one statement with one read, over the parameters and the loops, whose
 -- bounds are those of the loops.
 pub record NestFacts (parts : ProgramParts) (nest : CopyNest) (st : Statement) : Type 0 where
@@ -119,7 +126,10 @@ pub record NestFacts (parts : ProgramParts) (nest : CopyNest) (st : Statement) :
   pub read : (r : Reference) → r ≡ get_or st.reads.items 0 r → r.subs.items ≡ (nest_access nest 1 nest.read).subscripts
   pub few_bounds : length st.bounds.items < 256
   pub bounds_there : AllByRecursion (λ (b : AffineForm × AffineForm). unit_place b.1 < length parts.params) st.bounds.items
-  pub product : product_of (all_uses st.bounds.items (length parts.params)) ≡ parameters_product nest
+  pub few : length (all_uses st.bounds.items (length parts.params)) ≤ 24
+  pub low : AllByRecursion (λ e. e ≤ 8) (all_uses st.bounds.items (length parts.params))
+  pub used : AllByRecursion (λ e. 1 ≤ e) (all_uses st.bounds.items (length parts.params))
+  pub product : power_product (all_uses st.bounds.items (length parts.params)) ≡ parameters_product nest
   pub wide : AllByRecursion (λ (form : AffineForm). length form.coefficients ≡ length parts.params + length nest.loops) (nest_access nest 1 nest.read).subscripts
   pub as_many : length (nest_access nest 1 nest.read).subscripts ≡ length nest.loops
   pub coefficients : read_coefficients (meaning parts) ≡ coefficients_past (length parts.params) (nest_access nest 1 nest.read).subscripts
@@ -140,7 +150,12 @@ nest_facts parts nest e ok kept st is =
       few_bounds = omega (arith, loops, ok.few_loops);
       bounds_there = subst (λ (n : ℕ). AllByRecursion (λ (b : AffineForm × AffineForm). unit_place b.1 < n) st.bounds.items) (sym params)
           (uses_there (parameter_names nest) (length (parameter_names nest)) (length (parameter_names nest)) nest.loops st.bounds.items bounds (omega arith) (parameters_placed nest));
-      product = ap product_of (ap (all_uses st.bounds.items) params
+      few = omega (arith, length-all_uses st.bounds.items (length parts.params), params, length-distinct (map (λ (l : CopyLoop). l.bound) nest.loops), length-map nest.loops (λ (l : CopyLoop). l.bound), ok.few_loops);
+      low = All-weaker_ℕ (length st.bounds.items) 8 (all_uses st.bounds.items (length parts.params)) (omega (arith, loops, ok.few_loops)) (all_uses-low st.bounds.items (length parts.params));
+      used = subst (AllByRecursion (λ e. 1 ≤ e)) (sym (ap (all_uses st.bounds.items) params
+          ∙ images_same (uses_of st.bounds.items) (exponent_of nest) (uses_are (parameter_names nest) (length (parameter_names nest)) nest.loops st.bounds.items bounds (parameters_placed nest)) (range_with_len 0 (length (parameter_names nest)))))
+          (exponents_positive nest);
+      product = ap power_product (ap (all_uses st.bounds.items) params
           ∙ images_same (uses_of st.bounds.items) (exponent_of nest) (uses_are (parameter_names nest) (length (parameter_names nest)) nest.loops st.bounds.items bounds (parameters_placed nest)) (range_with_len 0 (length (parameter_names nest))));
       wide = subst (λ (n : ℕ). AllByRecursion (λ (form : AffineForm). length form.coefficients ≡ n + length nest.loops) (nest_access nest 1 nest.read).subscripts) (sym params)
           (subscripts_wide nest.read.subscripts (length (parameter_names nest) + length nest.loops) (λ (name : List ℕ). length (parameter_names nest) + place_of name (loop_names nest)));
@@ -150,7 +165,7 @@ nest_facts parts nest e ok kept st is =
 
 -- one cold term that is the product of the uses is the nest's bound
 pub bound_is : (parts : ProgramParts) (nest : CopyNest) (st : Statement) → NestFacts parts nest st → meaning parts ≡ program_of nest
-    → (bound : Bound) → bound ≡ record { assumptions = parts.assumed.rows; branches = (cold (product_of (all_uses st.bounds.items (length parts.params))) ∷ []) ∷ [] }
+    → (bound : Bound) → bound ≡ record { assumptions = parts.assumed.rows; branches = (cold (power_product (all_uses st.bounds.items (length parts.params))) ∷ []) ∷ [] }
     → bound ≡ copy_bound nest
 bound_is parts nest st facts e bound is =
     is ∙ ap (λ (p : Polynomial). bound_with parts.assumed.rows p) facts.product

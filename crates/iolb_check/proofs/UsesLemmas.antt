@@ -1,7 +1,7 @@
 -- How many loops run to below each parameter, one loop after another.
 use Rattle.std.proofs.Common.{◌≡◌, refl, sym, ◌∙◌, ap, subst, ℕ, zero, suc, ◌+◌, ◌<◌, ◌≤◌, Bool, cond, List, [], ◌∷◌, ◌++◌, length, map, get_or, set, replicate, arith}
 use Rattle.std.specs.Prelude.{◌==◌}
-use Rattle.std.specs.List.{range_with_len}
+use Rattle.std.specs.List.{AllByRecursion, range_with_len}
 use Rattle.std.proofs.lemmas.Bool.{eq-eqb, ne_eqb}
 use Rattle.std.proofs.lemmas.List.{length-map}
 use Rattle.std.proofs.lemmas.List.Sums.{sum_by-append, sum_by-cons, count_by-le-length}
@@ -55,3 +55,10 @@ each_small bounds first (suc n) (suc k) = each_small bounds (first + 1) n k
 -- no more loops than there are
 pub all_uses-small : (bounds : List (AffineForm × AffineForm)) (n k : ℕ) → get_or (all_uses bounds n) k 0 ≤ length bounds
 all_uses-small bounds n k = each_small bounds 0 n k
+
+each_low : (bounds : List (AffineForm × AffineForm)) (first n : ℕ) → AllByRecursion (λ e. e ≤ length bounds) (map (uses_of bounds) (range_with_len first n))
+each_low bounds first zero = tt
+each_low bounds first (suc n) = (count_by-le-length (λ (x : AffineForm × AffineForm). unit_place x.1 == first) bounds, each_low bounds (first + 1) n)
+
+pub all_uses-low : (bounds : List (AffineForm × AffineForm)) (n : ℕ) → AllByRecursion (λ e. e ≤ length bounds) (all_uses bounds n)
+all_uses-low bounds n = each_low bounds 0 n

@@ -1,4 +1,3 @@
-pub mod Product
 pub mod Columns
 pub mod Uses
 pub mod Values

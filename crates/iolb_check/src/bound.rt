@@ -3,15 +3,15 @@
 ghost use Rattle.std.specs.Prelude.{◌≡◌, ◌<◌, length, map, Some, slice_get};
 ghost use Rattle.affine_form.specs.System.{AllOver};
 
-use crate::poly::Product;
 use affine_form::System;
+use poly_tree::Poly;
 use std::marker::Model;
 
 /// The value of a term of a bound.
 #[derive(Debug, Drop)]
 pub enum Value {
     /// Of a cold term: how many input cells it names.
-    Cold(Product),
+    Cold(Poly),
 }
 
 /// A bound on the loads of a program: the assumptions about its parameters, and branches, each with its terms' values.

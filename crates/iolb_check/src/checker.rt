@@ -1,7 +1,9 @@
 //! The checker.
 
-ghost use Rattle.std.specs.Prelude.{◌≡◌, IfOk, IfErr, OnOk, [], ◌∷◌};
+ghost use Rattle.std.specs.Prelude.{◌≡◌, ◌≤◌, length, IfOk, IfErr, OnOk, [], ◌∷◌};
+ghost use Rattle.std.specs.List.{AllByRecursion};
 ghost use Rattle.iolb_model.specs.Bound.{cold};
+ghost use Rattle.poly_tree.specs.Printed.{power_product};
 ghost use Rattle.iolb_model.specs.Headline.{BoundHolds};
 ghost use Rattle.affine_c.specs.Parts.{meaning};
 ghost use Rattle.copy_nest.specs.Nest.{CopyNest};
@@ -12,7 +14,7 @@ ghost use Rattle.iolb_check.specs.Refusal.{entry_place, IsMatrixRefusal, IsRefus
 use crate::bound::{Bound, Value};
 use crate::certificate::Certificate;
 use crate::inverse::first_difference;
-use crate::poly::Product;
+use crate::product::product_of_parameters;
 use crate::uses::parameter_uses;
 use affine_c::Program;
 use affine_form::{Memory, No, Place, Refused, Step, System, key};
@@ -38,7 +40,7 @@ pub fn check(alloc: Global, program: &Program, certificate: &Certificate) -> Res
     let Ok(uses) = parameter_uses(alloc, parameters, statement.bounds.as_slice()) else {
         return Err(Refused::Memory);
     };
-    match one_cold_term(alloc, program.assumed(), Product::new(uses)) {
+    match one_cold_term(alloc, program.assumed(), uses) {
         Ok(bound) => Ok(bound),
         Err(Memory) => Err(Refused::Memory),
     }
@@ -75,10 +77,14 @@ fn matrix_place(alloc: Global, row: usize, col: usize) -> Result<Place, Memory>
     Ok(Place::new(steps))
 }
 
-/// The bound with these assumptions and one branch of one cold term.
-fn one_cold_term(alloc: Global, assumed: &System, count: Product) -> Result<Bound, Memory>
-    ensures { IfOk result (λ bound. bound ≡ record { assumptions = assumed.now.rows; branches = (cold count ∷ []) ∷ [] }) }
+/// The bound with these assumptions and one branch of one cold term, the product of the parameters with these exponents.
+fn one_cold_term(alloc: Global, assumed: &System, exponents: Vec<u8>) -> Result<Bound, Memory>
+    requires few { length exponents.items ≤ 24 }
+    requires low { AllByRecursion (λ e. e ≤ 8) exponents.items }
+    requires used { AllByRecursion (λ e. 1 ≤ e) exponents.items }
+    ensures { IfOk result (λ bound. bound ≡ record { assumptions = assumed.now.rows; branches = (cold (power_product exponents.items) ∷ []) ∷ [] }) }
 {
+    let count = product_of_parameters(alloc, exponents)?;
     let assumed = assumed.try_clone(alloc)?;
     let terms = vec![in alloc; Value::Cold(count)]?;
     let branches = vec![in alloc; terms]?;

@@ -5,10 +5,9 @@ mod bound;
 mod certificate;
 mod checker;
 mod inverse;
-mod poly;
+mod product;
 mod uses;
 
 pub use bound::{Bound, Value};
 pub use certificate::Certificate;
 pub use checker::check;
-pub use poly::Product;

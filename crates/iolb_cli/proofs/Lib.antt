@@ -1,4 +1,3 @@
-pub mod Powers
 pub mod Loops
 pub mod Sinks
 pub mod Branches

@@ -4,7 +4,6 @@ pub mod Reading
 pub mod PlainCertificate
 pub mod CertificateText
 pub mod PointerText
-pub mod Powers
 pub mod Lines
 pub mod Stop
 pub mod Judged

@@ -6,7 +6,6 @@ ghost use Rattle.iolb_model.specs.Program.{IsOver};
 ghost use Rattle.iolb_model.specs.Printed.{assumption_text, bound_term_text, branches_text, bound_text as text_of_bound};
 ghost use Rattle.iolb_check.specs.Values.{term_of};
 
-use crate::product_text::product_text;
 use affine_c::Program;
 use affine_form::{Form, Memory, Name};
 use iolb_check::{Bound, Value};
@@ -47,7 +46,7 @@ fn push_term(alloc: Global, text: &mut Vec<u8>, names: &[Name], term: &Value) ->
     match term {
         Value::Cold(count) => {
             text.extend_from_slice(b"  cold ")?;
-            text.extend_from_slice(product_text(alloc, names, count)?.as_slice())?;
+            text.extend_from_slice(count.text(alloc, names)?.as_slice())?;
             text.push(b'\n')?;
         }
     }

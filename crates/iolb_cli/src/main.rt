@@ -12,7 +12,6 @@ mod loop_parts;
 mod matrix_entries;
 mod plain_certificate;
 mod pointer_text;
-mod product_text;
 mod status;
 mod stop;
 mod sums;

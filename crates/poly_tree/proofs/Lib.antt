@@ -4,7 +4,9 @@ pub mod EvaluateLemmas
 pub mod Expansions
 pub mod Factors
 pub mod LinearLemmas
+pub mod Powers
 pub mod PrintedLemmas
+pub mod PrintedProducts
 pub mod Products
 pub mod PutLemmas
 pub mod Reduced

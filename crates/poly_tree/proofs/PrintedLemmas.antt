@@ -1,14 +1,18 @@
 -- Terms in the order in which they are printed have the tree's value.
-use Rattle.std.proofs.Common.{◌≡◌, ℕ, zero, suc, ◌+◌, ◌-◌, ◌≤◌, ◌^◌, Bool, true, false, if◌then◌else◌, List, [], ◌∷◌, ◌++◌, length, map, replicate, arith, sym, refl, ◌∙◌, ap}
+use Rattle.std.proofs.Common.{◌≡◌, ℕ, zero, suc, ◌+◌, ◌-◌, ◌≤◌, ◌^◌, Bool, true, false, cond, not, if◌then◌else◌, List, [], ◌∷◌, ◌++◌, length, map, replicate, arith, sym, refl, ◌∙◌, ap}
 use Rattle.std.proofs.Math.IntN.{ℤ, pos, negsuc, ◌+ℤ◌, ◌*ℤ◌}
 use Rattle.std.specs.List.{AllByRecursion}
+use Rattle.std.specs.Ordering.{int_eq}
+use Rattle.std.proofs.lemmas.Bool.{false_from_ne_true}
+use Rattle.std.proofs.lemmas.Bool.Decides.{Decides-int_eq}
+use Rattle.iolb_model.specs.Printed.{nonzero}
 use Rattle.std.proofs.lemmas.Int.{ints}
 use Rattle.std.proofs.lemmas.List.{length-append, length-replicate}
 use Rattle.integer_laws.proofs.Ring.{mul-zero, one-mul, mul-one, mul_assoc_ℤ, mul_comm, mul-add}
 use Rattle.iolb_model.specs.Polynomial.{Term, int_power, monomial, terms_value}
 use Rattle.poly_tree.specs.Expansion.{Expansion, Parts, number, over, none, part, at, value, parts_value, powers_from, IsCanonical, AreCanonical}
 use Rattle.poly_tree.specs.Tree.{expansion}
-use Rattle.poly_tree.specs.Printed.{with_exponent, with_power, expansion_terms, parts_terms, is_printed_before, insert_term, in_print_order, TermsHaveTheValue}
+use Rattle.poly_tree.specs.Printed.{with_exponent, with_power, named_term, AreNonzero, expansion_terms, parts_terms, is_printed_before, insert_term, in_print_order, TermsHaveTheValue}
 use Rattle.poly_tree.proofs.TermLemmas.{powers-monomial}
 
 insert-value : (t : Term) (ts : List Term) (point : List ℤ) → terms_value (insert_term t ts) point ≡ (t.coefficient *ℤ monomial t.exponents point) +ℤ terms_value ts point
@@ -135,3 +139,59 @@ mutual
 pub terms_have_the_value : TermsHaveTheValue
 terms_have_the_value q legal point =
     order-value (expansion_terms (expansion q.tree)) point ∙ terms-value (2 ^ 16) (expansion q.tree) point legal.canonical
+
+-- terms put into a row that is in order, the last first
+abbrev pub insert_all : List Term → List Term → List Term
+insert_all [] ordered = ordered
+insert_all (t ∷ ts) ordered = insert_term t (insert_all ts ordered)
+
+pub insert_all-none : (ts : List Term) → insert_all ts [] ≡ in_print_order ts
+insert_all-none [] = refl
+insert_all-none (t ∷ ts) = ap (insert_term t) (insert_all-none ts)
+
+pub insert_all-last : (ts : List Term) (t : Term) (ordered : List Term) → insert_all (ts ++ t ∷ []) ordered ≡ insert_all ts (insert_term t ordered)
+insert_all-last [] t ordered = refl
+insert_all-last (s ∷ ts) t ordered = ap (insert_term s) (insert_all-last ts t ordered)
+
+-- no coefficient of a tree's terms is 0
+nonzero-append : (ts us : List Term) → AreNonzero ts → AreNonzero us → AreNonzero (ts ++ us)
+nonzero-append [] us h k = k
+nonzero-append (t ∷ ts) us h k = (h.0, nonzero-append ts us h.1 k)
+
+nonzero-mapped : (v e : ℕ) (ts : List Term) → AreNonzero ts → AreNonzero (map (with_power v e) ts)
+nonzero-mapped v e [] h = tt
+nonzero-mapped v e (t ∷ ts) h = (h.0, nonzero-mapped v e ts h.1)
+
+mutual
+  nonzero-terms : (t : Expansion) → AreNonzero (expansion_terms t)
+  nonzero-terms (number (pos zero)) = tt
+  nonzero-terms (number (pos (suc n))) = (λ e. absurd (omega (arith, ints, e)), tt)
+  nonzero-terms (number (negsuc n)) = (λ e. absurd (omega (arith, ints, e)), tt)
+  nonzero-terms (over v ps) = nonzero-parts v 0 ps
+
+  nonzero-parts : (v e : ℕ) (ps : Parts) → AreNonzero (parts_terms v e ps)
+  nonzero-parts v e none = tt
+  nonzero-parts v e (part t ps) = nonzero-append (map (with_power v e) (expansion_terms t)) (parts_terms v (suc e) ps) (nonzero-mapped v e (expansion_terms t) (nonzero-terms t)) (nonzero-parts v (suc e) ps)
+
+nonzero-insert : (t : Term) (ts : List Term) → AreNonzero (t ∷ ts) → AreNonzero (insert_term t ts)
+nonzero-insert t [] h = h
+nonzero-insert t (s ∷ ts) h = by (is_printed_before t s) (nonzero-insert t ts (h.0, h.1.1)) where
+  by : (b : Bool) → AreNonzero (insert_term t ts) → AreNonzero (if b then t ∷ (s ∷ ts) else s ∷ insert_term t ts)
+  by true k = h
+  by false k = (h.1.0, k)
+
+nonzero-order : (ts : List Term) → AreNonzero ts → AreNonzero (in_print_order ts)
+nonzero-order [] h = tt
+nonzero-order (t ∷ ts) h = nonzero-insert t (in_print_order ts) (h.0, nonzero-order ts h.1)
+
+pub nonzero-printed : (t : Expansion) → AreNonzero (in_print_order (expansion_terms t))
+nonzero-printed t = nonzero-order (expansion_terms t) (nonzero-terms t)
+
+-- terms without a coefficient 0 are printed whole
+pub all-nonzero : (names : List (List ℕ)) (ts : List Term) → AreNonzero ts → nonzero (map (named_term names) ts) ≡ map (named_term names) ts
+all-nonzero names [] h = refl
+all-nonzero names (t ∷ ts) h = by (int_eq t.coefficient (pos 0)) (false_from_ne_true (int_eq t.coefficient (pos 0)) (λ e. h.0 ((Decides-int_eq t.coefficient (pos 0)).0 e))) (all-nonzero names ts h.1) where
+  by : (b : Bool) → b ≡ false → nonzero (map (named_term names) ts) ≡ map (named_term names) ts
+      → cond (not b) (named_term names t ∷ nonzero (map (named_term names) ts)) (nonzero (map (named_term names) ts)) ≡ named_term names t ∷ map (named_term names) ts
+  by true k e = absurd cc
+  by false k e = ap (λ (l : List (ℤ × List ℕ)). named_term names t ∷ l) e

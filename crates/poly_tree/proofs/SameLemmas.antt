@@ -38,7 +38,7 @@ at-listed point (suc n) w p = by (λ less. at-listed point n w less) (cases w n 
   by f (inr less) = get_or_append_left (listed point n) (point n ∷ []) (pos 1) w (omega (arith, length-listed point n)) ∙ f less
 
 -- what agrees at all lists agrees at all points
-everywhere : (bound : ℕ) (t u : Expansion) → IsCanonical bound t → IsCanonical bound u → ((point : List ℤ) → value t (at point) ≡ value u (at point)) → (point : ℕ → ℤ) → value t point ≡ value u point
+pub everywhere : (bound : ℕ) (t u : Expansion) → IsCanonical bound t → IsCanonical bound u → ((point : List ℤ) → value t (at point) ≡ value u (at point)) → (point : ℕ → ℤ) → value t point ≡ value u point
 everywhere bound t u c d h point =
     sym (agree bound t (at (listed point bound)) point c (at-listed point bound)) ∙ h (listed point bound) ∙ agree bound u (at (listed point bound)) point d (at-listed point bound)
 
@@ -104,7 +104,7 @@ mutual
 
 -- a factor divides a multiple
 mutual
-  divides-multiple : (k : ℕ) (t : Expansion) → DividesAll k (scaled (pos k) t)
+  pub divides-multiple : (k : ℕ) (t : Expansion) → DividesAll k (scaled (pos k) t)
   divides-multiple k (number n) = subst (λ (m : ℕ). k ∣ m) (sym (unsigned_abs-mul (pos k) n)) (dvd-mul_right k (unsigned_abs n))
   divides-multiple k (over v ps) = divides-multiple_parts k ps
 
@@ -134,7 +134,7 @@ turn x y c = record { factor = c.factor; first = c.second; second = c.first; som
   some p zero d = absurd (omega (arith, mod-eq-zero_of_dvd 0 d))
   some p (suc g) d = omega arith
 
-nonzero : (n : ℕ) → 1 ≤ n → pos n ≢ pos 0
+pub nonzero : (n : ℕ) → 1 ≤ n → pos n ≢ pos 0
 nonzero zero p = absurd (omega arith)
 nonzero (suc n) p = λ e. absurd cc
 

@@ -14,10 +14,10 @@ use Rattle.poly_tree.specs.Poly.{Quotient, IsReduced}
 use Rattle.poly_tree.proofs.Expansions.{IsCanonical-more}
 use Rattle.poly_tree.proofs.LinearLemmas.{capped-left, reduced-value}
 
-raised-parts : ℕ → Expansion → List Expansion
+unfoldable pub raised-parts : ℕ → Expansion → List Expansion
 raised-parts e t = replicate e zero_expansion ++ t ∷ []
 
-parts-value : (e : ℕ) (t : Expansion) (x : ℤ) (point : ℕ → ℤ) → parts_value (parts_from (raised-parts e t)) x point ≡ int_power x e *ℤ value t point
+pub parts-value : (e : ℕ) (t : Expansion) (x : ℤ) (point : ℕ → ℤ) → parts_value (parts_from (raised-parts e t)) x point ≡ int_power x e *ℤ value t point
 unfolding raised-parts
 parts-value zero t x point = ap (λ (y : ℤ). value t point +ℤ y) (mul-zero x) ∙ plus (value t point) ∙ sym (one-mul (value t point)) where
   plus : (y : ℤ) → y +ℤ pos 0 ≡ y
@@ -35,7 +35,7 @@ parts-weight (suc e) t = plus (parts_weight (parts_from (raised-parts e t))) ∙
   plus : (n : ℕ) → 0 + n ≡ n
   plus n = omega arith
 
-parts-canonical : (e v : ℕ) (t : Expansion) → IsCanonical v t → AreCanonical v (parts_from (raised-parts e t))
+pub parts-canonical : (e v : ℕ) (t : Expansion) → IsCanonical v t → AreCanonical v (parts_from (raised-parts e t))
 unfolding raised-parts
 parts-canonical zero v t h = (h, tt)
 parts-canonical (suc e) v t h = (tt, parts-canonical e v t h)
@@ -50,7 +50,7 @@ unfolding raised-parts
 parts-degrees zero d t h = (h, tt)
 parts-degrees (suc e) d t h = (tt, parts-degrees e d t h)
 
-powers-push : (es : List ℕ) (e v : ℕ) (point : ℕ → ℤ) → powers_from (es ++ e ∷ []) v point ≡ powers_from es v point *ℤ int_power (point (v + length es)) e
+pub powers-push : (es : List ℕ) (e v : ℕ) (point : ℕ → ℤ) → powers_from (es ++ e ∷ []) v point ≡ powers_from es v point *ℤ int_power (point (v + length es)) e
 powers-push [] e v point = mul-one (int_power (point v) e) ∙ ap (λ (n : ℕ). int_power (point n) e) (plus v) ∙ sym (one-mul (int_power (point (v + 0)) e)) where
   plus : (n : ℕ) → n ≡ n + 0
   plus n = omega arith

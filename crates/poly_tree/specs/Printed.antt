@@ -1,6 +1,8 @@
 -- A polynomial's terms in the order in which they are printed.
-use Rattle.std.specs.Prelude.{◌≡◌, ℕ, zero, suc, ◌-◌, ◌==◌, nat_lt, if◌then◌else◌, ◌||◌, ◌&&◌, Bool, false, ℤ, pos, negsuc, List, [], ◌∷◌, ◌++◌, map, replicate, length, sum}
-use Rattle.iolb_model.specs.Polynomial.{Term, Polynomial, numerator}
+use Rattle.std.specs.Prelude.{◌≡◌, ◌≢◌, ℕ, zero, suc, ◌-◌, ◌≤◌, ◌==◌, nat_lt, if◌then◌else◌, ◌||◌, ◌&&◌, Bool, false, ℤ, pos, negsuc, ◌*ℤ◌, List, [], ◌∷◌, ◌++◌, map, replicate, length, sum}
+use Rattle.iolb_model.specs.Polynomial.{Term, Polynomial, numerator, monomial}
+use Rattle.std.specs.List.{AllByRecursion}
+use Rattle.iolb_model.specs.Printed.{product_text}
 use Rattle.poly_tree.specs.Expansion.{Expansion, Parts, number, over, none, part}
 use Rattle.poly_tree.specs.Poly.{Quotient, IsLegal, numerator_at}
 use Rattle.poly_tree.specs.Tree.{expansion}
@@ -51,6 +53,14 @@ abbrev pub in_print_order : List Term → List Term
 in_print_order [] = []
 in_print_order (t ∷ ts) = insert_term t (in_print_order ts)
 
+-- a term as it is printed: its coefficient, and the product of its variables by their names
+abbrev pub named_term : List (List ℕ) → Term → ℤ × List ℕ
+named_term names term = (term.coefficient, product_text names term.exponents)
+
+-- no coefficient is 0
+abbrev pub AreNonzero : List Term → Type 0
+AreNonzero terms = AllByRecursion (λ (term : Term). term.coefficient ≢ pos 0) terms
+
 -- the polynomial that a tree over a denominator is, by its terms in the order in which they are printed
 abbrev pub polynomial_of : Quotient → Polynomial
 polynomial_of q = record { terms = in_print_order (expansion_terms (expansion q.tree)); denominator = q.denominator }
@@ -58,3 +68,12 @@ polynomial_of q = record { terms = in_print_order (expansion_terms (expansion q.
 -- its numerator is the tree's value at every point
 abbrev pub TermsHaveTheValue : Type 0
 TermsHaveTheValue = (q : Quotient) → IsLegal q → (point : List ℤ) → numerator (polynomial_of q) point ≡ numerator_at q point
+
+-- the product of powers of the variables from the first on, as a polynomial
+abbrev pub power_product : List ℕ → Polynomial
+power_product exponents = record { terms = record { coefficient = pos 1; exponents = exponents } ∷ []; denominator = 1 }
+
+-- A polynomial that has at every point the value of a product of powers, each at least 1, is printed as that product.
+abbrev pub ProductsArePrinted : Type 0
+ProductsArePrinted = (q : Quotient) (exponents : List ℕ) → IsLegal q → length exponents ≤ 24 → AllByRecursion (λ e. 1 ≤ e) exponents
+    → ((point : List ℤ) → numerator_at q point ≡ (monomial exponents point *ℤ pos q.denominator)) → polynomial_of q ≡ power_product exponents

@@ -1,4 +1,4 @@
-use Rattle.std.proofs.Common.{◌≡◌, sym, ◌∙◌, ap, subst, [], ◌∷◌, ℕ, ◌+◌, ◌<◌, length, List, get_or}
+use Rattle.std.proofs.Common.{◌≡◌, sym, ◌∙◌, ap, subst, [], ◌∷◌, ℕ, ◌+◌, ◌<◌, ◌≤◌, length, List, get_or}
 use Rattle.std.specs.Prelude.{ℤ}
 use Rattle.std.specs.List.{AllByRecursion}
 use Rattle.iolb_model.specs.Form.{AffineForm}
@@ -13,7 +13,7 @@ use Rattle.iolb_check.specs.Certificate.{FitsNest, MeetsConditions, matrix_rows,
 use Rattle.affine_form.specs.System.{AffineSystem}
 use Rattle.iolb_check.specs.Uses.{unit_place, all_uses}
 use Rattle.iolb_check.specs.Columns.{coefficients_past}
-use Rattle.iolb_check.specs.Product.{product_of}
+use Rattle.poly_tree.specs.Printed.{power_product}
 use Rattle.iolb_model.specs.Polynomial.{Polynomial}
 use Rattle.iolb_check.proofs.NestParts.{NestFacts, nest_facts, bound_is, holds}
 use Rattle.iolb_check.proofs.checker.check.Goals as goal
@@ -50,16 +50,20 @@ parameter_uses-requires-clause-there c =
     subst (λ (n : ℕ). AllByRecursion (λ (b : AffineForm × AffineForm). unit_place b.1 < n) c.as_slice.result.now) (sym params)
     (subst (λ (l : List (AffineForm × AffineForm)). AllByRecursion (λ (b : AffineForm × AffineForm). unit_place b.1 < length c.args.program.now.params) l) (sym c.as_slice.ensures.value) facts.bounds_there)
 
+uses_of : (parts : ProgramParts) (nest : CopyNest) (st : Statement) → NestFacts parts nest st → (bounds : List (AffineForm × AffineForm)) → bounds ≡ st.bounds.items → (n : ℕ) → n ≡ length parts.params
+    → (uses : List ℕ) → uses ≡ all_uses bounds n → uses ≡ all_uses st.bounds.items (length parts.params)
+uses_of parts nest st facts bounds e n f uses is = is ∙ ap (λ (l : List (AffineForm × AffineForm)). all_uses l n) e ∙ ap (all_uses st.bounds.items) f
+
 bound_of : (c : goal.In-Ok-one_cold_term) → c.in-Ok-one_cold_term.bound ≡ copy_bound c.requires.0
 bound_of c =
     let facts : NestFacts c.args.program.now c.requires.0 c.index-statements-0.result = facts_of c.args.program.now c.args.certificate.now c.requires.0 c.requires.1 c.statements.ensures.kept c.statements.result.now c.statements.ensures.statements c.index-statements-0.result c.index-statements-0.is in
     let params : c.vars-parameters.result ≡ length c.args.program.now.params = c.vars-parameters.ensures.vars ∙ ap (λ (s : AffineSystem). s.vars) c.assumed.ensures.assumed ∙ c.assumed.ensures.kept.assumed in
     let uses : c.in-Ok.uses.items ≡ all_uses c.index-statements-0.result.bounds.items (length c.args.program.now.params) =
-    c.in-Ok.ensures ∙ ap (λ (l : List (AffineForm × AffineForm)). all_uses l c.vars-parameters.result) c.as_slice.ensures.value ∙ ap (all_uses c.index-statements-0.result.bounds.items) params in
+    uses_of c.args.program.now c.requires.0 c.index-statements-0.result facts c.as_slice.result.now c.as_slice.ensures.value c.vars-parameters.result params c.in-Ok.uses.items c.in-Ok.ensures in
     bound_is c.args.program.now c.requires.0 c.index-statements-0.result facts c.requires.1.program_is c.in-Ok-one_cold_term.bound
     (c.in-Ok-one_cold_term.ensures
-    ∙ ap (λ (a : AffineSystem). one_term a.rows c.new.result) c.assumed-2.ensures.assumed
-    ∙ ap (one_term c.args.program.now.assumed.rows) (c.new.ensures ∙ ap product_of uses)) where
+    ∙ ap (λ (a : AffineSystem). one_term a.rows (power_product c.in-Ok.uses.items)) c.assumed-2.ensures.assumed
+    ∙ ap (λ (es : List ℕ). one_term c.args.program.now.assumed.rows (power_product es)) uses) where
       one_term : List AffineForm → Polynomial → Bound
       one_term rows p = record { assumptions = rows; branches = (cold p ∷ []) ∷ [] }
 
@@ -81,3 +85,21 @@ returns-in-Ok-one_cold_term-clause-holds c =
     subst (λ (rows : List (List ℤ)). IsScaledInverse 1 c.args.certificate.now.rows (matrix_rows c.args.certificate.now) rows) coefficients
     (subst (λ (m : IntegerMatrix). IsScaledInverse 1 m.rows (matrix_rows m) (coefficients_past c.vars-parameters.result c.as_slice-forms.result.now)) c.matrix.ensures c.in_default.ensures.none) in
     holds c.args.program.now c.requires.0 c.args.certificate.now c.requires.1 meets c.in-Ok-one_cold_term.bound (bound_of c)
+
+pub one_cold_term-requires-clause-few : goal.one_cold_term-requires-clause-few
+one_cold_term-requires-clause-few c =
+    let facts : NestFacts c.args.program.now c.requires.0 c.index-statements-0.result = facts_of c.args.program.now c.args.certificate.now c.requires.0 c.requires.1 c.statements.ensures.kept c.statements.result.now c.statements.ensures.statements c.index-statements-0.result c.index-statements-0.is in
+    let params : c.vars-parameters.result ≡ length c.args.program.now.params = c.vars-parameters.ensures.vars ∙ ap (λ (s : AffineSystem). s.vars) c.assumed.ensures.assumed ∙ c.assumed.ensures.kept.assumed in
+    subst (λ (es : List ℕ). length es ≤ 24) (sym (uses_of c.args.program.now c.requires.0 c.index-statements-0.result facts c.as_slice.result.now c.as_slice.ensures.value c.vars-parameters.result params c.in-Ok.uses.items c.in-Ok.ensures)) facts.few
+
+pub one_cold_term-requires-clause-low : goal.one_cold_term-requires-clause-low
+one_cold_term-requires-clause-low c =
+    let facts : NestFacts c.args.program.now c.requires.0 c.index-statements-0.result = facts_of c.args.program.now c.args.certificate.now c.requires.0 c.requires.1 c.statements.ensures.kept c.statements.result.now c.statements.ensures.statements c.index-statements-0.result c.index-statements-0.is in
+    let params : c.vars-parameters.result ≡ length c.args.program.now.params = c.vars-parameters.ensures.vars ∙ ap (λ (s : AffineSystem). s.vars) c.assumed.ensures.assumed ∙ c.assumed.ensures.kept.assumed in
+    subst (AllByRecursion (λ e. e ≤ 8)) (sym (uses_of c.args.program.now c.requires.0 c.index-statements-0.result facts c.as_slice.result.now c.as_slice.ensures.value c.vars-parameters.result params c.in-Ok.uses.items c.in-Ok.ensures)) facts.low
+
+pub one_cold_term-requires-clause-used : goal.one_cold_term-requires-clause-used
+one_cold_term-requires-clause-used c =
+    let facts : NestFacts c.args.program.now c.requires.0 c.index-statements-0.result = facts_of c.args.program.now c.args.certificate.now c.requires.0 c.requires.1 c.statements.ensures.kept c.statements.result.now c.statements.ensures.statements c.index-statements-0.result c.index-statements-0.is in
+    let params : c.vars-parameters.result ≡ length c.args.program.now.params = c.vars-parameters.ensures.vars ∙ ap (λ (s : AffineSystem). s.vars) c.assumed.ensures.assumed ∙ c.assumed.ensures.kept.assumed in
+    subst (AllByRecursion (λ e. 1 ≤ e)) (sym (uses_of c.args.program.now c.requires.0 c.index-statements-0.result facts c.as_slice.result.now c.as_slice.ensures.value c.vars-parameters.result params c.in-Ok.uses.items c.in-Ok.ensures)) facts.used

@@ -5,7 +5,7 @@ use Rattle.std.specs.List.{join_by}
 use Rattle.std.specs.Fmt.{digits}
 use Rattle.std.proofs.lemmas.Bool.{ne_eqb}
 use Rattle.iolb_model.specs.Printed.{power_text, terms_text}
-use Rattle.iolb_cli.specs.Powers.{powers_after}
+use Rattle.poly_tree.specs.Powers.{powers_after}
 
 zip-nil : {A B : Type 0} (xs : List A) → zip {K = A} {X = B} xs [] ≡ []
 zip-nil [] = refl

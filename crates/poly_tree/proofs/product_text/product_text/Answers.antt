@@ -1,8 +1,8 @@
 use Rattle.std.proofs.Common.{◌≡◌, sym, ◌∙◌, ap, ℕ, ◌+◌, Bool, true, false, List, [], ◌++◌, drop, append-nil, arith}
 use Rattle.std.specs.Prelude.{zip}
-use Rattle.iolb_cli.specs.Powers.{powers_after}
-use Rattle.iolb_cli.proofs.Powers.{zip_past, zip_step}
-use Rattle.iolb_cli.proofs.product_text.powers_text.Goals as goal
+use Rattle.poly_tree.specs.Powers.{powers_after}
+use Rattle.poly_tree.proofs.Powers.{zip_past, zip_step}
+use Rattle.poly_tree.proofs.product_text.product_text.Goals as goal
 
 pub loop-i-preserved : goal.loop-i-preserved
 loop-i-preserved c =
