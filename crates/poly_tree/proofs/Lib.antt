@@ -5,6 +5,7 @@ pub mod Expansions
 pub mod Factors
 pub mod LinearLemmas
 pub mod Powers
+pub mod PrintOrder
 pub mod PrintedLemmas
 pub mod PrintedProducts
 pub mod Products

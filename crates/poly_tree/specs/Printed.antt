@@ -77,3 +77,12 @@ power_product exponents = record { terms = record { coefficient = pos 1; exponen
 abbrev pub ProductsArePrinted : Type 0
 ProductsArePrinted = (q : Quotient) (exponents : List ℕ) → IsLegal q → length exponents ≤ 24 → AllByRecursion (λ e. 1 ≤ e) exponents
     → ((point : List ℤ) → numerator_at q point ≡ (monomial exponents point *ℤ pos q.denominator)) → polynomial_of q ≡ power_product exponents
+
+-- no term is printed before one that stands earlier
+abbrev pub AreInOrder : List Term → Type 0
+AreInOrder [] = Unit {0}
+AreInOrder (term ∷ terms) = AllByRecursion (λ later. is_printed_before later term ≡ false) terms × AreInOrder terms
+
+-- A polynomial's terms stand in the order in which they are printed.
+abbrev pub TermsAreInOrder : Type 0
+TermsAreInOrder = (q : Quotient) → AreInOrder (polynomial_of q).terms

@@ -1,6 +1,6 @@
 //! What the terms in the order in which they are printed have to do with the tree.
 
-ghost use Rattle.poly_tree.specs.Printed.{ProductsArePrinted, TermsHaveTheValue};
+ghost use Rattle.poly_tree.specs.Printed.{ProductsArePrinted, TermsAreInOrder, TermsHaveTheValue};
 
 /// A polynomial's terms in the order in which they are printed have the tree's value, over the denominator, at every
 /// point of whole numbers.
@@ -12,4 +12,10 @@ pub fn terms_have_the_value()
 /// that product as its one term, and the denominator 1.
 pub fn products_are_printed()
     ensures { ProductsArePrinted }
+{}
+
+/// A polynomial's terms stand by falling total degree, ties by falling exponent of the first variable, then the second,
+/// and so on.
+pub fn terms_are_in_order()
+    ensures { TermsAreInOrder }
 {}
