@@ -4,12 +4,6 @@ use Rattle.std.proofs.lemmas.List.{length-take-le}
 use Rattle.iolb_model.specs.Form.{AffineForm}
 use Rattle.affine_rows.specs.Rows.{BoundsFit, IsSmallOver}
 
--- the first bounds fit
-pub BoundsFit-take : (vars k : ℕ) (nest : List (AffineForm × AffineForm)) → BoundsFit vars nest → BoundsFit vars (take k nest)
-BoundsFit-take vars zero nest h = tt
-BoundsFit-take vars (suc k) [] h = tt
-BoundsFit-take vars (suc k) (b ∷ nest) h = (h.0, BoundsFit-take (suc vars) k nest h.1)
-
 -- the bounds at a place are over the variables before it
 pub BoundsFit-at : (vars k : ℕ) (nest : List (AffineForm × AffineForm)) (d : AffineForm × AffineForm) → BoundsFit vars nest → k < length nest
     → IsSmallOver (vars + k) (get_or nest k d).0 × IsSmallOver (vars + k) (get_or nest k d).1

@@ -4,7 +4,7 @@ use Rattle.std.proofs.Math.IntN.{ℤ, pos, ◌-ℤ◌, ◌*ℤ◌}
 use Rattle.integer_laws.proofs.Ring.{mul-cancel, mul_comm, mul_assoc_ℤ, mul_turn, sub-mul}
 
 -- a factor of at least 1 cancels
-cancelled : (n : ℕ) (a b : ℤ) → 1 ≤ n → a *ℤ pos n ≡ b *ℤ pos n → a ≡ b
+pub cancelled : (n : ℕ) (a b : ℤ) → 1 ≤ n → a *ℤ pos n ≡ b *ℤ pos n → a ≡ b
 cancelled zero a b some e = absurd (omega arith)
 cancelled (suc n) a b some e = mul-cancel n a b (mul_comm (pos (suc n)) a ∙ e ∙ mul_comm b (pos (suc n)))
 

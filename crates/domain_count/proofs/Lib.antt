@@ -5,3 +5,4 @@ pub mod Fractions
 pub mod Telescope
 pub mod Places
 pub mod Counting
+pub mod Variables

@@ -9,7 +9,8 @@ use Rattle.affine_form.specs.declared.refused.No.{No as FailedCondition}
 use Rattle.affine_form.specs.declared.refused.Refused.{Refused}
 use Rattle.affine_form.specs.declared.refused.Refused.TheVariants.{No, Memory}
 use Rattle.poly_tree.specs.Poly.{Quotient}
-use Rattle.domain_count.specs.declared.summation.SumFault.TheVariants.{Wide, Differs}
+use Rattle.domain_count.specs.declared.summation.SumFault.{SumFault}
+use Rattle.domain_count.specs.declared.summation.SumFault.TheVariants.{Wide, Differs, Memory as SumMemory}
 use Rattle.domain_count.specs.Count.{IsFirstNotShown, IsFirstFailure}
 
 -- it is this condition that failed, at the member of this number under this key of the place
@@ -21,6 +22,12 @@ pub record IsFailed (condition : ℕ) (place : List Step) (key k : ℕ) (failed 
 abbrev pub IsRefusedAt : ℕ → List Step → ℕ → ℕ → Refused → Type 0
 IsRefusedAt condition place key k (No failed) = IsFailed condition place key k failed
 IsRefusedAt condition place key k Memory = ⊤
+
+-- where there was memory, it is the refusal of a variable whose summation fails in this way
+abbrev pub IsFaultRefusal : List Step → ℕ → SumFault → Refused → Type 0
+IsFaultRefusal place k Differs refused = IsRefusedAt 9 place 51 k refused
+IsFaultRefusal place k Wide refused = IsRefusedAt 2 place 51 k refused
+IsFaultRefusal place k SumMemory refused = refused ≡ Memory
 
 -- condition 8 failed at a variable's multipliers, `shown/k`, the first that don't show that its range is whole
 abbrev pub FailsShown : AffineProgram → List (AffineForm × AffineForm) → List FarkasMultipliers → List Step → FailedCondition → Type 0

@@ -1,11 +1,14 @@
 //! Counts by summation.
 
-ghost use Rattle.std.specs.Prelude.{◌≡◌, ◌+◌, ◌≤◌, length, IfOk, IfErr, OnOk};
+ghost use Rattle.std.specs.Prelude.{suc, ◌≡◌, ◌+◌, ◌≤◌, length, IfOk, IfErr, OnOk};
 ghost use Rattle.affine_rows.specs.Rows.{BoundsFit};
 ghost use Rattle.affine_c.specs.Parts.{meaning};
-ghost use Rattle.domain_count.specs.Claims.{FitsCount};
+ghost use Rattle.poly_tree.specs.Expansion.{IsCanonical};
+ghost use Rattle.poly_tree.specs.Poly.{IsLegal};
+ghost use Rattle.poly_tree.specs.Tree.{expansion};
+ghost use Rattle.domain_count.specs.Claims.{FitsCount, SumsFit};
 ghost use Rattle.domain_count.specs.Count.{AreShownBelow, CountsPoints, IsCount, IsFirstFailure, IsOne, IsSumFrom};
-ghost use Rattle.domain_count.specs.Refused.{IsRangeRefusal, IsSumRefusal};
+ghost use Rattle.domain_count.specs.Refused.{IsFaultRefusal, IsRangeRefusal, IsSumRefusal};
 ghost use Rattle.domain_count.specs.Refusal.{IsRefusal};
 
 use crate::nest::Nest;
@@ -41,6 +44,7 @@ pub fn check_count(
     requires { FitsCount program.now nest.now sums.now }
     ensures right { IfOk result (λ poly. IsCount (meaning program.now) nest.now sums.now poly) }
     ensures counts { IfOk result (λ poly. CountsPoints (meaning program.now) nest.now poly) }
+    ensures parameters { IfOk result (λ poly. IsCanonical (length program.now.params) (expansion poly.tree)) }
     ensures refused { IfErr result (λ refused. IsRefusal (meaning program.now) nest.now sums.now place.now refused) }
 {
     check_ranges(alloc, program, nest.bounds(), sums.shown(), place)?;
@@ -80,7 +84,9 @@ fn check_sums(
     requires few { params + length bounds.now ≤ 24 }
     requires fit { BoundsFit params bounds.now }
     requires one_each { length sums.now ≡ length bounds.now }
+    requires variables { SumsFit (suc params) sums.now }
     ensures total { IfOk result (λ total. IsSumFrom params bounds.now sums.now total) }
+    ensures parameters { IfOk result (λ total. IsCanonical params (expansion total.tree)) }
     ensures refused { IfErr result (λ refused. IsSumRefusal params bounds.now sums.now place.now refused) }
 {
     let Ok(start) = one(alloc) else {
@@ -88,9 +94,18 @@ fn check_sums(
     };
     match sum_up(alloc, params, bounds, sums, start) {
         Ok(total) => Ok(total),
-        Err((k, SumFault::Differs)) => Err(refusal(alloc, 9, place, key::SUMS, k)),
-        Err((k, SumFault::Wide)) => Err(refusal(alloc, 2, place, key::SUMS, k)),
-        Err((_, SumFault::Memory)) => Err(Refused::Memory),
+        Err((k, fault)) => Err(sum_refusal(alloc, place, k, fault)),
+    }
+}
+
+/// The refusal where the summation over a variable fails.
+fn sum_refusal(alloc: Global, place: &Place, k: usize, fault: SumFault) -> Refused
+    ensures { IsFaultRefusal place.now k fault result }
+{
+    match fault {
+        SumFault::Differs => refusal(alloc, 9, place, key::SUMS, k),
+        SumFault::Wide => refusal(alloc, 2, place, key::SUMS, k),
+        SumFault::Memory => Refused::Memory,
     }
 }
 
@@ -115,6 +130,7 @@ fn sum_up(
     requires one_each { length sums.now ≡ length bounds.now }
     requires one { IsOne start }
     ensures total { IfOk result (λ total. IsSumFrom params bounds.now sums.now total) }
+    ensures legal { IfOk result (λ total. IsLegal total) }
     ensures fails { IfErr result (λ failed. IsFirstFailure params bounds.now sums.now failed.0 failed.1) }
 {
     let mut total = start;
@@ -127,5 +143,6 @@ fn sum_up(
             Err(fault) => return Err((k, fault)),
         }
     }
+    let _den = total.den();
     Ok(total)
 }

@@ -5,6 +5,7 @@
 #![tactic(auto)]
 
 mod count;
+mod fits;
 pub mod law;
 mod nest;
 mod ranges;
@@ -13,5 +14,6 @@ mod summation;
 mod sums;
 
 pub use count::check_count;
+pub use fits::fits_count;
 pub use nest::Nest;
 pub use sums::Sums;
