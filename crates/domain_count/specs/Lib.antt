@@ -1,0 +1,7 @@
+pub mod Points
+pub mod Claims
+pub mod Faults
+pub mod Antidifference
+pub mod Count
+pub mod Refused
+pub mod Refusal

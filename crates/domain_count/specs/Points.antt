@@ -1,0 +1,18 @@
+-- The points of a nest of variables, each of which runs between a lower and an upper form. (The points of a parametric
+-- polytope by Fourier-Motzkin order; Feautrier 1991.)
+use Rattle.std.specs.Prelude.{ℕ, ℤ, List, [], ◌∷◌, ◌++◌, map, length, flat_map}
+use Rattle.iolb_model.specs.Form.{AffineForm, form_value}
+use Rattle.iolb_model.specs.Execution.{range}
+
+-- The points of a nest by enumeration, where the parameters and the variables before have these values: for each value
+-- of the first variable from its lower to its upper form, both included, the points of the rest. A nest without
+-- variables has one point.
+abbrev pub points : List (AffineForm × AffineForm) → List ℤ → List (List ℤ)
+points [] before = [] ∷ []
+points (bounds ∷ nest) before =
+    flat_map (λ value. map (λ (point : List ℤ). value ∷ point) (points nest (before ++ value ∷ [])))
+    (range (form_value bounds.0 before) (form_value bounds.1 before))
+
+-- how many points a nest has
+abbrev pub count : List (AffineForm × AffineForm) → List ℤ → ℕ
+count nest parameters = length (points nest parameters)

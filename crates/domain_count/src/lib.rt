@@ -1,0 +1,19 @@
+//! Counting the points of a nest of variables by summation: claims of antidifferences, and whether they are right.
+//!
+//! Nothing is enumerated. The claims are compared as polynomials, and give one in the parameters (Graham, Knuth and
+//! Patashnik, Concrete Mathematics, section 2.6).
+#![tactic(auto)]
+
+mod count;
+mod fits;
+pub mod law;
+mod nest;
+mod ranges;
+mod refusal;
+mod summation;
+mod sums;
+
+pub use count::check_count;
+pub use fits::fits_count;
+pub use nest::Nest;
+pub use sums::Sums;

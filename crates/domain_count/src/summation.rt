@@ -1,0 +1,114 @@
+//! Summation over one variable.
+
+ghost use Rattle.std.specs.Prelude.{◌≡◌, ◌<◌, ◌^◌, IfOk, IfErr};
+ghost use Rattle.affine_form.specs.Form.{IsSmallForm};
+ghost use Rattle.domain_count.specs.Antidifference.{BetweenPasses, DifferencePasses, FailsAs, IsBackwardDifference, IsBetween, IsShifted, IsSubstituted, IsSubtracted, IsSummed, ShiftPasses, SubstitutionPasses, SubtractionPasses, less_one};
+
+use affine_form::{Form, Memory};
+use poly_tree::{Poly, PolyFault};
+use std::alloc::Global;
+
+/// Why a polynomial doesn't sum another over a variable.
+#[derive(Clone, Copy, Debug, PartialEq, Eq)]
+pub(crate) enum SumFault {
+    /// An operation on polynomials passes its limit.
+    Wide,
+    /// The difference from the polynomial's shift is another polynomial.
+    Differs,
+    /// There was no memory.
+    Memory,
+}
+
+impl From<PolyFault> for SumFault {
+    ghost use Rattle.std.specs.Prelude.{◌≡◌};
+    ghost use Rattle.domain_count.specs.Faults.{fault_of};
+
+    ghost from_gives = { λ fault e. e ≡ fault_of fault };
+
+    fn from(fault: PolyFault) -> SumFault {
+        match fault {
+            PolyFault::Wide => SumFault::Wide,
+            PolyFault::Memory => SumFault::Memory,
+        }
+    }
+}
+
+/// The sum of a summand over a variable between bounds, where the polynomial is an antidifference of the summand.
+pub(crate) fn summed(
+    alloc: Global,
+    var: u16,
+    bounds: &(Form, Form),
+    summand: &Poly,
+    sum: &Poly,
+) -> Result<Poly, SumFault>
+    requires { IsSmallForm (2 ^ 20) bounds.now.0 }
+    ensures total { IfOk result (λ total. IsSummed var bounds.now summand.now sum.now total) }
+    ensures fails { IfErr result (λ fault. FailsAs var bounds.now summand.now sum.now fault) }
+{
+    let _den = sum.den();
+    let difference = backward_difference(alloc, var, sum)?;
+    if !difference.same(summand) {
+        return Err(SumFault::Differs);
+    }
+    Ok(between(alloc, var, bounds, sum)?)
+}
+
+/// A polynomial minus its shift by a variable.
+fn backward_difference(alloc: Global, var: u16, sum: &Poly) -> Result<Poly, PolyFault>
+    ensures difference { IfOk result (λ difference. IsBackwardDifference var sum.now difference) }
+    ensures wide { result ≡ Err PolyFault.Wide → DifferencePasses var sum.now }
+{
+    let shifted = shift(alloc, var, sum)?;
+    subtract(alloc, sum, &shifted)
+}
+
+/// A polynomial with a variable's upper form for it, minus the polynomial with its lower form less 1.
+fn between(alloc: Global, var: u16, bounds: &(Form, Form), sum: &Poly) -> Result<Poly, PolyFault>
+    requires { IsSmallForm (2 ^ 20) bounds.now.0 }
+    ensures total { IfOk result (λ total. IsBetween var bounds.now sum.now total) }
+    ensures wide { result ≡ Err PolyFault.Wide → BetweenPasses var bounds.now sum.now }
+{
+    let upper = substitute(alloc, var, &bounds.1, sum)?;
+    let before = less_one(alloc, &bounds.0)?;
+    let lower = substitute(alloc, var, &before, sum)?;
+    subtract(alloc, &upper, &lower)
+}
+
+/// A polynomial with `x - 1` for a variable `x`.
+fn shift(alloc: Global, var: u16, sum: &Poly) -> Result<Poly, PolyFault>
+    ensures shifted { IfOk result (λ shifted. IsShifted var sum.now shifted) }
+    ensures wide { result ≡ Err PolyFault.Wide → ShiftPasses var sum.now }
+{
+    let shifted = sum.shift(alloc, var)?;
+    let _den = shifted.den();
+    Ok(shifted)
+}
+
+/// A polynomial minus another.
+fn subtract(alloc: Global, a: &Poly, b: &Poly) -> Result<Poly, PolyFault>
+    ensures less { IfOk result (λ less. IsSubtracted a.now b.now less) }
+    ensures wide { result ≡ Err PolyFault.Wide → SubtractionPasses a.now b.now }
+{
+    let less = a.sub(alloc, b)?;
+    let _den = less.den();
+    Ok(less)
+}
+
+/// A polynomial with a form for a variable.
+fn substitute(alloc: Global, var: u16, form: &Form, sum: &Poly) -> Result<Poly, PolyFault>
+    ensures at_form { IfOk result (λ at_form. IsSubstituted var form.now sum.now at_form) }
+    ensures wide { result ≡ Err PolyFault.Wide → SubstitutionPasses var form.now sum.now }
+{
+    let at_form = sum.substitute(alloc, var, form)?;
+    let _den = at_form.den();
+    Ok(at_form)
+}
+
+/// A form less 1.
+fn less_one(alloc: Global, form: &Form) -> Result<Form, Memory>
+    requires { IsSmallForm (2 ^ 20) form.now }
+    ensures { IfOk result (λ less. less ≡ less_one form.now) }
+{
+    let coef = Vec::from_slice(alloc, form.coef())?;
+    Ok(Form::new(coef, form.constant() - 1))
+}
