@@ -1,4 +1,6 @@
 pub mod LastWrites
 pub mod Shown
 pub mod Points
+pub mod Fits
+pub mod Found
 pub mod Truths

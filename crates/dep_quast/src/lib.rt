@@ -2,7 +2,15 @@
 //! that last wrote the cell which a read of the statement reads (Feautrier 1991), with Farkas multipliers that show it.
 #![tactic(auto)]
 
+mod claimed;
+mod context;
+mod levels;
+mod lists;
+mod point_rows;
 mod quast;
+mod reader;
+mod claims_shown;
 pub mod truth;
+mod writes;
 
 pub use quast::Quast;
