@@ -12,9 +12,12 @@ use Rattle.execution_laws.specs.Cold.{read_at}
 use Rattle.execution_laws.specs.Order.{Direction, upward, common_loops}
 use Rattle.execution_laws.proofs.Domains.{way-there, statements-rise}
 use Rattle.execution_laws.proofs.Orders.{row_common-within, row_common-turn}
-use Rattle.affine_form.specs.Form.{IsSmallForm}
+use Rattle.affine_form.specs.Form.{variables, IsSmallForm}
+use Rattle.affine_form.specs.System.{AllOver}
+use Rattle.affine_rows.proofs.RowLemmas.{All-append, length-widened}
 use Rattle.affine_form.proofs.Lists.{All-at}
-use Rattle.affine_rows.specs.Rows.{IsSmallOver}
+use Rattle.affine_rows.specs.Rows.{IsSmallOver, widened, equality_rows, put_in}
+use Rattle.affine_form.specs.Substitution.{substitution}
 use Rattle.affine_c.specs.declared.reference.Reference.{Reference}
 use Rattle.affine_c.specs.declared.statement.Statement.{Statement}
 use Rattle.affine_c.specs.Domain.{path_of, depth_of}
@@ -160,3 +163,31 @@ all-writers program array =
     writers-all program 0 program.statements array (λ k below. (omega arith, ap (λ n. get_or program.statements n no_statement) (none k))) where
       none : (k : ℕ) → 0 + k ≡ k
       none k = omega arith
+
+-- rows read over more variables are over them
+pub widened-over : (many vars : ℕ) (rows : List AffineForm) → many ≤ vars → AllOver many rows → AllOver vars (map (widened vars) rows)
+widened-over many vars [] more h = tt
+widened-over many vars (row ∷ rows) more h = (length-widened vars row (omega (arith, h.0)), widened-over many vars rows more h.1)
+
+-- rows that follow others over as many variables are over them too
+pub over-append : (vars : ℕ) (xs ys zs : List AffineForm) → zs ≡ xs ++ ys → AllOver vars xs → AllOver vars ys → AllOver vars zs
+over-append vars xs ys zs e p q = subst (AllOver vars) (sym e) (All-append (λ row. variables row ≡ vars) xs ys p q)
+
+pub wide-over : (many vars n : ℕ) (rows wide : List AffineForm) → n ≡ vars → many ≤ vars → wide ≡ map (widened n) rows → AllOver many rows → AllOver vars wide
+wide-over many vars n rows wide e more is h =
+    subst (AllOver vars) (sym (is ∙ ap (λ (k : ℕ). map (widened k) rows) e)) (widened-over many vars rows more h)
+
+-- the rows of equal forms are two for each pair
+length-equality_rows : (vars : ℕ) (fs gs : List AffineForm) → length fs ≡ length gs → length (equality_rows vars fs gs) ≡ 2 * length gs
+length-equality_rows vars [] [] e = omega arith
+length-equality_rows vars [] (g ∷ gs) e = absurd (omega arith)
+length-equality_rows vars (f ∷ fs) [] e = absurd (omega arith)
+length-equality_rows vars (f ∷ fs) (g ∷ gs) e = omega (arith, length-equality_rows vars fs gs (omega arith))
+
+-- also where forms are put in
+pub cells-many : (vars : ℕ) (point here written read : List AffineForm) → length written ≡ length read
+    → length (equality_rows vars (put_in point written) (put_in here read)) ≡ 2 * length read
+cells-many vars point here written read e =
+    omega (arith, length-equality_rows vars (put_in point written) (put_in here read)
+    (length-map written (λ form. substitution form point) ∙ e ∙ sym (length-map read (λ form. substitution form here))),
+    length-map read (λ form. substitution form here))

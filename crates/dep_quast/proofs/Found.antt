@@ -78,3 +78,10 @@ goals-next condition place system goals shown i goal m found below same is is_m 
 pub IfOk-then : {A E : Type 0} (r : Result A E) (P Q : A → Type 0) → IfOk r P → ((a : A) → P a → Q a) → IfOk r Q
 IfOk-then (Ok a) P Q h f = f a h
 IfOk-then (Err e) P Q h f = h
+
+-- the same goals at the same place
+pub goals-same : (condition : ℕ) (place other : List Step) (system : AffineSystem) (goals others : List AffineForm) (shown : List FarkasMultipliers) (found : Option No)
+    → place ≡ other → goals ≡ others → Finds (follow_claims condition place system 0 goals shown) found → Finds (follow_claims condition other system 0 others shown) found
+goals-same condition place other system goals others shown found e d h =
+    subst (λ (p : List Step). Finds (follow_claims condition p system 0 others shown) found) e
+    (subst (λ (gs : List AffineForm). Finds (follow_claims condition place system 0 gs shown) found) d h)

@@ -10,6 +10,7 @@ mod point_rows;
 mod quast;
 mod reader;
 mod claims_shown;
+mod source_claims;
 pub mod truth;
 mod writes;
 

@@ -1,6 +1,6 @@
 //! Rows about points: that they lie in a domain, touch the cell that is read, and come in an order.
 
-ghost use Rattle.std.specs.Prelude.{◌≡◌, ◌≤◌, ◌<◌, ◌++◌, length, IfOk};
+ghost use Rattle.std.specs.Prelude.{◌≡◌, ◌≤◌, ◌<◌, ◌*◌, ◌++◌, length, IfOk};
 ghost use Rattle.std.specs.List.{AllByRecursion};
 ghost use Rattle.iolb_model.specs.Program.{statement_at};
 ghost use Rattle.execution_laws.specs.Order.{common_loops};
@@ -33,6 +33,7 @@ pub(crate) fn domain_rows(
     requires one_each { length values.now ≡ depth_of (meaning program.now) statement }
     requires values_over { AllByRecursion (IsSmallOver vars) values.now }
     ensures rows { IfOk result (λ rows. rows.items ≡ within_rows vars (path_of (meaning program.now) statement) (parameter_point (meaning program.now) vars) values.now) }
+    ensures many { IfOk result (λ rows. length rows.items ≡ 2 * depth_of (meaning program.now) statement) }
     ensures over { IfOk result (λ rows. AllOver vars rows.items) }
 {
     let bounds = program.statements()[usize::from(statement)].bounds.as_slice();
@@ -61,6 +62,7 @@ pub(crate) fn written_rows(
     ensures rows { IfOk result (λ rows. rows.items ≡ equality_rows vars
         (put_in (parameter_point (meaning program.now) vars ++ values.now) (statement_at (meaning program.now) statement).writes.subscripts)
         (put_in (reader_point (meaning program.now) (read_of reader) vars) (reference_of (meaning program.now) (read_of reader)).subscripts)) }
+    ensures many { IfOk result (λ rows. length rows.items ≡ 2 * length (reference_of (meaning program.now) (read_of reader)).subscripts) }
     ensures over { IfOk result (λ rows. AllOver vars rows.items) }
 {
     let params = variables_from(alloc, vars, 0, program.params().len())?;

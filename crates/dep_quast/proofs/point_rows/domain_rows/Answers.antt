@@ -37,3 +37,9 @@ returns-clause-rows c =
     ∙ ap (λ path. within_rows c.args.vars path c.as_slice.result.now c.args.values.now) (sym path)
     ∙ ap (λ params. within_rows c.args.vars (path_of (meaning c.args.program.now) c.args.statement) params c.args.values.now)
     (c.as_slice.ensures.value ∙ c.in_ok-params.ensures.forms ∙ ap (λ n. variables_from c.args.vars 0 n) (ap length c.params.ensures.params))
+
+pub returns-clause-many : goal.returns-clause-many
+returns-clause-many c =
+    omega (arith, c.in_ok-rows.ensures.many, depth-read c.args.program.now c.statements.result.now c.args.statement c.from.result (length c.as_slice-bounds.result.now) c.index-statements-from.result c.statements.ensures.kept
+    c.statements.ensures.statements c.requires.there c.from.ensures c.index-statements-from.is
+    (ap length c.as_slice-bounds.ensures.value ∙ ap (λ (s : Statement). length s.bounds.items) (sym c.index-statements-from.is)))
