@@ -1,18 +1,17 @@
 //! Rows of writes of the cell that is read.
 
-ghost use Rattle.std.specs.Prelude.{◌≡◌, ◌<◌, ◌≤◌, ◌++◌, length, IfOk};
+ghost use Rattle.std.specs.Prelude.{◌≡◌, ◌<◌, ◌≤◌, length, IfOk};
 ghost use Rattle.std.specs.List.{AllByRecursion};
-ghost use Rattle.iolb_model.specs.Program.{statement_at};
-ghost use Rattle.execution_laws.specs.Order.{common_loops};
 ghost use Rattle.affine_form.specs.System.{AllOver};
-ghost use Rattle.affine_rows.specs.Rows.{order_rows, IsSmallOver, IsSmallWithin};
+ghost use Rattle.affine_rows.specs.Rows.{IsSmallOver};
 ghost use Rattle.affine_c.specs.Domain.{depth_of};
 ghost use Rattle.affine_c.specs.Parts.{meaning};
-ghost use Rattle.dep_quast.specs.Context.{reference_of, variables_at, variables_with, reader_values, writer_values, write_rows};
-ghost use Rattle.dep_quast.specs.Levels.{IsWriter};
+ghost use Rattle.dep_quast.specs.Context.{reference_of, variables_at, variables_with, reader_values, writer_values, write_rows, before_reader, after_source};
+ghost use Rattle.dep_quast.specs.Levels.{IsWriter, level_count};
 ghost use Rattle.dep_quast.specs.Truth.{ReadFits};
-ghost use Rattle.dep_quast.specs.Views.{read_of};
+ghost use Rattle.dep_quast.specs.Views.{read_of, claim_of};
 
+use crate::claimed::Claimed;
 use crate::lists::{all_widened, followed_by};
 use crate::point_rows::{domain_rows, precedence_rows, written_rows};
 use crate::reader::{Reader, depth, variables};
@@ -82,21 +81,21 @@ pub(crate) fn rows_of_write(
     followed_by(alloc, inside, cell.as_slice())
 }
 
-/// Rows, and those which say that the writer comes before the reader at a level. Want of memory is its only error.
-pub(crate) fn with_reader_after(
+/// The rows of the system of rows about a writer, with those which say that it comes before the reader at a level. Want of
+/// memory is its only error.
+pub(crate) fn rows_before_reader(
     alloc: Global,
     program: &Program,
     reader: Reader,
-    rows: &[Form],
     writer: u16,
+    rows: &[Form],
     level: usize,
 ) -> Result<Vec<Form>, Memory>
     requires read { reader.statement < length program.now.statements }
     requires writer { writer < length program.now.statements }
-    requires level_in { level ≤ length (common_loops (meaning program.now) writer reader.statement) }
+    requires level_in { level < level_count (meaning program.now) writer reader.statement }
     requires rows_over { AllOver (variables_with (meaning program.now) (read_of reader) writer) rows.now }
-    ensures rows { IfOk result (λ all. let vars = variables_with (meaning program.now) (read_of reader) writer in all.items ≡ rows.now
-        ++ order_rows vars (common_loops (meaning program.now) writer reader.statement) level (writer_values (meaning program.now) (read_of reader) writer vars) (reader_values (meaning program.now) (read_of reader) vars)) }
+    ensures rows { IfOk result (λ all. all.items ≡ (before_reader (meaning program.now) (read_of reader) writer rows.now level).rows) }
     ensures over { IfOk result (λ all. AllOver (variables_with (meaning program.now) (read_of reader) writer) all.items) }
 {
     let vars = variables_beside(program, reader, writer);
@@ -112,37 +111,42 @@ pub(crate) fn with_reader_after(
         reader.statement,
         xs.as_slice(),
     )?;
-    let first = copies(alloc, rows)?;
-    followed_by(alloc, first, order.as_slice())
+    followed_by(alloc, copies(alloc, rows)?, order.as_slice())
 }
 
-/// Rows, and those which say that the writer comes after the source at a level. Want of memory is its only error.
-pub(crate) fn with_source_before(
+/// Rows about a writer, and those which say that it comes after the source at a level. Want of memory is its only error.
+pub(crate) fn rows_after_source(
     alloc: Global,
     program: &Program,
     reader: Reader,
-    rows: &[Form],
     writer: u16,
-    source: u16,
-    point: &[Form],
+    rows: &[Form],
+    claimed: &Claimed,
     level: usize,
 ) -> Result<Vec<Form>, Memory>
     requires read { reader.statement < length program.now.statements }
     requires writer { writer < length program.now.statements }
-    requires source { source < length program.now.statements }
-    requires point_each { length point.now ≡ depth_of (meaning program.now) source }
-    requires point_over { AllByRecursion (IsSmallOver (variables_at (meaning program.now) (read_of reader))) point.now }
-    requires level_in { level ≤ length (common_loops (meaning program.now) source writer) }
+    requires source { claimed.now.statement < length program.now.statements }
+    requires point { length claimed.now.point.now ≡ depth_of (meaning program.now) claimed.now.statement }
+    requires forms { AllByRecursion (IsSmallOver (variables_at (meaning program.now) (read_of reader))) claimed.now.point.now }
+    requires level_in { level < level_count (meaning program.now) claimed.now.statement writer }
     requires rows_over { AllOver (variables_with (meaning program.now) (read_of reader) writer) rows.now }
-    ensures rows { IfOk result (λ all. let vars = variables_with (meaning program.now) (read_of reader) writer in all.items ≡ rows.now
-        ++ order_rows vars (common_loops (meaning program.now) source writer) level point.now (writer_values (meaning program.now) (read_of reader) writer vars)) }
+    ensures rows { IfOk result (λ all. all.items ≡ after_source (meaning program.now) (read_of reader) writer rows.now (claim_of claimed.now) level) }
     ensures over { IfOk result (λ all. AllOver (variables_with (meaning program.now) (read_of reader) writer) all.items) }
 {
     let vars = variables_beside(program, reader, writer);
     let zs = values_of_writer(alloc, program, reader, writer)?;
-    let order = precedence_rows(alloc, program, vars, level, source, point, writer, zs.as_slice())?;
-    let first = copies(alloc, rows)?;
-    followed_by(alloc, first, order.as_slice())
+    let order = precedence_rows(
+        alloc,
+        program,
+        vars,
+        level,
+        claimed.statement,
+        claimed.point,
+        writer,
+        zs.as_slice(),
+    )?;
+    followed_by(alloc, copies(alloc, rows)?, order.as_slice())
 }
 
 /// Copies of forms. Want of memory is its only error.
