@@ -3,4 +3,5 @@ pub mod Shown
 pub mod Points
 pub mod Fits
 pub mod Found
+pub mod Chunks
 pub mod Truths

@@ -13,5 +13,6 @@ mod claims_shown;
 mod source_claims;
 pub mod truth;
 mod writes;
+mod writes_shown;
 
 pub use quast::Quast;
