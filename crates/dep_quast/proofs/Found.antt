@@ -85,3 +85,29 @@ pub goals-same : (condition : ℕ) (place other : List Step) (system : AffineSys
 goals-same condition place other system goals others shown found e d h =
     subst (λ (p : List Step). Finds (follow_claims condition p system 0 others shown) found) e
     (subst (λ (gs : List AffineForm). Finds (follow_claims condition place system 0 gs shown) found) d h)
+
+-- what is found, where it is something
+abbrev found-is : (claims : List PlacedClaim) (found other : Option No) → found ≡ other → Finds claims found → Finds claims other
+found-is claims found other e h = subst (Finds claims) e h
+
+-- four parts, the second a claim alone
+module _ (first : List PlacedClaim) (claim : PlacedClaim) (third fourth : List PlacedClaim) where
+  pub first-stops : (found : Option No) (n : No) → found ≡ Some n → Finds first found → Finds (first ++ claim ∷ third ++ fourth) (Some n)
+  first-stops found n e h = Finds-stop (first ++ claim ∷ third) fourth n (Finds-stop first (claim ∷ third) n (found-is first found (Some n) e h))
+
+  pub claim-fails : (before found : Option No) → before ≡ None → Finds first before → (Holds claim.claim → ⊥) → found ≡ Some (record { condition = claim.condition; place = claim.place })
+      → Finds (first ++ claim ∷ third ++ fourth) found
+  claim-fails before found e h fails is =
+      let n : No = record { condition = claim.condition; place = claim.place } in
+      found-is (first ++ claim ∷ third ++ fourth) (Some n) found (sym is)
+      (Finds-stop (first ++ claim ∷ third) fourth n (Finds-go first (claim ∷ third) (Some n) (found-is first before None e h) (Finds-here claim third (Some n) fails refl)))
+
+  pub third-stops : (before found : Option No) (n : No) → before ≡ None → Finds first before → Holds claim.claim → found ≡ Some n → Finds third found → Finds (first ++ claim ∷ third ++ fourth) (Some n)
+  third-stops before found n e h holds is g =
+      Finds-stop (first ++ claim ∷ third) fourth n (Finds-go first (claim ∷ third) (Some n) (found-is first before None e h) (Finds-later claim third (Some n) holds (found-is third found (Some n) is g)))
+
+  pub all-but_last : (before between found : Option No) → before ≡ None → Finds first before → Holds claim.claim → between ≡ None → Finds third between → Finds fourth found
+      → Finds (first ++ claim ∷ third ++ fourth) found
+  all-but_last before between found e h holds is g last =
+      Finds-go (first ++ claim ∷ third) fourth found
+      (Finds-go first (claim ∷ third) None (found-is first before None e h) (holds, found-is third between None is g)) last

@@ -3,6 +3,7 @@
 use affine_form::{Form, Multipliers};
 
 /// A leaf that names a source, by its parts.
+#[derive(Clone, Copy)]
 pub(crate) struct Claimed<'a> {
     pub(crate) statement: u16,
     pub(crate) level: u8,

@@ -2,8 +2,10 @@
 //! that last wrote the cell which a read of the statement reads (Feautrier 1991), with Farkas multipliers that show it.
 #![tactic(auto)]
 
+mod check;
 mod claimed;
 mod context;
+mod leaves;
 mod levels;
 mod lists;
 mod point_rows;
@@ -15,4 +17,5 @@ pub mod truth;
 mod writes;
 mod writes_shown;
 
+pub use check::check_quast;
 pub use quast::Quast;

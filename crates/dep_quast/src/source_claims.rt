@@ -7,20 +7,20 @@ ghost use Rattle.affine_rows.specs.Rows.{IsSmallOver};
 ghost use Rattle.affine_c.specs.Domain.{depth_of};
 ghost use Rattle.affine_c.specs.Parts.{meaning};
 ghost use Rattle.affine_form.specs.declared.place.Step.TheVariants.{Key, Index};
-ghost use Rattle.dep_quast.specs.Claims.{follow_claims, first_shown, inside_goals, cell_goals, before_goals};
+ghost use Rattle.dep_quast.specs.Claims.{point_claims, follow_claims, first_shown, inside_goals, cell_goals, before_goals};
 ghost use Rattle.dep_quast.specs.Context.{reference_of, variables_at};
 ghost use Rattle.dep_quast.specs.Found.{Finds};
 ghost use Rattle.dep_quast.specs.Truth.{ReadFits, IsLevel};
 ghost use Rattle.dep_quast.specs.Views.{read_of, claim_of};
 
 use crate::claimed::Claimed;
-use crate::claims_shown::goals_shown;
+use crate::claims_shown::{goals_shown, refusal};
 use crate::lists::within;
 use crate::point_rows::{domain_rows, precedence_rows, written_rows};
 use crate::reader::{Reader, reference, variables, written};
 use crate::writes::values_of_reader;
 use affine_c::Program;
-use affine_form::key::{BEFORE, CELL, DOMAIN};
+use affine_form::key::{BEFORE, CELL, DOMAIN, STATEMENT};
 use affine_form::{Memory, Multipliers, No, Place, Step, System};
 use std::alloc::Global;
 
@@ -132,4 +132,37 @@ pub(crate) fn before_shown(
     )?;
     let list = within(alloc, place, Step::Key(BEFORE))?;
     goals_shown(alloc, 5, &list, system, goals.as_slice(), claimed.before)
+}
+
+/// Whether a source is shown to be in its domain, to write the cell that is read, and to come before the reader. Want of
+/// memory is its only error.
+pub(crate) fn point_shown(
+    alloc: Global,
+    program: &Program,
+    reader: Reader,
+    place: &Place,
+    system: &System,
+    claimed: &Claimed,
+) -> Result<Option<No>, Memory>
+    requires read { ReadFits (meaning program.now) (read_of reader) }
+    requires there { claimed.now.statement < length program.now.statements }
+    requires level { IsLevel (meaning program.now) claimed.now.statement reader.statement claimed.now.level }
+    requires point { length claimed.now.point.now ≡ depth_of (meaning program.now) claimed.now.statement }
+    requires forms { AllByRecursion (IsSmallOver (variables_at (meaning program.now) (read_of reader))) claimed.now.point.now }
+    requires domain { length claimed.now.domain.now ≡ 2 * depth_of (meaning program.now) claimed.now.statement }
+    requires cell { length claimed.now.cell.now ≡ 2 * length (reference_of (meaning program.now) (read_of reader)).subscripts }
+    requires before { length claimed.now.before.now ≡ length (before_goals (meaning program.now) (read_of reader) (claim_of claimed.now)) }
+    ensures { IfOk result (λ found. Finds (point_claims (meaning program.now) (read_of reader) system.now place.now (claim_of claimed.now)) found) }
+{
+    if let Some(no) = domain_shown(alloc, program, reader, place, system, claimed)? {
+        return Ok(Some(no));
+    }
+    if !writes_array(program, reader, claimed.statement) {
+        let key = within(alloc, place, Step::Key(STATEMENT))?;
+        return refusal(alloc, 4, &key);
+    }
+    if let Some(no) = cell_shown(alloc, program, reader, place, system, claimed)? {
+        return Ok(Some(no));
+    }
+    before_shown(alloc, program, reader, place, system, claimed)
 }
