@@ -38,6 +38,7 @@ use Rattle.dep_quast.specs.Levels.{level_count, levels, writers, writers_from}
 use Rattle.dep_quast.specs.Context.{ReadOf, reference_of, variables_at, no_row, context, reader_point, parameter_point, reader_values, writer_values, variables_with, write_rows, earlier_write, earlier_writes, write_between, writes_between}
 use Rattle.dep_quast.specs.Claims.{AllHold, claims, leaf_claims, source_claims, follow_claims, pointless_claims, first_shown, context_system, inside_goals, cell_goals, before_goals, PlacedClaim, same, few}
 use Rattle.dep_quast.specs.Truth.{IsTrueLeaf, IsTrueTree, IsLevel, SourceFits, LeafFits, FitsUnder, ReadFits, source_at, ValidTreesAreTrue}
+use Rattle.dep_quast.proofs.Fits.{ranks-same}
 use Rattle.dep_quast.proofs.LastWrites.{writer-at, writes-from, no_last, is_last}
 use Rattle.dep_quast.proofs.Shown.{AllHold-left, AllHold-right, goals-met, none-met, within_rows-few, equality_rows-few}
 use Rattle.dep_quast.proofs.Points.{within-length, form_value-front, values_at-front, widened-met, widened-stay, values-front, values-middle, values-end, there-holds, holds-there}
@@ -322,27 +323,6 @@ module _ (program : AffineProgram) (reader : ReadOf) (parameters : List ℤ) (pl
       ((parameters ++ values) ++ z)
       (All-append at_point (write_rows program reader (context program reader tests) w ++ first) second
       (All-append at_point (write_rows program reader (context program reader tests) w) first (write_rows-met tests met w z (writer-within w z k found.1.0) found.1.1) after.1.1) before.1.1)))
-
--- a statement of a program fits on its way
-fits-at : (program : AffineProgram) (s : ℕ) → IsWellFormed program → s < length program.statements → StatementFits program (length program.parameters + depth_of program s) s
-fits-at program s well below =
-    (there-holds (row_path program.tree s) (StandsAt program (length program.parameters) s)
-    (row-stands program (length program.parameters) program.tree s well.tree (way-there program s well below))).1
-
-same_rank : (o : Option Array) (m n : ℕ) → IsSomeAnd o (λ array. m ≡ array.rank) → IsSomeAnd o (λ array. n ≡ array.rank) → m ≡ n
-same_rank None m n p q = absurd p
-same_rank (Some array) m n p q = p ∙ sym q
-
--- references to one array have as many subscripts
-ranks-same : (program : AffineProgram) (reader : ReadOf) (t : ℕ) → IsWellFormed program → ReadFits program reader → t < length program.statements
-    → (statement_at program t).writes.array ≡ (reference_of program reader).array
-    → length (statement_at program t).writes.subscripts ≡ length (reference_of program reader).subscripts
-ranks-same program reader t well there below arrays =
-    let written = (fits-at program t well below).writes in
-    let read = All-at (AccessFits program (length program.parameters + depth_of program reader.statement)) (statement_at program reader.statement).reads reader.read no_statement.writes
-    (fits-at program reader.statement well there.statement).reads there.read in
-    same_rank (slice_get program.arrays (reference_of program reader).array) (length (statement_at program t).writes.subscripts) (length (reference_of program reader).subscripts)
-    (subst (λ (a : ℕ). IsSomeAnd (slice_get program.arrays a) (λ array. length (statement_at program t).writes.subscripts ≡ array.rank)) arrays written.rank) read.rank
 
 module _ (program : AffineProgram) (reader : ReadOf) (parameters : List ℤ) (place : ℕ) (values : List ℤ) (well : IsWellFormed program)
     (admitted : IsAdmitted program parameters) (there : ReadFits program reader) (here : IsAt program parameters place (record { statement = reader.statement; values = values })) where

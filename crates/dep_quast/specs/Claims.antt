@@ -82,17 +82,22 @@ before_goals program reader claim =
     let vars = variables_at program reader in
     order_rows vars (common_loops program claim.statement reader.statement) claim.level claim.point (reader_values program reader vars)
 
--- What a source claims: that the system has few rows (condition 2); the source is in its statement's domain (3); its
--- statement writes the array that is read, and in it the cell (4); it comes before the reader (5); and no write of the
--- cell lies between (6).
+-- What a source claims of its point: that it is in its statement's domain (condition 3); its statement writes the array
+-- that is read, and in it the cell (4); and it comes before the reader (5).
+abbrev pub point_claims : AffineProgram → ReadOf → AffineSystem → List Step → SourceClaim → List PlacedClaim
+point_claims program reader system place claim =
+    follow_claims 3 (place ++ Key DOMAIN ∷ []) system 0 (inside_goals program reader claim) claim.inside
+    ++ record { condition = 4; place = place ++ Key STATEMENT ∷ []; claim = same (statement_at program claim.statement).writes.array (reference_of program reader).array }
+    ∷ follow_claims 4 (place ++ Key CELL ∷ []) system 0 (cell_goals program reader claim) claim.cell
+    ++ follow_claims 5 (place ++ Key BEFORE ∷ []) system 0 (before_goals program reader claim) claim.before
+
+-- What a source claims: that the system has few rows (condition 2); what it claims of its point; and that no write of
+-- the cell lies between (6).
 abbrev pub source_claims : AffineProgram → ReadOf → List AffineForm → List Step → SourceClaim → List PlacedClaim
 source_claims program reader tests place claim =
     let system = context_system program reader tests in
     record { condition = 2; place = first_shown place claim.inside claim.cell claim.before; claim = few (length system.rows) }
-    ∷ follow_claims 3 (place ++ Key DOMAIN ∷ []) system 0 (inside_goals program reader claim) claim.inside
-    ++ record { condition = 4; place = place ++ Key STATEMENT ∷ []; claim = same (statement_at program claim.statement).writes.array (reference_of program reader).array }
-    ∷ follow_claims 4 (place ++ Key CELL ∷ []) system 0 (cell_goals program reader claim) claim.cell
-    ++ follow_claims 5 (place ++ Key BEFORE ∷ []) system 0 (before_goals program reader claim) claim.before
+    ∷ point_claims program reader system place claim
     ++ pointless_claims (place ++ Key BETWEEN ∷ []) 0 (writes_between program reader (context program reader tests) claim) claim.between
 
 -- What a leaf claims: an input that no write of the cell is earlier (condition 6), an empty leaf that no point comes

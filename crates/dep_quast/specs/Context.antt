@@ -62,13 +62,21 @@ write_rows program reader rows writer =
     ++ equality_rows vars (put_in (params ++ values) (statement_at program writer).writes.subscripts)
     (put_in (reader_point program reader vars) (reference_of program reader).subscripts)
 
+-- the system of rows about a writer, with those which say that it comes before the reader at a level
+abbrev pub before_reader : AffineProgram → ReadOf → ℕ → List AffineForm → ℕ → AffineSystem
+before_reader program reader writer rows level = let vars = variables_with program reader writer in record {
+  vars = vars;
+  rows = rows ++ order_rows vars (common_loops program writer reader.statement) level (writer_values program reader writer vars) (reader_values program reader vars);
+}
+
+-- rows about a writer, and those which say that it comes after the source at a level
+abbrev pub after_source : AffineProgram → ReadOf → ℕ → List AffineForm → SourceClaim → ℕ → List AffineForm
+after_source program reader writer rows claim level = let vars = variables_with program reader writer in
+    rows ++ order_rows vars (common_loops program claim.statement writer) level claim.point (writer_values program reader writer vars)
+
 -- an earlier write of the cell: it comes before the reader at a level
 abbrev pub earlier_write : AffineProgram → ReadOf → List AffineForm → ℕ → ℕ → AffineSystem
-earlier_write program reader rows writer level = let vars = variables_with program reader writer in record {
-  vars = vars;
-  rows = write_rows program reader rows writer
-      ++ order_rows vars (common_loops program writer reader.statement) level (writer_values program reader writer vars) (reader_values program reader vars);
-}
+earlier_write program reader rows writer level = before_reader program reader writer (write_rows program reader rows writer) level
 
 -- the earlier writes: for each writer of the array, ascending, those at each level, ascending
 abbrev pub earlier_writes : AffineProgram → ReadOf → List AffineForm → List AffineSystem
@@ -78,12 +86,8 @@ earlier_writes program reader rows =
 
 -- a write of the cell between: it comes after the source at a level, and before the reader at a level
 abbrev pub write_between : AffineProgram → ReadOf → List AffineForm → SourceClaim → ℕ → ℕ → ℕ → AffineSystem
-write_between program reader rows claim writer after level = let vars = variables_with program reader writer in record {
-  vars = vars;
-  rows = write_rows program reader rows writer
-      ++ order_rows vars (common_loops program claim.statement writer) after claim.point (writer_values program reader writer vars)
-      ++ order_rows vars (common_loops program writer reader.statement) level (writer_values program reader writer vars) (reader_values program reader vars);
-}
+write_between program reader rows claim writer after level =
+    before_reader program reader writer (after_source program reader writer (write_rows program reader rows writer) claim after) level
 
 -- the writes between: for each writer of the array, ascending, those at each level after the source and each level
 -- before the reader, ascending

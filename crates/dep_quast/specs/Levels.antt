@@ -1,7 +1,7 @@
 -- The levels of the order of two statements, and the writers of an array.
-use Rattle.std.specs.Prelude.{ℕ, suc, ◌+◌, ◌==◌, nat_lt, if◌then◌else◌, List, [], ◌∷◌, length}
+use Rattle.std.specs.Prelude.{◌≡◌, ℕ, suc, ◌+◌, ◌<◌, ◌==◌, nat_lt, if◌then◌else◌, List, [], ◌∷◌, length}
 use Rattle.std.specs.List.{range_with_len}
-use Rattle.iolb_model.specs.Program.{Statement, AffineProgram}
+use Rattle.iolb_model.specs.Program.{Statement, AffineProgram, statement_at}
 use Rattle.execution_laws.specs.Order.{common_loops}
 
 -- How many levels there are at which an instance of t may come before one of s: one for each loop around both, and one
@@ -22,3 +22,7 @@ writers_from first (statement ∷ statements) array =
 -- the numbers of the statements that write an array, ascending
 abbrev pub writers : AffineProgram → ℕ → List ℕ
 writers program array = writers_from 0 program.statements array
+
+-- a statement that is there writes the array
+abbrev pub IsWriter : AffineProgram → ℕ → ℕ → Type 0
+IsWriter program array writer = (writer < length program.statements) × ((statement_at program writer).writes.array ≡ array)

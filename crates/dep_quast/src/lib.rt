@@ -2,7 +2,20 @@
 //! that last wrote the cell which a read of the statement reads (Feautrier 1991), with Farkas multipliers that show it.
 #![tactic(auto)]
 
+mod check;
+mod claimed;
+mod context;
+mod leaves;
+mod levels;
+mod lists;
+mod point_rows;
 mod quast;
+mod reader;
+mod claims_shown;
+mod source_claims;
 pub mod truth;
+mod writes;
+mod writes_shown;
 
+pub use check::check_quast;
 pub use quast::Quast;

@@ -1,0 +1,58 @@
+use Rattle.std.proofs.Common.{◌≤◌, ◌≡◌, ◌∙◌, ◌++◌, ◌∷◌, [], List, ap, sym, subst, ℕ, length, true, false, arith}
+use Rattle.std.specs.Prelude.{Option, Some, None}
+use Rattle.iolb_model.specs.Form.{AffineForm}
+use Rattle.iolb_model.specs.Program.{statement_at}
+use Rattle.affine_form.specs.declared.key.TheConstants.{BEFORE, BETWEEN, CELL, DOMAIN, STATEMENT}
+use Rattle.affine_form.specs.declared.place.Step.{Step}
+use Rattle.affine_form.specs.declared.place.Step.TheVariants.{Key}
+use Rattle.affine_form.specs.declared.refused.No.{No}
+use Rattle.affine_form.specs.System.{AffineSystem}
+use Rattle.affine_c.specs.Parts.{meaning}
+use Rattle.dep_quast.specs.Claims.{PlacedClaim, few, same, follow_claims, pointless_claims, first_shown, inside_goals, cell_goals, before_goals, point_claims, source_claims, context_system}
+use Rattle.dep_quast.specs.Context.{variables_at, reference_of, context, writes_between}
+use Rattle.dep_quast.specs.Found.{Finds}
+use Rattle.dep_quast.specs.Views.{read_of, claim_of}
+use Rattle.dep_quast.proofs.Found.{IfOk-then, Finds-later, Finds-stop, Finds-go, first-stops, claim-fails, third-stops, all-but_last}
+use Rattle.dep_quast.proofs.leaves.source_shown.Goals as goal
+
+pub returns-in-Some : goal.returns-in-Some
+returns-in-Some c =
+    let program = meaning c.args.program.now in
+    let reader = read_of c.args.reader in
+    let claim = claim_of c.args.claimed.now in
+    let place = c.args.place.now in
+    let tests = c.args.tests.now in
+    let few_rows : PlacedClaim = record { condition = 2; place = first_shown place claim.inside claim.cell claim.before; claim = few (length (context program reader tests)) } in
+    let point : List PlacedClaim = point_claims program reader (context_system program reader tests) place claim in
+    let last : List PlacedClaim = pointless_claims (place ++ Key BETWEEN ∷ []) 0 (writes_between program reader (context program reader tests) claim) claim.between in
+    let rows : c.as_slice.result.now ≡ context program reader tests = c.as_slice.ensures.value ∙ c.in_ok-rows.ensures.rows in
+    let enough : length (context program reader tests) ≤ 128 = omega (arith, ap length rows, c.as_slice.ensures.len, c.len.ensures, c.if-len-gt-MOST_ROWS.false) in
+    let h : Finds point c.in_ok-no.field-0 =
+    subst (λ (s : AffineSystem). Finds (point_claims program reader s place claim) c.in_ok-no.field-0)
+    (c.in_ok-system.ensures ∙ ap (λ (n : ℕ). record { vars = n; rows = c.as_slice.result.now }) c.variables.ensures.variables
+    ∙ ap (λ (zs : List AffineForm). record { vars = variables_at program reader; rows = zs }) rows)
+    c.in_ok-no.ensures in
+    Finds-later few_rows (point ++ last) (Some c.in-Some.no) enough (Finds-stop point last c.in-Some.no (subst (λ (o : Option No). Finds point o) c.in-Some.is h))
+
+pub returns : goal.returns
+returns c =
+    let program = meaning c.args.program.now in
+    let reader = read_of c.args.reader in
+    let claim = claim_of c.args.claimed.now in
+    let place = c.args.place.now in
+    let tests = c.args.tests.now in
+    let few_rows : PlacedClaim = record { condition = 2; place = first_shown place claim.inside claim.cell claim.before; claim = few (length (context program reader tests)) } in
+    let point : List PlacedClaim = point_claims program reader (context_system program reader tests) place claim in
+    let last : List PlacedClaim = pointless_claims (place ++ Key BETWEEN ∷ []) 0 (writes_between program reader (context program reader tests) claim) claim.between in
+    let rows : c.as_slice.result.now ≡ context program reader tests = c.as_slice.ensures.value ∙ c.in_ok-rows.ensures.rows in
+    let enough : length (context program reader tests) ≤ 128 = omega (arith, ap length rows, c.as_slice.ensures.len, c.len.ensures, c.if-len-gt-MOST_ROWS.false) in
+    let h : Finds point c.in_ok-no.field-0 =
+    subst (λ (s : AffineSystem). Finds (point_claims program reader s place claim) c.in_ok-no.field-0)
+    (c.in_ok-system.ensures ∙ ap (λ (n : ℕ). record { vars = n; rows = c.as_slice.result.now }) c.variables.ensures.variables
+    ∙ ap (λ (zs : List AffineForm). record { vars = variables_at program reader; rows = zs }) rows)
+    c.in_ok-no.ensures in
+    IfOk-then c.between_shown.result (λ found. Finds (pointless_claims c.in_ok-list.list 0 (writes_between program reader c.as_slice-2.result.now claim) claim.between) found)
+    (λ found. Finds (source_claims program reader tests place claim) found) c.between_shown.ensures
+    (λ found g. Finds-later few_rows (point ++ last) found enough (Finds-go point last found (subst (λ (o : Option No). Finds point o) c.in_default.is h)
+    (subst (λ (rows : List AffineForm). Finds (pointless_claims (place ++ Key BETWEEN ∷ []) 0 (writes_between program reader rows claim) claim.between) found) (c.as_slice-2.ensures.value ∙ c.in_ok-rows.ensures.rows)
+    (subst (λ (p : List Step). Finds (pointless_claims p 0 (writes_between program reader c.as_slice-2.result.now claim) claim.between) found) c.in_ok-list.ensures g))))

@@ -1,0 +1,83 @@
+use Rattle.std.proofs.Common.{◌≡◌, ◌∙◌, ◌+◌, ◌-◌, ◌*◌, ◌<◌, ◌≤◌, List, ap, sym, subst, ℕ, map, length, drop, get_or, arith}
+use Rattle.std.specs.Prelude.{Option, Some, None, flat_map}
+use Rattle.std.specs.List.{range_with_len}
+use Rattle.std.proofs.lemmas.List.{length-map}
+use Rattle.iolb_model.specs.Form.{AffineForm}
+use Rattle.affine_form.specs.System.{AffineSystem}
+use Rattle.affine_form.proofs.Lists.{All-at}
+use Rattle.affine_c.specs.Parts.{meaning, statement_of}
+use Rattle.dep_quast.specs.Context.{before_reader, after_source, earlier_write, write_between, reference_of}
+use Rattle.dep_quast.specs.Found.{Finds}
+use Rattle.dep_quast.specs.Levels.{levels, level_count, IsWriter}
+use Rattle.dep_quast.specs.Views.{read_of, claim_of}
+use Rattle.dep_quast.proofs.Chunks.{claims_from, afters-stop, afters-go, afters-end, flat-many, levels-room, length-levels, writers-stop, writers-go, writers-end, writers-room, writers-first}
+use Rattle.dep_quast.proofs.writes_shown.between_shown.Goals as goal
+
+pub levels_between_shown-requires-clause-enough : goal.levels_between_shown-requires-clause-enough
+levels_between_shown-requires-clause-enough c =
+    let program = meaning c.args.program.now in
+    let reader = read_of c.args.reader in
+    let xs = c.as_slice-writer-items.result.now in
+    let x : ℕ = get_or xs c.loop-writer.writer-index 0 in
+    let claim = claim_of c.args.claimed.now in
+    let g : ℕ → List AffineSystem =
+    λ writer. flat_map (λ after. map (write_between program reader c.args.rows.now claim writer after) (levels program writer reader.statement)) (levels program claim.statement writer) in
+    let many : ℕ = level_count program claim.statement x * level_count program x reader.statement in
+    let each : many ≡ length (g x) =
+    sym (flat-many (λ after. map (write_between program reader c.args.rows.now claim x after) (levels program x reader.statement)) (level_count program x reader.statement)
+    (λ k. length-levels (write_between program reader c.args.rows.now claim x k) (level_count program x reader.statement)) 0 (level_count program claim.statement x)) in
+    omega (arith, each, writers-first g xs c.args.place.now c.loop-writer.writer-index c.loop-writer.at many c.args.claimed.now.between.now None c.loop-writer-test.true each c.loop-writer.invariant.room)
+
+pub returns-in-Some : goal.returns-in-Some
+returns-in-Some c =
+    let program = meaning c.args.program.now in
+    let reader = read_of c.args.reader in
+    let xs = c.as_slice-writer-items.result.now in
+    let x : ℕ = get_or xs c.loop-writer.writer-index 0 in
+    let claim = claim_of c.args.claimed.now in
+    let g : ℕ → List AffineSystem =
+    λ writer. flat_map (λ after. map (write_between program reader c.args.rows.now claim writer after) (levels program writer reader.statement)) (levels program claim.statement writer) in
+    let many : ℕ = level_count program claim.statement x * level_count program x reader.statement in
+    let each : many ≡ length (g x) =
+    sym (flat-many (λ after. map (write_between program reader c.args.rows.now claim x after) (levels program x reader.statement)) (level_count program x reader.statement)
+    (λ k. length-levels (write_between program reader c.args.rows.now claim x k) (level_count program x reader.statement)) 0 (level_count program claim.statement x)) in
+    let h : Finds (claims_from c.args.place.now c.loop-writer.at (g x) c.args.claimed.now.between.now) c.in_ok-found.found =
+    subst (λ (rows : List AffineForm). Finds (claims_from c.args.place.now c.loop-writer.at (flat_map (λ after. map (before_reader program reader x (after_source program reader x rows claim after))
+    (levels program x reader.statement)) (levels program claim.statement x)) c.args.claimed.now.between.now) c.in_ok-found.found)
+    (c.as_slice.ensures.value ∙ c.in_ok-written.ensures.rows) c.in_ok-found.ensures in
+    c.loop-writer.invariant.found (Some c.in-Some.no)
+    (writers-stop g xs c.args.place.now c.loop-writer.writer-index c.loop-writer.at many c.args.claimed.now.between.now c.in_ok-found.found c.loop-writer-test.true each c.loop-writer.invariant.room
+    c.in-Some.no c.in-Some.is h)
+
+pub loop-writer-preserved : goal.loop-writer-preserved
+loop-writer-preserved c =
+    let program = meaning c.args.program.now in
+    let reader = read_of c.args.reader in
+    let xs = c.as_slice-writer-items.result.now in
+    let x : ℕ = get_or xs c.loop-writer.writer-index 0 in
+    let claim = claim_of c.args.claimed.now in
+    let g : ℕ → List AffineSystem =
+    λ writer. flat_map (λ after. map (write_between program reader c.args.rows.now claim writer after) (levels program writer reader.statement)) (levels program claim.statement writer) in
+    let many : ℕ = level_count program claim.statement x * level_count program x reader.statement in
+    let each : many ≡ length (g x) =
+    sym (flat-many (λ after. map (write_between program reader c.args.rows.now claim x after) (levels program x reader.statement)) (level_count program x reader.statement)
+    (λ k. length-levels (write_between program reader c.args.rows.now claim x k) (level_count program x reader.statement)) 0 (level_count program claim.statement x)) in
+    let counted : c.levels_between-at.result ≡ length (g x) = c.levels_between-at.ensures.many ∙ each in
+    let h : Finds (claims_from c.args.place.now c.loop-writer.at (g x) c.args.claimed.now.between.now) c.in_ok-found.found =
+    subst (λ (rows : List AffineForm). Finds (claims_from c.args.place.now c.loop-writer.at (flat_map (λ after. map (before_reader program reader x (after_source program reader x rows claim after))
+    (levels program x reader.statement)) (levels program claim.statement x)) c.args.claimed.now.between.now) c.in_ok-found.found)
+    (c.as_slice.ensures.value ∙ c.in_ok-written.ensures.rows) c.in_ok-found.ensures in
+    record {
+      room = writers-room g xs c.args.place.now c.loop-writer.writer-index c.loop-writer.at c.levels_between-at.result c.args.claimed.now.between.now c.in_ok-found.found c.loop-writer-test.true counted c.loop-writer.invariant.room;
+      found = λ later more. c.loop-writer.invariant.found later
+          (writers-go g xs c.args.place.now c.loop-writer.writer-index c.loop-writer.at c.levels_between-at.result c.args.claimed.now.between.now c.in_ok-found.found c.loop-writer-test.true counted c.loop-writer.invariant.room later c.in_default.is h more);
+    }
+
+pub returns : goal.returns
+returns c =
+    let program = meaning c.args.program.now in
+    let reader = read_of c.args.reader in
+    let claim = claim_of c.args.claimed.now in
+    let g : ℕ → List AffineSystem =
+    λ writer. flat_map (λ after. map (write_between program reader c.args.rows.now claim writer after) (levels program writer reader.statement)) (levels program claim.statement writer) in
+    c.loop-writer.invariant.found None (writers-end g c.as_slice-writer-items.result.now c.args.place.now c.loop-writer.writer-index c.loop-writer.at c.args.claimed.now.between.now c.loop-writer-test.false)

@@ -1,0 +1,50 @@
+use Rattle.std.proofs.Common.{◌≡◌, ◌∙◌, ◌+◌, ◌-◌, ◌*◌, ◌<◌, ◌≤◌, List, ap, sym, subst, ℕ, map, length, drop, get_or, arith}
+use Rattle.std.specs.Prelude.{Option, Some, None, flat_map}
+use Rattle.std.specs.List.{range_with_len}
+use Rattle.std.proofs.lemmas.List.{length-map}
+use Rattle.iolb_model.specs.Form.{AffineForm}
+use Rattle.affine_form.specs.System.{AffineSystem}
+use Rattle.affine_form.proofs.Lists.{All-at}
+use Rattle.affine_c.specs.Parts.{meaning, statement_of}
+use Rattle.dep_quast.specs.Context.{before_reader, after_source, earlier_write, write_between, reference_of}
+use Rattle.dep_quast.specs.Found.{Finds}
+use Rattle.dep_quast.specs.Levels.{levels, level_count, IsWriter}
+use Rattle.dep_quast.specs.Views.{read_of, claim_of}
+use Rattle.dep_quast.proofs.Chunks.{claims_from, afters-stop, afters-go, afters-end, flat-many, levels-room, length-levels, writers-stop, writers-go, writers-end, writers-room, writers-first}
+use Rattle.dep_quast.proofs.writes_shown.levels_between_shown.Goals as goal
+
+pub returns-in-Some : goal.returns-in-Some
+returns-in-Some c =
+    let program = meaning c.args.program.now in
+    let reader = read_of c.args.reader in
+    let on : List AffineForm → List AffineSystem = λ rows. map (before_reader program reader c.args.writer rows) (levels program c.args.writer reader.statement) in
+    let g : ℕ → List AffineSystem = λ after. on (after_source program reader c.args.writer c.args.rows.now (claim_of c.args.claimed.now) after) in
+    c.loop-after.invariant.found (Some c.in-Some.no)
+    (afters-stop g c.level_count-many.result (λ k. length-levels (before_reader program reader c.args.writer (after_source program reader c.args.writer c.args.rows.now (claim_of c.args.claimed.now) k)) (level_count program c.args.writer reader.statement) ∙ sym c.level_count-many.ensures.count)
+    c.args.place.now c.loop-after.after c.level_count-after-end.result c.loop-after.at c.args.claimed.now.between.now c.in_ok-no.field-0 c.loop-after-test.true c.loop-after.invariant.room
+    (subst (λ (rows : List AffineForm). Finds (claims_from c.args.place.now c.loop-after.at (on rows) c.args.claimed.now.between.now) c.in_ok-no.field-0) (c.as_slice.ensures.value ∙ c.in_ok-rows.ensures.rows) c.in_ok-no.ensures)
+    c.in-Some.no c.in-Some.is)
+
+pub loop-after-preserved : goal.loop-after-preserved
+loop-after-preserved c =
+    let program = meaning c.args.program.now in
+    let reader = read_of c.args.reader in
+    let on : List AffineForm → List AffineSystem = λ rows. map (before_reader program reader c.args.writer rows) (levels program c.args.writer reader.statement) in
+    let g : ℕ → List AffineSystem = λ after. on (after_source program reader c.args.writer c.args.rows.now (claim_of c.args.claimed.now) after) in
+    let each : (k : ℕ) → length (g k) ≡ c.level_count-many.result =
+    λ k. length-levels (before_reader program reader c.args.writer (after_source program reader c.args.writer c.args.rows.now (claim_of c.args.claimed.now) k)) (level_count program c.args.writer reader.statement) ∙ sym c.level_count-many.ensures.count in
+    record {
+      room = levels-room g c.level_count-many.result each c.loop-after.after c.level_count-after-end.result c.loop-after.at (length c.args.claimed.now.between.now) c.loop-after-test.true c.loop-after.invariant.room;
+      found = λ later h. c.loop-after.invariant.found later
+          (afters-go g c.level_count-many.result each c.args.place.now c.loop-after.after c.level_count-after-end.result c.loop-after.at c.args.claimed.now.between.now c.in_ok-no.field-0 c.loop-after-test.true c.loop-after.invariant.room
+          (subst (λ (rows : List AffineForm). Finds (claims_from c.args.place.now c.loop-after.at (on rows) c.args.claimed.now.between.now) c.in_ok-no.field-0) (c.as_slice.ensures.value ∙ c.in_ok-rows.ensures.rows) c.in_ok-no.ensures)
+          later c.in_default.is h);
+    }
+
+pub returns : goal.returns
+returns c =
+    let program = meaning c.args.program.now in
+    let reader = read_of c.args.reader in
+    let g : ℕ → List AffineSystem =
+    λ after. map (before_reader program reader c.args.writer (after_source program reader c.args.writer c.args.rows.now (claim_of c.args.claimed.now) after)) (levels program c.args.writer reader.statement) in
+    c.loop-after.invariant.found None (afters-end g c.args.place.now c.loop-after.at c.loop-after.after c.level_count-after-end.result c.args.claimed.now.between.now c.loop-after-test.false)

@@ -1,0 +1,17 @@
+use Rattle.std.proofs.Common.{◌≡◌, ◌+◌, ◌-◌, ◌≤◌, length, drop, map}
+use Rattle.std.specs.Prelude.{Option}
+use Rattle.std.specs.List.{range_with_len}
+use Rattle.affine_form.specs.declared.refused.No.{No}
+use Rattle.affine_c.specs.Parts.{meaning}
+use Rattle.dep_quast.specs.Claims.{pointless_claims}
+use Rattle.dep_quast.specs.Context.{before_reader}
+use Rattle.dep_quast.specs.Levels.{levels, level_count}
+use Rattle.dep_quast.specs.Found.{Finds}
+use Rattle.dep_quast.specs.Views.{read_of}
+use Rattle.dep_quast.proofs.writes_shown.levels_shown.Given as goal
+
+abbrev pub invariant-loop-level : goal.invariant-loop-level
+invariant-loop-level l =
+    (found : Option No)
+    → Finds (pointless_claims l.place (l.first + l.level) (map (before_reader (meaning l.program) (read_of l.reader) l.writer l.rows) (range_with_len l.level (l.level-end - l.level))) (drop (l.first + l.level) l.shown)) found
+    → Finds (pointless_claims l.place l.first (map (before_reader (meaning l.program) (read_of l.reader) l.writer l.rows) (levels (meaning l.program) l.writer l.reader.statement)) (drop l.first l.shown)) found

@@ -1,0 +1,57 @@
+//! The rows of a leaf.
+
+ghost use Rattle.std.specs.Prelude.{◌≡◌, ◌<◌, ◌≤◌, ◌++◌, ◌∷◌, [], length, IfOk};
+ghost use Rattle.affine_form.specs.System.{AllOver};
+ghost use Rattle.affine_rows.specs.Rows.{IsSmallOver};
+ghost use Rattle.affine_c.specs.Parts.{meaning};
+ghost use Rattle.dep_quast.specs.Context.{variables_at, context, no_row};
+ghost use Rattle.dep_quast.specs.Views.{read_of};
+
+use crate::lists::{all_widened, followed_by, with_form};
+use crate::reader::{Reader, variables};
+use affine_c::Program;
+use affine_form::{Form, Memory};
+use affine_rows::difference;
+use std::alloc::Global;
+
+/// The rows of a leaf under these tests: the assumptions, the domain of the reading statement, and the tests. Want of
+/// memory is its only error.
+pub(crate) fn context_rows(
+    alloc: Global,
+    program: &Program,
+    reader: Reader,
+    tests: &[Form],
+) -> Result<Vec<Form>, Memory>
+    requires there { reader.statement < length program.now.statements }
+    requires tests_over { AllOver (variables_at (meaning program.now) (read_of reader)) tests.now }
+    ensures rows { IfOk result (λ rows. rows.items ≡ context (meaning program.now) (read_of reader) tests.now) }
+    ensures over { IfOk result (λ rows. AllOver (variables_at (meaning program.now) (read_of reader)) rows.items) }
+{
+    let vars = variables(program, reader);
+    let assumed = all_widened(alloc, vars, program.assumed().rows())?;
+    let domain = program.domain(alloc, reader.statement)?;
+    let rows = followed_by(alloc, assumed, domain.rows())?;
+    followed_by(alloc, rows, tests)
+}
+
+/// The tests on the way to the side where the form is at least 0. Want of memory is its only error.
+pub(crate) fn tests_of_yes(alloc: Global, tests: &[Form], form: &Form) -> Result<Vec<Form>, Memory>
+    ensures { IfOk result (λ all. all.items ≡ tests.now ++ form.now ∷ []) }
+{
+    with_form(alloc, tests, form.try_clone(alloc)?)
+}
+
+/// The tests on the way to the side where the form is at most -1. Want of memory is its only error.
+pub(crate) fn tests_of_no(
+    alloc: Global,
+    vars: usize,
+    tests: &[Form],
+    form: &Form,
+) -> Result<Vec<Form>, Memory>
+    requires few { vars ≤ 24 }
+    requires over { IsSmallOver vars form.now }
+    ensures { IfOk result (λ all. all.items ≡ tests.now ++ no_row vars form.now ∷ []) }
+{
+    let zero = Form::new(Vec::new(alloc), 0);
+    with_form(alloc, tests, difference(alloc, vars, &zero, form, -1)?)
+}

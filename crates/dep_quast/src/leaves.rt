@@ -1,0 +1,111 @@
+//! Whether what a leaf claims is shown.
+
+ghost use Rattle.std.specs.Prelude.{IfOk};
+ghost use Rattle.affine_form.specs.System.{AllOver};
+ghost use Rattle.affine_c.specs.Parts.{meaning};
+ghost use Rattle.dep_quast.specs.Claims.{leaf_claims};
+ghost use Rattle.dep_quast.specs.Context.{variables_at};
+ghost use Rattle.dep_quast.specs.Found.{Finds};
+ghost use Rattle.dep_quast.specs.Tree.{source, input, empty, blank};
+ghost use Rattle.dep_quast.specs.Truth.{ReadFits, LeafFits};
+ghost use Rattle.dep_quast.specs.Views.{read_of, claim_of};
+
+use crate::claimed::Claimed;
+use crate::claims_shown::{MOST_ROWS, refusal, system_shown};
+use crate::context::context_rows;
+use crate::lists::within;
+use crate::reader::{Reader, variables};
+use crate::source_claims::{place_of_first, point_shown};
+use crate::writes_shown::{between_shown, earlier_shown};
+use affine_c::Program;
+use affine_form::key::{BETWEEN, EMPTY, INPUT};
+use affine_form::{Form, Memory, Multipliers, No, Place, Step};
+use affine_rows::system_of;
+use std::alloc::Global;
+
+/// What isn't shown of a leaf that names a source. Want of memory is its only error.
+pub(crate) fn source_shown(
+    alloc: Global,
+    program: &Program,
+    reader: Reader,
+    tests: &[Form],
+    place: &Place,
+    claimed: &Claimed,
+) -> Result<Option<No>, Memory>
+    requires read { ReadFits (meaning program.now) (read_of reader) }
+    requires tests_over { AllOver (variables_at (meaning program.now) (read_of reader)) tests.now }
+    requires fits { LeafFits (meaning program.now) (read_of reader) tests.now (source (claim_of claimed.now)) }
+    ensures { IfOk result (λ found. Finds (leaf_claims (meaning program.now) (read_of reader) tests.now place.now (source (claim_of claimed.now))) found) }
+{
+    let rows = context_rows(alloc, program, reader, tests)?;
+    if rows.len() > MOST_ROWS {
+        let first = place_of_first(alloc, place, claimed.domain, claimed.cell, claimed.before)?;
+        return refusal(alloc, 2, &first);
+    }
+    let system = system_of(alloc, variables(program, reader), rows.as_slice())?;
+    if let Some(no) = point_shown(alloc, program, reader, place, &system, claimed)? {
+        return Ok(Some(no));
+    }
+    let list = within(alloc, place, Step::Key(BETWEEN))?;
+    between_shown(alloc, program, reader, &list, rows.as_slice(), claimed)
+}
+
+/// What isn't shown of a leaf that says there is no earlier write. Want of memory is its only error.
+pub(crate) fn input_shown(
+    alloc: Global,
+    program: &Program,
+    reader: Reader,
+    tests: &[Form],
+    place: &Place,
+    shown: &[Multipliers],
+) -> Result<Option<No>, Memory>
+    requires read { ReadFits (meaning program.now) (read_of reader) }
+    requires tests_over { AllOver (variables_at (meaning program.now) (read_of reader)) tests.now }
+    requires fits { LeafFits (meaning program.now) (read_of reader) tests.now (input shown.now) }
+    ensures { IfOk result (λ found. Finds (leaf_claims (meaning program.now) (read_of reader) tests.now place.now (input shown.now)) found) }
+{
+    let rows = context_rows(alloc, program, reader, tests)?;
+    if rows.len() > MOST_ROWS {
+        return refusal(alloc, 2, place);
+    }
+    let list = within(alloc, place, Step::Key(INPUT))?;
+    earlier_shown(alloc, program, reader, &list, rows.as_slice(), shown)
+}
+
+/// What isn't shown of a leaf that says no point comes there. Want of memory is its only error.
+pub(crate) fn empty_shown(
+    alloc: Global,
+    program: &Program,
+    reader: Reader,
+    tests: &[Form],
+    place: &Place,
+    shown: &Multipliers,
+) -> Result<Option<No>, Memory>
+    requires read { ReadFits (meaning program.now) (read_of reader) }
+    requires tests_over { AllOver (variables_at (meaning program.now) (read_of reader)) tests.now }
+    ensures { IfOk result (λ found. Finds (leaf_claims (meaning program.now) (read_of reader) tests.now place.now (empty shown.now)) found) }
+{
+    let rows = context_rows(alloc, program, reader, tests)?;
+    let member = within(alloc, place, Step::Key(EMPTY))?;
+    let vars = variables(program, reader);
+    system_shown(alloc, 7, &member, vars, rows.as_slice(), shown)
+}
+
+/// What isn't shown of a leaf that claims nothing. Want of memory is its only error.
+pub(crate) fn blank_shown(
+    alloc: Global,
+    program: &Program,
+    reader: Reader,
+    tests: &[Form],
+    place: &Place,
+) -> Result<Option<No>, Memory>
+    requires read { ReadFits (meaning program.now) (read_of reader) }
+    requires tests_over { AllOver (variables_at (meaning program.now) (read_of reader)) tests.now }
+    ensures { IfOk result (λ found. Finds (leaf_claims (meaning program.now) (read_of reader) tests.now place.now blank) found) }
+{
+    let rows = context_rows(alloc, program, reader, tests)?;
+    if rows.len() > MOST_ROWS {
+        return refusal(alloc, 2, place);
+    }
+    Ok(None)
+}

@@ -1,0 +1,104 @@
+//! Rows about points: that they lie in a domain, touch the cell that is read, and come in an order.
+
+ghost use Rattle.std.specs.Prelude.{◌≡◌, ◌≤◌, ◌<◌, ◌*◌, ◌++◌, length, IfOk};
+ghost use Rattle.std.specs.List.{AllByRecursion};
+ghost use Rattle.iolb_model.specs.Program.{statement_at};
+ghost use Rattle.execution_laws.specs.Order.{common_loops};
+ghost use Rattle.affine_form.specs.System.{AllOver};
+ghost use Rattle.affine_rows.specs.Rows.{within_rows, equality_rows, put_in, order_rows, IsSmallOver, IsSmallWithin};
+ghost use Rattle.affine_c.specs.Domain.{path_of, depth_of};
+ghost use Rattle.affine_c.specs.Parts.{meaning};
+ghost use Rattle.dep_quast.specs.Context.{reference_of, variables_at, parameter_point, reader_point};
+ghost use Rattle.dep_quast.specs.Truth.{ReadFits};
+ghost use Rattle.dep_quast.specs.Views.{read_of};
+
+use crate::lists::followed_by;
+use crate::reader::{Reader, reference, variables, written};
+use affine_c::Program;
+use affine_form::{Form, Memory};
+use affine_rows::{cell_rows, order_rows, variables_from, within_rows};
+use std::alloc::Global;
+
+/// The rows which say that loop values of a statement are in its domain. Want of memory is its only error.
+pub(crate) fn domain_rows(
+    alloc: Global,
+    program: &Program,
+    vars: usize,
+    statement: u16,
+    values: &[Form],
+) -> Result<Vec<Form>, Memory>
+    requires there { statement < length program.now.statements }
+    requires few { vars ≤ 24 }
+    requires room { length program.now.params ≤ vars }
+    requires one_each { length values.now ≡ depth_of (meaning program.now) statement }
+    requires values_over { AllByRecursion (IsSmallOver vars) values.now }
+    ensures rows { IfOk result (λ rows. rows.items ≡ within_rows vars (path_of (meaning program.now) statement) (parameter_point (meaning program.now) vars) values.now) }
+    ensures many { IfOk result (λ rows. length rows.items ≡ 2 * depth_of (meaning program.now) statement) }
+    ensures over { IfOk result (λ rows. AllOver vars rows.items) }
+{
+    let bounds = program.statements()[usize::from(statement)].bounds.as_slice();
+    let params = variables_from(alloc, vars, 0, program.params().len())?;
+    let rows = within_rows(alloc, vars, bounds, params.as_slice(), values)?;
+    Ok(rows)
+}
+
+/// The rows which say that a statement at these loop values writes the cell that is read. Want of memory is its only
+/// error.
+pub(crate) fn written_rows(
+    alloc: Global,
+    program: &Program,
+    reader: Reader,
+    vars: usize,
+    statement: u16,
+    values: &[Form],
+) -> Result<Vec<Form>, Memory>
+    requires there { statement < length program.now.statements }
+    requires read { ReadFits (meaning program.now) (read_of reader) }
+    requires one_array { (statement_at (meaning program.now) statement).writes.array ≡ (reference_of (meaning program.now) (read_of reader)).array }
+    requires few { vars ≤ 24 }
+    requires room { variables_at (meaning program.now) (read_of reader) ≤ vars }
+    requires one_each { length values.now ≡ depth_of (meaning program.now) statement }
+    requires values_over { AllByRecursion (IsSmallOver vars) values.now }
+    ensures rows { IfOk result (λ rows. rows.items ≡ equality_rows vars
+        (put_in (parameter_point (meaning program.now) vars ++ values.now) (statement_at (meaning program.now) statement).writes.subscripts)
+        (put_in (reader_point (meaning program.now) (read_of reader) vars) (reference_of (meaning program.now) (read_of reader)).subscripts)) }
+    ensures many { IfOk result (λ rows. length rows.items ≡ 2 * length (reference_of (meaning program.now) (read_of reader)).subscripts) }
+    ensures over { IfOk result (λ rows. AllOver vars rows.items) }
+{
+    let params = variables_from(alloc, vars, 0, program.params().len())?;
+    let at = followed_by(alloc, params, values)?;
+    let here = variables_from(alloc, vars, 0, variables(program, reader))?;
+    let writes = written(program, statement).subs.as_slice();
+    let reads = reference(program, reader).subs.as_slice();
+    let rows = cell_rows(alloc, vars, writes, at.as_slice(), reads, here.as_slice())?;
+    Ok(rows)
+}
+
+/// The rows which say that loop values ys of statement t come before loop values xs of statement s at a level. Want of
+/// memory is its only error.
+pub(crate) fn precedence_rows(
+    alloc: Global,
+    program: &Program,
+    vars: usize,
+    level: usize,
+    t: u16,
+    ys: &[Form],
+    s: u16,
+    xs: &[Form],
+) -> Result<Vec<Form>, Memory>
+    requires t_there { t < length program.now.statements }
+    requires s_there { s < length program.now.statements }
+    requires few { vars ≤ 24 }
+    requires level_in { level ≤ length (common_loops (meaning program.now) t s) }
+    requires ys_each { length ys.now ≡ depth_of (meaning program.now) t }
+    requires xs_each { length xs.now ≡ depth_of (meaning program.now) s }
+    requires ys_within { AllByRecursion (IsSmallWithin vars) ys.now }
+    requires xs_within { AllByRecursion (IsSmallWithin vars) xs.now }
+    ensures rows { IfOk result (λ rows. rows.items ≡ order_rows vars (common_loops (meaning program.now) t s) level ys.now xs.now) }
+    ensures over { IfOk result (λ rows. AllOver vars rows.items) }
+{
+    let _params = program.params();
+    let common = program.common(t, s);
+    let rows = order_rows(alloc, vars, common, level, ys, xs)?;
+    Ok(rows)
+}

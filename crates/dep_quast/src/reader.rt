@@ -1,0 +1,52 @@
+//! Reads of a program, and what the program says of their statements.
+
+ghost use Rattle.std.specs.Prelude.{◌≡◌, ◌<◌, ◌≤◌, length, IfOk};
+ghost use Rattle.iolb_model.specs.Program.{statement_at};
+ghost use Rattle.affine_c.specs.Domain.{depth_of};
+ghost use Rattle.affine_c.specs.Parts.{access_of, meaning};
+ghost use Rattle.dep_quast.specs.Context.{reference_of, variables_at};
+ghost use Rattle.dep_quast.specs.Truth.{ReadFits};
+ghost use Rattle.dep_quast.specs.Views.{read_of};
+
+use affine_c::{Program, Reference};
+
+/// A read of a program: the statement's number, and the read's.
+#[derive(Clone, Copy)]
+pub(crate) struct Reader {
+    pub(crate) statement: u16,
+    pub(crate) read: u16,
+}
+
+/// How many loops are around a statement.
+pub(crate) fn depth(program: &Program, statement: u16) -> usize
+    requires { statement < length program.now.statements }
+    ensures depth { result ≡ depth_of (meaning program.now) statement }
+    ensures few { result ≤ 4 }
+{
+    program.statements()[usize::from(statement)].bounds.as_slice().len()
+}
+
+/// How many variables there are at the reader: the parameters and its loop values.
+pub(crate) fn variables(program: &Program, reader: Reader) -> usize
+    requires { reader.statement < length program.now.statements }
+    ensures variables { result ≡ variables_at (meaning program.now) (read_of reader) }
+    ensures few { result ≤ 10 }
+{
+    program.params().len() + depth(program, reader.statement)
+}
+
+/// The reference that is read.
+pub(crate) fn reference(program: &Program, reader: Reader) -> &Reference
+    requires { ReadFits (meaning program.now) (read_of reader) }
+    ensures { access_of result.now ≡ reference_of (meaning program.now) (read_of reader) }
+{
+    &program.statements()[usize::from(reader.statement)].reads[usize::from(reader.read)]
+}
+
+/// The reference that a statement writes.
+pub(crate) fn written(program: &Program, statement: u16) -> &Reference
+    requires { statement < length program.now.statements }
+    ensures { access_of result.now ≡ (statement_at (meaning program.now) statement).writes }
+{
+    &program.statements()[usize::from(statement)].writes
+}

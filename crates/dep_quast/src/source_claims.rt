@@ -1,0 +1,168 @@
+//! What a leaf claims of a source, but for the writes between.
+
+ghost use Rattle.std.specs.Prelude.{◌≡◌, ◌<◌, ◌*◌, ◌++◌, ◌∷◌, [], length, IfOk, IsTrue, ◌↔◌};
+ghost use Rattle.std.specs.List.{AllByRecursion};
+ghost use Rattle.iolb_model.specs.Program.{statement_at};
+ghost use Rattle.affine_rows.specs.Rows.{IsSmallOver};
+ghost use Rattle.affine_c.specs.Domain.{depth_of};
+ghost use Rattle.affine_c.specs.Parts.{meaning};
+ghost use Rattle.affine_form.specs.declared.place.Step.TheVariants.{Key, Index};
+ghost use Rattle.dep_quast.specs.Claims.{point_claims, follow_claims, first_shown, inside_goals, cell_goals, before_goals};
+ghost use Rattle.dep_quast.specs.Context.{reference_of, variables_at};
+ghost use Rattle.dep_quast.specs.Found.{Finds};
+ghost use Rattle.dep_quast.specs.Truth.{ReadFits, IsLevel};
+ghost use Rattle.dep_quast.specs.Views.{read_of, claim_of};
+
+use crate::claimed::Claimed;
+use crate::claims_shown::{goals_shown, refusal};
+use crate::lists::within;
+use crate::point_rows::{domain_rows, precedence_rows, written_rows};
+use crate::reader::{Reader, reference, variables, written};
+use crate::writes::values_of_reader;
+use affine_c::Program;
+use affine_form::key::{BEFORE, CELL, DOMAIN, STATEMENT};
+use affine_form::{Memory, Multipliers, No, Place, Step, System};
+use std::alloc::Global;
+
+/// The first member of the lists of a source, and the leaf itself if they have none. Want of memory is its only error.
+pub(crate) fn place_of_first(
+    alloc: Global,
+    place: &Place,
+    domain: &[Multipliers],
+    cell: &[Multipliers],
+    before: &[Multipliers],
+) -> Result<Place, Memory>
+    ensures { IfOk result (λ first. first ≡ first_shown place.now domain.now cell.now before.now) }
+{
+    let key = if !domain.is_empty() {
+        DOMAIN
+    } else if !cell.is_empty() {
+        CELL
+    } else if !before.is_empty() {
+        BEFORE
+    } else {
+        return place.try_clone(alloc);
+    };
+    let list = within(alloc, place, Step::Key(key))?;
+    within(alloc, &list, Step::Index(0))
+}
+
+/// Whether the source is shown to be in its statement's domain. Want of memory is its only error.
+pub(crate) fn domain_shown(
+    alloc: Global,
+    program: &Program,
+    reader: Reader,
+    place: &Place,
+    system: &System,
+    claimed: &Claimed,
+) -> Result<Option<No>, Memory>
+    requires read { ReadFits (meaning program.now) (read_of reader) }
+    requires there { claimed.now.statement < length program.now.statements }
+    requires point { length claimed.now.point.now ≡ depth_of (meaning program.now) claimed.now.statement }
+    requires forms { AllByRecursion (IsSmallOver (variables_at (meaning program.now) (read_of reader))) claimed.now.point.now }
+    requires each { length claimed.now.domain.now ≡ 2 * depth_of (meaning program.now) claimed.now.statement }
+    ensures { IfOk result (λ found. Finds (follow_claims 3 (place.now ++ Key DOMAIN ∷ []) system.now 0 (inside_goals (meaning program.now) (read_of reader) (claim_of claimed.now)) claimed.now.domain.now) found) }
+{
+    let vars = variables(program, reader);
+    let goals = domain_rows(alloc, program, vars, claimed.statement, claimed.point)?;
+    let list = within(alloc, place, Step::Key(DOMAIN))?;
+    goals_shown(alloc, 3, &list, system, goals.as_slice(), claimed.domain)
+}
+
+/// Whether the source's statement writes the array that is read.
+pub(crate) fn writes_array(program: &Program, reader: Reader, statement: u16) -> bool
+    requires read { ReadFits (meaning program.now) (read_of reader) }
+    requires there { statement < length program.now.statements }
+    ensures { IsTrue result ↔ ((statement_at (meaning program.now) statement).writes.array ≡ (reference_of (meaning program.now) (read_of reader)).array) }
+{
+    written(program, statement).array == reference(program, reader).array
+}
+
+/// Whether the source is shown to write the cell that is read. Want of memory is its only error.
+pub(crate) fn cell_shown(
+    alloc: Global,
+    program: &Program,
+    reader: Reader,
+    place: &Place,
+    system: &System,
+    claimed: &Claimed,
+) -> Result<Option<No>, Memory>
+    requires read { ReadFits (meaning program.now) (read_of reader) }
+    requires there { claimed.now.statement < length program.now.statements }
+    requires one_array { (statement_at (meaning program.now) claimed.now.statement).writes.array ≡ (reference_of (meaning program.now) (read_of reader)).array }
+    requires point { length claimed.now.point.now ≡ depth_of (meaning program.now) claimed.now.statement }
+    requires forms { AllByRecursion (IsSmallOver (variables_at (meaning program.now) (read_of reader))) claimed.now.point.now }
+    requires each { length claimed.now.cell.now ≡ 2 * length (reference_of (meaning program.now) (read_of reader)).subscripts }
+    ensures { IfOk result (λ found. Finds (follow_claims 4 (place.now ++ Key CELL ∷ []) system.now 0 (cell_goals (meaning program.now) (read_of reader) (claim_of claimed.now)) claimed.now.cell.now) found) }
+{
+    let vars = variables(program, reader);
+    let goals = written_rows(alloc, program, reader, vars, claimed.statement, claimed.point)?;
+    let list = within(alloc, place, Step::Key(CELL))?;
+    goals_shown(alloc, 4, &list, system, goals.as_slice(), claimed.cell)
+}
+
+/// Whether the source is shown to come before the reader at its level. Want of memory is its only error.
+pub(crate) fn before_shown(
+    alloc: Global,
+    program: &Program,
+    reader: Reader,
+    place: &Place,
+    system: &System,
+    claimed: &Claimed,
+) -> Result<Option<No>, Memory>
+    requires read { ReadFits (meaning program.now) (read_of reader) }
+    requires there { claimed.now.statement < length program.now.statements }
+    requires level { IsLevel (meaning program.now) claimed.now.statement reader.statement claimed.now.level }
+    requires point { length claimed.now.point.now ≡ depth_of (meaning program.now) claimed.now.statement }
+    requires forms { AllByRecursion (IsSmallOver (variables_at (meaning program.now) (read_of reader))) claimed.now.point.now }
+    requires each { length claimed.now.before.now ≡ length (before_goals (meaning program.now) (read_of reader) (claim_of claimed.now)) }
+    ensures { IfOk result (λ found. Finds (follow_claims 5 (place.now ++ Key BEFORE ∷ []) system.now 0 (before_goals (meaning program.now) (read_of reader) (claim_of claimed.now)) claimed.now.before.now) found) }
+{
+    let vars = variables(program, reader);
+    let xs = values_of_reader(alloc, program, reader, vars)?;
+    let goals = precedence_rows(
+        alloc,
+        program,
+        vars,
+        usize::from(claimed.level),
+        claimed.statement,
+        claimed.point,
+        reader.statement,
+        xs.as_slice(),
+    )?;
+    let list = within(alloc, place, Step::Key(BEFORE))?;
+    goals_shown(alloc, 5, &list, system, goals.as_slice(), claimed.before)
+}
+
+/// Whether a source is shown to be in its domain, to write the cell that is read, and to come before the reader. Want of
+/// memory is its only error.
+pub(crate) fn point_shown(
+    alloc: Global,
+    program: &Program,
+    reader: Reader,
+    place: &Place,
+    system: &System,
+    claimed: &Claimed,
+) -> Result<Option<No>, Memory>
+    requires read { ReadFits (meaning program.now) (read_of reader) }
+    requires there { claimed.now.statement < length program.now.statements }
+    requires level { IsLevel (meaning program.now) claimed.now.statement reader.statement claimed.now.level }
+    requires point { length claimed.now.point.now ≡ depth_of (meaning program.now) claimed.now.statement }
+    requires forms { AllByRecursion (IsSmallOver (variables_at (meaning program.now) (read_of reader))) claimed.now.point.now }
+    requires domain { length claimed.now.domain.now ≡ 2 * depth_of (meaning program.now) claimed.now.statement }
+    requires cell { length claimed.now.cell.now ≡ 2 * length (reference_of (meaning program.now) (read_of reader)).subscripts }
+    requires before { length claimed.now.before.now ≡ length (before_goals (meaning program.now) (read_of reader) (claim_of claimed.now)) }
+    ensures { IfOk result (λ found. Finds (point_claims (meaning program.now) (read_of reader) system.now place.now (claim_of claimed.now)) found) }
+{
+    if let Some(no) = domain_shown(alloc, program, reader, place, system, claimed)? {
+        return Ok(Some(no));
+    }
+    if !writes_array(program, reader, claimed.statement) {
+        let key = within(alloc, place, Step::Key(STATEMENT))?;
+        return refusal(alloc, 4, &key);
+    }
+    if let Some(no) = cell_shown(alloc, program, reader, place, system, claimed)? {
+        return Ok(Some(no));
+    }
+    before_shown(alloc, program, reader, place, system, claimed)
+}
