@@ -1,0 +1,5 @@
+pub mod Term
+pub mod Leaves
+pub mod Inverse
+pub mod Refusal
+pub mod Loads

@@ -1,0 +1,78 @@
+-- What valid cold terms cost.
+use Rattle.std.specs.Prelude.{◌≡◌, ◌⊎◌, ℕ, ◌+◌, ◌*◌, ◌≤◌, ℤ, List, [], ◌∷◌, ◌++◌, map, length, ⊤}
+use Rattle.std.specs.List.{AllByRecursion, IsDistinct}
+use Rattle.iolb_model.specs.declared.game.Move.{Move}
+use Rattle.iolb_model.specs.Form.{AffineForm}
+use Rattle.iolb_model.specs.Program.{AffineProgram, IsWellFormed}
+use Rattle.iolb_model.specs.Bound.{IsAdmitted}
+use Rattle.iolb_model.specs.Source.{same_cell}
+use Rattle.iolb_model.specs.Graph.{computation_graph}
+use Rattle.iolb_model.specs.Game.{IsCompletePebbling, loads}
+use Rattle.execution_laws.specs.Cold.{read_cell, ReadsInput}
+use Rattle.affine_form.specs.declared.place.Step.{Step}
+use Rattle.affine_form.specs.Substitution.{values_at}
+use Rattle.affine_rows.specs.Rows.{BoundsFit, IsSmallOver}
+use Rattle.affine_c.specs.Domain.{depth_of}
+use Rattle.dep_quast.specs.Claims.{AllHold}
+use Rattle.dep_quast.specs.Context.{reference_of, variables_at}
+use Rattle.dep_quast.specs.Tree.{SelectionTree, leaf, test}
+use Rattle.dep_quast.specs.Truth.{ReadFits, IsTrueTree}
+use Rattle.domain_count.specs.Count.{AreShownBelow}
+use Rattle.domain_count.specs.Points.{points, count}
+use Rattle.poly_tree.specs.Poly.{Quotient}
+use Rattle.wavefront.specs.Term.{ColdTerm, nest_variables, instance_point}
+use Rattle.wavefront.specs.Leaves.{open_leaves, inside_claims, term_leaves}
+use Rattle.wavefront.specs.Inverse.{CellsAreUndone}
+
+-- a tree's tests are over so many variables
+abbrev pub TestsFit : ℕ → SelectionTree → Type 0
+TestsFit vars (leaf chosen) = ⊤
+TestsFit vars (test form above below) = IsSmallOver vars form × TestsFit vars above × TestsFit vars below
+
+-- A cold term fits a program and the source tree of its read: what its numbers name is there, its forms are over the
+-- parameters and the nest's variables, and each list has the length called for.
+pub record ColdFits (program : AffineProgram) (tree : SelectionTree) (term : ColdTerm) : Type 0 where
+  pub read : ReadFits program term.reader
+  pub few : length term.nest ≤ 6
+  pub bounds : BoundsFit (length program.parameters) term.nest
+  pub point : length term.point ≡ depth_of program term.reader.statement
+  pub forms : AllByRecursion (IsSmallOver (nest_variables program term)) term.point
+  pub inside : length term.inside ≡ 2 * depth_of program term.reader.statement
+  pub tests : TestsFit (variables_at program term.reader) tree
+  pub leaves : length term.leaves ≡ length (open_leaves (nest_variables program term) (instance_point program term) [] tree)
+  pub rows : term.matrix.rows ≡ length term.nest
+  pub columns : (1 ≤ term.matrix.rows) → term.matrix.columns ≡ length (reference_of program term.reader).subscripts
+  pub scale : 1 ≤ term.scale
+
+-- the loop values of the reading instance at a point of the nest
+abbrev pub instance_values : ColdTerm → List ℤ → List ℤ → List ℤ
+instance_values term values point = values_at term.point (values ++ point)
+
+-- those of all points of the nest
+abbrev pub all_instances : ColdTerm → List ℤ → List (List ℤ)
+all_instances term values = map (instance_values term values) (points term.nest values)
+
+-- A cold term is sound: at all admitted parameter values, of any size, each point of the nest has an instance whose read
+-- has an input cell as its source, and different points have different cells.
+abbrev pub IsSoundCold : AffineProgram → ColdTerm → Type 0
+IsSoundCold program term = (values : List ℤ) → IsAdmitted program values
+    → AllByRecursion (ReadsInput program values term.reader.statement term.reader.read) (all_instances term values)
+    × IsDistinct same_cell (map (read_cell program values term.reader.statement term.reader.read) (all_instances term values))
+
+-- So it costs as many loads as the nest has points: in every complete pebbling, with any number of red pebbles.
+abbrev pub CostsItsCount : AffineProgram → ColdTerm → Type 0
+CostsItsCount program term = (values : List ℤ) (s : ℕ) (moves : List Move) → IsAdmitted program values
+    → IsCompletePebbling (computation_graph program values) s moves → count term.nest values ≤ loads moves
+
+-- What is claimed of a cold term holds, but for its count: the ranges are whole, the instances are in their domain, the
+-- leaves are inputs, and the cells differ.
+pub record ColdHolds (program : AffineProgram) (place : List Step) (tree : SelectionTree) (term : ColdTerm) : Type 0 where
+  pub inside : AllHold (inside_claims program place term)
+  pub leaves : AllHold (term_leaves program place tree term)
+  pub undone : CellsAreUndone program term
+
+-- A cold term whose claims hold, over a true source tree, is sound, and costs its count.
+abbrev pub ColdTermsAreLoaded : Type 0
+ColdTermsAreLoaded = (program : AffineProgram) (place : List Step) (tree : SelectionTree) (term : ColdTerm) → IsWellFormed program
+    → ColdFits program tree term → IsTrueTree program term.reader tree → ColdHolds program place tree term
+    → IsSoundCold program term × CostsItsCount program term

@@ -1,0 +1,3 @@
+//! What valid cold terms cost.
+
+ghost use Rattle.wavefront.specs.Loads.{ColdTermsAreLoaded};
