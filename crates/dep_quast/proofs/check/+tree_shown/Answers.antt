@@ -1,16 +1,8 @@
-use Rattle.std.proofs.Common.{◌≡◌, ◌∙◌, ◌++◌, ◌∷◌, [], List, ap, sym, subst, ℕ, rules}
-use Rattle.std.specs.Prelude.{Option, Some, None}
-use Rattle.iolb_model.specs.Form.{AffineForm}
-use Rattle.affine_form.specs.declared.key.TheConstants.{NO, YES}
-use Rattle.affine_form.specs.declared.place.Step.{Step}
-use Rattle.affine_form.specs.declared.place.Step.TheVariants.{Key}
-use Rattle.affine_form.specs.declared.refused.No.{No}
+use Rattle.std.proofs.Common.{◌∙◌, ap}
 use Rattle.affine_c.specs.Parts.{meaning}
-use Rattle.dep_quast.specs.declared.quast.Quast.{Quast}
-use Rattle.dep_quast.specs.Claims.{PlacedClaim, claims}
-use Rattle.dep_quast.specs.Context.{variables_at, no_row}
+use Rattle.dep_quast.specs.Claims.{claims}
 use Rattle.dep_quast.specs.Found.{Finds}
-use Rattle.dep_quast.specs.Tree.{SelectionTree, tree_of}
+use Rattle.dep_quast.specs.Tree.{tree_of}
 use Rattle.dep_quast.specs.Views.{read_of}
 use Rattle.dep_quast.proofs.Found.{IfOk-then}
 use Rattle.dep_quast.proofs.Sides.{first-side-stops, both-sides}

@@ -1,10 +1,6 @@
-use Rattle.std.proofs.Common.{◌≡◌, []}
-use Rattle.std.specs.Prelude.{Option, Some, None}
-use Rattle.affine_form.specs.declared.refused.No.{No}
 use Rattle.affine_c.specs.Parts.{meaning}
-use Rattle.dep_quast.specs.Claims.{claims, IsValid}
+use Rattle.dep_quast.specs.Claims.{IsValid}
 use Rattle.dep_quast.specs.Context.{ReadOf}
-use Rattle.dep_quast.specs.Found.{Finds}
 use Rattle.dep_quast.specs.Tree.{tree_of}
 use Rattle.dep_quast.proofs.check.check_quast.Goals as goal
 

@@ -1,9 +1,7 @@
-use Rattle.std.proofs.Common.{◌≡◌, ◌∙◌, ◌++◌, ◌∷◌, [], ap, sym, subst, ℕ, length, arith}
-use Rattle.std.proofs.Math.IntN.{pos, negsuc}
-use Rattle.iolb_model.specs.Form.{AffineForm}
+use Rattle.std.proofs.Common.{◌≡◌, ◌∙◌, ◌++◌, ◌∷◌, [], ap, ℕ, length, arith}
+use Rattle.std.proofs.Math.IntN.{negsuc}
 use Rattle.affine_form.specs.Form.{variables}
 use Rattle.affine_form.specs.System.{AllOver}
-use Rattle.affine_rows.specs.Rows.{difference}
 use Rattle.affine_rows.proofs.RowLemmas.{length-difference}
 use Rattle.affine_c.specs.Parts.{meaning}
 use Rattle.dep_quast.specs.Context.{variables_at}
