@@ -10,7 +10,7 @@ use Rattle.affine_form.specs.declared.place.Step.TheVariants.{Index}
 use Rattle.affine_form.specs.declared.refused.No.{No}
 use Rattle.affine_form.specs.Multipliers.{FarkasMultipliers}
 use Rattle.affine_form.specs.System.{AffineSystem}
-use Rattle.dep_quast.specs.Claims.{PlacedClaim, few, pointless, AllHold, pointless_claims}
+use Rattle.dep_quast.specs.Claims.{PlacedClaim, few, pointless, pointless_claims}
 use Rattle.dep_quast.specs.Found.{Finds}
 use Rattle.dep_quast.proofs.Found.{Finds-stop, Finds-go}
 

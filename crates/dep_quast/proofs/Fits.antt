@@ -7,8 +7,7 @@ use Rattle.std.specs.List.{AllByRecursion}
 use Rattle.std.proofs.lemmas.List.{length-map, get_or-map}
 use Rattle.iolb_model.specs.Form.{AffineForm}
 use Rattle.iolb_model.specs.Path.{PathStep, row_path}
-use Rattle.iolb_model.specs.Program.{Access, Array, AccessFits, IsOver, StatementFits, AffineProgram, IsWellFormed, statement_at, no_statement, Statement as ModelStatement}
-use Rattle.execution_laws.specs.Cold.{read_at}
+use Rattle.iolb_model.specs.Program.{Array, AccessFits, IsOver, StatementFits, AffineProgram, IsWellFormed, statement_at, no_statement, Statement as ModelStatement}
 use Rattle.execution_laws.specs.Order.{Direction, upward, common_loops}
 use Rattle.execution_laws.proofs.Domains.{way-there, statements-rise}
 use Rattle.execution_laws.proofs.Orders.{row_common-within, row_common-turn}
@@ -20,10 +19,10 @@ use Rattle.affine_rows.specs.Rows.{IsSmallOver, widened, equality_rows, put_in}
 use Rattle.affine_form.specs.Substitution.{substitution}
 use Rattle.affine_c.specs.declared.reference.Reference.{Reference}
 use Rattle.affine_c.specs.declared.statement.Statement.{Statement}
-use Rattle.affine_c.specs.Domain.{path_of, depth_of}
-use Rattle.affine_c.specs.Limits.{IsSmallReference, IsStatementWithinLimits}
+use Rattle.affine_c.specs.Domain.{depth_of}
+use Rattle.affine_c.specs.Limits.{IsSmallReference}
 use Rattle.affine_c.specs.Parts.{ProgramParts, IsProgram, access_of, statement_of, meaning, step_of}
-use Rattle.affine_c.proofs.Bounds.{StandsAt, row-stands, path-is, stands, limits-at}
+use Rattle.affine_c.proofs.Bounds.{StandsAt, row-stands, path-is, limits-at}
 use Rattle.dep_quast.specs.Context.{ReadOf, reference_of}
 use Rattle.dep_quast.specs.Truth.{ReadFits}
 use Rattle.dep_quast.proofs.Points.{there-holds}
@@ -188,6 +187,9 @@ length-equality_rows vars (f ∷ fs) (g ∷ gs) e = omega (arith, length-equalit
 pub cells-many : (vars : ℕ) (point here written read : List AffineForm) → length written ≡ length read
     → length (equality_rows vars (put_in point written) (put_in here read)) ≡ 2 * length read
 cells-many vars point here written read e =
-    omega (arith, length-equality_rows vars (put_in point written) (put_in here read)
-    (length-map written (λ form. substitution form point) ∙ e ∙ sym (length-map read (λ form. substitution form here))),
-    length-map read (λ form. substitution form here))
+    omega (
+      arith,
+      length-equality_rows vars (put_in point written) (put_in here read)
+          (length-map written (λ form. substitution form point) ∙ e ∙ sym (length-map read (λ form. substitution form here))),
+      length-map read (λ form. substitution form here),
+    )

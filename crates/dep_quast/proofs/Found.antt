@@ -1,5 +1,5 @@
 -- What is found in lists of claims, part by part.
-use Rattle.std.proofs.Common.{◌≡◌, refl, sym, ◌∙◌, ap, subst, inl, inr, ℕ, zero, suc, ◌+◌, ◌<◌, ◌≤◌, List, [], ◌∷◌, ◌++◌, length, get_or, drop, arith}
+use Rattle.std.proofs.Common.{◌≡◌, refl, sym, ◌∙◌, ap, subst, inl, inr, ℕ, suc, ◌+◌, ◌<◌, List, [], ◌∷◌, ◌++◌, length, get_or, drop, arith}
 use Rattle.std.specs.Prelude.{Option, Some, None, Result, Ok, Err, IfOk}
 use Rattle.std.proofs.lemmas.List.{drop_more}
 use Rattle.iolb_model.specs.Form.{AffineForm}
@@ -8,7 +8,7 @@ use Rattle.affine_form.specs.declared.place.Step.TheVariants.{Index}
 use Rattle.affine_form.specs.declared.refused.No.{No}
 use Rattle.affine_form.specs.Multipliers.{FarkasMultipliers}
 use Rattle.affine_form.specs.System.{AffineSystem}
-use Rattle.dep_quast.specs.Claims.{PlacedClaim, follows, Holds, AllHold, FirstFails, follow_claims, pointless_claims}
+use Rattle.dep_quast.specs.Claims.{PlacedClaim, follows, Holds, AllHold, follow_claims}
 use Rattle.dep_quast.specs.Found.{Finds}
 
 -- the first claim doesn't hold

@@ -4,4 +4,5 @@ pub mod Points
 pub mod Fits
 pub mod Found
 pub mod Chunks
+pub mod Sides
 pub mod Truths

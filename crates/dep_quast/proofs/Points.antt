@@ -1,20 +1,18 @@
 -- Points of parameters, the reader's loop values and those of a writer.
-use Rattle.std.proofs.Common.{◌≡◌, refl, sym, ◌∙◌, ap, subst, inl, inr, ℕ, zero, suc, ◌+◌, ◌<◌, ◌≤◌, List, [], ◌∷◌, ◌++◌, length, map, arith}
-use Rattle.std.specs.Prelude.{◌⊎◌, Option, Some, None, IsSomeAnd, unwrap_or}
+use Rattle.std.proofs.Common.{◌≡◌, refl, sym, ◌∙◌, ap, subst, ℕ, suc, ◌+◌, ◌≤◌, List, [], ◌∷◌, ◌++◌, length, map, arith}
+use Rattle.std.specs.Prelude.{Option, Some, None, IsSomeAnd, unwrap_or}
 use Rattle.std.specs.List.{AllByRecursion}
 use Rattle.std.proofs.Math.IntN.{ℤ, pos, ◌+ℤ◌, ◌*ℤ◌}
 use lib.Signed.{◌≤ℤ◌}
-use Rattle.std.proofs.lemmas.Int.{ints}
-use Rattle.std.proofs.lemmas.List.{append_assoc, append-nil, length-append, length-map}
+use Rattle.std.proofs.lemmas.List.{append_assoc, append-nil}
 use Rattle.iolb_model.specs.Form.{AffineForm, dot, form_value}
-use Rattle.iolb_model.specs.Path.{PathStep, rises, row_path}
-use Rattle.iolb_model.specs.Program.{AffineProgram, IsOver}
-use Rattle.execution_laws.specs.Domain.{IsWithin, IsInDomain}
+use Rattle.iolb_model.specs.Path.{PathStep, rises}
+use Rattle.iolb_model.specs.Program.{IsOver}
+use Rattle.execution_laws.specs.Domain.{IsWithin}
 use Rattle.affine_form.specs.Substitution.{values_at}
 use Rattle.affine_form.specs.System.{IsMet}
 use Rattle.affine_rows.specs.Rows.{widened, variables_from, IsSmallOver}
 use Rattle.affine_rows.proofs.Meaning.{form_value-widened, values_at-variables}
-use Rattle.affine_c.specs.Domain.{path_of}
 
 -- values within the bounds on a way are one for each loop
 pub within-length : (path : List PathStep) (point values : List ℤ) → IsWithin path point values → length values ≡ length path

@@ -1,7 +1,6 @@
 -- What claims that hold show.
-use Rattle.std.proofs.Common.{◌≡◌, refl, sym, ◌∙◌, ap, subst, inl, inr, ℕ, zero, suc, ◌+◌, ◌*◌, ◌<◌, ◌≤◌, List, [], ◌∷◌, ◌++◌, length, map, arith}
-use Rattle.std.specs.Prelude.{◌⊎◌, ℤ}
-use Rattle.std.specs.List.{AllByRecursion}
+use Rattle.std.proofs.Common.{sym, subst, inl, inr, ℕ, suc, ◌*◌, ◌≤◌, List, [], ◌∷◌, ◌++◌, length, arith}
+use Rattle.std.specs.Prelude.{ℤ}
 use Rattle.iolb_model.specs.Form.{AffineForm}
 use Rattle.iolb_model.specs.Path.{PathStep, rises}
 use Rattle.execution_laws.proofs.Members.{Member}
@@ -11,7 +10,7 @@ use Rattle.affine_form.specs.Shown.{HasNoPoint}
 use Rattle.affine_form.specs.System.{AffineSystem, IsMet}
 use Rattle.affine_form.proofs.ShownLemmas.{Shows-follows, Shows-none}
 use Rattle.affine_rows.specs.Rows.{within_rows, equality_rows}
-use Rattle.dep_quast.specs.Claims.{AllHold, PlacedClaim, Holds, follow_claims, pointless_claims}
+use Rattle.dep_quast.specs.Claims.{AllHold, PlacedClaim, follow_claims, pointless_claims}
 
 pub AllHold-left : (xs ys : List PlacedClaim) → AllHold (xs ++ ys) → AllHold xs
 AllHold-left [] ys h = tt

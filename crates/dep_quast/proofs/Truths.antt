@@ -1,43 +1,40 @@
 -- Valid source trees are true.
-use Rattle.std.proofs.Common.{◌≡◌, refl, sym, ◌∙◌, ap, subst, inl, inr, ℕ, zero, suc, ◌+◌, ◌*◌, ◌<◌, ◌≤◌, Bool, true, false, List, [], ◌∷◌, ◌++◌, length, map, get_or, arith}
-use Rattle.std.specs.Prelude.{◌⊎◌, ◌<ℤ◌, ◌==◌, nat_lt, if◌then◌else◌, ⊤, Option, Some, None, IsSomeAnd, slice_get, flat_map, unwrap_or}
-use Rattle.std.specs.List.{AllByRecursion, range_with_len}
+use Rattle.std.proofs.Common.{◌≡◌, refl, sym, ◌∙◌, ap, subst, inl, inr, ℕ, zero, suc, ◌+◌, ◌<◌, ◌≤◌, Bool, true, false, List, [], ◌∷◌, ◌++◌, length, map, get_or, arith}
+use Rattle.std.specs.Prelude.{◌⊎◌, ◌<ℤ◌, ◌==◌, nat_lt, if◌then◌else◌, Option, flat_map}
+use Rattle.std.specs.List.{AllByRecursion}
 use Rattle.std.proofs.Math.IntN.{ℤ, pos, negsuc, ◌-ℤ◌, ◌+ℤ◌}
 use lib.Signed.{◌≤ℤ◌}
 use Rattle.std.proofs.lemmas.Int.{ints}
 use Rattle.std.proofs.lemmas.Bool.{eq-eqb, lt-ltb}
 use Rattle.std.proofs.lemmas.List.{append_assoc, append-nil, length-append, length-map, map-append}
 use Rattle.iolb_model.specs.Form.{AffineForm, form_value}
-use Rattle.iolb_model.specs.Path.{PathStep, row_path}
-use Rattle.iolb_model.specs.Program.{Access, Array, AccessFits, Statement, StatementFits, AffineProgram, IsWellFormed, statement_at, no_statement}
+use Rattle.iolb_model.specs.Path.{row_path}
+use Rattle.iolb_model.specs.Program.{Statement, AffineProgram, IsWellFormed, statement_at, no_statement}
 use Rattle.iolb_model.specs.Printed.{is_below_zero}
 use Rattle.iolb_model.specs.Bound.{IsAdmitted}
 use Rattle.iolb_model.specs.Execution.{Instance, execution}
-use Rattle.iolb_model.specs.Source.{written_at, input as input_source, Cell, cell_of, written_cell, last_write_before, source_or}
-use Rattle.execution_laws.specs.Cold.{read_at, read_cell}
+use Rattle.iolb_model.specs.Source.{written_at, input as input_source, Cell, written_cell, source_or}
+use Rattle.execution_laws.specs.Cold.{read_cell}
 use Rattle.execution_laws.specs.Domain.{IsWithin, IsInDomain, IsAt}
-use Rattle.execution_laws.specs.Order.{Direction, upward, common_loops, Precedes, PrecedesAt}
-use Rattle.execution_laws.proofs.Members.{Member, Member-append_left, Member-append_right, Member-map, Member-flat_map}
+use Rattle.execution_laws.specs.Order.{Direction, common_loops, Precedes}
+use Rattle.execution_laws.proofs.Members.{Member, Member-map, Member-flat_map}
 use Rattle.execution_laws.proofs.Domains.{domains_executed, way-there, way-below, statements-rise, counted-has}
 use Rattle.execution_laws.proofs.Orders.{order_by_levels, row_common-within, row_common-turn}
 use Rattle.affine_form.specs.declared.place.Step.{Step}
 use Rattle.affine_form.specs.declared.place.Step.TheVariants.{Key}
 use Rattle.affine_form.specs.declared.key.TheConstants.{BEFORE, BETWEEN, CELL, DOMAIN, INPUT, NO, STATEMENT, YES}
-use Rattle.affine_form.proofs.Lists.{All-at}
-use Rattle.affine_form.specs.Multipliers.{FarkasMultipliers}
 use Rattle.affine_form.specs.Substitution.{values_at, substitution}
 use Rattle.affine_form.specs.System.{AffineSystem, IsMet}
 use Rattle.affine_form.proofs.ShownLemmas.{Shows-none}
-use Rattle.affine_rows.specs.Rows.{widened, variables_from, difference, within_rows, equality_rows, put_in, order_rows, IsSmallOver}
+use Rattle.affine_rows.specs.Rows.{widened, within_rows, equality_rows, put_in, order_rows, IsSmallOver}
 use Rattle.affine_rows.proofs.RowLemmas.{All-append, length-variables}
 use Rattle.affine_rows.proofs.Meaning.{form_value-difference, within_rows-says, within_rows-met, equality_rows-say, equality_rows-met, values_at-put_in, HasLevel, order_rows-say, order_rows-met}
 use Rattle.affine_c.specs.Domain.{path_of, depth_of, domain_of}
-use Rattle.affine_c.proofs.Bounds.{StandsAt, row-stands}
 use Rattle.dep_quast.specs.Tree.{SourceClaim, Leaf, source, input, empty, blank, SelectionTree, leaf, test, leaf_at}
 use Rattle.dep_quast.specs.Levels.{level_count, levels, writers, writers_from}
 use Rattle.dep_quast.specs.Context.{ReadOf, reference_of, variables_at, no_row, context, reader_point, parameter_point, reader_values, writer_values, variables_with, write_rows, earlier_write, earlier_writes, write_between, writes_between}
 use Rattle.dep_quast.specs.Claims.{AllHold, claims, leaf_claims, source_claims, follow_claims, pointless_claims, first_shown, context_system, inside_goals, cell_goals, before_goals, PlacedClaim, same, few}
-use Rattle.dep_quast.specs.Truth.{IsTrueLeaf, IsTrueTree, IsLevel, SourceFits, LeafFits, FitsUnder, ReadFits, source_at, ValidTreesAreTrue}
+use Rattle.dep_quast.specs.Truth.{IsTrueLeaf, IsLevel, SourceFits, LeafFits, FitsUnder, ReadFits, source_at, ValidTreesAreTrue}
 use Rattle.dep_quast.proofs.Fits.{ranks-same}
 use Rattle.dep_quast.proofs.LastWrites.{writer-at, writes-from, no_last, is_last}
 use Rattle.dep_quast.proofs.Shown.{AllHold-left, AllHold-right, goals-met, none-met, within_rows-few, equality_rows-few}

@@ -1,6 +1,6 @@
 -- The systems in which a leaf's claims are shown. The variables are the parameters and the loop values of the reading
 -- statement, and then those of a writer.
-use Rattle.std.specs.Prelude.{ℕ, ◌+◌, ℤ, pos, negsuc, List, [], ◌∷◌, ◌++◌, map, flat_map, length}
+use Rattle.std.specs.Prelude.{ℕ, ◌+◌, pos, negsuc, List, [], ◌++◌, map, flat_map, length}
 use Rattle.iolb_model.specs.Form.{AffineForm}
 use Rattle.iolb_model.specs.Program.{Access, AffineProgram, statement_at}
 use Rattle.execution_laws.specs.Order.{common_loops}

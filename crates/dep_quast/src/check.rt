@@ -15,7 +15,7 @@ use crate::context::{tests_of_no, tests_of_yes};
 use crate::leaves::{blank_shown, empty_shown, input_shown, source_shown};
 use crate::lists::within;
 use crate::quast::Quast;
-use crate::reader::{Reader, variables};
+use crate::reader::Reader;
 use crate::truth::valid_trees_are_true;
 use affine_c::Program;
 use affine_form::key::{NO, YES};
@@ -44,7 +44,7 @@ fn tree_shown(
             if let Some(found) = tree_shown(alloc, program, reader, above.as_slice(), &side, yes)? {
                 return Ok(Some(found));
             }
-            let below = tests_of_no(alloc, variables(program, reader), tests, form)?;
+            let below = tests_of_no(alloc, program, reader, tests, form)?;
             let side = within(alloc, place, Step::Key(NO))?;
             tree_shown(alloc, program, reader, below.as_slice(), &side, no)
         }

@@ -14,11 +14,7 @@ use std::alloc::Global;
 pub(crate) const MOST_ROWS: usize = 128;
 
 /// A condition that doesn't hold at a place. Want of memory is its only error.
-pub(crate) fn refusal(
-    alloc: Global,
-    condition: u8,
-    place: &Place,
-) -> Result<Option<No>, Memory>
+pub(crate) fn refusal(alloc: Global, condition: u8, place: &Place) -> Result<Option<No>, Memory>
     ensures { IfOk result (λ found. found ≡ Some (record { condition = condition; place = place.now })) }
 {
     let place = place.try_clone(alloc)?;

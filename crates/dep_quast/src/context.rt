@@ -1,6 +1,6 @@
 //! The rows of a leaf.
 
-ghost use Rattle.std.specs.Prelude.{◌≡◌, ◌<◌, ◌≤◌, ◌++◌, ◌∷◌, [], length, IfOk};
+ghost use Rattle.std.specs.Prelude.{◌≡◌, ◌<◌, ◌++◌, ◌∷◌, [], length, IfOk};
 ghost use Rattle.affine_form.specs.System.{AllOver};
 ghost use Rattle.affine_rows.specs.Rows.{IsSmallOver};
 ghost use Rattle.affine_c.specs.Parts.{meaning};
@@ -44,14 +44,18 @@ pub(crate) fn tests_of_yes(alloc: Global, tests: &[Form], form: &Form) -> Result
 /// The tests on the way to the side where the form is at most -1. Want of memory is its only error.
 pub(crate) fn tests_of_no(
     alloc: Global,
-    vars: usize,
+    program: &Program,
+    reader: Reader,
     tests: &[Form],
     form: &Form,
 ) -> Result<Vec<Form>, Memory>
-    requires few { vars ≤ 24 }
-    requires over { IsSmallOver vars form.now }
-    ensures { IfOk result (λ all. all.items ≡ tests.now ++ no_row vars form.now ∷ []) }
+    requires there { reader.statement < length program.now.statements }
+    requires tests_over { AllOver (variables_at (meaning program.now) (read_of reader)) tests.now }
+    requires over { IsSmallOver (variables_at (meaning program.now) (read_of reader)) form.now }
+    ensures tests { IfOk result (λ all. all.items ≡ tests.now ++ no_row (variables_at (meaning program.now) (read_of reader)) form.now ∷ []) }
+    ensures all_over { IfOk result (λ all. AllOver (variables_at (meaning program.now) (read_of reader)) all.items) }
 {
     let zero = Form::new(Vec::new(alloc), 0);
-    with_form(alloc, tests, difference(alloc, vars, &zero, form, -1)?)
+    let row = difference(alloc, variables(program, reader), &zero, form, -1)?;
+    with_form(alloc, tests, row)
 }

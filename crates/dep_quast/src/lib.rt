@@ -4,6 +4,7 @@
 
 mod check;
 mod claimed;
+mod claims_shown;
 mod context;
 mod leaves;
 mod levels;
@@ -11,7 +12,6 @@ mod lists;
 mod point_rows;
 mod quast;
 mod reader;
-mod claims_shown;
 mod source_claims;
 pub mod truth;
 mod writes;

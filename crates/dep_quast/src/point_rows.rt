@@ -36,7 +36,9 @@ pub(crate) fn domain_rows(
     ensures many { IfOk result (λ rows. length rows.items ≡ 2 * depth_of (meaning program.now) statement) }
     ensures over { IfOk result (λ rows. AllOver vars rows.items) }
 {
-    let bounds = program.statements()[usize::from(statement)].bounds.as_slice();
+    let bounds = program.statements()[usize::from(statement)]
+        .bounds
+        .as_slice();
     let params = variables_from(alloc, vars, 0, program.params().len())?;
     let rows = within_rows(alloc, vars, bounds, params.as_slice(), values)?;
     Ok(rows)

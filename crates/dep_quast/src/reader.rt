@@ -23,7 +23,10 @@ pub(crate) fn depth(program: &Program, statement: u16) -> usize
     ensures depth { result ≡ depth_of (meaning program.now) statement }
     ensures few { result ≤ 4 }
 {
-    program.statements()[usize::from(statement)].bounds.as_slice().len()
+    program.statements()[usize::from(statement)]
+        .bounds
+        .as_slice()
+        .len()
 }
 
 /// How many variables there are at the reader: the parameters and its loop values.

@@ -96,7 +96,14 @@ pub(crate) fn cell_shown(
     ensures { IfOk result (λ found. Finds (follow_claims 4 (place.now ++ Key CELL ∷ []) system.now 0 (cell_goals (meaning program.now) (read_of reader) (claim_of claimed.now)) claimed.now.cell.now) found) }
 {
     let vars = variables(program, reader);
-    let goals = written_rows(alloc, program, reader, vars, claimed.statement, claimed.point)?;
+    let goals = written_rows(
+        alloc,
+        program,
+        reader,
+        vars,
+        claimed.statement,
+        claimed.point,
+    )?;
     let list = within(alloc, place, Step::Key(CELL))?;
     goals_shown(alloc, 4, &list, system, goals.as_slice(), claimed.cell)
 }

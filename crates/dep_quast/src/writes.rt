@@ -31,7 +31,12 @@ pub(crate) fn variables_beside(program: &Program, reader: Reader, writer: u16) -
 }
 
 /// The loop values of a writer, of all variables. Want of memory is its only error.
-fn values_of_writer(alloc: Global, program: &Program, reader: Reader, writer: u16) -> Result<Vec<Form>, Memory>
+fn values_of_writer(
+    alloc: Global,
+    program: &Program,
+    reader: Reader,
+    writer: u16,
+) -> Result<Vec<Form>, Memory>
     requires read { reader.statement < length program.now.statements }
     requires writer { writer < length program.now.statements }
     ensures forms { IfOk result (λ values. values.items ≡ writer_values (meaning program.now) (read_of reader) writer (variables_with (meaning program.now) (read_of reader) writer)) }
@@ -44,7 +49,12 @@ fn values_of_writer(alloc: Global, program: &Program, reader: Reader, writer: u1
 }
 
 /// The loop values of the reader, of so many variables. Want of memory is its only error.
-pub(crate) fn values_of_reader(alloc: Global, program: &Program, reader: Reader, vars: usize) -> Result<Vec<Form>, Memory>
+pub(crate) fn values_of_reader(
+    alloc: Global,
+    program: &Program,
+    reader: Reader,
+    vars: usize,
+) -> Result<Vec<Form>, Memory>
     requires read { reader.statement < length program.now.statements }
     requires few { vars ≤ 24 }
     requires room { variables_at (meaning program.now) (read_of reader) ≤ vars }

@@ -1,9 +1,8 @@
-use Rattle.std.proofs.Common.{true, false, ◌≡◌, ◌∙◌, ap, sym, arith, subst, drop, List, length}
-use Rattle.std.specs.Prelude.{Option, Some, None}
+use Rattle.std.proofs.Common.{true, ◌≡◌, ◌∙◌, ap, sym, subst, drop, List}
+use Rattle.std.specs.Prelude.{Some, None}
 use Rattle.std.proofs.lemmas.List.{drop_all}
 use Rattle.iolb_model.specs.Form.{AffineForm}
 use Rattle.affine_form.specs.declared.place.Step.{Step}
-use Rattle.affine_form.specs.declared.refused.No.{No}
 use Rattle.dep_quast.specs.Claims.{follow_claims}
 use Rattle.dep_quast.specs.Found.{Finds}
 use Rattle.dep_quast.proofs.Found.{goals-fail, goals-next, IfOk-then}

@@ -1,7 +1,5 @@
-use Rattle.std.proofs.Common.{map, ◌≡◌, ◌∙◌, ◌++◌, ap, sym, subst, arith, length, ℕ, List}
-use Rattle.iolb_model.specs.Form.{AffineForm}
+use Rattle.std.proofs.Common.{map, ◌≡◌, ◌∙◌, ◌++◌, ap, sym, subst, arith, length, ℕ}
 use Rattle.affine_form.specs.System.{AffineSystem, AllOver}
-use Rattle.affine_c.specs.Domain.{domain_of}
 use Rattle.affine_c.specs.Parts.{meaning}
 use Rattle.dep_quast.specs.Context.{variables_at}
 use Rattle.dep_quast.specs.Views.{read_of}

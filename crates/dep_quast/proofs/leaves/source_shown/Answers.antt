@@ -1,18 +1,17 @@
-use Rattle.std.proofs.Common.{◌≤◌, ◌≡◌, ◌∙◌, ◌++◌, ◌∷◌, [], List, ap, sym, subst, ℕ, length, true, false, arith}
-use Rattle.std.specs.Prelude.{Option, Some, None}
+use Rattle.std.proofs.Common.{◌≤◌, ◌≡◌, ◌∙◌, ◌++◌, ◌∷◌, [], List, ap, subst, ℕ, length, arith}
+use Rattle.std.specs.Prelude.{Option, Some}
 use Rattle.iolb_model.specs.Form.{AffineForm}
-use Rattle.iolb_model.specs.Program.{statement_at}
-use Rattle.affine_form.specs.declared.key.TheConstants.{BEFORE, BETWEEN, CELL, DOMAIN, STATEMENT}
+use Rattle.affine_form.specs.declared.key.TheConstants.{BETWEEN}
 use Rattle.affine_form.specs.declared.place.Step.{Step}
 use Rattle.affine_form.specs.declared.place.Step.TheVariants.{Key}
 use Rattle.affine_form.specs.declared.refused.No.{No}
 use Rattle.affine_form.specs.System.{AffineSystem}
 use Rattle.affine_c.specs.Parts.{meaning}
-use Rattle.dep_quast.specs.Claims.{PlacedClaim, few, same, follow_claims, pointless_claims, first_shown, inside_goals, cell_goals, before_goals, point_claims, source_claims, context_system}
-use Rattle.dep_quast.specs.Context.{variables_at, reference_of, context, writes_between}
+use Rattle.dep_quast.specs.Claims.{PlacedClaim, few, pointless_claims, first_shown, point_claims, source_claims, context_system}
+use Rattle.dep_quast.specs.Context.{variables_at, context, writes_between}
 use Rattle.dep_quast.specs.Found.{Finds}
 use Rattle.dep_quast.specs.Views.{read_of, claim_of}
-use Rattle.dep_quast.proofs.Found.{IfOk-then, Finds-later, Finds-stop, Finds-go, first-stops, claim-fails, third-stops, all-but_last}
+use Rattle.dep_quast.proofs.Found.{IfOk-then, Finds-later, Finds-stop, Finds-go}
 use Rattle.dep_quast.proofs.leaves.source_shown.Goals as goal
 
 pub returns-in-Some : goal.returns-in-Some

@@ -1,4 +1,4 @@
-use Rattle.std.proofs.Common.{◌+◌, arith, rules}
+use Rattle.std.proofs.Common.{arith}
 use Rattle.dep_quast.proofs.Fits.{common-few}
 use Rattle.dep_quast.proofs.levels.level_count.Goals as goal
 

@@ -1,4 +1,4 @@
-use Rattle.std.proofs.Common.{◌≡◌, ◌∙◌, ◌++◌, ap, sym, subst, List, ℕ, map}
+use Rattle.std.proofs.Common.{◌≡◌, ◌∙◌, ◌++◌, ap, sym, subst, List, map}
 use Rattle.std.proofs.lemmas.List.{drop_all, append-nil}
 use Rattle.affine_c.specs.declared.statement.Statement.{Statement}
 use Rattle.std.specs.List.{AllByRecursion}

@@ -1,5 +1,4 @@
-use Rattle.std.proofs.Common.{◌≡◌, ◌∙◌, ap, sym, arith, length, subst, map, ℕ}
-use Rattle.std.proofs.lemmas.List.{length-map}
+use Rattle.std.proofs.Common.{◌≡◌, ◌∙◌, ap, sym, arith, length, map}
 use Rattle.affine_c.specs.declared.statement.Statement.{Statement}
 use Rattle.affine_c.specs.Domain.{path_of}
 use Rattle.affine_c.specs.Parts.{meaning, step_of}
@@ -40,6 +39,10 @@ returns-clause-rows c =
 
 pub returns-clause-many : goal.returns-clause-many
 returns-clause-many c =
-    omega (arith, c.in_ok-rows.ensures.many, depth-read c.args.program.now c.statements.result.now c.args.statement c.from.result (length c.as_slice-bounds.result.now) c.index-statements-from.result c.statements.ensures.kept
-    c.statements.ensures.statements c.requires.there c.from.ensures c.index-statements-from.is
-    (ap length c.as_slice-bounds.ensures.value ∙ ap (λ (s : Statement). length s.bounds.items) (sym c.index-statements-from.is)))
+    omega (
+      arith,
+      c.in_ok-rows.ensures.many,
+      depth-read c.args.program.now c.statements.result.now c.args.statement c.from.result (length c.as_slice-bounds.result.now) c.index-statements-from.result c.statements.ensures.kept
+          c.statements.ensures.statements c.requires.there c.from.ensures c.index-statements-from.is
+          (ap length c.as_slice-bounds.ensures.value ∙ ap (λ (s : Statement). length s.bounds.items) (sym c.index-statements-from.is)),
+    )

@@ -1,4 +1,4 @@
-use Rattle.std.proofs.Common.{◌≡◌, ◌∙◌, ap, arith, rules}
+use Rattle.std.proofs.Common.{◌∙◌, ap, arith}
 use Rattle.affine_rows.specs.Rows.{order_rows}
 use Rattle.affine_c.specs.Parts.{meaning}
 use Rattle.dep_quast.proofs.Fits.{all-there, common-first, common-second, common-upward}

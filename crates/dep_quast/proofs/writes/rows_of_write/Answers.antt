@@ -1,6 +1,5 @@
-use Rattle.std.proofs.Common.{map, ◌≡◌, ◌∙◌, ◌++◌, ap, sym, subst, arith, length, ℕ, List}
-use Rattle.iolb_model.specs.Form.{AffineForm}
-use Rattle.affine_form.specs.System.{AffineSystem, AllOver}
+use Rattle.std.proofs.Common.{◌≡◌, ◌++◌, sym, subst, arith, ℕ}
+use Rattle.affine_form.specs.System.{AllOver}
 use Rattle.affine_c.specs.Parts.{meaning}
 use Rattle.dep_quast.specs.Context.{variables_at, variables_with}
 use Rattle.dep_quast.specs.Views.{read_of}

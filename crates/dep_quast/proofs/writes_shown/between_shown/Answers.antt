@@ -1,16 +1,13 @@
-use Rattle.std.proofs.Common.{◌≡◌, ◌∙◌, ◌+◌, ◌-◌, ◌*◌, ◌<◌, ◌≤◌, List, ap, sym, subst, ℕ, map, length, drop, get_or, arith}
-use Rattle.std.specs.Prelude.{Option, Some, None, flat_map}
-use Rattle.std.specs.List.{range_with_len}
-use Rattle.std.proofs.lemmas.List.{length-map}
+use Rattle.std.proofs.Common.{◌≡◌, ◌∙◌, ◌*◌, List, sym, subst, ℕ, map, length, get_or, arith}
+use Rattle.std.specs.Prelude.{Some, None, flat_map}
 use Rattle.iolb_model.specs.Form.{AffineForm}
 use Rattle.affine_form.specs.System.{AffineSystem}
-use Rattle.affine_form.proofs.Lists.{All-at}
-use Rattle.affine_c.specs.Parts.{meaning, statement_of}
-use Rattle.dep_quast.specs.Context.{before_reader, after_source, earlier_write, write_between, reference_of}
+use Rattle.affine_c.specs.Parts.{meaning}
+use Rattle.dep_quast.specs.Context.{before_reader, after_source, write_between}
 use Rattle.dep_quast.specs.Found.{Finds}
-use Rattle.dep_quast.specs.Levels.{levels, level_count, IsWriter}
+use Rattle.dep_quast.specs.Levels.{levels, level_count}
 use Rattle.dep_quast.specs.Views.{read_of, claim_of}
-use Rattle.dep_quast.proofs.Chunks.{claims_from, afters-stop, afters-go, afters-end, flat-many, levels-room, length-levels, writers-stop, writers-go, writers-end, writers-room, writers-first}
+use Rattle.dep_quast.proofs.Chunks.{claims_from, flat-many, length-levels, writers-stop, writers-go, writers-end, writers-room, writers-first}
 use Rattle.dep_quast.proofs.writes_shown.between_shown.Goals as goal
 
 pub levels_between_shown-requires-clause-enough : goal.levels_between_shown-requires-clause-enough

@@ -1,4 +1,4 @@
-use Rattle.std.proofs.Common.{◌≡◌, ◌+◌, ◌-◌, ◌≤◌, length, drop, map}
+use Rattle.std.proofs.Common.{◌+◌, ◌≤◌, length, drop, map}
 use Rattle.std.specs.Prelude.{Option, flat_map}
 use Rattle.affine_form.specs.declared.refused.No.{No}
 use Rattle.affine_c.specs.Parts.{meaning}

@@ -1,16 +1,15 @@
-use Rattle.std.proofs.Common.{◌≡◌, ◌∙◌, ◌+◌, ◌-◌, ◌*◌, ◌<◌, ◌≤◌, List, ap, sym, subst, ℕ, map, length, drop, get_or, arith}
-use Rattle.std.specs.Prelude.{Option, Some, None, flat_map}
-use Rattle.std.specs.List.{range_with_len}
+use Rattle.std.proofs.Common.{◌≡◌, ◌∙◌, ◌<◌, List, ap, sym, subst, ℕ, map, length, get_or, arith}
+use Rattle.std.specs.Prelude.{Some, None}
 use Rattle.std.proofs.lemmas.List.{length-map}
 use Rattle.iolb_model.specs.Form.{AffineForm}
 use Rattle.affine_form.specs.System.{AffineSystem}
 use Rattle.affine_form.proofs.Lists.{All-at}
 use Rattle.affine_c.specs.Parts.{meaning, statement_of}
-use Rattle.dep_quast.specs.Context.{before_reader, after_source, earlier_write, write_between, reference_of}
+use Rattle.dep_quast.specs.Context.{before_reader, earlier_write}
 use Rattle.dep_quast.specs.Found.{Finds}
 use Rattle.dep_quast.specs.Levels.{levels, level_count, IsWriter}
-use Rattle.dep_quast.specs.Views.{read_of, claim_of}
-use Rattle.dep_quast.proofs.Chunks.{claims_from, afters-stop, afters-go, afters-end, flat-many, levels-room, length-levels, writers-stop, writers-go, writers-end, writers-room, writers-first}
+use Rattle.dep_quast.specs.Views.{read_of}
+use Rattle.dep_quast.proofs.Chunks.{claims_from, length-levels, writers-stop, writers-go, writers-end, writers-room, writers-first}
 use Rattle.dep_quast.proofs.writes_shown.earlier_shown.Goals as goal
 
 pub levels_shown-requires-clause-enough : goal.levels_shown-requires-clause-enough

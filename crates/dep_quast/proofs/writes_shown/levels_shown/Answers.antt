@@ -1,11 +1,10 @@
-use Rattle.std.proofs.Common.{◌≡◌, ◌∙◌, ◌+◌, ◌-◌, ◌<◌, ◌≤◌, ap, sym, ℕ, map, length, arith}
-use Rattle.std.specs.Prelude.{Option, Some, None}
-use Rattle.std.specs.List.{range_with_len}
+use Rattle.std.proofs.Common.{◌∙◌, ◌+◌, ℕ, arith}
+use Rattle.std.specs.Prelude.{Some, None}
 use Rattle.affine_form.specs.System.{AffineSystem}
 use Rattle.affine_c.specs.Parts.{meaning}
 use Rattle.dep_quast.specs.Context.{before_reader}
 use Rattle.dep_quast.specs.Views.{read_of}
-use Rattle.dep_quast.proofs.Chunks.{levels-stop, levels-go, levels-end, levels-begin}
+use Rattle.dep_quast.proofs.Chunks.{levels-stop, levels-go, levels-end}
 use Rattle.dep_quast.proofs.writes_shown.levels_shown.Goals as goal
 
 pub returns-in-Some : goal.returns-in-Some

@@ -1,11 +1,11 @@
-use Rattle.std.proofs.Common.{◌≡◌, ◌+◌, ◌-◌, ◌≤◌, length, drop, map}
+use Rattle.std.proofs.Common.{◌+◌, ◌-◌, drop, map}
 use Rattle.std.specs.Prelude.{Option}
 use Rattle.std.specs.List.{range_with_len}
 use Rattle.affine_form.specs.declared.refused.No.{No}
 use Rattle.affine_c.specs.Parts.{meaning}
 use Rattle.dep_quast.specs.Claims.{pointless_claims}
 use Rattle.dep_quast.specs.Context.{before_reader}
-use Rattle.dep_quast.specs.Levels.{levels, level_count}
+use Rattle.dep_quast.specs.Levels.{levels}
 use Rattle.dep_quast.specs.Found.{Finds}
 use Rattle.dep_quast.specs.Views.{read_of}
 use Rattle.dep_quast.proofs.writes_shown.levels_shown.Given as goal
