@@ -11,10 +11,10 @@ use affine_rows::system_of;
 use std::alloc::Global;
 
 /// The greatest number of rows that a system may have.
-pub(crate) const MOST_ROWS: usize = 128;
+pub const MOST_ROWS: usize = 128;
 
 /// A condition that doesn't hold at a place. Want of memory is its only error.
-pub(crate) fn refusal(alloc: Global, condition: u8, place: &Place) -> Result<Option<No>, Memory>
+pub fn refusal(alloc: Global, condition: u8, place: &Place) -> Result<Option<No>, Memory>
     ensures { IfOk result (λ found. found ≡ Some (record { condition = condition; place = place.now })) }
 {
     let place = place.try_clone(alloc)?;
@@ -39,7 +39,7 @@ fn is_pointless(system: &System, shown: &Multipliers) -> bool
 
 /// Whether the goals follow, each by its multipliers: the first that doesn't, by its place in the list at this place.
 /// Want of memory is its only error.
-pub(crate) fn goals_shown(
+pub fn goals_shown(
     alloc: Global,
     condition: u8,
     place: &Place,
@@ -61,7 +61,7 @@ pub(crate) fn goals_shown(
 
 /// Whether the rows are few, and the multipliers show that no point meets them all: else the condition that doesn't
 /// hold, at this place. Want of memory is its only error.
-pub(crate) fn system_shown(
+pub fn system_shown(
     alloc: Global,
     condition: u8,
     place: &Place,

@@ -4,12 +4,12 @@
 
 mod check;
 mod claimed;
-mod claims_shown;
+pub mod claims_shown;
 mod context;
 mod leaves;
 mod levels;
-mod lists;
-mod point_rows;
+pub mod lists;
+pub mod point_rows;
 mod quast;
 mod reader;
 mod source_claims;

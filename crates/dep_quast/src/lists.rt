@@ -10,7 +10,7 @@ use affine_rows::widened;
 use std::alloc::Global;
 
 /// Forms, and then copies of others. Want of memory is its only error.
-pub(crate) fn followed_by(
+pub fn followed_by(
     alloc: Global,
     forms: Vec<Form>,
     more: &[Form],
@@ -25,7 +25,7 @@ pub(crate) fn followed_by(
 }
 
 /// Copies of forms, and one more. Want of memory is its only error.
-pub(crate) fn with_form(alloc: Global, forms: &[Form], last: Form) -> Result<Vec<Form>, Memory>
+pub fn with_form(alloc: Global, forms: &[Form], last: Form) -> Result<Vec<Form>, Memory>
     ensures { IfOk result (λ all. all.items ≡ forms.now ++ last ∷ []) }
 {
     let mut all = Vec::new(alloc);
@@ -37,7 +37,7 @@ pub(crate) fn with_form(alloc: Global, forms: &[Form], last: Form) -> Result<Vec
 }
 
 /// Forms read over so many variables. Want of memory is its only error.
-pub(crate) fn all_widened(alloc: Global, vars: usize, forms: &[Form]) -> Result<Vec<Form>, Memory>
+pub fn all_widened(alloc: Global, vars: usize, forms: &[Form]) -> Result<Vec<Form>, Memory>
     requires few { vars ≤ 24 }
     requires within { AllByRecursion (λ form. variables form ≤ vars) forms.now }
     ensures { IfOk result (λ wide. wide.items ≡ map (widened vars) forms.now) }
@@ -50,7 +50,7 @@ pub(crate) fn all_widened(alloc: Global, vars: usize, forms: &[Form]) -> Result<
 }
 
 /// The place one step further in. Want of memory is its only error.
-pub(crate) fn within(alloc: Global, place: &Place, step: Step) -> Result<Place, Memory>
+pub fn within(alloc: Global, place: &Place, step: Step) -> Result<Place, Memory>
     ensures { IfOk result (λ inner. inner ≡ place.now ++ step ∷ []) }
 {
     let mut steps = Vec::from_slice(alloc, place.steps())?;

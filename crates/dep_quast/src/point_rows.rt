@@ -20,7 +20,7 @@ use affine_rows::{cell_rows, order_rows, variables_from, within_rows};
 use std::alloc::Global;
 
 /// The rows which say that loop values of a statement are in its domain. Want of memory is its only error.
-pub(crate) fn domain_rows(
+pub fn domain_rows(
     alloc: Global,
     program: &Program,
     vars: usize,

@@ -16,4 +16,5 @@ mod sums;
 pub use count::check_count;
 pub use fits::fits_count;
 pub use nest::Nest;
+pub use ranges::rows_before;
 pub use sums::Sums;

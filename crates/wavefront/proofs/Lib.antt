@@ -1,0 +1,4 @@
+pub mod NestPoints
+pub mod ColdLeaves
+pub mod ColdCells
+pub mod ColdLoads

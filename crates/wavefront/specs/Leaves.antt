@@ -1,5 +1,5 @@
 -- What a cold term claims at the leaves of a source tree.
-use Rattle.std.specs.Prelude.{ℕ, suc, ◌+◌, Bool, true, false, ◌&&◌, if◌then◌else◌, List, [], ◌∷◌, ◌++◌, length}
+use Rattle.std.specs.Prelude.{ℕ, suc, Bool, true, false, if◌then◌else◌, List, [], ◌∷◌, ◌++◌, length}
 use Rattle.iolb_model.specs.Form.{AffineForm}
 use Rattle.iolb_model.specs.Program.{AffineProgram}
 use Rattle.affine_form.specs.declared.place.Step.{Step}
@@ -61,10 +61,10 @@ leaf_claim place system is_input (Arrive equal) = record { condition = 11; place
 -- rows (condition 2)
 abbrev pub leaves_claims : ℕ → List AffineForm → List Step → ℕ → List OpenLeaf → List Leaf → List PlacedClaim
 leaves_claims vars rows place index [] entries = []
-leaves_claims vars rows place index (open ∷ leaves) [] = []
-leaves_claims vars rows place index (open ∷ leaves) (entry ∷ entries) =
-    record { condition = 2; place = place ++ Index index ∷ []; claim = few (length (rows ++ open.tests)) }
-    ∷ leaf_claim (place ++ Index index ∷ []) (record { vars = vars; rows = rows ++ open.tests }) open.is_input entry
+leaves_claims vars rows place index (l ∷ leaves) [] = []
+leaves_claims vars rows place index (l ∷ leaves) (entry ∷ entries) =
+    record { condition = 2; place = place ++ Index index ∷ []; claim = few (length (rows ++ l.tests)) }
+    ∷ leaf_claim (place ++ Index index ∷ []) (record { vars = vars; rows = rows ++ l.tests }) l.is_input entry
     ∷ leaves_claims vars rows place (suc index) leaves entries
 
 -- that the reading instance is in its statement's domain (condition 10)

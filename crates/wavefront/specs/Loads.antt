@@ -1,8 +1,7 @@
 -- What valid cold terms cost.
-use Rattle.std.specs.Prelude.{◌≡◌, ◌⊎◌, ℕ, ◌+◌, ◌*◌, ◌≤◌, ℤ, List, [], ◌∷◌, ◌++◌, map, length, ⊤}
+use Rattle.std.specs.Prelude.{◌≡◌, ℕ, ◌*◌, ◌≤◌, ℤ, List, [], ◌++◌, map, length, ⊤}
 use Rattle.std.specs.List.{AllByRecursion, IsDistinct}
 use Rattle.iolb_model.specs.declared.game.Move.{Move}
-use Rattle.iolb_model.specs.Form.{AffineForm}
 use Rattle.iolb_model.specs.Program.{AffineProgram, IsWellFormed}
 use Rattle.iolb_model.specs.Bound.{IsAdmitted}
 use Rattle.iolb_model.specs.Source.{same_cell}
@@ -17,9 +16,7 @@ use Rattle.dep_quast.specs.Claims.{AllHold}
 use Rattle.dep_quast.specs.Context.{reference_of, variables_at}
 use Rattle.dep_quast.specs.Tree.{SelectionTree, leaf, test}
 use Rattle.dep_quast.specs.Truth.{ReadFits, IsTrueTree}
-use Rattle.domain_count.specs.Count.{AreShownBelow}
 use Rattle.domain_count.specs.Points.{points, count}
-use Rattle.poly_tree.specs.Poly.{Quotient}
 use Rattle.wavefront.specs.Term.{ColdTerm, nest_variables, instance_point}
 use Rattle.wavefront.specs.Leaves.{open_leaves, inside_claims, term_leaves}
 use Rattle.wavefront.specs.Inverse.{CellsAreUndone}

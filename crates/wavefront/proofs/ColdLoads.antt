@@ -1,0 +1,84 @@
+-- Cold terms cost their count.
+use Rattle.std.proofs.Common.{◌≡◌, refl, sym, ◌∙◌, ap, subst, ℕ, ◌≤◌, List, [], ◌∷◌, ◌++◌, length, map, arith}
+use Rattle.std.specs.List.{AllByRecursion, IsDistinct}
+use Rattle.std.proofs.Math.IntN.{ℤ}
+use Rattle.std.proofs.lemmas.List.{length-map}
+use Rattle.iolb_model.specs.Form.{AffineForm}
+use Rattle.iolb_model.specs.Path.{PathStep, row_path}
+use Rattle.iolb_model.specs.Program.{AffineProgram, IsWellFormed}
+use Rattle.iolb_model.specs.Bound.{IsAdmitted}
+use Rattle.iolb_model.specs.Source.{same_cell}
+use Rattle.iolb_model.specs.Game.{loads}
+use Rattle.execution_laws.specs.Cold.{read_cell, ReadsInput}
+use Rattle.execution_laws.specs.Domain.{IsWithin, IsAt}
+use Rattle.execution_laws.proofs.Domains.{domains_executed, way-there}
+use Rattle.execution_laws.proofs.InputVertices.{input_reads_loaded}
+use Rattle.copy_nest.proofs.Grids.{All-weaker, All-map}
+use Rattle.affine_form.specs.declared.place.Step.{Step}
+use Rattle.affine_form.specs.declared.place.Step.TheVariants.{Key}
+use Rattle.affine_form.specs.declared.key.TheConstants.{INSIDE, LEAVES}
+use Rattle.affine_form.specs.System.{IsMet}
+use Rattle.affine_rows.specs.Rows.{variables_from, step_of}
+use Rattle.affine_rows.proofs.Meaning.{within_rows-says}
+use Rattle.affine_c.specs.Domain.{path_of}
+use Rattle.dep_quast.specs.Tree.{SelectionTree}
+use Rattle.dep_quast.specs.Truth.{IsTrueTree}
+use Rattle.dep_quast.proofs.Points.{within-length, values-front, holds-there}
+use Rattle.dep_quast.proofs.Shown.{goals-met, within_rows-few}
+use Rattle.domain_count.specs.Points.{points}
+use Rattle.wavefront.specs.Term.{ColdTerm, nest_variables, nest_system, instance_point, inside_goals}
+use Rattle.wavefront.specs.Loads.{ColdFits, ColdHolds, ColdTermsAreLoaded, instance_values, all_instances}
+use Rattle.wavefront.proofs.NestPoints.{points-within, points-differ, nest-met}
+use Rattle.wavefront.proofs.ColdLeaves.{tree-input}
+use Rattle.wavefront.proofs.ColdCells.{instance-at, cells-differ}
+
+map-map : {A B C : Type 0} (f : A → B) (g : B → C) (xs : List A) → map g (map f xs) ≡ map (λ x. g (f x)) xs
+map-map f g [] = refl
+map-map f g (x ∷ xs) = ap (λ l. g (f x) ∷ l) (map-map f g xs)
+
+module _ (program : AffineProgram) (place : List Step) (tree : SelectionTree) (term : ColdTerm) (formed : IsWellFormed program) (fits : ColdFits program tree term)
+    (true_tree : IsTrueTree program term.reader tree) (holds : ColdHolds program place tree term) (values : List ℤ) (admitted : IsAdmitted program values) where
+  -- a point's instance reads an input
+  reads : (u : List ℤ) → IsWithin (map step_of term.nest) values u → ReadsInput program values term.reader.statement term.reader.read (instance_values term values u)
+  reads u within =
+      let vars : ℕ = nest_variables program term in
+      let at : List ℤ = values ++ u in
+      let met : IsMet (nest_system program term).rows at = nest-met program term.nest values u formed admitted within in
+      let params : List AffineForm = variables_from vars 0 (length program.parameters) in
+      let path : List PathStep = path_of program term.reader.statement in
+      let goals : IsMet (inside_goals program term) at =
+      goals-met 10 (place ++ Key INSIDE ∷ []) (nest_system program term) 0 (inside_goals program term) term.inside at
+      (omega (arith, fits.inside, within_rows-few vars path params term.point)) holds.inside met in
+      let inside : IsWithin path values (instance_values term values u) =
+      subst (λ (q : List ℤ). IsWithin path q (instance_values term values u)) (values-front vars (length program.parameters) values u (sym admitted.each) (omega arith))
+      (within_rows-says vars path params term.point at fits.point goals) in
+      let there : (n : ℕ) × IsAt program values n (record { statement = term.reader.statement; values = instance_values term values u }) =
+      (domains_executed program values (record { statement = term.reader.statement; values = instance_values term values u }) formed).1
+      (holds-there (row_path program.tree term.reader.statement) (λ p. IsWithin p values (instance_values term values u)) (way-there program term.reader.statement formed fits.read.statement) inside) in
+      record {
+        there = fits.read.read;
+        place = there.0;
+        executed = there.1;
+        source = tree-input program term.reader values there.0 (instance_values term values u) vars (nest_system program term).rows (instance_point program term) (place ++ Key LEAVES ∷ []) at met
+            (instance-at program term values u admitted.each) 0 [] tree term.leaves (omega (arith, fits.leaves)) holds.leaves tt (true_tree values there.0 (instance_values term values u) admitted there.1);
+      }
+
+  pub all-read : AllByRecursion (ReadsInput program values term.reader.statement term.reader.read) (all_instances term values)
+  all-read = All-map (ReadsInput program values term.reader.statement term.reader.read) (instance_values term values) (points term.nest values)
+      (All-weaker (λ (u : List ℤ). IsWithin (map step_of term.nest) values u) (λ (u : List ℤ). ReadsInput program values term.reader.statement term.reader.read (instance_values term values u)) reads
+      (points term.nest values) (points-within term.nest values))
+
+  pub all-differ : IsDistinct same_cell (map (read_cell program values term.reader.statement term.reader.read) (all_instances term values))
+  all-differ = subst (IsDistinct same_cell) (sym (map-map (instance_values term values) (read_cell program values term.reader.statement term.reader.read) (points term.nest values)))
+      (cells-differ program term values admitted.each fits.scale holds.undone (points term.nest values) (points-differ term.nest values)
+      (All-weaker (λ (u : List ℤ). IsWithin (map step_of term.nest) values u) (λ (u : List ℤ). length u ≡ length term.nest)
+      (λ u h. within-length (map step_of term.nest) values u h ∙ length-map term.nest step_of) (points term.nest values) (points-within term.nest values)))
+
+pub cold-terms-loaded : ColdTermsAreLoaded
+cold-terms-loaded program place tree term formed fits true_tree holds = (
+  λ values admitted. (all-read program place tree term formed fits true_tree holds values admitted, all-differ program place tree term formed fits true_tree holds values admitted),
+  λ values s moves admitted game.
+      subst (λ (n : ℕ). n ≤ loads moves) (length-map (points term.nest values) (instance_values term values))
+      (input_reads_loaded program values term.reader.statement term.reader.read (all_instances term values) s moves game
+      (all-read program place tree term formed fits true_tree holds values admitted) (all-differ program place tree term formed fits true_tree holds values admitted)),
+)
