@@ -7,6 +7,6 @@ mod systems;
 mod variables;
 
 pub use differences::{difference, widened};
-pub use rows::{cell_rows, order_rows, within_rows};
+pub use rows::{cell_rows, order_rows, put, within_rows};
 pub use systems::system_of;
 pub use variables::{variable, variables_from};

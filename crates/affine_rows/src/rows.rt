@@ -107,7 +107,7 @@ pub fn order_rows(
 }
 
 /// A form with forms put in for its variables. Want of memory is its only error.
-fn put(alloc: Global, vars: usize, form: &Form, point: &[Form]) -> Result<Form, Memory>
+pub fn put(alloc: Global, vars: usize, form: &Form, point: &[Form]) -> Result<Form, Memory>
     requires few { vars ≤ 24 }
     requires few_forms { length point.now ≤ 24 }
     requires over { IsSmallOver (length point.now) form.now }

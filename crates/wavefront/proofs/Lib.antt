@@ -1,3 +1,4 @@
+pub mod Entries
 pub mod NestPoints
 pub mod ColdLeaves
 pub mod ColdCells

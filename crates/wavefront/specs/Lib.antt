@@ -3,3 +3,6 @@ pub mod Leaves
 pub mod Inverse
 pub mod Refusal
 pub mod Loads
+pub mod View
+pub mod Found
+pub mod Columns

@@ -1,0 +1,31 @@
+-- What the parts of the code are.
+use Rattle.std.specs.Prelude.{◌≡◌, ℕ, Some}
+use Rattle.affine_c.specs.Parts.{ProgramParts, meaning}
+use Rattle.dep_quast.specs.Tree.{SelectionTree}
+use Rattle.dep_quast.specs.Truth.{IsTrueTree}
+use Rattle.domain_count.specs.Claims.{FitsCount}
+use Rattle.reuse_paths.specs.declared.quasts.Quasts.{Quasts}
+use Rattle.reuse_paths.specs.Quasts.{tree_at}
+use Rattle.wavefront.specs.declared.cold.Cold.{Cold}
+use Rattle.wavefront.specs.Term.{ColdTerm}
+use Rattle.wavefront.specs.Loads.{ColdFits}
+
+-- the cold term that the code holds
+abbrev pub term_of : Cold → ColdTerm
+term_of cold = record {
+  reader = record { statement = cold.statement; read = cold.read };
+  nest = cold.nest;
+  count = cold.sums;
+  point = cold.point.items;
+  inside = cold.inside.items;
+  matrix = cold.inverse.matrix;
+  scale = cold.inverse.scale;
+  leaves = cold.leaves.items;
+}
+
+-- A cold term and the source trees fit the program, this is the tree of its read, and it is true.
+pub record FitsCold (program : ProgramParts) (quasts : Quasts) (cold : Cold) (tree : SelectionTree) : Type 0 where
+  pub there : tree_at quasts cold.statement cold.read ≡ Some tree
+  pub fits : ColdFits (meaning program) tree (term_of cold)
+  pub true_tree : IsTrueTree (meaning program) (term_of cold).reader tree
+  pub count : FitsCount program cold.nest cold.sums
