@@ -11,7 +11,7 @@ mod levels;
 pub mod lists;
 pub mod point_rows;
 mod quast;
-mod reader;
+pub mod reader;
 mod source_claims;
 pub mod truth;
 mod writes;

@@ -10,11 +10,7 @@ use affine_rows::widened;
 use std::alloc::Global;
 
 /// Forms, and then copies of others. Want of memory is its only error.
-pub fn followed_by(
-    alloc: Global,
-    forms: Vec<Form>,
-    more: &[Form],
-) -> Result<Vec<Form>, Memory>
+pub fn followed_by(alloc: Global, forms: Vec<Form>, more: &[Form]) -> Result<Vec<Form>, Memory>
     ensures { IfOk result (λ all. all.items ≡ forms.items ++ more.now) }
 {
     let mut all = forms;

@@ -12,13 +12,13 @@ use affine_c::{Program, Reference};
 
 /// A read of a program: the statement's number, and the read's.
 #[derive(Clone, Copy)]
-pub(crate) struct Reader {
-    pub(crate) statement: u16,
-    pub(crate) read: u16,
+pub struct Reader {
+    pub statement: u16,
+    pub read: u16,
 }
 
 /// How many loops are around a statement.
-pub(crate) fn depth(program: &Program, statement: u16) -> usize
+pub fn depth(program: &Program, statement: u16) -> usize
     requires { statement < length program.now.statements }
     ensures depth { result ≡ depth_of (meaning program.now) statement }
     ensures few { result ≤ 4 }
@@ -30,7 +30,7 @@ pub(crate) fn depth(program: &Program, statement: u16) -> usize
 }
 
 /// How many variables there are at the reader: the parameters and its loop values.
-pub(crate) fn variables(program: &Program, reader: Reader) -> usize
+pub fn variables(program: &Program, reader: Reader) -> usize
     requires { reader.statement < length program.now.statements }
     ensures variables { result ≡ variables_at (meaning program.now) (read_of reader) }
     ensures few { result ≤ 10 }
@@ -39,7 +39,7 @@ pub(crate) fn variables(program: &Program, reader: Reader) -> usize
 }
 
 /// The reference that is read.
-pub(crate) fn reference(program: &Program, reader: Reader) -> &Reference
+pub fn reference(program: &Program, reader: Reader) -> &Reference
     requires { ReadFits (meaning program.now) (read_of reader) }
     ensures { access_of result.now ≡ reference_of (meaning program.now) (read_of reader) }
 {
@@ -47,7 +47,7 @@ pub(crate) fn reference(program: &Program, reader: Reader) -> &Reference
 }
 
 /// The reference that a statement writes.
-pub(crate) fn written(program: &Program, statement: u16) -> &Reference
+pub fn written(program: &Program, statement: u16) -> &Reference
     requires { statement < length program.now.statements }
     ensures { access_of result.now ≡ (statement_at (meaning program.now) statement).writes }
 {

@@ -57,7 +57,11 @@ fn is_shown(
 
 /// The assumptions and the rows of the variables before, over the parameters and these variables. Want of memory is its
 /// only error.
-pub fn rows_before(alloc: Global, program: &Program, before: &[(Form, Form)]) -> Result<System, Memory>
+pub fn rows_before(
+    alloc: Global,
+    program: &Program,
+    before: &[(Form, Form)],
+) -> Result<System, Memory>
     requires few { length before.now ≤ 6 }
     requires fit { BoundsFit (length program.now.params) before.now }
     ensures { IfOk result (λ system. system ≡ rows_before (meaning program.now) before.now) }

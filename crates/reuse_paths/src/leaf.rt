@@ -8,7 +8,9 @@ pub enum Leaf {
     /// No point comes there. The multipliers show it.
     Empty(Multipliers),
     /// A walk back stops there at an input cell. The multipliers show that the cell has the walk's label.
-    Stop { label: Vec<Multipliers> },
+    Stop {
+        label: Vec<Multipliers>,
+    },
     /// A walk back stops there in a credited nest: the multipliers show that the source is in it, and has the walk's
     /// label.
     Credit {
@@ -23,5 +25,7 @@ pub enum Leaf {
         label: Vec<Multipliers>,
     },
     /// A walk back arrives there: the multipliers show that the source is the walk's target.
-    Arrive { equal: Vec<Multipliers> },
+    Arrive {
+        equal: Vec<Multipliers>,
+    },
 }

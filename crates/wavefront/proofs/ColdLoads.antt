@@ -48,15 +48,15 @@ module _ (program : AffineProgram) (place : List Step) (tree : SelectionTree) (t
       let path : List PathStep = path_of program term.reader.statement in
       let goals : IsMet (inside_goals program term) at =
       goals-met 10 (place ++ Key INSIDE ∷ []) (nest_system program term) 0 (inside_goals program term) term.inside at
-      (omega (arith, fits.inside, within_rows-few vars path params term.point)) holds.inside met in
+      (omega (arith, fits.parts.inside, within_rows-few vars path params term.point)) holds.inside met in
       let inside : IsWithin path values (instance_values term values u) =
       subst (λ (q : List ℤ). IsWithin path q (instance_values term values u)) (values-front vars (length program.parameters) values u (sym admitted.each) (omega arith))
-      (within_rows-says vars path params term.point at fits.point goals) in
+      (within_rows-says vars path params term.point at fits.parts.point goals) in
       let there : (n : ℕ) × IsAt program values n (record { statement = term.reader.statement; values = instance_values term values u }) =
       (domains_executed program values (record { statement = term.reader.statement; values = instance_values term values u }) formed).1
-      (holds-there (row_path program.tree term.reader.statement) (λ p. IsWithin p values (instance_values term values u)) (way-there program term.reader.statement formed fits.read.statement) inside) in
+      (holds-there (row_path program.tree term.reader.statement) (λ p. IsWithin p values (instance_values term values u)) (way-there program term.reader.statement formed fits.parts.read.statement) inside) in
       record {
-        there = fits.read.read;
+        there = fits.parts.read.read;
         place = there.0;
         executed = there.1;
         source = tree-input program term.reader values there.0 (instance_values term values u) vars (nest_system program term).rows (instance_point program term) (place ++ Key LEAVES ∷ []) at met
@@ -70,7 +70,7 @@ module _ (program : AffineProgram) (place : List Step) (tree : SelectionTree) (t
 
   pub all-differ : IsDistinct same_cell (map (read_cell program values term.reader.statement term.reader.read) (all_instances term values))
   all-differ = subst (IsDistinct same_cell) (sym (map-map (instance_values term values) (read_cell program values term.reader.statement term.reader.read) (points term.nest values)))
-      (cells-differ program term values admitted.each fits.scale holds.undone (points term.nest values) (points-differ term.nest values)
+      (cells-differ program term values admitted.each fits.parts.scale holds.undone (points term.nest values) (points-differ term.nest values)
       (All-weaker (λ (u : List ℤ). IsWithin (map step_of term.nest) values u) (λ (u : List ℤ). length u ≡ length term.nest)
       (λ u h. within-length (map step_of term.nest) values u h ∙ length-map term.nest step_of) (points term.nest values) (points-within term.nest values)))
 

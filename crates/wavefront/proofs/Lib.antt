@@ -1,3 +1,5 @@
+pub mod Bounds
+pub mod OpenLeaves
 pub mod Entries
 pub mod NestPoints
 pub mod ColdLeaves

@@ -3,7 +3,8 @@ use Rattle.std.specs.Prelude.{◌≡◌, ℕ, ◌*◌, ◌≤◌, ℤ, List, [],
 use Rattle.std.specs.List.{AllByRecursion, IsDistinct}
 use Rattle.iolb_model.specs.declared.game.Move.{Move}
 use Rattle.iolb_model.specs.Program.{AffineProgram, IsWellFormed}
-use Rattle.iolb_model.specs.Bound.{IsAdmitted}
+use Rattle.iolb_model.specs.Polynomial.{Polynomial}
+use Rattle.iolb_model.specs.Bound.{IsAdmitted, cold, term_value}
 use Rattle.iolb_model.specs.Source.{same_cell}
 use Rattle.iolb_model.specs.Graph.{computation_graph}
 use Rattle.iolb_model.specs.Game.{IsCompletePebbling, loads}
@@ -26,20 +27,25 @@ abbrev pub TestsFit : ℕ → SelectionTree → Type 0
 TestsFit vars (leaf chosen) = ⊤
 TestsFit vars (test form above below) = IsSmallOver vars form × TestsFit vars above × TestsFit vars below
 
--- A cold term fits a program and the source tree of its read: what its numbers name is there, its forms are over the
--- parameters and the nest's variables, and each list has the length called for.
-pub record ColdFits (program : AffineProgram) (tree : SelectionTree) (term : ColdTerm) : Type 0 where
+-- A cold term fits a program: what its numbers name is there, its forms are over the parameters and the nest's variables,
+-- and each list has the length called for.
+pub record TermFits (program : AffineProgram) (term : ColdTerm) : Type 0 where
   pub read : ReadFits program term.reader
   pub few : length term.nest ≤ 6
   pub bounds : BoundsFit (length program.parameters) term.nest
   pub point : length term.point ≡ depth_of program term.reader.statement
   pub forms : AllByRecursion (IsSmallOver (nest_variables program term)) term.point
   pub inside : length term.inside ≡ 2 * depth_of program term.reader.statement
-  pub tests : TestsFit (variables_at program term.reader) tree
-  pub leaves : length term.leaves ≡ length (open_leaves (nest_variables program term) (instance_point program term) [] tree)
   pub rows : term.matrix.rows ≡ length term.nest
   pub columns : (1 ≤ term.matrix.rows) → term.matrix.columns ≡ length (reference_of program term.reader).subscripts
   pub scale : 1 ≤ term.scale
+
+-- It fits a program and the source tree of its read, where also the tree's tests are over the parameters and the reader's
+-- loop values, and there is an entry for each of its leaves that isn't empty.
+pub record ColdFits (program : AffineProgram) (tree : SelectionTree) (term : ColdTerm) : Type 0 where
+  pub parts : TermFits program term
+  pub tests : TestsFit (variables_at program term.reader) tree
+  pub leaves : length term.leaves ≡ length (open_leaves (nest_variables program term) (instance_point program term) [] tree)
 
 -- the loop values of the reading instance at a point of the nest
 abbrev pub instance_values : ColdTerm → List ℤ → List ℤ → List ℤ
@@ -60,6 +66,12 @@ IsSoundCold program term = (values : List ℤ) → IsAdmitted program values
 abbrev pub CostsItsCount : AffineProgram → ColdTerm → Type 0
 CostsItsCount program term = (values : List ℤ) (s : ℕ) (moves : List Move) → IsAdmitted program values
     → IsCompletePebbling (computation_graph program values) s moves → count term.nest values ≤ loads moves
+
+-- A polynomial bounds the loads of a program: at all admitted parameter values, of any size, it is at most the loads of
+-- every complete pebbling, with any number of red pebbles.
+abbrev pub BoundsLoads : AffineProgram → Polynomial → Type 0
+BoundsLoads program polynomial = (values : List ℤ) (s : ℕ) (moves : List Move) → IsAdmitted program values
+    → IsCompletePebbling (computation_graph program values) s moves → term_value (cold polynomial) values s ≤ loads moves
 
 -- What is claimed of a cold term holds, but for its count: the ranges are whole, the instances are in their domain, the
 -- leaves are inputs, and the cells differ.

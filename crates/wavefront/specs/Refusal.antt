@@ -17,11 +17,15 @@ use Rattle.wavefront.specs.Term.{ColdTerm}
 use Rattle.wavefront.specs.Leaves.{inside_claims, term_leaves}
 use Rattle.wavefront.specs.Inverse.{matrix_rows, cell_coefficients}
 
+-- the place of an entry of the product of a cold term's matrix with its subscripts
+abbrev pub entry_place : List Step → ℕ → ℕ → List Step
+entry_place place row column = place ++ Key INVERSE ∷ Key MATRIX ∷ Index row ∷ Index column ∷ []
+
 -- the matrix fails to turn the subscripts back, first in this entry of the product
 abbrev pub FailsToUndo : AffineProgram → List Step → ColdTerm → FailedCondition → Type 0
 FailsToUndo program place term failed = (failed.condition ≡ 12) × (row : ℕ) × (column : ℕ)
     × IsFirstDifference term.scale (length term.nest) (matrix_rows term.matrix) (cell_coefficients program term) row column
-    × (failed.place ≡ place ++ Key INVERSE ∷ Key MATRIX ∷ Index row ∷ Index column ∷ [])
+    × (failed.place ≡ entry_place place row column)
 
 -- Where there was memory, the first condition that fails: of the count; or the count is right, and of the instances and
 -- the leaves; or these hold too, and of the matrix.

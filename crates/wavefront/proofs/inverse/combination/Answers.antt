@@ -5,7 +5,7 @@ use Rattle.std.proofs.lemmas.Int.{to_z-of_z, fits_signed_from_abs}
 use Rattle.std.proofs.lemmas.List.{get_or-map, length-map, get_or_default}
 use Rattle.iolb_model.specs.Form.{AffineForm}
 use Rattle.affine_form.specs.Form.{IsSmall}
-use Rattle.affine_form.proofs.Lists.{dot-step, All-at, All-read}
+use Rattle.affine_form.proofs.Lists.{dot-step, All-at}
 use Rattle.affine_form.proofs.Sizes.{small-bits, sum-step}
 use Rattle.wavefront.specs.Columns.{coefficients_at}
 use Rattle.wavefront.proofs.inverse.combination.Goals as goal

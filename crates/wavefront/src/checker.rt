@@ -1,0 +1,87 @@
+//! The check of cold terms.
+
+ghost use Rattle.std.specs.Prelude.{IfOk, OnOk, IfErr};
+ghost use Rattle.affine_c.specs.Parts.{meaning};
+ghost use Rattle.dep_quast.specs.Tree.{SelectionTree, tree_of};
+ghost use Rattle.domain_count.specs.Count.{IsCount, CountsPoints};
+ghost use Rattle.poly_tree.specs.Printed.{polynomial_of};
+ghost use Rattle.wavefront.specs.Found.{FindsCold};
+ghost use Rattle.wavefront.specs.Loads.{ColdFits, IsSoundCold, BoundsLoads};
+ghost use Rattle.wavefront.specs.Refusal.{IsColdRefusal};
+ghost use Rattle.wavefront.specs.View.{FitsCold, term_of};
+
+use crate::claims::{cells_undone, inside_shown, tree_shown};
+use crate::cold::Cold;
+use crate::law::cold_terms_are_loaded;
+use affine_c::Program;
+use affine_form::{Memory, No, Place, Refused};
+use dep_quast::Quast;
+use domain_count::check_count;
+use poly_tree::Poly;
+use poly_tree::printed_law::terms_have_the_value;
+use reuse_paths::Quasts;
+use std::alloc::Global;
+
+/// Checks a cold term, which stands at this place of a certificate; the source tree of its read is true. The answer is
+/// the count of its nest's points.
+///
+/// After `Ok` the term is sound: at all admitted parameter values, of any size, each point of the nest has an instance
+/// whose read has an input cell as its source, and different points have different cells. So the count is at most the
+/// loads of every complete pebbling (Hong and Kung 1981).
+///
+/// # Errors
+///
+/// The first condition that fails, with its place: 8 at `shown/k`, 9 and 2 at `sums/k` as `check_count` has them; 10 at
+/// `inside/i`, for the first row of the statement's domain that isn't shown at the instance; at `leaves/i`, for the first
+/// leaf of the source tree that isn't empty, 2 where the leaf's system has more than 128 rows and 11 where the leaf is
+/// neither shown to have no point nor an input at which a walk stops; 12 at `inverse/matrix/row/col`, for the first entry,
+/// by rows, in which the matrix times the coefficients of the nest's variables in the cell isn't the scale times the
+/// identity.
+pub fn check_cold(
+    alloc: Global,
+    program: &Program,
+    quasts: &Quasts,
+    term: &Cold,
+    place: &Place,
+) -> Result<Poly, Refused>
+    requires { (tree : SelectionTree) × FitsCold program.now quasts.now term.now tree }
+    ensures right { IfOk result (λ poly. IsCount (meaning program.now) term.now.nest term.now.sums poly) }
+    ensures counts { IfOk result (λ poly. CountsPoints (meaning program.now) term.now.nest poly) }
+    ensures sound { OnOk result (IsSoundCold (meaning program.now) (term_of term.now)) }
+    ensures bounds { IfOk result (λ poly. BoundsLoads (meaning program.now) (polynomial_of poly)) }
+    ensures refused { IfErr result (λ refused. (tree : SelectionTree) × FitsCold program.now quasts.now term.now tree × IsColdRefusal (meaning program.now) place.now tree (term_of term.now) refused) }
+{
+    let Some(quast) = quasts.tree(term.statement, term.read) else {
+        unreachable!();
+    };
+    let count = check_count(alloc, program, &term.nest, &term.sums, place)?;
+    let _params = program.params();
+    let _den = count.den();
+    cold_terms_are_loaded();
+    terms_have_the_value();
+    match claims_shown(alloc, program, quast, term, place) {
+        Ok(None) => Ok(count),
+        Ok(Some(no)) => Err(Refused::No(no)),
+        Err(Memory) => Err(Refused::Memory),
+    }
+}
+
+/// Whether what a cold term claims past its count is shown. Want of memory is its only error.
+fn claims_shown(
+    alloc: Global,
+    program: &Program,
+    quast: &Quast,
+    term: &Cold,
+    place: &Place,
+) -> Result<Option<No>, Memory>
+    requires { ColdFits (meaning program.now) (tree_of quast.now) (term_of term.now) }
+    ensures { IfOk result (λ found. FindsCold (meaning program.now) place.now (tree_of quast.now) (term_of term.now) found) }
+{
+    if let Some(no) = inside_shown(alloc, program, term, place)? {
+        return Ok(Some(no));
+    }
+    if let Some(no) = tree_shown(alloc, program, quast, term, place)? {
+        return Ok(Some(no));
+    }
+    cells_undone(alloc, program, term, place)
+}

@@ -1,0 +1,70 @@
+//! Whether what a cold term claims at leaves is shown.
+
+ghost use Rattle.std.specs.Prelude.{◌≡◌, ◌≤◌, ◌++◌, [], ◌∷◌, length, IfOk};
+ghost use Rattle.std.specs.List.{AllByRecursion};
+ghost use Rattle.affine_form.specs.System.{AllOver};
+ghost use Rattle.dep_quast.specs.Claims.{few};
+ghost use Rattle.dep_quast.specs.Found.{Finds};
+ghost use Rattle.wavefront.specs.Leaves.{OpenLeaf as open_leaf, leaf_claim, leaves_claims, stops};
+
+use crate::open_leaves::OpenLeaf;
+use affine_form::{Form, Memory, No, Place, Step};
+use dep_quast::claims_shown::{MOST_ROWS, refusal, system_shown};
+use dep_quast::lists::{followed_by, within};
+use reuse_paths::Leaf;
+use std::alloc::Global;
+
+/// Whether what is claimed at leaves is shown, each by its entry: the first that isn't, by its place in the list at this
+/// place. Want of memory is its only error.
+pub(crate) fn leaves_shown(
+    alloc: Global,
+    vars: usize,
+    rows: &[Form],
+    list: &Place,
+    leaves: &[OpenLeaf],
+    entries: &[Leaf],
+) -> Result<Option<No>, Memory>
+    requires few { vars ≤ 24 }
+    requires rows_over { AllOver vars rows.now }
+    requires leaves_over { AllByRecursion (λ (l : open_leaf). AllOver vars l.tests) leaves.now }
+    requires one_each { length entries.now ≡ length leaves.now }
+    ensures { IfOk result (λ found. Finds (leaves_claims vars rows.now list.now 0 leaves.now entries.now) found) }
+{
+    for i in 0..leaves.len() {
+        let place = within(alloc, list, Step::Index(i as u64))?;
+        if let Some(no) = leaf_shown(alloc, vars, rows, &place, &leaves[i], &entries[i])? {
+            return Ok(Some(no));
+        }
+    }
+    Ok(None)
+}
+
+/// Whether what an entry claims at a leaf is shown: else the condition that doesn't hold, at this place. Want of memory
+/// is its only error.
+fn leaf_shown(
+    alloc: Global,
+    vars: usize,
+    rows: &[Form],
+    place: &Place,
+    leaf: &OpenLeaf,
+    entry: &Leaf,
+) -> Result<Option<No>, Memory>
+    requires few { vars ≤ 24 }
+    requires rows_over { AllOver vars rows.now }
+    requires leaf_over { AllOver vars leaf.now.tests }
+    ensures { IfOk result (λ found. Finds (record { condition = 2; place = place.now; claim = few (length (rows.now ++ leaf.now.tests)) }
+        ∷ leaf_claim place.now (record { vars = vars; rows = rows.now ++ leaf.now.tests }) leaf.now.is_input entry.now ∷ []) found) }
+{
+    let front = followed_by(alloc, Vec::new(alloc), rows)?;
+    let all = followed_by(alloc, front, leaf.tests.as_slice())?;
+    if let Leaf::Empty(shown) = entry {
+        return system_shown(alloc, 11, place, vars, all.as_slice(), shown);
+    }
+    if all.len() > MOST_ROWS {
+        return refusal(alloc, 2, place);
+    }
+    if !(leaf.is_input && matches!(entry, Leaf::Stop { .. })) {
+        return refusal(alloc, 11, place);
+    }
+    Ok(None)
+}
