@@ -82,7 +82,7 @@ summed-counts bounds nest summand sum total before over0 over1 is whole some cou
       less a b = omega (arith, ints)
 
 -- the denominator of what the sums give is at least 1
-positive-from : (var : ℕ) (nest : List (AffineForm × AffineForm)) (sums : List Quotient) (total : Quotient) → IsSumFrom var nest sums total → 1 ≤ total.denominator
+pub positive-from : (var : ℕ) (nest : List (AffineForm × AffineForm)) (sums : List Quotient) (total : Quotient) → IsSumFrom var nest sums total → 1 ≤ total.denominator
 positive-from var [] sums total h = omega (arith, h.whole)
 positive-from var (bounds ∷ nest) [] total h = absurd h
 positive-from var (bounds ∷ nest) (sum ∷ sums) total h = h.1.1.between.less.legal.positive
