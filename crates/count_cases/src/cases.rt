@@ -208,7 +208,7 @@ pub const RIGHT: [(Case, Terms); 14] = [
 ];
 
 /// Nests whose claims are wrong: the condition that fails, and the key and the number of the claim.
-pub const WRONG: [(Case, u8, u8, u64); 8] = [
+pub const WRONG: [(Case, u8, u8, u64); 10] = [
     // the first range is shown with another constant
     (
         Case {
@@ -302,6 +302,50 @@ pub const WRONG: [(Case, u8, u8, u64); 8] = [
             sums: &[(1, &[(4611686018427387904, &[0, 1])])],
         },
         2,
+        key::SUMS,
+        0,
+    ),
+    // four ranges of 2^19 values, where the last difference passes the limit
+    (
+        Case {
+            parameters: 1,
+            bounds: &[
+                (&[0, 0], &[0, 524287]),
+                (&[0, 0, 0], &[0, 0, 524287]),
+                (&[0, 0, 0, 0], &[0, 0, 0, 524287]),
+                (&[0, 0, 0, 0, 0], &[0, 0, 0, 0, 524287]),
+            ],
+            shown: &[(524288, &[]), (524288, &[]), (524288, &[]), (524288, &[])],
+            sums: &[
+                (1, &[(144115188075855872, &[0, 1])]),
+                (1, &[(274877906944, &[0, 0, 1])]),
+                (1, &[(524288, &[0, 0, 0, 1])]),
+                (1, &[(1, &[0, 0, 0, 0, 1])]),
+            ],
+        },
+        2,
+        key::SUMS,
+        0,
+    ),
+    // the same, where the sum is compared before the limit is met
+    (
+        Case {
+            parameters: 1,
+            bounds: &[
+                (&[0, 0], &[0, 524287]),
+                (&[0, 0, 0], &[0, 0, 524287]),
+                (&[0, 0, 0, 0], &[0, 0, 0, 524287]),
+                (&[0, 0, 0, 0, 0], &[0, 0, 0, 0, 524287]),
+            ],
+            shown: &[(524288, &[]), (524288, &[]), (524288, &[]), (524288, &[])],
+            sums: &[
+                (1, &[(144115188075855873, &[0, 1])]),
+                (1, &[(274877906944, &[0, 0, 1])]),
+                (1, &[(524288, &[0, 0, 0, 1])]),
+                (1, &[(1, &[0, 0, 0, 0, 1])]),
+            ],
+        },
+        9,
         key::SUMS,
         0,
     ),
