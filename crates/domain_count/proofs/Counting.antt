@@ -29,7 +29,7 @@ use Rattle.domain_count.proofs.Fractions.{difference-value, between-value}
 use Rattle.domain_count.proofs.Places.{at-last, put-behind, put-last}
 use Rattle.domain_count.proofs.Telescope.{range-telescopes}
 
--- at no point is a range cut off: its upper end isn't more than 1 below its lower
+-- at each point all ranges are whole
 abbrev pub RangesAreWhole : List (AffineForm × AffineForm) → List ℤ → Type 0
 RangesAreWhole [] before = ⊤
 RangesAreWhole (bounds ∷ nest) before =
@@ -82,12 +82,12 @@ summed-counts bounds nest summand sum total before over0 over1 is whole some cou
       less a b = omega (arith, ints)
 
 -- the denominator of what the sums give is at least 1
-positive-from : (var : ℕ) (nest : List (AffineForm × AffineForm)) (sums : List Quotient) (total : Quotient) → IsSumFrom var nest sums total → 1 ≤ total.denominator
+pub positive-from : (var : ℕ) (nest : List (AffineForm × AffineForm)) (sums : List Quotient) (total : Quotient) → IsSumFrom var nest sums total → 1 ≤ total.denominator
 positive-from var [] sums total h = omega (arith, h.whole)
 positive-from var (bounds ∷ nest) [] total h = absurd h
 positive-from var (bounds ∷ nest) (sum ∷ sums) total h = h.1.1.between.less.legal.positive
 
--- what the sums give counts the points where no range is cut off
+-- what the sums give counts the points where all ranges are whole
 counted : (nest : List (AffineForm × AffineForm)) (sums : List Quotient) (total : Quotient) (before : List ℤ) → BoundsFit (length before) nest → RangesAreWhole nest before
     → IsSumFrom (length before) nest sums total → numerator_at total before ≡ pos (length (points nest before)) *ℤ pos total.denominator
 counted [] sums total before fit whole h =

@@ -6,3 +6,5 @@ pub mod Telescope
 pub mod Places
 pub mod Counting
 pub mod Variables
+pub mod Determined
+pub mod Exactness

@@ -26,16 +26,16 @@ abbrev pub ReadsBelow : ℕ → Expansion → Type 0
 ReadsBelow bound t = (p q : List ℤ) → AgreeBelow bound p q → value t (at p) ≡ value t (at q)
 
 -- the first values of a point as a list
-listed : (ℕ → ℤ) → ℕ → List ℤ
+pub listed : (ℕ → ℤ) → ℕ → List ℤ
 listed point zero = []
 listed point (suc n) = listed point n ++ point n ∷ []
 
-length-listed : (point : ℕ → ℤ) (n : ℕ) → length (listed point n) ≡ n
+pub length-listed : (point : ℕ → ℤ) (n : ℕ) → length (listed point n) ≡ n
 unfolding listed
 length-listed point zero = refl
 length-listed point (suc n) = omega (arith, length-listed point n, length-append (listed point n) (point n ∷ []))
 
-at-listed : (point : ℕ → ℤ) (n w : ℕ) → w < n → at (listed point n) w ≡ point w
+pub at-listed : (point : ℕ → ℤ) (n w : ℕ) → w < n → at (listed point n) w ≡ point w
 unfolding listed
 at-listed point zero w p = absurd (omega arith)
 at-listed point (suc n) w p = by (λ less. at-listed point n w less) (cases w n p) where
@@ -137,7 +137,7 @@ ones zero w = refl
 ones (suc n) zero = refl
 ones (suc n) (suc w) = ones n w
 
-at-longer : (p : List ℤ) (n w : ℕ) → get_or p w (pos 1) ≡ get_or (p ++ replicate n (pos 1)) w (pos 1)
+pub at-longer : (p : List ℤ) (n w : ℕ) → get_or p w (pos 1) ≡ get_or (p ++ replicate n (pos 1)) w (pos 1)
 at-longer [] n w = ones n w
 at-longer (x ∷ p) n zero = refl
 at-longer (x ∷ p) n (suc w) = at-longer p n w

@@ -8,7 +8,8 @@ use Rattle.poly_tree.specs.Expansion.{IsCanonical}
 use Rattle.poly_tree.specs.Poly.{Quotient}
 use Rattle.poly_tree.specs.Tree.{expansion}
 
--- multipliers that show that each variable's range isn't cut off, and an antidifference for each variable
+-- for each variable multipliers, which are to show that its range is whole, and a polynomial, which is to be an
+-- antidifference of what the variables behind it count
 pub record SumClaims : Type 0 where
   pub shown : List FarkasMultipliers
   pub sums : List Quotient

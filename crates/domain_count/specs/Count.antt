@@ -1,5 +1,6 @@
 -- Counting the points of a nest by summation, variable by variable from the last. (Graham, Knuth and Patashnik, Concrete
--- Mathematics, section 2.6; the sums must not be taken over a range whose upper end lies more than 1 below its lower.)
+-- Mathematics, section 2.6.) A range is whole where its upper end is at least its lower end less 1, so that it has
+-- `upper - lower + 1` values; sums by antidifferences are right over whole ranges alone.
 use Rattle.std.specs.Prelude.{◌≡◌, ℕ, suc, ◌+◌, ◌<◌, ◌≤◌, ℤ, pos, ◌*ℤ◌, List, [], ◌∷◌, ◌++◌, map, length, take, drop, slice_index_or}
 use Rattle.iolb_model.specs.Form.{AffineForm}
 use Rattle.iolb_model.specs.Program.{AffineProgram, IsWellFormed}
@@ -24,7 +25,7 @@ rows_before program before =
           ++ within_rows vars (map step_of before) (variables_from vars 0 params) (variables_from vars params (length before));
     }
 
--- the goal that a variable's range isn't cut off: `upper - lower + 1`
+-- the goal that a variable's range is whole: `upper - lower + 1`
 abbrev pub range_goal : ℕ → AffineForm × AffineForm → AffineForm
 range_goal vars bounds = difference vars bounds.1 bounds.0 (pos 1)
 
@@ -35,7 +36,7 @@ bounds_at nest k = slice_index_or nest k (record { coefficients = []; constant =
 abbrev pub multipliers_at : List FarkasMultipliers → ℕ → FarkasMultipliers
 multipliers_at shown k = slice_index_or shown k (record { scale = 1; rest = 0; weights = [] })
 
--- multipliers show that the range of a variable behind others isn't cut off
+-- multipliers show that the range of a variable behind others is whole
 abbrev pub ShowsRange : AffineProgram → List (AffineForm × AffineForm) → AffineForm × AffineForm → FarkasMultipliers → Type 0
 ShowsRange program before bounds shown =
     (1 ≤ shown.scale) × Shows (rows_before program before) (range_goal (length program.parameters + length before) bounds) shown

@@ -5,3 +5,4 @@ pub mod Antidifference
 pub mod Count
 pub mod Refused
 pub mod Refusal
+pub mod Exact

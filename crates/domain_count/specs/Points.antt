@@ -1,5 +1,5 @@
--- The points of a nest of variables, each of which runs between a lower and an upper form. (The points of a parametric
--- polytope by Fourier-Motzkin order; Feautrier 1991.)
+-- The points of a nest of variables, each of which runs between a lower and an upper form. (Iteration domains in
+-- lexicographic order; Feautrier 1991.)
 use Rattle.std.specs.Prelude.{ℕ, ℤ, List, [], ◌∷◌, ◌++◌, map, length, flat_map}
 use Rattle.iolb_model.specs.Form.{AffineForm, form_value}
 use Rattle.iolb_model.specs.Execution.{range}

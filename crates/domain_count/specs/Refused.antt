@@ -8,6 +8,7 @@ use Rattle.affine_form.specs.declared.place.Step.TheVariants.{Key, Index}
 use Rattle.affine_form.specs.declared.refused.No.{No as FailedCondition}
 use Rattle.affine_form.specs.declared.refused.Refused.{Refused}
 use Rattle.affine_form.specs.declared.refused.Refused.TheVariants.{No, Memory}
+use Rattle.affine_form.specs.declared.key.TheConstants.{SHOWN, SUMS}
 use Rattle.poly_tree.specs.Poly.{Quotient}
 use Rattle.domain_count.specs.declared.summation.SumFault.{SumFault}
 use Rattle.domain_count.specs.declared.summation.SumFault.TheVariants.{Wide, Differs, Memory as SumMemory}
@@ -25,19 +26,19 @@ IsRefusedAt condition place key k Memory = ⊤
 
 -- where there was memory, it is the refusal of a variable whose summation fails in this way
 abbrev pub IsFaultRefusal : List Step → ℕ → SumFault → Refused → Type 0
-IsFaultRefusal place k Differs refused = IsRefusedAt 9 place 51 k refused
-IsFaultRefusal place k Wide refused = IsRefusedAt 2 place 51 k refused
+IsFaultRefusal place k Differs refused = IsRefusedAt 9 place SUMS k refused
+IsFaultRefusal place k Wide refused = IsRefusedAt 2 place SUMS k refused
 IsFaultRefusal place k SumMemory refused = refused ≡ Memory
 
 -- condition 8 failed at a variable's multipliers, `shown/k`, the first that don't show that its range is whole
 abbrev pub FailsShown : AffineProgram → List (AffineForm × AffineForm) → List FarkasMultipliers → List Step → FailedCondition → Type 0
-FailsShown program nest shown place failed = (k : ℕ) × (IsFailed 8 place 46 k failed × IsFirstNotShown program nest shown k)
+FailsShown program nest shown place failed = (k : ℕ) × (IsFailed 8 place SHOWN k failed × IsFirstNotShown program nest shown k)
 
 -- the first sum from the last variable on failed, `sums/k`: by condition 9 where it is no antidifference, by condition 2
 -- where an operation passed its limit
 abbrev pub FailsSum : ℕ → List (AffineForm × AffineForm) → List Quotient → List Step → FailedCondition → Type 0
 FailsSum params nest sums place failed = (k : ℕ)
-    × ((IsFailed 9 place 51 k failed × IsFirstFailure params nest sums k Differs) ⊎ (IsFailed 2 place 51 k failed × IsFirstFailure params nest sums k Wide))
+    × ((IsFailed 9 place SUMS k failed × IsFirstFailure params nest sums k Differs) ⊎ (IsFailed 2 place SUMS k failed × IsFirstFailure params nest sums k Wide))
 
 abbrev pub IsRangeRefusal : AffineProgram → List (AffineForm × AffineForm) → List FarkasMultipliers → List Step → Refused → Type 0
 IsRangeRefusal program nest shown place (No failed) = FailsShown program nest shown place failed

@@ -143,6 +143,7 @@ fn sum_up(
             Err(fault) => return Err((k, fault)),
         }
     }
+    // Its reader says that the polynomial is canonical.
     let _den = total.den();
     Ok(total)
 }

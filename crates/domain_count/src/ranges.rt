@@ -1,7 +1,6 @@
 //! Whether the ranges of a nest's variables are shown to be whole.
 
 ghost use Rattle.std.specs.Prelude.{◌≡◌, ◌+◌, ◌<◌, ◌≤◌, ◌↔◌, length, map, IfOk, IsTrue, MatchOption};
-ghost use Rattle.affine_form.specs.Form.{variables};
 ghost use Rattle.affine_form.specs.System.{AllOver};
 ghost use Rattle.affine_rows.specs.Rows.{BoundsFit, IsSmallOver, widened};
 ghost use Rattle.affine_c.specs.Parts.{meaning};
@@ -12,8 +11,8 @@ use affine_form::{Form, Memory, Multipliers, System, entails};
 use affine_rows::{difference, system_of, variables_from, widened, within_rows};
 use std::alloc::Global;
 
-/// The first variable whose multipliers don't show that its upper form is at least its lower form less 1. Want of memory
-/// is its only error.
+/// The first variable whose multipliers don't show that its range is whole: that its upper form is at least its lower form
+/// less 1. Want of memory is its only error.
 pub(crate) fn first_not_shown(
     alloc: Global,
     program: &Program,
@@ -33,8 +32,7 @@ pub(crate) fn first_not_shown(
     Ok(None)
 }
 
-/// Whether the multipliers of a variable behind others show that its upper form is at least its lower form less 1. Want
-/// of memory is its only error.
+/// Whether the multipliers of a variable behind others show that its range is whole. Want of memory is its only error.
 fn is_shown(
     alloc: Global,
     program: &Program,
@@ -51,6 +49,7 @@ fn is_shown(
     let vars = program.params().len() + before.len();
     let system = rows_before(alloc, program, before)?;
     let goal = difference(alloc, vars, &bounds.1, &bounds.0, 1)?;
+    // Its reader says that the scale is at least 1.
     let _scale = shown.c();
     Ok(entails(&system, &goal, shown))
 }

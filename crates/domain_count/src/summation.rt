@@ -45,6 +45,7 @@ pub(crate) fn summed(
     ensures total { IfOk result (λ total. IsSummed var bounds.now summand.now sum.now total) }
     ensures fails { IfErr result (λ fault. FailsAs var bounds.now summand.now sum.now fault) }
 {
+    // Its reader says that the polynomial is canonical and in lowest terms; so below.
     let _den = sum.den();
     let difference = backward_difference(alloc, var, sum)?;
     if !difference.same(summand) {

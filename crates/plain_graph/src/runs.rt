@@ -33,7 +33,7 @@ fn are_small(point: &[i128]) -> bool
 }
 
 /// A form's value at a point.
-pub(crate) fn value_at(form: &Form, point: &[i128]) -> Result<i128, Stopped>
+pub fn value_at(form: &Form, point: &[i128]) -> Result<i128, Stopped>
     ensures { IfOk result (λ value. value ≡ form_value form.now point.now) }
 {
     if form.coef().len() != point.len() || !are_small(point) {
@@ -59,7 +59,7 @@ fn values_from(alloc: Global, first: i128, count: usize) -> Result<Vec<i128>, St
 }
 
 /// The values of a loop.
-fn loop_values(alloc: Global, lower: i128, upper: i128) -> Result<Vec<i128>, Stopped>
+pub fn loop_values(alloc: Global, lower: i128, upper: i128) -> Result<Vec<i128>, Stopped>
     ensures { IfOk result (λ values. values.items ≡ range lower upper) }
 {
     if upper < lower {
@@ -74,7 +74,7 @@ fn loop_values(alloc: Global, lower: i128, upper: i128) -> Result<Vec<i128>, Sto
 }
 
 /// A point with one value more.
-fn with_value(alloc: Global, point: &[i128], value: i128) -> Result<Vec<i128>, Stopped>
+pub fn with_value(alloc: Global, point: &[i128], value: i128) -> Result<Vec<i128>, Stopped>
     ensures { IfOk result (λ longer. longer.items ≡ point.now ++ value ∷ []) }
 {
     let mut longer = Vec::from_slice(alloc, point)?;
