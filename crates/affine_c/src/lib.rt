@@ -4,14 +4,17 @@
 mod build;
 mod copies;
 mod domain;
+mod draft;
 mod fault;
 mod item;
+mod limits;
 mod names;
 mod nest_text;
 mod program;
 mod read;
 mod reference;
 mod statement;
+mod well_formed;
 mod words;
 
 pub use fault::{ProgramError, ProgramFault};
