@@ -19,6 +19,7 @@ mod words;
 
 pub use fault::{ProgramError, ProgramFault};
 pub use item::Item;
+pub use limits::is_small_form;
 pub use program::Program;
 pub use read::read_program;
 pub use reference::Reference;

@@ -32,7 +32,7 @@ fn are_small(numbers: &[i128]) -> bool
 }
 
 /// Whether the size of each number of a form is below 2^20.
-fn is_small_form(form: &Form) -> bool
+pub fn is_small_form(form: &Form) -> bool
     ensures { IsTrue result ↔ IsSmallForm (2 ^ 20) form.now }
 {
     are_small(form.coef()) && is_small(form.constant())
