@@ -8,3 +8,4 @@ pub mod rows;
 #[cfg(test)]
 mod tests;
 pub mod trees;
+pub mod verdict;

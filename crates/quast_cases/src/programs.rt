@@ -63,7 +63,11 @@ pub fn product(alloc: Global) -> Result<Option<Program>, CaseError> {
     let innermost = around(alloc, zero[2], below[2], Item::Assign(0))?;
     let inner = around(alloc, zero[1], below[1], innermost)?;
     let tree = vec![in alloc; around(alloc, zero[0], below[0], inner)?]?;
-    let arrays = vec![in alloc; array(alloc, b'C', 2)?, array(alloc, b'A', 2)?, array(alloc, b'B', 2)?]?;
+    let arrays = vec![in alloc;
+        array(alloc, b'C', 2)?,
+        array(alloc, b'A', 2)?,
+        array(alloc, b'B', 2)?,
+    ]?;
     let params = vec![in alloc; name(alloc, b'N')?]?;
     let made = Program::new(
         alloc,
@@ -96,14 +100,23 @@ fn copying(alloc: Global, array: u16, read: u16) -> Result<Statement, CaseError>
 
 /// `x = 1; x = 2; y = x; z = x;`
 pub fn last_writes(alloc: Global) -> Result<Option<Program>, CaseError> {
-    let arrays = vec![in alloc; array(alloc, b'x', 0)?, array(alloc, b'y', 0)?, array(alloc, b'z', 0)?]?;
+    let arrays = vec![in alloc;
+        array(alloc, b'x', 0)?,
+        array(alloc, b'y', 0)?,
+        array(alloc, b'z', 0)?,
+    ]?;
     let statements = vec![in alloc;
         fixed(alloc, 0)?,
         fixed(alloc, 0)?,
         copying(alloc, 1, 0)?,
         copying(alloc, 2, 0)?,
     ]?;
-    let tree = vec![in alloc; Item::Assign(0), Item::Assign(1), Item::Assign(2), Item::Assign(3)]?;
+    let tree = vec![in alloc;
+        Item::Assign(0),
+        Item::Assign(1),
+        Item::Assign(2),
+        Item::Assign(3),
+    ]?;
     let made = Program::new(
         alloc,
         Vec::new(alloc),

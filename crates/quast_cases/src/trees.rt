@@ -21,7 +21,10 @@ pub fn product_tree(alloc: Global, lists: &Lists) -> Result<Quast, CaseError> {
     let source = Quast::Source {
         statement: 0,
         level: 2,
-        point: forms(alloc, &[&[0, 1, 0, 0, 0], &[0, 0, 1, 0, 0], &[0, 0, 0, 1, -1]])?,
+        point: forms(
+            alloc,
+            &[&[0, 1, 0, 0, 0], &[0, 0, 1, 0, 0], &[0, 0, 0, 1, -1]],
+        )?,
         domain: list(alloc, lists.domain)?,
         cell: list(alloc, lists.cell)?,
         before: list(alloc, lists.before)?,
@@ -43,7 +46,11 @@ pub fn test(alloc: Global, numbers: &[i8], yes: Quast, no: Quast) -> Result<Quas
 }
 
 /// A leaf that names a statement outside all loops.
-pub fn statement_leaf(alloc: Global, statement: u16, between: &[&[u8]]) -> Result<Quast, CaseError> {
+pub fn statement_leaf(
+    alloc: Global,
+    statement: u16,
+    between: &[&[u8]],
+) -> Result<Quast, CaseError> {
     Ok(Quast::Source {
         statement,
         level: 0,
