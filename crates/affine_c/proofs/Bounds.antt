@@ -22,7 +22,7 @@ use Rattle.affine_c.specs.Parts.{ProgramParts, meaning, step_of, IsProgram}
 use Rattle.affine_c.specs.Domain.{path_of, domain_of}
 
 -- what holds of each member with its place holds of the one at a place
-All-placed : {X : Type 0} (P : ℕ × X → Type 0) (first : ℕ) (xs : List X) (k : ℕ) (d : X) → AllByRecursion P (enumerate_from first xs) → k < length xs
+pub All-placed : {X : Type 0} (P : ℕ × X → Type 0) (first : ℕ) (xs : List X) (k : ℕ) (d : X) → AllByRecursion P (enumerate_from first xs) → k < length xs
     → P (first + k, get_or xs k d)
 All-placed P first [] k d h below = absurd (omega arith)
 All-placed P first (x ∷ xs) zero d h below = subst (λ (n : ℕ). P (n, x)) (omega arith) h.0

@@ -9,3 +9,4 @@ pub mod Sized
 pub mod Whole
 pub mod NestLimits
 pub mod Readings
+pub mod Decided

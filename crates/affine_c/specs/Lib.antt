@@ -6,3 +6,4 @@ pub mod Fault
 pub mod Reading
 pub mod Views
 pub mod Build
+pub mod Draft

@@ -58,7 +58,7 @@ fn common_in(items: &[Item], t: u16, s: u16) -> usize
 
 /// Whether a statement is in an item.
 #[cycle(membership)]
-fn has(item: &Item, statement: u16) -> bool
+pub(crate) fn has(item: &Item, statement: u16) -> bool
     ensures { result ≡ is_some (item_path (item_of item.now) statement) }
 {
     match item {

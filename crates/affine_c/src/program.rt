@@ -1,11 +1,14 @@
 //! Affine programs.
 
-ghost use Rattle.std.specs.Prelude.{◌≡◌};
-ghost use Rattle.affine_c.specs.Parts.{IsProgram};
+ghost use Rattle.std.specs.Prelude.{◌≡◌, IfOk, MatchOption};
+ghost use Rattle.affine_c.specs.Parts.{ProgramParts, IsProgram};
 
+use crate::draft::Draft;
 use crate::item::Item;
 use crate::statement::Statement;
-use affine_form::{Name, System};
+use crate::well_formed::is_program;
+use affine_form::{Memory, Name, System};
+use std::alloc::Global;
 use std::marker::Model;
 
 /// An affine loop program (Feautrier 1991): its parameters, the assumptions about them, its arrays with their numbers
@@ -53,6 +56,41 @@ impl Program {
             statements,
             tree,
         }
+    }
+
+    /// The program of these parts, and `None` exactly where they don't make one: it is to be well formed, each statement
+    /// with the bounds of the loops around it, and within the limits: at most 6 parameters, 32 assumptions, 128 arrays of
+    /// at most 4 subscripts, and 32 statements in at most 4 loops with at most 32 reads, and numbers of size below 2^20.
+    /// Want of memory is its only error.
+    pub fn new(
+        alloc: Global,
+        params: Vec<Name>,
+        assumed: System,
+        arrays: Vec<(Name, u8)>,
+        statements: Vec<Statement>,
+        tree: Vec<Item>,
+    ) -> Result<Option<Program>, Memory>
+        ensures { IfOk result (λ made. let parts : ProgramParts = record { params = params.items; assumed = assumed; arrays = arrays.items; statements = statements.items; tree = tree.items } in
+            MatchOption made (¬ IsProgram parts) (λ program. program ≡ parts)) }
+    {
+        let draft = Draft {
+            params,
+            assumed,
+            arrays,
+            statements,
+            tree,
+        };
+        if !is_program(alloc, &draft)? {
+            return Ok(None);
+        }
+        let Draft {
+            params,
+            assumed,
+            arrays,
+            statements,
+            tree,
+        } = draft;
+        Ok(Some(Program::from_parts(params, assumed, arrays, statements, tree)))
     }
 
     /// The parameters' names, in order of first sight.

@@ -5,4 +5,5 @@ pub mod Fits
 pub mod Found
 pub mod Chunks
 pub mod Sides
+pub mod Counts
 pub mod Truths

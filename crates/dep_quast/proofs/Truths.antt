@@ -343,25 +343,25 @@ module _ (program : AffineProgram) (reader : ReadOf) (parameters : List ℤ) (pl
       let first = AllHold-left inside cells first_two in
       let second = AllHold-right inside cells first_two in
       let arrays : (statement_at program claim.statement).writes.array ≡ (reference_of program reader).array = second.0 in
-      let found = source-place program reader parameters place values well admitted there.statement here claim fits.statement fits.point
+      let found = source-place program reader parameters place values well admitted there.statement here claim fits.there.statement fits.there.point
       (goals-met 3 (at ++ Key DOMAIN ∷ []) system 0 (inside_goals program reader claim) claim.inside point
-      (omega (arith, fits.inside, within_rows-few (variables_at program reader) (path_of program claim.statement) (parameter_point program (variables_at program reader)) claim.point)) first.1 here_met) in
-      let same_cells = source-cell program reader parameters place values well admitted there.statement here claim (ranks-same program reader claim.statement well there fits.statement arrays) arrays
+      (omega (arith, fits.lists.inside, within_rows-few (variables_at program reader) (path_of program claim.statement) (parameter_point program (variables_at program reader)) claim.point)) first.1 here_met) in
+      let same_cells = source-cell program reader parameters place values well admitted there.statement here claim (ranks-same program reader claim.statement well there fits.there.statement arrays) arrays
       (goals-met 4 (at ++ Key CELL ∷ []) system 0 (cell_goals program reader claim) claim.cell point
       (omega (
         arith,
-        fits.cell,
+        fits.lists.cell,
         length-map (reference_of program reader).subscripts (λ form. substitution form (reader_point program reader (variables_at program reader))),
         equality_rows-few (variables_at program reader) (put_in (parameter_point program (variables_at program reader) ++ claim.point) (statement_at program claim.statement).writes.subscripts)
             (put_in (reader_point program reader (variables_at program reader)) (reference_of program reader).subscripts),
       )) second.1 here_met) in
-      let less : found.0 < place = source-before program reader parameters place values well admitted there.statement here claim found.0 fits.statement fits.level fits.point
-      (goals-met 5 (at ++ Key BEFORE ∷ []) system 0 (before_goals program reader claim) claim.before point (omega (arith, fits.before)) third here_met) found.1 in (
+      let less : found.0 < place = source-before program reader parameters place values well admitted there.statement here claim found.0 fits.there.statement fits.there.level fits.there.point
+      (goals-met 5 (at ++ Key BEFORE ∷ []) system 0 (before_goals program reader claim) claim.before point (omega (arith, fits.lists.before)) third here_met) found.1 in (
         found.0,
         (
           found.1,
-          source-last program reader parameters place values well admitted there.statement here tests claim found.0 met fits.forms
-              (λ written m. none-met (at ++ Key BETWEEN ∷ []) 0 (writes_between program reader (context program reader tests) claim) claim.between written (omega (arith, fits.between)) last m)
+          source-last program reader parameters place values well admitted there.statement here tests claim found.0 met fits.there.forms
+              (λ written m. none-met (at ++ Key BETWEEN ∷ []) 0 (writes_between program reader (context program reader tests) claim) claim.between written (omega (arith, fits.lists.between)) last m)
               found.1 less same_cells,
         ),
       )

@@ -44,16 +44,24 @@ IsTrueTree program reader tree = (parameters : List ℤ) (place : ℕ) (values :
 abbrev pub IsLevel : AffineProgram → ℕ → ℕ → ℕ → Type 0
 IsLevel program t s level = (level < length (common_loops program t s)) ⊎ ((level ≡ length (common_loops program t s)) × (t < s))
 
--- A source's claim fits: its statement, its level and its forms are there, and each list has the length called for.
-pub record SourceFits (program : AffineProgram) (reader : ReadOf) (tests : List AffineForm) (claim : SourceClaim) : Type 0 where
+-- What a source's claim names is there: its statement, its level and its forms.
+pub record IsThere (program : AffineProgram) (reader : ReadOf) (claim : SourceClaim) : Type 0 where
   pub statement : claim.statement < length program.statements
   pub level : IsLevel program claim.statement reader.statement claim.level
   pub point : length claim.point ≡ depth_of program claim.statement
   pub forms : AllByRecursion (IsSmallOver (variables_at program reader)) claim.point
+
+-- Each list of a source's claim has the length called for.
+pub record HasLists (program : AffineProgram) (reader : ReadOf) (tests : List AffineForm) (claim : SourceClaim) : Type 0 where
   pub inside : length claim.inside ≡ 2 * depth_of program claim.statement
   pub cell : length claim.cell ≡ 2 * length (reference_of program reader).subscripts
   pub before : length claim.before ≡ length (before_goals program reader claim)
   pub between : length claim.between ≡ length (writes_between program reader (context program reader tests) claim)
+
+-- A source's claim fits: what it names is there, and each list has the length called for.
+pub record SourceFits (program : AffineProgram) (reader : ReadOf) (tests : List AffineForm) (claim : SourceClaim) : Type 0 where
+  pub there : IsThere program reader claim
+  pub lists : HasLists program reader tests claim
 
 -- a leaf fits
 abbrev pub LeafFits : AffineProgram → ReadOf → List AffineForm → Leaf → Type 0

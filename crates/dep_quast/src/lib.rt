@@ -6,6 +6,7 @@ mod check;
 mod claimed;
 pub mod claims_shown;
 mod context;
+mod fitting;
 mod leaves;
 mod levels;
 pub mod lists;
@@ -18,4 +19,5 @@ mod writes;
 mod writes_shown;
 
 pub use check::check_quast;
+pub use fitting::quast_fits;
 pub use quast::Quast;

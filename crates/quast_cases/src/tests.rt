@@ -1,0 +1,122 @@
+//! Trees whose verdicts are known.
+
+use crate::error::CaseError;
+use crate::programs::{last_writes, product};
+use crate::trees::{Lists, empty_leaf, product_tree, statement_leaf, test};
+use crate::verdict::has_verdict;
+use affine_form::Step;
+use affine_form::key::{BEFORE, BETWEEN, CELL, DOMAIN, EMPTY, INPUT, NO, STATEMENT, YES};
+use dep_quast::Quast;
+use std::test::Fail;
+
+#[test]
+fn judges_trees_of_the_product(rt: HostRuntime) -> Result<(), Fail> {
+    let alloc = rt.alloc();
+    let right = Lists {
+        domain: &[&[0, 1], &[0, 2], &[0, 3], &[0, 4], &[0, 7], &[1, 6]],
+        cell: &[&[0], &[0], &[0], &[0]],
+        before: &[&[0], &[0], &[0], &[0], &[0]],
+        between: &[
+            &[0, 15, 18],
+            &[0, 15, 18],
+            &[0, 15, 18],
+            &[0, 17, 20],
+            &[0, 17, 20],
+            &[0, 17, 20],
+            &[0, 14, 23],
+            &[0, 16, 25],
+            &[0, 22, 27],
+        ],
+        input: &[&[0, 14, 18], &[0, 16, 20], &[0, 7, 12, 22]],
+    };
+    let mut wrong_input = right;
+    wrong_input.input = &[&[0, 14, 18], &[0, 16, 20], &[0, 12, 22]];
+    let mut wrong_domain = right;
+    wrong_domain.domain = &[&[0, 1], &[0, 2], &[0, 3], &[0, 4], &[0, 7], &[0, 6]];
+    let mut wrong_cell = right;
+    wrong_cell.cell = &[&[0], &[1], &[0], &[0]];
+    let mut wrong_before = right;
+    wrong_before.before = &[&[0], &[0], &[0], &[0], &[1]];
+    let cases: [(Lists, u8, &[Step]); 5] = [
+        (right, 0, &[]),
+        (
+            wrong_input,
+            6,
+            &[Step::Key(NO), Step::Key(INPUT), Step::Index(2)],
+        ),
+        (
+            wrong_domain,
+            3,
+            &[Step::Key(YES), Step::Key(DOMAIN), Step::Index(5)],
+        ),
+        (
+            wrong_cell,
+            4,
+            &[Step::Key(YES), Step::Key(CELL), Step::Index(1)],
+        ),
+        (
+            wrong_before,
+            5,
+            &[Step::Key(YES), Step::Key(BEFORE), Step::Index(4)],
+        ),
+    ];
+    let made = product(alloc)?;
+    let Some(program) = made else {
+        return Err(CaseError::Unfit)?;
+    };
+    for (lists, condition, steps) in cases.iter() {
+        let tree = product_tree(alloc, lists)?;
+        assert!(rt; has_verdict(alloc, &program, 0, &tree, *condition, steps)?);
+    }
+    let blank = test(alloc, &[0, 0, 0, 1, -1], Quast::Blank, Quast::Blank)?;
+    assert!(rt; has_verdict(alloc, &program, 0, &blank, 0, &[])?);
+    Ok(())
+}
+
+#[test]
+fn judges_trees_of_last_writes(rt: HostRuntime) -> Result<(), Fail> {
+    let alloc = rt.alloc();
+    let made = last_writes(alloc)?;
+    let Some(program) = made else {
+        return Err(CaseError::Unfit)?;
+    };
+    let first = statement_leaf(alloc, 0, &[&[0]])?;
+    assert!(rt;
+        has_verdict(
+            alloc,
+            &program,
+            2,
+            &first,
+            6,
+            &[Step::Key(BETWEEN), Step::Index(0)]
+        )?
+    );
+    let second = statement_leaf(alloc, 1, &[])?;
+    assert!(rt; has_verdict(alloc, &program, 2, &second, 0, &[])?);
+    let other_array = statement_leaf(alloc, 2, &[])?;
+    assert!(rt; has_verdict(alloc, &program, 3, &other_array, 4, &[Step::Key(STATEMENT)])?);
+    let never = test(
+        alloc,
+        &[-1],
+        empty_leaf(alloc, &[0, 0])?,
+        statement_leaf(alloc, 1, &[])?,
+    )?;
+    assert!(rt; has_verdict(alloc, &program, 2, &never, 0, &[])?);
+    let perhaps = test(
+        alloc,
+        &[-1],
+        empty_leaf(alloc, &[0])?,
+        statement_leaf(alloc, 1, &[])?,
+    )?;
+    assert!(rt;
+        has_verdict(
+            alloc,
+            &program,
+            2,
+            &perhaps,
+            7,
+            &[Step::Key(YES), Step::Key(EMPTY)]
+        )?
+    );
+    Ok(())
+}
