@@ -1,12 +1,13 @@
 //! The check of cold terms.
 
-ghost use Rattle.std.specs.Prelude.{IfOk, OnOk, IfErr};
+ghost use Rattle.std.specs.Prelude.{◌≡◌, Some, IfOk, OnOk, IfErr};
 ghost use Rattle.affine_c.specs.Parts.{meaning};
 ghost use Rattle.dep_quast.specs.Tree.{SelectionTree, tree_of};
 ghost use Rattle.domain_count.specs.Count.{IsCount, CountsPoints};
 ghost use Rattle.poly_tree.specs.Printed.{polynomial_of};
+ghost use Rattle.reuse_paths.specs.Quasts.{tree_at};
 ghost use Rattle.wavefront.specs.Found.{FindsCold};
-ghost use Rattle.wavefront.specs.Loads.{ColdFits, IsSoundCold, BoundsLoads};
+ghost use Rattle.wavefront.specs.Loads.{ColdFits, ColdHolds, IsSoundCold, BoundsLoads};
 ghost use Rattle.wavefront.specs.Refusal.{IsColdRefusal};
 ghost use Rattle.wavefront.specs.View.{FitsCold, term_of};
 
@@ -47,6 +48,7 @@ pub fn check_cold(
     requires { (tree : SelectionTree) × FitsCold program.now quasts.now term.now tree }
     ensures right { IfOk result (λ poly. IsCount (meaning program.now) term.now.nest term.now.sums poly) }
     ensures counts { IfOk result (λ poly. CountsPoints (meaning program.now) term.now.nest poly) }
+    ensures holds { OnOk result ((tree : SelectionTree) × (tree_at quasts.now term.now.statement term.now.read ≡ Some tree) × ColdHolds (meaning program.now) place.now tree (term_of term.now)) }
     ensures sound { OnOk result (IsSoundCold (meaning program.now) (term_of term.now)) }
     ensures bounds { IfOk result (λ poly. BoundsLoads (meaning program.now) (polynomial_of poly)) }
     ensures refused { IfErr result (λ refused. (tree : SelectionTree) × FitsCold program.now quasts.now term.now tree × IsColdRefusal (meaning program.now) place.now tree (term_of term.now) refused) }

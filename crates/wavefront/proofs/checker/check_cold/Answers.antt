@@ -25,6 +25,13 @@ both c =
     (subst (λ (t : SelectionTree). IsTrueTree (meaning c.args.program.now) (term_of c.args.term.now).reader t) same c.requires.1.true_tree)
     holds
 
+pub returns-in-Ok-None-clause-holds : goal.returns-in-Ok-None-clause-holds
+returns-in-Ok-None-clause-holds c = (
+  tree_of c.in-Some.quast.now,
+  c.in-Some.ensures,
+  subst (FindsCold (meaning c.args.program.now) c.args.place.now (tree_of c.in-Some.quast.now) (term_of c.args.term.now)) c.in-Ok-None.field-0-is c.in-Ok-None.ensures,
+)
+
 pub returns-in-Ok-None-clause-sound : goal.returns-in-Ok-None-clause-sound
 returns-in-Ok-None-clause-sound c = (both c).0
 
