@@ -33,7 +33,7 @@ fn are_small(point: &[i128]) -> bool
 }
 
 /// A form's value at a point.
-pub(crate) fn value_at(form: &Form, point: &[i128]) -> Result<i128, Stopped>
+pub fn value_at(form: &Form, point: &[i128]) -> Result<i128, Stopped>
     ensures { IfOk result (λ value. value ≡ form_value form.now point.now) }
 {
     if form.coef().len() != point.len() || !are_small(point) {

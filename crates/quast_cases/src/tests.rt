@@ -1,5 +1,6 @@
 //! Trees whose verdicts are known.
 
+use crate::compared::agrees;
 use crate::error::CaseError;
 use crate::programs::{last_writes, product};
 use crate::trees::{Lists, empty_leaf, product_tree, right_lists, statement_leaf, test};
@@ -122,5 +123,27 @@ fn judges_trees_of_last_writes(rt: HostRuntime) -> Result<(), Fail> {
             &[Step::Key(YES), Step::Key(EMPTY)]
         )?
     );
+    Ok(())
+}
+
+#[test]
+fn trees_name_what_a_scan_finds(rt: HostRuntime) -> Result<(), Fail> {
+    let alloc = rt.alloc();
+    let made = product(alloc)?;
+    let Some(program) = made else {
+        return Err(CaseError::Unfit)?;
+    };
+    let tree = product_tree(alloc, &right_lists())?;
+    for size in 1..4i128 {
+        assert!(rt; agrees(alloc, &program, 0, &tree, &[size])?);
+    }
+    let made = last_writes(alloc)?;
+    let Some(program) = made else {
+        return Err(CaseError::Unfit)?;
+    };
+    let right = statement_leaf(alloc, 1, &[])?;
+    assert!(rt; agrees(alloc, &program, 2, &right, &[])?);
+    let wrong = statement_leaf(alloc, 0, &[&[0]])?;
+    assert!(rt; !agrees(alloc, &program, 2, &wrong, &[])?);
     Ok(())
 }
