@@ -1,6 +1,7 @@
 //! Why a case isn't made.
 
 use affine_form::Memory;
+use plain_graph::stopped::Stopped;
 use std::alloc::{AllocError, AllocFailed};
 
 /// Why a case isn't made.
@@ -8,6 +9,8 @@ use std::alloc::{AllocError, AllocFailed};
 pub enum CaseError {
     /// The table's entry makes no form and no multipliers.
     Unfit,
+    /// The scan goes past what it can read.
+    OutOfReach,
     /// There was no memory.
     Memory,
 }
@@ -27,5 +30,14 @@ impl From<AllocError> for CaseError {
 impl<T: Drop> From<AllocFailed<T>> for CaseError {
     fn from(_error: AllocFailed<T>) -> CaseError {
         CaseError::Memory
+    }
+}
+
+impl From<Stopped> for CaseError {
+    fn from(error: Stopped) -> CaseError {
+        match error {
+            Stopped::OutOfReach => CaseError::OutOfReach,
+            Stopped::Memory => CaseError::Memory,
+        }
     }
 }

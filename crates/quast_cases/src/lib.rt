@@ -2,6 +2,7 @@
 //! they choose with the sources that a plain scan of the execution finds.
 #![tactic(auto)]
 
+pub mod compared;
 pub mod error;
 pub mod programs;
 pub mod rows;

@@ -1,8 +1,9 @@
 //! Trees whose verdicts are known.
 
+use crate::compared::agrees;
 use crate::error::CaseError;
 use crate::programs::{last_writes, product};
-use crate::trees::{Lists, empty_leaf, product_tree, statement_leaf, test};
+use crate::trees::{Lists, empty_leaf, product_tree, right_lists, statement_leaf, test};
 use crate::verdict::has_verdict;
 use affine_form::Step;
 use affine_form::key::{BEFORE, BETWEEN, CELL, DOMAIN, EMPTY, INPUT, NO, STATEMENT, YES};
@@ -12,38 +13,37 @@ use std::test::Fail;
 #[test]
 fn judges_trees_of_the_product(rt: HostRuntime) -> Result<(), Fail> {
     let alloc = rt.alloc();
-    let right = Lists {
-        domain: &[&[0, 1], &[0, 2], &[0, 3], &[0, 4], &[0, 7], &[1, 6]],
-        cell: &[&[0], &[0], &[0], &[0]],
-        before: &[&[0], &[0], &[0], &[0], &[0]],
-        between: &[
-            &[0, 15, 18],
-            &[0, 15, 18],
-            &[0, 15, 18],
-            &[0, 17, 20],
-            &[0, 17, 20],
-            &[0, 17, 20],
-            &[0, 14, 23],
-            &[0, 16, 25],
-            &[0, 22, 27],
-        ],
-        input: &[&[0, 14, 18], &[0, 16, 20], &[0, 7, 12, 22]],
+    let right = right_lists();
+    let wrong_domain = Lists {
+        domain: &[&[0, 1], &[0, 2], &[0, 3], &[0, 4], &[0, 7], &[0, 6]],
+        cell: right.cell,
+        before: right.before,
+        between: right.between,
+        input: right.input,
     };
-    let mut wrong_input = right;
-    wrong_input.input = &[&[0, 14, 18], &[0, 16, 20], &[0, 12, 22]];
-    let mut wrong_domain = right;
-    wrong_domain.domain = &[&[0, 1], &[0, 2], &[0, 3], &[0, 4], &[0, 7], &[0, 6]];
-    let mut wrong_cell = right;
-    wrong_cell.cell = &[&[0], &[1], &[0], &[0]];
-    let mut wrong_before = right;
-    wrong_before.before = &[&[0], &[0], &[0], &[0], &[1]];
+    let wrong_cell = Lists {
+        domain: right.domain,
+        cell: &[&[0], &[1], &[0], &[0]],
+        before: right.before,
+        between: right.between,
+        input: right.input,
+    };
+    let wrong_before = Lists {
+        domain: right.domain,
+        cell: right.cell,
+        before: &[&[0], &[0], &[0], &[0], &[1]],
+        between: right.between,
+        input: right.input,
+    };
+    let wrong_input = Lists {
+        domain: right.domain,
+        cell: right.cell,
+        before: right.before,
+        between: right.between,
+        input: &[&[0, 14, 18], &[0, 16, 20], &[0, 12, 22]],
+    };
     let cases: [(Lists, u8, &[Step]); 5] = [
         (right, 0, &[]),
-        (
-            wrong_input,
-            6,
-            &[Step::Key(NO), Step::Key(INPUT), Step::Index(2)],
-        ),
         (
             wrong_domain,
             3,
@@ -58,6 +58,11 @@ fn judges_trees_of_the_product(rt: HostRuntime) -> Result<(), Fail> {
             wrong_before,
             5,
             &[Step::Key(YES), Step::Key(BEFORE), Step::Index(4)],
+        ),
+        (
+            wrong_input,
+            6,
+            &[Step::Key(NO), Step::Key(INPUT), Step::Index(2)],
         ),
     ];
     let made = product(alloc)?;
@@ -118,5 +123,27 @@ fn judges_trees_of_last_writes(rt: HostRuntime) -> Result<(), Fail> {
             &[Step::Key(YES), Step::Key(EMPTY)]
         )?
     );
+    Ok(())
+}
+
+#[test]
+fn trees_name_what_a_scan_finds(rt: HostRuntime) -> Result<(), Fail> {
+    let alloc = rt.alloc();
+    let made = product(alloc)?;
+    let Some(program) = made else {
+        return Err(CaseError::Unfit)?;
+    };
+    let tree = product_tree(alloc, &right_lists())?;
+    for size in 1..4i128 {
+        assert!(rt; agrees(alloc, &program, 0, &tree, &[size])?);
+    }
+    let made = last_writes(alloc)?;
+    let Some(program) = made else {
+        return Err(CaseError::Unfit)?;
+    };
+    let right = statement_leaf(alloc, 1, &[])?;
+    assert!(rt; agrees(alloc, &program, 2, &right, &[])?);
+    let wrong = statement_leaf(alloc, 0, &[&[0]])?;
+    assert!(rt; !agrees(alloc, &program, 2, &wrong, &[])?);
     Ok(())
 }

@@ -15,6 +15,27 @@ pub struct Lists<'a> {
     pub input: &'a [&'a [u8]],
 }
 
+/// The lists that show the tree of the matrix product's read of C.
+pub fn right_lists() -> Lists<'static> {
+    Lists {
+        domain: &[&[0, 1], &[0, 2], &[0, 3], &[0, 4], &[0, 7], &[1, 6]],
+        cell: &[&[0], &[0], &[0], &[0]],
+        before: &[&[0], &[0], &[0], &[0], &[0]],
+        between: &[
+            &[0, 15, 18],
+            &[0, 15, 18],
+            &[0, 15, 18],
+            &[0, 17, 20],
+            &[0, 17, 20],
+            &[0, 17, 20],
+            &[0, 14, 23],
+            &[0, 16, 25],
+            &[0, 22, 27],
+        ],
+        input: &[&[0, 14, 18], &[0, 16, 20], &[0, 7, 12, 22]],
+    }
+}
+
 /// The tree of the matrix product's read of C: from the second step of the innermost loop on the step before wrote the cell,
 /// and before it nothing did.
 pub fn product_tree(alloc: Global, lists: &Lists) -> Result<Quast, CaseError> {
