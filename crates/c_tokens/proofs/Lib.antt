@@ -1,0 +1,3 @@
+pub mod Scanned
+pub mod Split
+pub mod Whole

@@ -1,0 +1,6 @@
+pub mod Bytes
+pub mod Words
+pub mod Lines
+pub mod Pieces
+pub mod Tokens
+pub mod Text
