@@ -1,0 +1,188 @@
+//! The tokens of a text that are left, and the names that were seen.
+
+ghost use Rattle.std.specs.Prelude.{◌≡◌, length, take, drop, option_copied, IfOk};
+ghost use Rattle.c_reading.specs.Input as spec;
+ghost use Rattle.c_reading.specs.Input.{Reads};
+ghost use Rattle.c_reading.specs.Affine.{kind_of, new_parameter, slot};
+
+use crate::error::{ReadError, ReadFault};
+use crate::named::{Kind, Named};
+use affine_form::Name;
+use c_tokens::{Token, TokenKind};
+use std::alloc::Global;
+use std::marker::Model;
+
+/// The part of a text that is left, as tokens, with the names in the order of first sight.
+#[derive(Drop)]
+pub(crate) struct Reader<'a> {
+    alloc: Global,
+    text: &'a [u8],
+    tokens: &'a [Token],
+    names: Vec<Named>,
+    parameters: u8,
+}
+
+impl<'a> Model for Reader<'a> {
+    ghost use Rattle.c_reading.specs.Input.{Input};
+
+    ghost Value = { Input };
+
+    ghost view = { λ r. record { text = r.text.now; tokens = r.tokens.now; names = r.names.items; parameters = r.parameters } };
+}
+
+/// What follows so many bytes.
+fn behind(bytes: &[u8], count: usize) -> &[u8]
+    ensures { result.now ≡ drop count bytes.now }
+{
+    bytes.get(count..).unwrap_or(&[])
+}
+
+/// The first bytes, so many if there are.
+fn front(bytes: &[u8], count: usize) -> &[u8]
+    ensures { result.now ≡ take count bytes.now }
+{
+    bytes.get(..count).unwrap_or(bytes)
+}
+
+impl<'a> Reader<'a> {
+    /// Where memory comes from.
+    pub fn alloc(&self) -> Global {
+        self.alloc
+    }
+
+    /// The next token, or an end where none is left.
+    fn next_token(&self) -> Token
+        ensures { result ≡ spec.next_token self.now }
+    {
+        match self.tokens.split_first() {
+            Some((token, _)) => *token,
+            None => Token {
+                kind: TokenKind::End,
+                place: 0,
+                length: 0,
+            },
+        }
+    }
+
+    /// What the next token is.
+    pub fn kind(&self) -> TokenKind
+        ensures { result ≡ spec.kind self.now }
+    {
+        self.next_token().kind
+    }
+
+    /// The place of the next token.
+    pub fn place(&self) -> usize
+        ensures { result ≡ spec.place self.now }
+    {
+        self.next_token().place
+    }
+
+    /// The bytes of the next token.
+    #[tactic(auto, unfolding(crate::specs::Input::spelling))]
+    pub fn spelling(&self) -> &'a [u8]
+        ensures { result.now ≡ spec.spelling self.now }
+    {
+        let token = self.next_token();
+        front(behind(self.text, token.place), token.length)
+    }
+
+    /// Whether the next token is this word or symbol.
+    #[tactic(auto, unfolding(crate::specs::Input::sees))]
+    pub fn sees(&self, word: &[u8]) -> bool
+        ensures { result ≡ spec.sees word.now self.now }
+    {
+        self.spelling() == word
+    }
+
+    /// How many tokens are left.
+    pub fn left(&self) -> usize
+        ensures { result ≡ spec.left self.now }
+    {
+        self.tokens.len()
+    }
+
+    /// Takes the next token.
+    #[tactic(auto, unfolding(crate::specs::Input::next))]
+    pub fn pass(&mut self)
+        ensures { self.new ≡ spec.next self.old }
+    {
+        self.tokens = self.tokens.get(1..).unwrap_or(&[]);
+    }
+
+    /// A fault of this number at the next token.
+    pub fn fault(&self, number: u8) -> ReadError
+        ensures { result ≡ ReadError.Fault (record { number = number; place = spec.place self.now }) }
+    {
+        ReadError::Fault(ReadFault {
+            number,
+            place: self.place(),
+        })
+    }
+
+    /// Why no rule takes the next token.
+    #[tactic(auto, unfolding(crate::specs::Input::refusal))]
+    pub fn refusal(&self) -> ReadFault
+        ensures { result ≡ spec.refusal self.now }
+    {
+        let number = match self.kind() {
+            TokenKind::Bad => 2,
+            _ => 3,
+        };
+        ReadFault {
+            number,
+            place: self.place(),
+        }
+    }
+
+    /// The kind of a name, where it was seen.
+    pub fn kind_of(&self, name: &[u8]) -> Option<Kind>
+        ensures { result ≡ kind_of name.now self.now.names }
+    {
+        for named in &self.names {
+            if named.name.bytes() == name {
+                return Some(named.kind);
+            }
+        }
+        None
+    }
+
+    /// Takes a name that is new as a parameter, and gives the place of its coefficient.
+    #[tactic(auto, unfolding(crate::specs::Affine::new_parameter))]
+    fn new_parameter(&mut self) -> Result<usize, ReadError>
+        ensures { Reads (new_parameter self.old) result self.new }
+    {
+        let name = self.spelling();
+        if name.is_empty() || name.len() > 64 || self.parameters >= 6 {
+            return Err(self.fault(10));
+        }
+        let k = self.parameters;
+        let name = Name::new(Vec::from_slice(self.alloc, name)?);
+        self.names.push(Named {
+            name,
+            kind: Kind::Parameter(k),
+        })?;
+        self.parameters += 1;
+        self.pass();
+        Ok(1 + usize::from(k))
+    }
+
+    /// Takes a name, and gives the place of its coefficient: that of a parameter, or of a loop around it.
+    #[tactic(auto, unfolding(crate::specs::Affine::slot))]
+    pub fn slot(&mut self) -> Result<usize, ReadError>
+        ensures { Reads (slot self.old) result self.new }
+    {
+        match self.kind_of(self.spelling()) {
+            None => self.new_parameter(),
+            Some(Kind::Parameter(k)) => {
+                self.pass();
+                Ok(1 + usize::from(k))
+            }
+            Some(Kind::OpenLoop(depth)) => {
+                self.pass();
+                Ok(7 + usize::from(depth))
+            }
+            Some(Kind::ClosedLoop | Kind::Array(_, _)) => Err(self.fault(6)),
+        }
+    }
+}
