@@ -1,3 +1,5 @@
 pub mod Input
 pub mod Numbers
 pub mod Affine
+pub mod Compare
+pub mod Head

@@ -52,6 +52,13 @@ impl Affine {
         })
     }
 
+    /// The numbers: the constant, then the coefficients.
+    pub fn numbers(&self) -> &[i32]
+        ensures { result.now ≡ self.now.numbers }
+    {
+        self.numbers.as_slice()
+    }
+
     /// The expression of these numbers, where they are small.
     fn small(
         start: usize,
@@ -204,7 +211,7 @@ impl<'a> Reader<'a> {
 
     /// Why nothing that may follow an expression does.
     #[tactic(auto, unfolding(crate::specs::Affine::refusal_after))]
-    fn refusal_after(&self, a: &Affine) -> ReadFault
+    pub fn refusal_after(&self, a: &Affine) -> ReadFault
         ensures { result ≡ spec.refusal_after a.now self.now }
     {
         if self.sees(b"/")

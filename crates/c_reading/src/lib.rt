@@ -2,7 +2,9 @@
 #![tactic(auto)]
 
 mod affine;
+mod compare;
 mod error;
+mod head;
 mod input;
 mod named;
 mod numbers;

@@ -123,4 +123,3 @@ unfolding products
 term-returns t c =
     let e = no_more (λ n. products (bracketed c.args.brackets) c.args.start c.args.star n c.loop-turn.a c.loop-turn.self) _ c.loop-turn._turn c.loop-turn-test.false c.loop-turn.invariant in
     first_of (search rules, grind (arith, common_steps))
-
