@@ -1,6 +1,5 @@
 -- Affine expressions: a sum of products of factors, with at most one factor that has a name in each product.
-use Rattle.std.specs.Prelude.{ℕ, zero, suc, ◌+◌, ◌^◌, ◌==◌, ◌&&◌, ◌||◌, nat_lt, nat_le, Bool, true, false, not, if◌then◌else◌, ℤ, pos, negsuc, List, [], ◌∷◌, ◌++◌, length, find, bytes_eq, Option, Some, None, Result, Ok, Err, codes}
-use Rattle.c_reading.specs.declared.named.Named.{Named}
+use Rattle.std.specs.Prelude.{ℕ, zero, suc, ◌+◌, ◌^◌, ◌==◌, ◌&&◌, ◌||◌, nat_lt, nat_le, Bool, true, false, not, if◌then◌else◌, ℤ, pos, negsuc, List, [], ◌∷◌, ◌++◌, length, position, slice_get, option_and_then, bytes_eq, Option, Some, None, Result, Ok, Err, codes}
 use Rattle.c_reading.specs.declared.named.Kind.{Kind}
 use Rattle.c_reading.specs.declared.named.Kind.TheVariants.{Parameter, OpenLoop, ClosedLoop, Array}
 use Rattle.c_reading.specs.declared.error.ReadFault.{ReadFault}
@@ -15,16 +14,27 @@ pub record Affine : Type 0 where
 
 -- ---- names
 
--- the kind of a name that was seen
-abbrev pub kind_of : List ℕ → List Named → Option Kind
-kind_of name [] = None
-kind_of name (n ∷ names) = if bytes_eq n.name name then Some n.kind else kind_of name names
+-- the number of a name that was seen
+abbrev pub number_of : List ℕ → Input → Option ℕ
+number_of name i = position (bytes_eq name) i.names
+
+-- its kind
+unfoldable pub kind_of : List ℕ → Input → Option Kind
+kind_of name i = option_and_then (λ at. slice_get i.kinds at) (number_of name i)
+
+-- one name more, of this kind
+unfoldable pub with_name : List ℕ → Kind → Input → Input
+with_name name kind i = record i { names = i.names ++ name ∷ []; kinds = i.kinds ++ kind ∷ [] }
+
+-- a name has 1 to 64 bytes
+abbrev pub is_short : List ℕ → Bool
+is_short name = nat_le 1 (length name) && nat_le (length name) 64
 
 -- the place of a new name's coefficient: it becomes a parameter, where it has 1 to 64 bytes and there aren't too many
 unfoldable pub new_parameter : Rule ℕ
 new_parameter i =
-    if nat_le 1 (length (spelling i)) && nat_le (length (spelling i)) 64 && nat_lt i.parameters most_parameters
-    then Ok (parameter_slot i.parameters, next (record i { names = i.names ++ record { name = spelling i; kind = Parameter i.parameters } ∷ []; parameters = i.parameters + 1 }))
+    if is_short (spelling i) && nat_lt i.parameters most_parameters
+    then Ok (parameter_slot i.parameters, next (record (with_name (spelling i) (Parameter i.parameters) i) { parameters = i.parameters + 1 }))
     else fault 10 i
 
 -- the place of a name's coefficient, by its kind: a parameter, or a loop around it
@@ -36,7 +46,7 @@ slot_by (Some ClosedLoop) = fault 6
 slot_by (Some (Array number subscripts)) = fault 6
 
 unfoldable pub slot : Rule ℕ
-slot i = slot_by (kind_of (spelling i) i.names) i
+slot i = slot_by (kind_of (spelling i) i) i
 
 -- ---- factors
 

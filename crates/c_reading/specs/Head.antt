@@ -4,7 +4,6 @@ use Rattle.c_tokens.specs.declared.token.TokenKind.{TokenKind}
 use Rattle.c_tokens.specs.declared.token.TokenKind.TheVariants as token
 use Rattle.c_tokens.specs.declared.token.Token.{Token}
 use Rattle.c_tokens.specs.Text.{tokens_of}
-use Rattle.c_reading.specs.declared.named.Named.{Named}
 use Rattle.c_reading.specs.declared.error.ReadFault.{ReadFault}
 use Rattle.c_reading.specs.Input.{Input, Rule, ◌>>=◌, ◌>>◌, pure, pass, refuse, sees, kind, left, is_name_kind, next}
 use Rattle.c_reading.specs.Affine.{Affine, refusal_after, slot}
@@ -60,7 +59,3 @@ directives (suc turns) h i =
 -- the directives in front of a text
 unfoldable pub head : Rule Head
 head i = directives (left i) (record { assumed = false; rows = [] }) i
-
--- what a text is read from
-abbrev pub start_of : List ℕ → List Token → Input
-start_of text tokens = record { text = text; tokens = tokens; names = []; parameters = 0 }

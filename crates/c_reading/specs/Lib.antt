@@ -1,3 +1,4 @@
+pub mod Access
 pub mod Input
 pub mod Numbers
 pub mod Affine

@@ -1,12 +1,13 @@
 //! The tokens of a text that are left, and the names that were seen.
 
-ghost use Rattle.std.specs.Prelude.{◌≡◌, length, take, drop, option_copied, IfOk};
+ghost use Rattle.std.specs.Prelude.{◌≡◌, length, take, drop, position, bytes_eq, OnOk, IfErr, ◌≤◌};
 ghost use Rattle.c_reading.specs.Input as spec;
 ghost use Rattle.c_reading.specs.Input.{Reads};
-ghost use Rattle.c_reading.specs.Affine.{kind_of, new_parameter, slot};
+ghost use Rattle.c_reading.specs.Affine.{kind_of, with_name, is_short, new_parameter, slot};
 
 use crate::error::{ReadError, ReadFault};
-use crate::named::{Kind, Named};
+use crate::lines::Line;
+use crate::named::Kind;
 use affine_form::Name;
 use c_tokens::{Token, TokenKind};
 use std::alloc::Global;
@@ -18,8 +19,12 @@ pub(crate) struct Reader<'a> {
     alloc: Global,
     text: &'a [u8],
     tokens: &'a [Token],
-    names: Vec<Named>,
+    names: Vec<Name>,
+    kinds: Vec<Kind>,
     parameters: u8,
+    arrays: u16,
+    lines: Vec<Line>,
+    statements: u8,
 }
 
 impl<'a> Model for Reader<'a> {
@@ -27,7 +32,7 @@ impl<'a> Model for Reader<'a> {
 
     ghost Value = { Input };
 
-    ghost view = { λ r. record { text = r.text.now; tokens = r.tokens.now; names = r.names.items; parameters = r.parameters } };
+    ghost view = { λ r. record { text = r.text.now; tokens = r.tokens.now; names = r.names.items; kinds = r.kinds.items; parameters = r.parameters; arrays = r.arrays; lines = r.lines.items; statements = r.statements } };
 }
 
 /// What follows so many bytes.
@@ -42,6 +47,20 @@ fn front(bytes: &[u8], count: usize) -> &[u8]
     ensures { result.now ≡ take count bytes.now }
 {
     bytes.get(..count).unwrap_or(bytes)
+}
+
+/// The number of a name among these.
+fn number_of(names: &[Name], name: &[u8]) -> Option<usize>
+    ensures { result ≡ position (bytes_eq name.now) names.now }
+{
+    names.iter().position(|known| name == known.bytes())
+}
+
+/// Whether a name has 1 to 64 bytes.
+pub(crate) fn is_short(name: &[u8]) -> bool
+    ensures { result ≡ is_short name.now }
+{
+    !name.is_empty() && name.len() <= 64
 }
 
 impl<'a> Reader<'a> {
@@ -136,15 +155,26 @@ impl<'a> Reader<'a> {
     }
 
     /// The kind of a name, where it was seen.
+    #[tactic(auto, unfolding(crate::specs::Affine::kind_of))]
     pub fn kind_of(&self, name: &[u8]) -> Option<Kind>
-        ensures { result ≡ kind_of name.now self.now.names }
+        ensures { result ≡ kind_of name.now self.now }
     {
-        for named in &self.names {
-            if named.name.bytes() == name {
-                return Some(named.kind);
-            }
-        }
-        None
+        let at = number_of(self.names.as_slice(), name)?;
+        self.kinds.get(at).copied()
+    }
+
+    /// One name more, of this kind.
+    #[tactic(auto, unfolding(crate::specs::Affine::with_name))]
+    pub fn add_name(&mut self, name: &[u8], kind: Kind) -> Result<(), ReadError>
+        requires some { 1 ≤ length name.now }
+        requires few { length name.now ≤ 64 }
+        ensures added { OnOk result (self.new ≡ with_name name.now kind self.old) }
+        ensures memory { IfErr result (λ e. e ≡ ReadError.Memory) }
+    {
+        let name = Name::new(Vec::from_slice(self.alloc, name)?);
+        self.names.push(name)?;
+        self.kinds.push(kind)?;
+        Ok(())
     }
 
     /// Takes a name that is new as a parameter, and gives the place of its coefficient.
@@ -153,16 +183,12 @@ impl<'a> Reader<'a> {
         ensures { Reads (new_parameter self.old) result self.new }
     {
         let name = self.spelling();
-        if name.is_empty() || name.len() > 64 || self.parameters >= 6 {
+        if !is_short(name) || self.parameters >= 6 {
             return Err(self.fault(10));
         }
         let k = self.parameters;
-        let name = Name::new(Vec::from_slice(self.alloc, name)?);
-        self.names.push(Named {
-            name,
-            kind: Kind::Parameter(k),
-        })?;
-        self.parameters += 1;
+        self.add_name(name, Kind::Parameter(k))?;
+        self.parameters = k + 1;
         self.pass();
         Ok(1 + usize::from(k))
     }

@@ -6,8 +6,10 @@ mod compare;
 mod error;
 mod head;
 mod input;
+mod lines;
 mod named;
 mod numbers;
 
 pub use error::{ReadError, ReadFault};
-pub use named::{Kind, Named};
+pub use lines::{Access, Line, Loop, Row, Statement};
+pub use named::Kind;
