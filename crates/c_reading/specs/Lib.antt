@@ -4,3 +4,4 @@ pub mod Numbers
 pub mod Affine
 pub mod Compare
 pub mod Head
+pub mod Refs

@@ -7,6 +7,7 @@ ghost use Rattle.c_reading.specs.Affine as spec;
 
 use crate::error::{ReadError, ReadFault};
 use crate::input::Reader;
+use crate::lines::Row;
 use crate::named::Kind;
 use crate::numbers::{combined, constant_of, is_integer, single, value, zeros};
 use c_tokens::TokenKind;
@@ -57,6 +58,13 @@ impl Affine {
         ensures { result.now ≡ self.now.numbers }
     {
         self.numbers.as_slice()
+    }
+
+    /// The numbers as a row.
+    pub fn into_row(self) -> Row
+        ensures { result ≡ self.numbers }
+    {
+        Row::new(self.numbers)
     }
 
     /// The expression of these numbers, where they are small.

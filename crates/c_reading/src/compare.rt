@@ -1,14 +1,16 @@
 //! Comparisons of affine expressions.
 
-ghost use Rattle.std.specs.Prelude.{◌≡◌, ◌≤◌, [], ◌++◌, ◌∷◌, length, OnOk};
+ghost use Rattle.std.specs.Prelude.{◌≡◌, ◌≤◌};
 ghost use Rattle.c_reading.specs.Input.{Reads, Gives};
 ghost use Rattle.c_reading.specs.Compare as spec;
 
 use crate::affine::Affine;
 use crate::error::{ReadError, ReadFault};
 use crate::input::Reader;
+use crate::lines::Row;
 use crate::numbers::combined;
-use std::alloc::{AllocError, Global};
+use crate::rows::Rows;
+use std::alloc::Global;
 use std::marker::Model;
 
 /// How many brackets may be open at once.
@@ -27,21 +29,6 @@ pub(crate) enum Comparison {
     Equal,
 }
 
-/// Rows: the numbers of forms that are at least 0.
-#[derive(Drop)]
-pub(crate) struct Rows {
-    rows: Vec<Vec<i32>>,
-}
-
-impl Model for Rows {
-    ghost use Rattle.std.specs.Prelude.{map};
-    ghost use Rattle.c_reading.specs.Compare.{Rows as SpecRows};
-
-    ghost Value = { SpecRows };
-
-    ghost view = { λ r. map (λ row. row.items) r.rows.items };
-}
-
 /// The rows with those of a compare, and the expression that it ends with.
 #[derive(Drop)]
 pub(crate) struct Compared {
@@ -58,30 +45,6 @@ impl Model for Compared {
 }
 
 impl Rows {
-    /// No rows.
-    pub fn new(alloc: Global) -> Rows
-        ensures { result ≡ [] }
-    {
-        Rows {
-            rows: Vec::new(alloc),
-        }
-    }
-
-    /// How many rows there are.
-    pub fn len(&self) -> usize
-        ensures { result ≡ length self.now }
-    {
-        self.rows.len()
-    }
-
-    /// One row more.
-    fn push(&mut self, row: Vec<i32>) -> Result<(), AllocError>
-        ensures { OnOk result (self.new ≡ self.old ++ row.items ∷ []) }
-    {
-        self.rows.push(row)?;
-        Ok(())
-    }
-
     /// The row a less b and this much, as one row more.
     #[tactic(auto, unfolding(crate::specs::Compare::with_row))]
     fn with_row(
@@ -100,7 +63,7 @@ impl Rows {
                 place: start,
             }));
         };
-        self.push(row)?;
+        self.push(Row::new(row))?;
         Ok(self)
     }
 

@@ -4,9 +4,10 @@ ghost use Rattle.std.specs.Prelude.{◌≡◌};
 ghost use Rattle.c_reading.specs.Input.{Reads, is_name_kind};
 ghost use Rattle.c_reading.specs.Head as spec;
 
-use crate::compare::{Compared, Rows};
+use crate::compare::Compared;
 use crate::error::ReadError;
 use crate::input::Reader;
+use crate::rows::Rows;
 use c_tokens::TokenKind;
 use std::marker::Model;
 

@@ -3,6 +3,7 @@
 ghost use Rattle.std.specs.Prelude.{◌≡◌, length, take, drop, position, bytes_eq, OnOk, IfErr, ◌≤◌};
 ghost use Rattle.c_reading.specs.Input as spec;
 ghost use Rattle.c_reading.specs.Input.{Reads};
+ghost use Rattle.c_reading.specs.Refs.{with_kind};
 ghost use Rattle.c_reading.specs.Affine.{kind_of, with_name, is_short, new_parameter, slot};
 
 use crate::error::{ReadError, ReadFault};
@@ -175,6 +176,37 @@ impl<'a> Reader<'a> {
         self.names.push(name)?;
         self.kinds.push(kind)?;
         Ok(())
+    }
+
+    /// How many names were seen.
+    pub fn name_count(&self) -> usize
+        ensures { result ≡ length self.now.names }
+    {
+        self.names.len()
+    }
+
+    /// How many of them are arrays.
+    pub fn arrays(&self) -> u16
+        ensures { result ≡ self.now.arrays }
+    {
+        self.arrays
+    }
+
+    /// There are so many arrays now.
+    pub fn set_arrays(&mut self, arrays: u16)
+        ensures { self.new ≡ record self.old { arrays = arrays } }
+    {
+        self.arrays = arrays;
+    }
+
+    /// The name of this number has this kind now, where it is there.
+    #[tactic(auto, unfolding(crate::specs::Refs::with_kind))]
+    pub fn set_kind(&mut self, at: usize, kind: Kind)
+        ensures { self.new ≡ with_kind at kind self.old }
+    {
+        if at < self.kinds.len() {
+            self.kinds[at] = kind;
+        }
     }
 
     /// Takes a name that is new as a parameter, and gives the place of its coefficient.

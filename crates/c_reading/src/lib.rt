@@ -9,6 +9,8 @@ mod input;
 mod lines;
 mod named;
 mod numbers;
+mod refs;
+mod rows;
 
 pub use error::{ReadError, ReadFault};
 pub use lines::{Access, Line, Loop, Row, Statement};

@@ -1,7 +1,8 @@
 //! The lines of a program.
 
-ghost use Rattle.std.specs.Prelude.{◌≡◌, ◌++◌, ◌∷◌, [], OnOk, IfOk, length};
+ghost use Rattle.std.specs.Prelude.{◌≡◌, IfOk};
 
+use crate::rows::Rows;
 use affine_form::Name;
 use std::alloc::{AllocError, Global};
 use std::marker::Model;
@@ -24,7 +25,7 @@ impl Model for Row {
 #[derive(Debug, Drop)]
 pub struct Access {
     array: u16,
-    subscripts: Vec<Row>,
+    subscripts: Rows,
 }
 
 impl Model for Access {
@@ -32,7 +33,7 @@ impl Model for Access {
 
     ghost Value = { SpecAccess };
 
-    ghost view = { λ a. record { array = a.array; subscripts = a.subscripts.items } };
+    ghost view = { λ a. record { array = a.array; subscripts = a.subscripts } };
 }
 
 /// A statement: the reference that it writes, and those that it reads in order, repeats included.
@@ -96,8 +97,8 @@ impl Row {
 
 impl Access {
     /// The reference to this array by these subscripts.
-    pub(crate) fn new(array: u16, subscripts: Vec<Row>) -> Access
-        ensures { result ≡ record { array = array; subscripts = subscripts.items } }
+    pub(crate) fn new(array: u16, subscripts: Rows) -> Access
+        ensures { result ≡ record { array = array; subscripts = subscripts } }
     {
         Access { array, subscripts }
     }
@@ -120,23 +121,11 @@ impl Access {
     pub fn try_clone(&self, alloc: Global) -> Result<Access, AllocError>
         ensures { IfOk result (λ access. access ≡ self.now) }
     {
-        let subscripts = copies(alloc, self.subscripts.as_slice())?;
         Ok(Access {
             array: self.array,
-            subscripts,
+            subscripts: self.subscripts.try_clone(alloc)?,
         })
     }
-}
-
-/// Copies of the rows. Want of memory is its only error.
-fn copies(alloc: Global, rows: &[Row]) -> Result<Vec<Row>, AllocError>
-    ensures { IfOk result (λ copies. copies.items ≡ rows.now) }
-{
-    let mut copies = Vec::new(alloc);
-    for row in rows {
-        copies.push(row.try_clone(alloc)?)?;
-    }
-    Ok(copies)
 }
 
 impl Statement {

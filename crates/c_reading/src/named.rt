@@ -10,5 +10,5 @@ pub enum Kind {
     /// A loop that was left, or whose header is read.
     ClosedLoop,
     /// An array, by its number, with its number of subscripts.
-    Array(u16, u8),
+    Array(u16, usize),
 }
