@@ -5,3 +5,4 @@ pub mod Affine
 pub mod Compare
 pub mod Head
 pub mod Refs
+pub mod Values

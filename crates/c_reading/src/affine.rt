@@ -172,7 +172,7 @@ fn sign_of(negative: bool) -> i32
 
 impl<'a> Reader<'a> {
     /// The signs in front of a factor, and whether they make it negative.
-    fn all_signs(&mut self) -> Result<bool, ReadError>
+    pub fn all_signs(&mut self) -> Result<bool, ReadError>
         ensures { Reads (spec.all_signs self.old) result self.new }
     {
         let mut negative = false;

@@ -36,6 +36,20 @@ impl<'a> Model for Reader<'a> {
     ghost view = { λ r. record { text = r.text.now; tokens = r.tokens.now; names = r.names.items; kinds = r.kinds.items; parameters = r.parameters; arrays = r.arrays; lines = r.lines.items; statements = r.statements } };
 }
 
+/// The first token, or an end where none is left.
+fn first_of(tokens: &[Token]) -> Token
+    ensures { result ≡ spec.first_of tokens.now }
+{
+    match tokens.split_first() {
+        Some((token, _)) => *token,
+        None => Token {
+            kind: TokenKind::End,
+            place: 0,
+            length: 0,
+        },
+    }
+}
+
 /// What follows so many bytes.
 fn behind(bytes: &[u8], count: usize) -> &[u8]
     ensures { result.now ≡ drop count bytes.now }
@@ -74,14 +88,7 @@ impl<'a> Reader<'a> {
     fn next_token(&self) -> Token
         ensures { result ≡ spec.next_token self.now }
     {
-        match self.tokens.split_first() {
-            Some((token, _)) => *token,
-            None => Token {
-                kind: TokenKind::End,
-                place: 0,
-                length: 0,
-            },
-        }
+        first_of(self.tokens)
     }
 
     /// What the next token is.
@@ -113,6 +120,15 @@ impl<'a> Reader<'a> {
         ensures { result ≡ spec.sees word.now self.now }
     {
         self.spelling() == word
+    }
+
+    /// Whether the token behind the next is this word or symbol.
+    #[tactic(auto, unfolding(crate::specs::Input::sees, crate::specs::Input::next, crate::specs::Input::spelling))]
+    pub fn sees_behind(&self, word: &[u8]) -> bool
+        ensures { result ≡ spec.sees word.now (spec.next self.now) }
+    {
+        let token = first_of(self.tokens.get(1..).unwrap_or(&[]));
+        front(behind(self.text, token.place), token.length) == word
     }
 
     /// How many tokens are left.

@@ -11,6 +11,7 @@ mod named;
 mod numbers;
 mod refs;
 mod rows;
+mod values;
 
 pub use error::{ReadError, ReadFault};
 pub use lines::{Access, Line, Loop, Row, Statement};
