@@ -6,3 +6,4 @@ pub mod Compare
 pub mod Head
 pub mod Refs
 pub mod Values
+pub mod Items

@@ -1,10 +1,11 @@
 //! The tokens of a text that are left, and the names that were seen.
 
-ghost use Rattle.std.specs.Prelude.{◌≡◌, length, take, drop, position, bytes_eq, OnOk, IfErr, ◌≤◌};
+ghost use Rattle.std.specs.Prelude.{◌≡◌, length, take, drop, position, bytes_eq, OnOk, IfErr, ◌≤◌, ◌<◌, ◌+◌};
 ghost use Rattle.c_reading.specs.Input as spec;
 ghost use Rattle.c_reading.specs.Input.{Reads};
 ghost use Rattle.c_reading.specs.Refs.{with_kind};
-ghost use Rattle.c_reading.specs.Affine.{kind_of, with_name, is_short, new_parameter, slot};
+ghost use Rattle.c_reading.specs.Items.{with_line};
+ghost use Rattle.c_reading.specs.Affine.{number_of, kind_of, with_name, is_short, new_parameter, slot};
 
 use crate::error::{ReadError, ReadFault};
 use crate::lines::Line;
@@ -191,6 +192,37 @@ impl<'a> Reader<'a> {
         let name = Name::new(Vec::from_slice(self.alloc, name)?);
         self.names.push(name)?;
         self.kinds.push(kind)?;
+        Ok(())
+    }
+
+    /// The number of a name among those that were seen.
+    pub fn number_of(&self, name: &[u8]) -> Option<usize>
+        ensures { result ≡ number_of name.now self.now }
+    {
+        number_of(self.names.as_slice(), name)
+    }
+
+    /// How many statements there are.
+    pub fn statements(&self) -> u8
+        ensures { result ≡ self.now.statements }
+    {
+        self.statements
+    }
+
+    /// There are so many statements now.
+    pub fn set_statements(&mut self, statements: u8)
+        ensures { self.new ≡ record self.old { statements = statements } }
+    {
+        self.statements = statements;
+    }
+
+    /// One line more of the program.
+    #[tactic(auto, unfolding(crate::specs::Items::with_line))]
+    pub fn add_line(&mut self, line: Line) -> Result<(), ReadError>
+        ensures added { OnOk result (self.new ≡ with_line line self.old) }
+        ensures memory { IfErr result (λ e. e ≡ ReadError.Memory) }
+    {
+        self.lines.push(line)?;
         Ok(())
     }
 

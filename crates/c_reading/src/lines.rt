@@ -3,7 +3,6 @@
 ghost use Rattle.std.specs.Prelude.{◌≡◌, IfOk};
 
 use crate::rows::Rows;
-use affine_form::Name;
 use std::alloc::{AllocError, Global};
 use std::marker::Model;
 
@@ -51,10 +50,10 @@ impl Model for Statement {
     ghost view = { λ s. record { writes = s.writes; reads = s.reads.items } };
 }
 
-/// A loop: its name, and the rows of its lower and its upper bound, both included.
+/// A loop: the number of its name among the names, and the rows of its lower and its upper bound, both included.
 #[derive(Debug, Drop)]
 pub struct Loop {
-    pub name: Name,
+    pub name: usize,
     pub lower: Row,
     pub upper: Row,
 }
