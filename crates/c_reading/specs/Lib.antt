@@ -7,3 +7,4 @@ pub mod Head
 pub mod Refs
 pub mod Values
 pub mod Items
+pub mod Text

@@ -5,11 +5,14 @@ ghost use Rattle.c_reading.specs.Input as spec;
 ghost use Rattle.c_reading.specs.Input.{Reads};
 ghost use Rattle.c_reading.specs.Refs.{with_kind};
 ghost use Rattle.c_reading.specs.Items.{with_line};
+ghost use Rattle.c_reading.specs.Text.{start_of};
 ghost use Rattle.c_reading.specs.Affine.{number_of, kind_of, with_name, is_short, new_parameter, slot};
 
 use crate::error::{ReadError, ReadFault};
 use crate::lines::Line;
 use crate::named::Kind;
+use crate::rows::Rows;
+use crate::text::Reading;
 use affine_form::Name;
 use c_tokens::{Token, TokenKind};
 use std::alloc::Global;
@@ -80,6 +83,37 @@ pub(crate) fn is_short(name: &[u8]) -> bool
 }
 
 impl<'a> Reader<'a> {
+    /// A text with all its tokens left.
+    pub fn new(alloc: Global, text: &'a [u8], tokens: &'a [Token]) -> Reader<'a>
+        ensures { result ≡ start_of text.now tokens.now }
+    {
+        Reader {
+            alloc,
+            text,
+            tokens,
+            names: Vec::new(alloc),
+            kinds: Vec::new(alloc),
+            parameters: 0,
+            arrays: 0,
+            lines: Vec::new(alloc),
+            statements: 0,
+        }
+    }
+
+    /// What was read, with these assumptions.
+    pub fn into_reading(self, assumptions: Rows) -> Reading
+        ensures { result ≡ record { names = self.entry.names; kinds = self.entry.kinds; assumptions = assumptions; lines = self.entry.lines } }
+    {
+        Reading::new(self.names, self.kinds, assumptions, self.lines)
+    }
+
+    /// How many of the names are parameters.
+    pub fn parameters(&self) -> u8
+        ensures { result ≡ self.now.parameters }
+    {
+        self.parameters
+    }
+
     /// Where memory comes from.
     pub fn alloc(&self) -> Global {
         self.alloc

@@ -13,8 +13,10 @@ mod named;
 mod numbers;
 mod refs;
 mod rows;
+mod text;
 mod values;
 
 pub use error::{ReadError, ReadFault};
 pub use lines::{Access, Line, Loop, Row, Statement};
 pub use named::Kind;
+pub use text::{Reading, read_text};
