@@ -1,6 +1,6 @@
 -- Sizes of products, and numbers that are added to a list.
-use Rattle.std.proofs.Common.{◌≡◌, ℕ, ◌+◌, ◌*◌, ◌≤◌, ◌^◌, List, [], ◌∷◌, ◌++◌, refl, ap, sym, ◌∙◌, arith, ℤ, pos, append_assoc}
-use Rattle.std.specs.Prelude.{◌*ℤ◌, unsigned_abs, Option, Some, None, option_map}
+use Rattle.std.proofs.Common.{◌≡◌, ◌*◌, ◌≤◌, ◌^◌, List, [], ◌∷◌, ◌++◌, refl, ap, sym, ◌∙◌, arith, ℤ, pos, append_assoc}
+use Rattle.std.specs.Prelude.{◌*ℤ◌, unsigned_abs, Option, Some, None}
 use Rattle.std.proofs.lemmas.Int.{unsigned_abs-mul}
 use Rattle.std.proofs.Math.Nat.{mul-le-mul}
 use Rattle.c_reading.specs.Numbers.{number_before, numbers_behind, small_number, plus_times}

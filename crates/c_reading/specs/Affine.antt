@@ -1,5 +1,5 @@
 -- Affine expressions: a sum of products of factors, with at most one factor that has a name in each product.
-use Rattle.std.specs.Prelude.{ℕ, zero, suc, ◌+◌, ◌^◌, ◌==◌, ◌&&◌, ◌||◌, nat_lt, nat_le, Bool, true, false, not, if◌then◌else◌, ℤ, pos, negsuc, List, [], ◌∷◌, ◌++◌, length, position, slice_get, option_and_then, bytes_eq, Option, Some, None, Result, Ok, Err, codes}
+use Rattle.std.specs.Prelude.{ℕ, zero, suc, ◌+◌, ◌^◌, ◌&&◌, ◌||◌, nat_lt, nat_le, Bool, true, false, not, if◌then◌else◌, ℤ, pos, negsuc, List, [], ◌∷◌, ◌++◌, length, position, slice_get, option_and_then, bytes_eq, Option, Some, None, Result, Ok, Err, codes}
 use Rattle.c_reading.specs.declared.named.Kind.{Kind}
 use Rattle.c_reading.specs.declared.named.Kind.TheVariants.{Parameter, OpenLoop, ClosedLoop, Array}
 use Rattle.c_reading.specs.declared.error.ReadFault.{ReadFault}

@@ -1,5 +1,5 @@
 -- Comparisons of affine expressions, and the rows that they mean: forms that are at least 0.
-use Rattle.std.specs.Prelude.{ℕ, zero, suc, ◌+◌, nat_le, Bool, true, false, if◌then◌else◌, ℤ, pos, negsuc, List, [], ◌∷◌, ◌++◌, length, Option, Some, None, Result, Ok, Err, codes}
+use Rattle.std.specs.Prelude.{ℕ, ◌+◌, nat_le, if◌then◌else◌, ℤ, pos, negsuc, List, [], ◌∷◌, ◌++◌, length, Option, Some, None, Result, Ok, Err, codes}
 use Rattle.c_reading.specs.declared.error.ReadFault.{ReadFault}
 use Rattle.c_reading.specs.declared.compare.Comparison.{Comparison}
 use Rattle.c_reading.specs.declared.compare.Comparison.TheVariants.{AtLeast, Above, AtMost, Below, Equal}

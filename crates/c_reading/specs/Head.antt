@@ -1,12 +1,9 @@
 -- The directives before a program: lines that name parameters, and lines that assume.
-use Rattle.std.specs.Prelude.{ℕ, zero, suc, Bool, true, false, if◌then◌else◌, ℤ, List, [], ◌∷◌, Option, Some, None, Result, Ok, Err, codes, length}
+use Rattle.std.specs.Prelude.{ℕ, zero, suc, Bool, true, false, if◌then◌else◌, [], Ok, Err, codes}
 use Rattle.c_tokens.specs.declared.token.TokenKind.{TokenKind}
 use Rattle.c_tokens.specs.declared.token.TokenKind.TheVariants as token
-use Rattle.c_tokens.specs.declared.token.Token.{Token}
-use Rattle.c_tokens.specs.Text.{tokens_of}
-use Rattle.c_reading.specs.declared.error.ReadFault.{ReadFault}
-use Rattle.c_reading.specs.Input.{Input, Rule, ◌>>=◌, ◌>>◌, pure, pass, refuse, sees, kind, left, is_name_kind, next}
-use Rattle.c_reading.specs.Affine.{Affine, refusal_after, slot}
+use Rattle.c_reading.specs.Input.{Rule, ◌>>=◌, pass, refuse, sees, kind, left, is_name_kind, next}
+use Rattle.c_reading.specs.Affine.{refusal_after, slot}
 use Rattle.c_reading.specs.Compare.{Rows, Compared, compare}
 
 abbrev pub is_line_end : TokenKind → Bool

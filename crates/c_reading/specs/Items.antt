@@ -1,5 +1,5 @@
 -- Items: statements, loops and blocks. What they say is added to the program's lines.
-use Rattle.std.specs.Prelude.{ℕ, zero, suc, ◌+◌, ◌-◌, ◌==◌, ◌||◌, nat_le, Bool, true, false, not, if◌then◌else◌, ℤ, pos, List, [], ◌∷◌, ◌++◌, length, Option, Some, None, option_and_then, Result, Ok, Err, codes}
+use Rattle.std.specs.Prelude.{ℕ, zero, suc, ◌+◌, ◌-◌, ◌||◌, nat_le, Bool, true, false, not, if◌then◌else◌, ℤ, pos, List, [], ◌∷◌, ◌++◌, length, Option, Some, None, Result, Ok, Err, codes}
 use Rattle.c_tokens.specs.declared.token.TokenKind.{TokenKind}
 use Rattle.c_tokens.specs.declared.token.TokenKind.TheVariants as token
 use Rattle.c_reading.specs.declared.named.Kind.{Kind}
@@ -12,7 +12,7 @@ use Rattle.c_reading.specs.Access.{Access}
 use Rattle.c_reading.specs.Input.{Input, Rule, ◌>>=◌, ◌>>◌, pure, given, fault, fault_at, pass, refuse, sees, spelling, place, next, left, is_name_kind}
 use Rattle.c_reading.specs.Input as input
 use Rattle.c_reading.specs.Numbers.{most_loops, combined, zeros}
-use Rattle.c_reading.specs.Affine.{Affine, affine, closed_by, number_of, kind_of, with_name, is_short}
+use Rattle.c_reading.specs.Affine.{affine, closed_by, number_of, kind_of, with_name, is_short}
 use Rattle.c_reading.specs.Refs.{access, with_kind}
 use Rattle.c_reading.specs.Values.{Accesses, expect, open_bracket, value}
 

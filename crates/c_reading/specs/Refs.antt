@@ -1,11 +1,11 @@
 -- References: an array's name with its subscripts.
-use Rattle.std.specs.Prelude.{ℕ, zero, suc, ◌+◌, ◌-◌, ◌==◌, not, ◌&&◌, nat_le, nat_lt, Bool, true, false, if◌then◌else◌, ℤ, List, [], ◌∷◌, ◌++◌, length, slice_set, Option, Some, None, Ok, Err, codes}
+use Rattle.std.specs.Prelude.{ℕ, zero, suc, ◌+◌, ◌-◌, ◌==◌, not, ◌&&◌, nat_le, nat_lt, if◌then◌else◌, ℤ, List, [], ◌∷◌, ◌++◌, length, slice_set, Option, Some, None, Ok, codes}
 use Rattle.c_reading.specs.declared.named.Kind.{Kind}
 use Rattle.c_reading.specs.declared.named.Kind.TheVariants as kind
 use Rattle.c_reading.specs.declared.refs.Seen.{Seen}
 use Rattle.c_reading.specs.Access.{Access}
 use Rattle.c_reading.specs.Input.{Input, Rule, ◌>>=◌, ◌>>◌, pure, fault, fault_at, pass, refuse, sees, spelling, place, next, left}
-use Rattle.c_reading.specs.Affine.{Affine, affine, closed_by, kind_of, with_name, is_short}
+use Rattle.c_reading.specs.Affine.{affine, closed_by, kind_of, with_name, is_short}
 
 -- how many arrays, and how many subscripts there may be
 abbrev pub most_arrays : ℕ

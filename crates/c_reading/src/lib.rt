@@ -13,6 +13,8 @@ mod named;
 mod numbers;
 mod refs;
 mod rows;
+#[cfg(test)]
+mod tests;
 mod text;
 mod values;
 

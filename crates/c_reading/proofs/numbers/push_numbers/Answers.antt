@@ -1,4 +1,4 @@
-use Rattle.std.proofs.Common.{rules, arith, sym, ◌∙◌}
+use Rattle.std.proofs.Common.{rules}
 use Rattle.c_reading.proofs.Sizes.{numbers_next}
 use Rattle.c_reading.proofs.numbers.push_numbers.Goals as goal
 

@@ -1,4 +1,4 @@
-use Rattle.std.proofs.Common.{◌≡◌, ℕ, ◌-◌, ◌<◌, rules, arith, ap}
+use Rattle.std.proofs.Common.{◌≡◌, rules, arith, ap}
 use Rattle.std.proofs.lemmas.Grind.{common_steps}
 use Rattle.c_reading.specs.Affine.{atom, factor, term, products, affine, affine_by, sums, bracketed}
 use Rattle.c_reading.proofs.Turns.{one_more, no_more, deeper}

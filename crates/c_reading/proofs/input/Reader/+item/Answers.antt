@@ -1,4 +1,4 @@
-use Rattle.std.proofs.Common.{◌≡◌, ℕ, ◌-◌, ◌<◌, rules, arith, ap}
+use Rattle.std.proofs.Common.{◌≡◌, rules, arith, ap}
 use Rattle.std.proofs.lemmas.Grind.{common_steps}
 use Rattle.c_reading.specs.Items.{item, item_over, item_by, block, block_items, all_block_items, for_loop, loops}
 use Rattle.c_reading.proofs.Turns.{one_more, no_more, deeper}
