@@ -1,5 +1,6 @@
 pub mod Bytes
 pub mod Words
+pub mod Compared
 pub mod Lines
 pub mod Pieces
 pub mod Tokens

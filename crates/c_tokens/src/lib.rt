@@ -4,6 +4,7 @@
 mod bytes;
 mod directives;
 mod error;
+mod law;
 mod lines;
 mod piece;
 mod scan;
@@ -14,5 +15,6 @@ mod token;
 mod words;
 
 pub use error::TokensError;
+pub use law::lines_are_compared;
 pub use text::tokens;
 pub use token::{Token, TokenKind};
