@@ -8,3 +8,4 @@ pub mod Refs
 pub mod Values
 pub mod Items
 pub mod Text
+pub mod Names

@@ -2,6 +2,7 @@
 #![tactic(auto)]
 
 mod affine;
+mod among;
 mod compare;
 mod error;
 mod head;

@@ -154,6 +154,13 @@ fn reads_a_product(rt: HostRuntime) -> Result<(), Fail> {
         Kind::Array(4, 2),
     ];
     assert!(rt; reading.kinds() == &kinds[..]);
+    assert!(rt; reading.parameters(rt.alloc())?.len() == 3);
+    let subscripts = [2, 0, 0, 2, 2];
+    let arrays = reading.arrays(rt.alloc())?;
+    assert!(rt; arrays.len() == subscripts.len());
+    for ((_, count), expected) in arrays.iter().zip(&subscripts) {
+        assert!(rt; *count == *expected);
+    }
     assert!(rt; reading.assumptions().len() == 3);
     let mut reads = 0_usize;
     for line in reading.lines() {

@@ -2,8 +2,10 @@
 
 ghost use Rattle.std.specs.Prelude.{◌≡◌, IfOk};
 ghost use Rattle.c_reading.specs.Input.{Reads, Gives};
+ghost use Rattle.c_reading.specs.Names.{parameters_among, arrays_among};
 ghost use Rattle.c_reading.specs.Text as spec;
 
+use crate::among::{arrays_among, parameters_among};
 use crate::error::{ReadError, ReadFault};
 use crate::head::Head;
 use crate::input::Reader;
@@ -11,7 +13,7 @@ use crate::lines::{Line, Row};
 use crate::named::Kind;
 use crate::numbers::single;
 use crate::rows::Rows;
-use affine_form::Name;
+use affine_form::{Memory, Name};
 use c_tokens::{Token, TokensError, tokens};
 use std::alloc::{AllocError, Global};
 use std::marker::Model;
@@ -63,6 +65,20 @@ impl Reading {
         ensures { result.now ≡ self.now.kinds }
     {
         self.kinds.as_slice()
+    }
+
+    /// The parameters, in order of first sight. Want of memory is its only error.
+    pub fn parameters(&self, alloc: Global) -> Result<Vec<Name>, Memory>
+        ensures { IfOk result (λ names. names.items ≡ parameters_among self.now.names self.now.kinds) }
+    {
+        parameters_among(alloc, self.names.as_slice(), self.kinds.as_slice())
+    }
+
+    /// The arrays with their numbers of subscripts, in order of first sight. Want of memory is its only error.
+    pub fn arrays(&self, alloc: Global) -> Result<Vec<(Name, usize)>, Memory>
+        ensures { IfOk result (λ arrays. arrays.items ≡ arrays_among self.now.names self.now.kinds) }
+    {
+        arrays_among(alloc, self.names.as_slice(), self.kinds.as_slice())
     }
 
     /// The rows that are assumed to be at least 0.
