@@ -1,0 +1,6 @@
+use Rattle.std.proofs.Common.{◌≡◌, ◌-◌}
+use Rattle.c_reading.specs.Head.{compares, all_compares}
+use Rattle.c_reading.proofs.input.Reader.compares.Given as goal
+
+abbrev pub invariant-loop-turn : goal.invariant-loop-turn
+invariant-loop-turn l = all_compares l.fn.rows l.fn.self ≡ compares (l._turn-end - l._turn) l.rows l.self

@@ -1,0 +1,6 @@
+use Rattle.std.proofs.Common.{◌≡◌, ◌-◌}
+use Rattle.c_reading.specs.Items.{items, all_items}
+use Rattle.c_reading.proofs.input.Reader.items.Given as goal
+
+abbrev pub invariant-loop-turn : goal.invariant-loop-turn
+invariant-loop-turn l = all_items l.fn.self ≡ items (l._turn-end - l._turn) l.self

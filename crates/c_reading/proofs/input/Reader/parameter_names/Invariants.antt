@@ -1,0 +1,6 @@
+use Rattle.std.proofs.Common.{◌≡◌, ◌-◌}
+use Rattle.c_reading.specs.Head.{parameter_names, all_parameter_names}
+use Rattle.c_reading.proofs.input.Reader.parameter_names.Given as goal
+
+abbrev pub invariant-loop-turn : goal.invariant-loop-turn
+invariant-loop-turn l = all_parameter_names l.fn.self ≡ parameter_names (l._turn-end - l._turn) l.self

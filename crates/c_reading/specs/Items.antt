@@ -1,0 +1,243 @@
+-- Items: statements, loops and blocks. What they say is added to the program's lines.
+use Rattle.std.specs.Prelude.{ℕ, zero, suc, ◌+◌, ◌-◌, ◌||◌, nat_le, Bool, true, false, not, if◌then◌else◌, ℤ, pos, List, [], ◌∷◌, ◌++◌, length, Option, Some, None, Result, Ok, Err, codes}
+use Rattle.c_tokens.specs.declared.token.TokenKind.{TokenKind}
+use Rattle.c_tokens.specs.declared.token.TokenKind.TheVariants as token
+use Rattle.c_reading.specs.declared.named.Kind.{Kind}
+use Rattle.c_reading.specs.declared.named.Kind.TheVariants as kind
+use Rattle.c_reading.specs.declared.lines.Loop.{Loop}
+use Rattle.c_reading.specs.declared.lines.Line.{Line}
+use Rattle.c_reading.specs.declared.lines.Line.TheVariants as line
+use Rattle.c_reading.specs.declared.error.ReadFault.{ReadFault}
+use Rattle.c_reading.specs.Access.{Access}
+use Rattle.c_reading.specs.Input.{Input, Rule, ◌>>=◌, ◌>>◌, pure, given, fault, fault_at, pass, refuse, sees, spelling, place, next, left, is_name_kind}
+use Rattle.c_reading.specs.Input as input
+use Rattle.c_reading.specs.Numbers.{most_loops, combined, zeros}
+use Rattle.c_reading.specs.Affine.{affine, closed_by, number_of, kind_of, with_name, is_short}
+use Rattle.c_reading.specs.Refs.{access, with_kind}
+use Rattle.c_reading.specs.Values.{Accesses, expect, open_bracket, value}
+
+-- how many statements there may be
+abbrev pub most_statements : ℕ
+most_statements = 32
+
+-- one line more
+unfoldable pub with_line : Line → Input → Input
+with_line l i = record i { lines = i.lines ++ l ∷ [] }
+
+abbrev pub add_line : Line → Rule (Unit {0})
+add_line l i = Ok (tt, with_line l i)
+
+-- ---- statements
+
+-- an assignment's operator, and whether the reference that is written is read before
+unfoldable pub operator : Rule Bool
+operator i =
+    if sees (codes "=") i then Ok (false, next i)
+    else (if sees (codes "+=") i || sees (codes "-=") i || sees (codes "*=") i || sees (codes "/=") i then Ok (true, next i)
+    else refuse i)
+
+abbrev pub first_reads : Bool → Access → Accesses
+first_reads true writes = writes ∷ []
+first_reads false writes = []
+
+-- a statement's line
+unfoldable pub add_statement : Access → Accesses → Rule (Unit {0})
+add_statement writes reads i = Ok (tt, with_line (line.Does (record { writes = writes; reads = reads })) i)
+
+-- there are so many statements now
+unfoldable pub count_statements : ℕ → Rule (Unit {0})
+count_statements count i = Ok (tt, record i { statements = count })
+
+unfoldable pub assign : ℕ → Rule (Unit {0})
+assign brackets = do
+  writes ← access brackets
+  updates ← operator
+  reads ← value brackets (first_reads updates writes)
+  add_statement writes reads
+
+-- whether a name may be written: it is new, or an array
+abbrev pub is_array : Option Kind → Bool
+is_array None = true
+is_array (Some (kind.Parameter k)) = false
+is_array (Some (kind.OpenLoop depth)) = false
+is_array (Some kind.ClosedLoop) = false
+is_array (Some (kind.Array number subscripts)) = true
+
+-- a statement, where there aren't too many
+unfoldable pub statement : ℕ → Rule (Unit {0})
+statement brackets i =
+    if not (is_array (kind_of (spelling i) i)) then fault 6 i
+    else (if nat_le most_statements i.statements then fault 10 i
+    else (assign brackets >> count_statements (i.statements + 1) >> expect (codes ";")) i)
+
+-- ---- headers
+
+-- a new name, which becomes a loop's, where it has 1 to 64 bytes. Its number among the names.
+unfoldable pub new_loop : Rule ℕ
+new_loop i = if is_short (spelling i) then Ok (length i.names, next (with_name (spelling i) kind.ClosedLoop i)) else fault 10 i
+
+abbrev pub loop_again : Option ℕ → Rule ℕ
+loop_again None = fault 7
+loop_again (Some at) = pass >> pure at
+
+-- the name of a loop, by its kind: a new name, or that of a loop that was left
+abbrev pub loop_name_by : Option ℕ → Option Kind → Rule ℕ
+loop_name_by at None = new_loop
+loop_name_by at (Some kind.ClosedLoop) = loop_again at
+loop_name_by at (Some (kind.Parameter k)) = fault 7
+loop_name_by at (Some (kind.OpenLoop depth)) = fault 7
+loop_name_by at (Some (kind.Array number subscripts)) = fault 7
+
+unfoldable pub loop_name : Rule ℕ
+loop_name i =
+    if is_name_kind (input.kind i) then loop_name_by (number_of (spelling i) i) (kind_of (spelling i) i) i else refuse i
+
+-- how much less than the expression the bound is
+unfoldable pub comparison : Rule ℤ
+comparison i =
+    if sees (codes "<") i then Ok (pos 1, next i)
+    else (if sees (codes "<=") i then Ok (pos 0, next i)
+    else (if sees (codes ">") i || sees (codes ">=") i then fault 5 i
+    else refuse i))
+
+abbrev pub bound_of : ℕ → Option (List ℤ) → Result (List ℤ) ReadFault
+bound_of start None = Err (record { number = 11; place = start })
+bound_of start (Some numbers) = Ok numbers
+
+-- the expression less this much, where its numbers are small; else fault 11 where the expression begins
+unfoldable pub bound : ℕ → ℤ → List ℤ → Result (List ℤ) ReadFault
+bound start less numbers = bound_of start (combined (pos 1) less zeros numbers)
+
+-- why no step goes on with the next token: what isn't a token at all keeps its fault, else the step isn't of a stated form
+abbrev pub step_fault : ℕ → TokenKind → ℕ → ReadFault
+step_fault start token.Bad there = record { number = 2; place = there }
+step_fault start token.Directive there = record { number = 3; place = there }
+step_fault start _ there = record { number = 5; place = start }
+
+unfoldable pub refusal_in_step : ℕ → Input → ReadFault
+refusal_in_step start i = step_fault start (input.kind i) (place i)
+
+unfoldable pub expect_in_step : ℕ → List ℕ → Rule (Unit {0})
+expect_in_step start word i = if sees word i then Ok (tt, next i) else Err (refusal_in_step start i)
+
+-- a step by one behind the loop's name
+unfoldable pub step_behind_name : ℕ → List ℕ → Rule (Unit {0})
+step_behind_name start name i =
+    if sees (codes "++") i then Ok (tt, next i)
+    else (if sees (codes "+=") i then expect_in_step start (codes "1") (next i)
+    else (if sees (codes "=") i then (expect_in_step start name >> expect_in_step start (codes "+") >> expect_in_step start (codes "1")) (next i)
+    else Err (refusal_in_step start i)))
+
+-- a step by one
+unfoldable pub step : List ℕ → Rule (Unit {0})
+step name i =
+    if sees name i then step_behind_name (place i) name (next i)
+    else (if sees (codes "++") i then expect_in_step (place i) name (next i)
+    else Err (refusal_in_step (place i) i))
+
+unfoldable pub skip_int : Input → Input
+skip_int i = if sees (codes "int") i then next i else i
+
+-- the lower bound behind a loop's name
+unfoldable pub lower_bound : ℕ → Rule (List ℤ)
+lower_bound brackets = do
+  expect (codes "=")
+  a ← affine brackets None
+  b ← closed_by (codes ";") a
+  pure b.numbers
+
+unfoldable pub upper_from : ℕ → ℕ → ℤ → Rule (List ℤ)
+upper_from brackets start less = do
+  a ← affine brackets None
+  numbers ← given (bound start less a.numbers)
+  closed_by (codes ";") a
+  pure numbers
+
+-- the upper bound of the loop of this name
+unfoldable pub upper_bound : ℕ → List ℕ → Rule (List ℤ)
+upper_bound brackets name = do
+  expect name
+  less ← comparison
+  λ i. upper_from brackets (place i) less i
+
+-- a header behind its bracket, of the loop of this name
+unfoldable pub header_of : ℕ → List ℕ → Rule Loop
+header_of brackets name = do
+  at ← loop_name
+  lower ← lower_bound brackets
+  upper ← upper_bound brackets name
+  step name
+  expect (codes ")")
+  pure (record { name = at; lower = lower; upper = upper })
+
+-- `for`, and the bracket behind it
+unfoldable pub for_bracket : ℕ → Rule (Unit {0})
+for_bracket brackets i = if sees (codes "(") (next i) then open_bracket brackets (next i) else refuse (next i)
+
+unfoldable pub header : ℕ → Rule Loop
+header brackets = for_bracket brackets >> (λ i. header_of (brackets - 1) (spelling (skip_int i)) (skip_int i))
+
+-- ---- loops and blocks
+
+-- the loop of this header begins at this depth, and ends
+unfoldable pub opened : ℕ → Loop → Rule (Unit {0})
+opened depth h i = Ok (tt, with_kind h.name (kind.OpenLoop depth) (with_line (line.Begin h) i))
+
+unfoldable pub closed : ℕ → Rule (Unit {0})
+closed at i = Ok (tt, with_kind at kind.ClosedLoop (with_line line.End i))
+
+-- a loop at this depth over this item
+unfoldable pub for_loop : Rule (Unit {0}) → ℕ → ℕ → Rule (Unit {0})
+for_loop item depth brackets = do
+  h ← header brackets
+  opened depth h
+  item
+  closed h.name
+
+-- items up to the bracket that closes the block. The number bounds the turns, and each turn takes a token.
+unfoldable pub block_items : Rule (Unit {0}) → ℕ → Rule (Unit {0})
+block_items item zero i = refuse i
+block_items item (suc turns) i =
+    if sees (codes "}") i then Ok (tt, next i) else (item >> block_items item turns) i
+
+unfoldable pub all_block_items : Rule (Unit {0}) → Rule (Unit {0})
+all_block_items item i = block_items item (left i) i
+
+-- an item, over what a block and a loop are
+unfoldable pub item_by : Rule (Unit {0}) → Rule (Unit {0}) → ℕ → Rule (Unit {0})
+item_by block loop brackets i =
+    if sees (codes ";") i then Ok (tt, next i)
+    else (if sees (codes "{") i then block i
+    else (if sees (codes "for") i then loop i
+    else (if sees (codes "if") i then fault 12 i
+    else (if is_name_kind (input.kind i) then statement brackets i
+    else refuse i))))
+
+-- a block, over what a loop is, where so many brackets may still be opened
+unfoldable pub block : (ℕ → Rule (Unit {0})) → ℕ → Rule (Unit {0})
+block loop zero i = fault 9 i
+block loop (suc brackets) i = all_block_items (item_by (block loop brackets) (loop brackets) brackets) (next i)
+
+unfoldable pub item_over : (ℕ → Rule (Unit {0})) → ℕ → Rule (Unit {0})
+item_over loop brackets = item_by (block loop brackets) (loop brackets) brackets
+
+-- a loop, where so many loops and brackets may still be opened
+unfoldable pub loops : ℕ → ℕ → Rule (Unit {0})
+loops zero brackets i = fault 9 i
+loops (suc more) brackets i = for_loop (item_over (loops more) brackets) (most_loops - 1 - more) brackets i
+
+-- an item, where so many loops and brackets may still be opened
+unfoldable pub item : ℕ → ℕ → Rule (Unit {0})
+item more brackets = item_over (loops more) brackets
+
+abbrev pub is_end : TokenKind → Bool
+is_end token.End = true
+is_end _ = false
+
+-- items up to the closing line
+unfoldable pub items : ℕ → Rule (Unit {0})
+items zero i = refuse i
+items (suc turns) i = if is_end (input.kind i) then Ok (tt, i) else (item most_loops 64 >> items turns) i
+
+unfoldable pub all_items : Rule (Unit {0})
+all_items i = items (left i) i

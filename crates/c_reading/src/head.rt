@@ -1,0 +1,119 @@
+//! The directives before a program.
+
+ghost use Rattle.std.specs.Prelude.{◌≡◌};
+ghost use Rattle.c_reading.specs.Input.{Reads, is_name_kind};
+ghost use Rattle.c_reading.specs.Head as spec;
+
+use crate::compare::Compared;
+use crate::error::ReadError;
+use crate::input::Reader;
+use crate::rows::Rows;
+use c_tokens::TokenKind;
+use std::marker::Model;
+
+/// What the directives say: the rows that are assumed, and whether a line assumes.
+#[derive(Drop)]
+pub(crate) struct Head {
+    pub assumed: bool,
+    pub rows: Rows,
+}
+
+impl Model for Head {
+    ghost use Rattle.c_reading.specs.Head.{Head as SpecHead};
+
+    ghost Value = { SpecHead };
+
+    ghost view = { λ h. record { assumed = h.assumed; rows = h.rows } };
+}
+
+fn is_line_end(kind: TokenKind) -> bool
+    ensures { result ≡ spec.is_line_end kind }
+{
+    matches!(kind, TokenKind::LineEnd)
+}
+
+fn is_name(kind: TokenKind) -> bool
+    ensures { result ≡ is_name_kind kind }
+{
+    matches!(kind, TokenKind::Name)
+}
+
+fn is_parameters(kind: TokenKind) -> bool
+    ensures { result ≡ spec.is_parameters kind }
+{
+    matches!(kind, TokenKind::Parameters)
+}
+
+fn is_assumptions(kind: TokenKind) -> bool
+    ensures { result ≡ spec.is_assumptions kind }
+{
+    matches!(kind, TokenKind::Assumptions)
+}
+
+impl<'a> Reader<'a> {
+    /// Names up to the line's end, each a parameter.
+    fn parameter_names(&mut self) -> Result<(), ReadError>
+        ensures { Reads (spec.all_parameter_names self.old) result self.new }
+    {
+        for _turn in 0..self.left() {
+            if is_line_end(self.kind()) {
+                self.pass();
+                return Ok(());
+            }
+            if !is_name(self.kind()) {
+                return Err(ReadError::Fault(self.refusal()));
+            }
+            self.slot()?;
+        }
+        Err(ReadError::Fault(self.refusal()))
+    }
+
+    /// The rows, where the line ends behind a compare.
+    #[tactic(auto, unfolding(crate::specs::Head::closed_line))]
+    fn closed_line(&mut self, compared: Compared) -> Result<Rows, ReadError>
+        ensures { Reads (spec.closed_line compared self.old) result self.new }
+    {
+        if !is_line_end(self.kind()) {
+            return Err(ReadError::Fault(self.refusal_after(&compared.last)));
+        }
+        self.pass();
+        Ok(compared.rows)
+    }
+
+    /// Compares up to the line's end, with `&&` between them.
+    fn compares(&mut self, rows: Rows) -> Result<Rows, ReadError>
+        ensures { Reads (spec.all_compares rows self.old) result self.new }
+    {
+        let mut rows = rows;
+        for _turn in 0..self.left() {
+            let compared = self.compare(rows)?;
+            if !self.sees(b"&&") {
+                return self.closed_line(compared);
+            }
+            self.pass();
+            rows = compared.rows;
+        }
+        Err(ReadError::Fault(self.refusal()))
+    }
+
+    /// The directives in front.
+    pub fn head(&mut self) -> Result<Head, ReadError>
+        ensures { Reads (spec.head self.old) result self.new }
+    {
+        let mut assumed = false;
+        let mut rows = Rows::new(self.alloc());
+        for _turn in 0..self.left() {
+            if is_parameters(self.kind()) {
+                self.pass();
+                self.parameter_names()?;
+            } else if is_assumptions(self.kind()) {
+                self.pass();
+                rows = self.compares(rows)?;
+                assumed = true;
+            } else {
+                return Ok(Head { assumed, rows });
+            }
+        }
+        Err(ReadError::Fault(self.refusal()))
+    }
+}

@@ -1,0 +1,230 @@
+//! The headers of loops.
+
+ghost use Rattle.std.specs.Prelude.{◌≡◌, ◌≤◌, OnOk};
+ghost use Rattle.c_reading.specs.Input.{Reads, Gives};
+ghost use Rattle.c_reading.specs.Affine.{number_of};
+ghost use Rattle.c_reading.specs.Items as spec;
+
+use crate::error::{ReadError, ReadFault};
+use crate::input::{Reader, is_short};
+use crate::lines::{Loop, Row};
+use crate::named::Kind;
+use crate::numbers::{combined, zeros};
+use c_tokens::TokenKind;
+use std::alloc::Global;
+
+/// The expression less this much, where its numbers are small.
+#[tactic(auto, unfolding(crate::specs::Items::bound))]
+fn bound(alloc: Global, start: usize, less: i32, numbers: &[i32]) -> Result<Row, ReadError>
+    ensures { Gives (spec.bound start less numbers.now) result }
+{
+    let none = zeros(alloc)?;
+    match combined(alloc, 1, less, none.as_slice(), numbers)? {
+        Some(numbers) => Ok(Row::new(numbers)),
+        None => Err(ReadError::Fault(ReadFault {
+            number: 11,
+            place: start,
+        })),
+    }
+}
+
+/// Why no step goes on with a token of this kind there.
+fn step_fault(start: usize, kind: TokenKind, place: usize) -> ReadFault
+    ensures { result ≡ spec.step_fault start kind place }
+{
+    match kind {
+        TokenKind::Bad => ReadFault { number: 2, place },
+        TokenKind::Directive => ReadFault { number: 3, place },
+        _ => ReadFault {
+            number: 5,
+            place: start,
+        },
+    }
+}
+
+impl<'a> Reader<'a> {
+    /// The name of a loop: a new name, or that of a loop that was left. Its number among the names.
+    #[tactic(auto, unfolding(crate::specs::Items::loop_name))]
+    fn loop_name(&mut self) -> Result<usize, ReadError>
+        ensures { Reads (spec.loop_name self.old) result self.new }
+    {
+        if !matches!(self.kind(), TokenKind::Name) {
+            return Err(ReadError::Fault(self.refusal()));
+        }
+        let name = self.spelling();
+        match self.kind_of(name) {
+            None => self.new_loop(),
+            Some(Kind::ClosedLoop) => self.loop_again(name),
+            Some(Kind::Parameter(_) | Kind::OpenLoop(_) | Kind::Array(_, _)) => Err(self.fault(7)),
+        }
+    }
+
+    /// A new name, which becomes a loop's.
+    #[tactic(auto, unfolding(crate::specs::Items::new_loop))]
+    fn new_loop(&mut self) -> Result<usize, ReadError>
+        ensures { Reads (spec.new_loop self.old) result self.new }
+    {
+        let name = self.spelling();
+        if !is_short(name) {
+            return Err(self.fault(10));
+        }
+        let at = self.name_count();
+        self.add_name(name, Kind::ClosedLoop)?;
+        self.pass();
+        Ok(at)
+    }
+
+    /// The name of a loop that was left.
+    fn loop_again(&mut self, name: &[u8]) -> Result<usize, ReadError>
+        ensures { Reads (spec.loop_again (number_of name.now self.old) self.old) result self.new }
+    {
+        let Some(at) = self.number_of(name) else {
+            return Err(self.fault(7));
+        };
+        self.pass();
+        Ok(at)
+    }
+
+    /// How much less than the expression the bound is.
+    #[tactic(auto, unfolding(crate::specs::Items::comparison))]
+    fn less(&mut self) -> Result<i32, ReadError>
+        ensures { Reads (spec.comparison self.old) result self.new }
+    {
+        if self.sees(b"<") {
+            self.pass();
+            return Ok(1);
+        }
+        if self.sees(b"<=") {
+            self.pass();
+            return Ok(0);
+        }
+        if self.sees(b">") || self.sees(b">=") {
+            return Err(self.fault(5));
+        }
+        Err(ReadError::Fault(self.refusal()))
+    }
+
+    /// Why no step goes on with the next token.
+    #[tactic(auto, unfolding(crate::specs::Items::refusal_in_step))]
+    fn refusal_in_step(&self, start: usize) -> ReadFault
+        ensures { result ≡ spec.refusal_in_step start self.now }
+    {
+        step_fault(start, self.kind(), self.place())
+    }
+
+    /// Takes a token that has to follow in a step.
+    #[tactic(auto, unfolding(crate::specs::Items::expect_in_step))]
+    fn expect_in_step(&mut self, start: usize, word: &[u8]) -> Result<(), ReadError>
+        ensures { Reads (spec.expect_in_step start word.now self.old) result self.new }
+    {
+        if !self.sees(word) {
+            return Err(ReadError::Fault(self.refusal_in_step(start)));
+        }
+        self.pass();
+        Ok(())
+    }
+
+    /// A step by one behind the loop's name.
+    #[tactic(auto, unfolding(crate::specs::Items::step_behind_name))]
+    fn step_behind_name(&mut self, start: usize, name: &[u8]) -> Result<(), ReadError>
+        ensures { Reads (spec.step_behind_name start name.now self.old) result self.new }
+    {
+        if self.sees(b"++") {
+            self.pass();
+            return Ok(());
+        }
+        if self.sees(b"+=") {
+            self.pass();
+            return self.expect_in_step(start, b"1");
+        }
+        if !self.sees(b"=") {
+            return Err(ReadError::Fault(self.refusal_in_step(start)));
+        }
+        self.pass();
+        self.expect_in_step(start, name)?;
+        self.expect_in_step(start, b"+")?;
+        self.expect_in_step(start, b"1")
+    }
+
+    /// A step by one.
+    #[tactic(auto, unfolding(crate::specs::Items::step))]
+    fn step(&mut self, name: &[u8]) -> Result<(), ReadError>
+        ensures { Reads (spec.step name.now self.old) result self.new }
+    {
+        let start = self.place();
+        if self.sees(name) {
+            self.pass();
+            return self.step_behind_name(start, name);
+        }
+        if !self.sees(b"++") {
+            return Err(ReadError::Fault(self.refusal_in_step(start)));
+        }
+        self.pass();
+        self.expect_in_step(start, name)
+    }
+
+    /// The lower bound behind a loop's name.
+    #[tactic(auto, unfolding(crate::specs::Items::lower_bound))]
+    fn lower_bound(&mut self, brackets: u8) -> Result<Row, ReadError>
+        ensures { Reads (spec.lower_bound brackets self.old) result self.new }
+    {
+        self.expect(b"=")?;
+        let a = self.affine(brackets, None)?;
+        let a = self.closed_by(b";", a)?;
+        Ok(a.into_row())
+    }
+
+    /// The upper bound of the loop of this name.
+    #[tactic(auto, unfolding(crate::specs::Items::upper_bound, crate::specs::Items::upper_from))]
+    fn upper_bound(&mut self, brackets: u8, name: &[u8]) -> Result<Row, ReadError>
+        ensures { Reads (spec.upper_bound brackets name.now self.old) result self.new }
+    {
+        self.expect(name)?;
+        let less = self.less()?;
+        let start = self.place();
+        let a = self.affine(brackets, None)?;
+        let upper = bound(self.alloc(), start, less, a.numbers())?;
+        self.closed_by(b";", a)?;
+        Ok(upper)
+    }
+
+    /// A header behind its bracket, of the loop of this name.
+    #[tactic(auto, unfolding(crate::specs::Items::header_of))]
+    pub fn header_of(&mut self, brackets: u8, name: &[u8]) -> Result<Loop, ReadError>
+        ensures { Reads (spec.header_of brackets name.now self.old) result self.new }
+    {
+        let at = self.loop_name()?;
+        let lower = self.lower_bound(brackets)?;
+        let upper = self.upper_bound(brackets, name)?;
+        self.step(name)?;
+        self.expect(b")")?;
+        Ok(Loop {
+            name: at,
+            lower,
+            upper,
+        })
+    }
+
+    /// `for`, and the bracket behind it.
+    #[tactic(auto, unfolding(crate::specs::Items::for_bracket, crate::specs::Values::open_bracket))]
+    pub fn for_bracket(&mut self, brackets: u8) -> Result<(), ReadError>
+        ensures bracket { Reads (spec.for_bracket brackets self.old) result self.new }
+        ensures opened { OnOk result (1 ≤ brackets) }
+    {
+        self.pass();
+        if !self.sees(b"(") {
+            return Err(ReadError::Fault(self.refusal()));
+        }
+        self.open_bracket(brackets)
+    }
+
+    /// Passes the word `int`, where it stands there.
+    #[tactic(auto, unfolding(crate::specs::Items::skip_int))]
+    pub fn skip_int(&mut self)
+        ensures { self.new ≡ spec.skip_int self.old }
+    {
+        if self.sees(b"int") {
+            self.pass();
+        }
+    }
+}

@@ -1,0 +1,217 @@
+//! Items: statements, loops and blocks.
+
+ghost use Rattle.std.specs.Prelude.{◌≡◌, ◌≤◌, IfOk, IfErr};
+ghost use Rattle.c_reading.specs.Input.{Reads};
+ghost use Rattle.c_reading.specs.Items as spec;
+
+use crate::compare::MOST_BRACKETS;
+use crate::error::ReadError;
+use crate::input::Reader;
+use crate::lines::{Access, Line, Loop, Statement};
+use crate::named::Kind;
+use crate::values::Accesses;
+use c_tokens::TokenKind;
+
+/// How many statements there may be.
+const MOST_STATEMENTS: u8 = 32;
+
+/// How many loops there may be around a statement.
+const MOST_LOOPS: u8 = 4;
+
+/// Whether a name of this kind may be written.
+fn is_array(kind: Option<Kind>) -> bool
+    ensures { result ≡ spec.is_array kind }
+{
+    match kind {
+        None | Some(Kind::Array(_, _)) => true,
+        Some(Kind::Parameter(_) | Kind::OpenLoop(_) | Kind::ClosedLoop) => false,
+    }
+}
+
+fn is_end(kind: TokenKind) -> bool
+    ensures { result ≡ spec.is_end kind }
+{
+    matches!(kind, TokenKind::End)
+}
+
+impl<'a> Reader<'a> {
+    /// An assignment's operator, and whether the reference that is written is read before.
+    #[tactic(auto, unfolding(crate::specs::Items::operator))]
+    fn operator(&mut self) -> Result<bool, ReadError>
+        ensures { Reads (spec.operator self.old) result self.new }
+    {
+        if self.sees(b"=") {
+            self.pass();
+            return Ok(false);
+        }
+        if self.sees(b"+=") || self.sees(b"-=") || self.sees(b"*=") || self.sees(b"/=") {
+            self.pass();
+            return Ok(true);
+        }
+        Err(ReadError::Fault(self.refusal()))
+    }
+
+    /// The references that are read first.
+    fn first_reads(&self, updates: bool, writes: &Access) -> Result<Accesses, ReadError>
+        ensures value { IfOk result (λ reads. reads ≡ spec.first_reads updates writes.now) }
+        ensures memory { IfErr result (λ e. e ≡ ReadError.Memory) }
+    {
+        let mut reads = Accesses::new(self.alloc());
+        if updates {
+            reads.push(writes.try_clone(self.alloc())?)?;
+        }
+        Ok(reads)
+    }
+
+    /// One statement more.
+    #[tactic(auto, unfolding(crate::specs::Items::add_statement, crate::specs::Items::with_line))]
+    fn add_statement(&mut self, writes: Access, reads: Accesses) -> Result<(), ReadError>
+        ensures { Reads (spec.add_statement writes reads self.old) result self.new }
+    {
+        self.add_line(Line::Does(Statement::new(writes, reads.into_vec())))
+    }
+
+    /// An assignment.
+    #[tactic(auto, unfolding(crate::specs::Items::assign))]
+    fn assign(&mut self, brackets: u8) -> Result<(), ReadError>
+        ensures { Reads (spec.assign brackets self.old) result self.new }
+    {
+        let writes = self.access(brackets)?;
+        let updates = self.operator()?;
+        let reads = self.first_reads(updates, &writes)?;
+        let reads = self.value(brackets, reads)?;
+        self.add_statement(writes, reads)
+    }
+
+    /// A statement, where there aren't too many.
+    #[tactic(auto, unfolding(crate::specs::Items::statement, crate::specs::Items::count_statements))]
+    fn statement(&mut self, brackets: u8) -> Result<(), ReadError>
+        ensures { Reads (spec.statement brackets self.old) result self.new }
+    {
+        if !is_array(self.kind_of(self.spelling())) {
+            return Err(self.fault(6));
+        }
+        let count = self.statements();
+        if count >= MOST_STATEMENTS {
+            return Err(self.fault(10));
+        }
+        self.assign(brackets)?;
+        self.set_statements(count + 1);
+        self.expect(b";")
+    }
+
+    /// A loop's header.
+    #[tactic(auto, unfolding(crate::specs::Items::header))]
+    fn header(&mut self, brackets: u8) -> Result<Loop, ReadError>
+        ensures { Reads (spec.header brackets self.old) result self.new }
+    {
+        self.for_bracket(brackets)?;
+        self.skip_int();
+        self.header_of(brackets - 1, self.spelling())
+    }
+
+    /// A loop begins at this depth.
+    #[tactic(auto, unfolding(crate::specs::Items::opened))]
+    fn opened(&mut self, depth: u8, header: Loop) -> Result<(), ReadError>
+        ensures { Reads (spec.opened depth header self.old) result self.new }
+    {
+        let at = header.name;
+        self.add_line(Line::Begin(header))?;
+        self.set_kind(at, Kind::OpenLoop(depth));
+        Ok(())
+    }
+
+    /// The loop of this name ends.
+    #[tactic(auto, unfolding(crate::specs::Items::closed))]
+    fn closed(&mut self, at: usize) -> Result<(), ReadError>
+        ensures { Reads (spec.closed at self.old) result self.new }
+    {
+        self.add_line(Line::End)?;
+        self.set_kind(at, Kind::ClosedLoop);
+        Ok(())
+    }
+
+    /// A loop, where so many loops and brackets may still be opened.
+    #[cycle(item)]
+    fn for_loop(&mut self, loops: u8, brackets: u8) -> Result<(), ReadError>
+        requires { loops ≤ 4 }
+        ensures { Reads (spec.loops loops brackets self.old) result self.new }
+    {
+        if loops == 0 {
+            return Err(self.fault(9));
+        }
+        let header = self.header(brackets)?;
+        let at = header.name;
+        let inner = loops - 1;
+        self.opened(MOST_LOOPS - 1 - inner, header)?;
+        self.item(inner, brackets)?;
+        self.closed(at)
+    }
+
+    /// Items up to the bracket that closes their block, behind the one that opens it.
+    #[cycle(item)]
+    fn block_items(&mut self, loops: u8, brackets: u8) -> Result<(), ReadError>
+        requires { loops ≤ 4 }
+        ensures { Reads (spec.all_block_items (spec.item loops brackets) self.old) result self.new }
+    {
+        for _turn in 0..self.left() {
+            if self.sees(b"}") {
+                self.pass();
+                return Ok(());
+            }
+            self.item(loops, brackets)?;
+        }
+        Err(ReadError::Fault(self.refusal()))
+    }
+
+    /// A block, where so many loops and brackets may still be opened.
+    #[cycle(item)]
+    fn block(&mut self, loops: u8, brackets: u8) -> Result<(), ReadError>
+        requires { loops ≤ 4 }
+        ensures { Reads (spec.block (spec.loops loops) brackets self.old) result self.new }
+    {
+        if brackets == 0 {
+            return Err(self.fault(9));
+        }
+        self.pass();
+        self.block_items(loops, brackets - 1)
+    }
+
+    /// An item, where so many loops and brackets may still be opened.
+    #[cycle(item)]
+    fn item(&mut self, loops: u8, brackets: u8) -> Result<(), ReadError>
+        requires { loops ≤ 4 }
+        ensures { Reads (spec.item loops brackets self.old) result self.new }
+    {
+        if self.sees(b";") {
+            self.pass();
+            return Ok(());
+        }
+        if self.sees(b"{") {
+            return self.block(loops, brackets);
+        }
+        if self.sees(b"for") {
+            return self.for_loop(loops, brackets);
+        }
+        if self.sees(b"if") {
+            return Err(self.fault(12));
+        }
+        match self.kind() {
+            TokenKind::Name => self.statement(brackets),
+            _ => Err(ReadError::Fault(self.refusal())),
+        }
+    }
+
+    /// Items up to the closing line.
+    pub fn items(&mut self) -> Result<(), ReadError>
+        ensures { Reads (spec.all_items self.old) result self.new }
+    {
+        for _turn in 0..self.left() {
+            if is_end(self.kind()) {
+                return Ok(());
+            }
+            self.item(MOST_LOOPS, MOST_BRACKETS)?;
+        }
+        Err(ReadError::Fault(self.refusal()))
+    }
+}

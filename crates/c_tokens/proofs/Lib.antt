@@ -1,0 +1,4 @@
+pub mod Scanned
+pub mod Split
+pub mod Whole
+pub mod Compare

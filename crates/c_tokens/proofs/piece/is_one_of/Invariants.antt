@@ -1,0 +1,7 @@
+use Rattle.std.proofs.Common.{◌≡◌, drop, map}
+use Rattle.std.specs.Prelude.{bytes_eq}
+use Rattle.std.specs.List.{list_any}
+use Rattle.c_tokens.proofs.piece.is_one_of.Given as goal
+
+abbrev pub invariant-loop-other : goal.invariant-loop-other
+invariant-loop-other l = list_any (bytes_eq l.word) (map (λ other. other.now) (drop l.other-index l.words)) ≡ list_any (bytes_eq l.word) (map (λ other. other.now) l.words)

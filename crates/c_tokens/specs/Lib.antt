@@ -1,0 +1,7 @@
+pub mod Bytes
+pub mod Words
+pub mod Compared
+pub mod Lines
+pub mod Pieces
+pub mod Tokens
+pub mod Text

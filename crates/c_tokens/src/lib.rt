@@ -1,0 +1,20 @@
+//! The tokens of a C text: its opening and closing lines, its directives, and the tokens of both.
+#![tactic(auto)]
+
+mod bytes;
+mod directives;
+mod error;
+mod law;
+mod lines;
+mod piece;
+mod scan;
+#[cfg(test)]
+mod tests;
+mod text;
+mod token;
+mod words;
+
+pub use error::TokensError;
+pub use law::lines_are_compared;
+pub use text::tokens;
+pub use token::{Token, TokenKind};
