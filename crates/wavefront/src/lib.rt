@@ -4,6 +4,7 @@
 mod checker;
 mod claims;
 mod cold;
+mod fitting;
 mod instance;
 mod inverse;
 pub mod law;
@@ -12,3 +13,4 @@ mod open_leaves;
 
 pub use checker::check_cold;
 pub use cold::{Cold, Inverse};
+pub use fitting::cold_fits;
