@@ -30,13 +30,48 @@ fn trees(alloc: Global) -> Result<Quasts, CaseError> {
 fn judges_cold_terms_of_the_product(rt: HostRuntime) -> Result<(), Fail> {
     let alloc = rt.alloc();
     let right = right_lists();
-    let mut cases: [(Lists, u8, &[Step]); 5] = [
-        (right, 8, &[Step::Key(SHOWN), Step::Index(0)]),
-        (right, 9, &[Step::Key(SUMS), Step::Index(1)]),
-        (right, 10, &[Step::Key(INSIDE), Step::Index(0)]),
-        (right, 11, &[Step::Key(LEAVES), Step::Index(0)]),
+    let not_whole = Lists {
+        shown: &[&[0, 0], &[1, 0]],
+        last_sum: right.last_sum,
+        inside: right.inside,
+        first_leaf: right.first_leaf,
+        turned: false,
+    };
+    let another_sum = Lists {
+        shown: right.shown,
+        last_sum: &[0, 0, 2, 0],
+        inside: right.inside,
+        first_leaf: right.first_leaf,
+        turned: false,
+    };
+    let outside = Lists {
+        shown: right.shown,
+        last_sum: right.last_sum,
+        inside: &[&[0], &[0, 2], &[0, 3], &[0, 4], &[0], &[0, 0]],
+        first_leaf: right.first_leaf,
+        turned: false,
+    };
+    let stops_at_a_source = Lists {
+        shown: right.shown,
+        last_sum: right.last_sum,
+        inside: right.inside,
+        first_leaf: None,
+        turned: false,
+    };
+    let turned = Lists {
+        shown: right.shown,
+        last_sum: right.last_sum,
+        inside: right.inside,
+        first_leaf: right.first_leaf,
+        turned: true,
+    };
+    let cases: [(Lists, u8, &[Step]); 5] = [
+        (not_whole, 8, &[Step::Key(SHOWN), Step::Index(0)]),
+        (another_sum, 9, &[Step::Key(SUMS), Step::Index(1)]),
+        (outside, 10, &[Step::Key(INSIDE), Step::Index(0)]),
+        (stops_at_a_source, 11, &[Step::Key(LEAVES), Step::Index(0)]),
         (
-            right,
+            turned,
             12,
             &[
                 Step::Key(INVERSE),
@@ -46,11 +81,6 @@ fn judges_cold_terms_of_the_product(rt: HostRuntime) -> Result<(), Fail> {
             ],
         ),
     ];
-    cases[0].0.shown = &[&[0, 0], &[1, 0]];
-    cases[1].0.last_sum = &[0, 0, 2, 0];
-    cases[2].0.inside = &[&[0], &[0, 2], &[0, 3], &[0, 4], &[0], &[0, 0]];
-    cases[3].0.first_leaf = None;
-    cases[4].0.turned = true;
     let Some(program) = product(alloc)? else {
         return Err(CaseError::Unfit)?;
     };
