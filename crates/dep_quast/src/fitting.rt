@@ -177,12 +177,7 @@ fn has_before(program: &Program, reader: Reader, claimed: &Claimed) -> bool
     ensures { IsTrue result ↔ (length claimed.now.before.now ≡ length (before_goals (meaning program.now) (read_of reader) (claim_of claimed.now))) }
 {
     let _params = program.params();
-    let rows = rows_of_level(
-        program,
-        claimed.statement,
-        reader.statement,
-        claimed.level,
-    );
+    let rows = rows_of_level(program, claimed.statement, reader.statement, claimed.level);
     claimed.before.len() == rows
 }
 
