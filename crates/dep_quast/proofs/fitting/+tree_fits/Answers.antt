@@ -2,7 +2,7 @@ use Rattle.std.proofs.Common.{◌≡◌, ◌∙◌, ap, sym, subst, length}
 use Rattle.std.proofs.lemmas.Bool.{eqb-true, eq-eqb}
 use Rattle.affine_c.specs.Parts.{meaning}
 use Rattle.dep_quast.specs.Context.{context, earlier_writes}
-use Rattle.dep_quast.specs.Tree.{SourceClaim, SelectionTree, Leaf, source, input, leaf, tree_of}
+use Rattle.dep_quast.specs.Tree.{SourceClaim, tree_of}
 use Rattle.dep_quast.specs.Truth.{FitsUnder, SourceFits}
 use Rattle.dep_quast.specs.Views.{read_of}
 use Rattle.dep_quast.proofs.Counts.{earlier-many}

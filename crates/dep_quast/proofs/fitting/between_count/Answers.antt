@@ -1,11 +1,11 @@
-use Rattle.std.proofs.Common.{◌≡◌, ◌∙◌, ◌+◌, ◌*◌, ap, sym, ℕ, List, Bool, length, arith}
+use Rattle.std.proofs.Common.{◌∙◌, ap, sym, ℕ, List, length, arith}
 use Rattle.std.specs.Prelude.{◌==◌, if◌then◌else◌, flat_map}
 use Rattle.iolb_model.specs.Program.{statement_at}
 use Rattle.affine_c.specs.Parts.{meaning}
 use Rattle.dep_quast.specs.Context.{reference_of}
-use Rattle.dep_quast.specs.Levels.{levels, levels_before, levels_between, writers}
+use Rattle.dep_quast.specs.Levels.{levels, levels_between, writers}
 use Rattle.dep_quast.specs.Views.{read_of}
-use Rattle.dep_quast.proofs.Counts.{count-more, length-levels, length-pairs}
+use Rattle.dep_quast.proofs.Counts.{count-more, length-pairs}
 use Rattle.dep_quast.proofs.fitting.between_count.Goals as goal
 
 pub loop-writer-preserved : goal.loop-writer-preserved

@@ -1,7 +1,7 @@
 use Rattle.std.proofs.Common.{◌≡◌, ◌+◌, ◌*◌, ◌≤◌, length, map, drop}
 use Rattle.affine_c.specs.Parts.{meaning, statement_of}
 use Rattle.dep_quast.specs.Context.{reference_of}
-use Rattle.dep_quast.specs.Levels.{writers, writers_from, levels_before, levels_between}
+use Rattle.dep_quast.specs.Levels.{writers, writers_from, levels_before}
 use Rattle.dep_quast.specs.Views.{read_of}
 use Rattle.dep_quast.proofs.fitting.earlier_count.Given as goal
 

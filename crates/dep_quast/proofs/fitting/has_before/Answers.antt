@@ -1,5 +1,4 @@
-use Rattle.std.proofs.Common.{◌≡◌, ◌∙◌, ◌≤◌, sym, length, inl, inr, arith}
-use Rattle.std.specs.Prelude.{◌⊎◌}
+use Rattle.std.proofs.Common.{◌≡◌, ◌∙◌, sym, length, arith}
 use Rattle.std.proofs.lemmas.Bool.{eqb-true, eq-eqb}
 use Rattle.execution_laws.specs.Order.{common_loops}
 use Rattle.affine_rows.proofs.RowLemmas.{length-variables}
@@ -9,7 +8,7 @@ use Rattle.dep_quast.specs.Claims.{before_goals}
 use Rattle.dep_quast.specs.Context.{variables_at, reader_values}
 use Rattle.dep_quast.specs.Views.{read_of, claim_of}
 use Rattle.dep_quast.proofs.Counts.{order-many, level-within}
-use Rattle.dep_quast.proofs.Fits.{all-there, common-first, common-second}
+use Rattle.dep_quast.proofs.Fits.{common-first, common-second}
 use Rattle.dep_quast.proofs.fitting.has_before.Goals as goal
 
 pub returns : goal.returns
