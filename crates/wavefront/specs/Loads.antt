@@ -73,8 +73,8 @@ abbrev pub BoundsLoads : AffineProgram → Polynomial → Type 0
 BoundsLoads program polynomial = (values : List ℤ) (s : ℕ) (moves : List Move) → IsAdmitted program values
     → IsCompletePebbling (computation_graph program values) s moves → term_value (cold polynomial) values s ≤ loads moves
 
--- What is claimed of a cold term holds, but for its count: the ranges are whole, the instances are in their domain, the
--- leaves are inputs, and the cells differ.
+-- What is claimed of a cold term holds, but for its count: the instances are in their domain, the leaves are inputs or
+-- have no point, and the cells differ.
 pub record ColdHolds (program : AffineProgram) (place : List Step) (tree : SelectionTree) (term : ColdTerm) : Type 0 where
   pub inside : AllHold (inside_claims program place term)
   pub leaves : AllHold (term_leaves program place tree term)
