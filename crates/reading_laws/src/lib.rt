@@ -1,0 +1,6 @@
+//! What every text that is read keeps.
+#![tactic(auto)]
+
+mod law;
+
+pub use law::readings_are_well_read;
