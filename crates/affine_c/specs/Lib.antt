@@ -2,7 +2,6 @@ pub mod Limits
 pub mod Domain
 pub mod Tree
 pub mod Parts
-pub mod Fault
 pub mod Reading
 pub mod Views
 pub mod Build

@@ -1,11 +1,10 @@
-//! Affine loop programs: their type, and their text in C.
+//! Affine loop programs, and the reader of copy nests.
 #![tactic(auto)]
 
 mod build;
 mod copies;
 mod domain;
 mod draft;
-mod fault;
 mod item;
 mod limits;
 mod names;
@@ -17,10 +16,9 @@ mod statement;
 mod well_formed;
 mod words;
 
-pub use fault::{ProgramError, ProgramFault};
 pub use item::Item;
 pub use limits::is_small_form;
 pub use program::Program;
-pub use read::read_program;
+pub use read::read_copy_nest;
 pub use reference::Reference;
 pub use statement::Statement;

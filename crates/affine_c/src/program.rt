@@ -38,8 +38,8 @@ impl Model for Program {
 }
 
 impl Program {
-    /// The program of these parts.
-    pub(crate) fn from_parts(
+    /// The program of parts that make one: `Program::new` decides whether they do.
+    pub fn from_parts(
         params: Vec<Name>,
         assumed: System,
         arrays: Vec<(Name, u8)>,

@@ -1,16 +1,14 @@
-//! The program of a C text.
+//! The program of a copy nest's text.
 
-ghost use Rattle.std.specs.Prelude.{◌≡◌, map, IfOk, IfErr, option_copied, option_map};
+ghost use Rattle.std.specs.Prelude.{◌≡◌, map, IfOk, MatchOption, option_copied, option_map};
 ghost use Rattle.iolb_model.specs.Program.{AffineProgram};
 ghost use Rattle.copy_nest.specs.Spelling.{ReadsAsProgram};
 ghost use Rattle.copy_nest.specs.Nest.{program_of};
 ghost use Rattle.affine_c.specs.Parts.{meaning};
-ghost use Rattle.affine_c.specs.Fault.{IfFault, not_read_yet};
 ghost use Rattle.affine_c.specs.Reading.{body_of, without_newline, nest_of};
 
 use crate::build::program_of_nest;
 use crate::copies::{copies, names_of_loops, names_of_parameters};
-use crate::fault::{ProgramError, ProgramFault};
 use crate::nest_text::nest_in_front;
 use crate::program::Program;
 use crate::words::{ahead_of_end, past_start};
@@ -52,17 +50,13 @@ fn copy_program(alloc: Global, bytes: &[u8]) -> Result<Option<Program>, Memory>
 }
 
 /// Reads the text of a copy nest: between a line `#pragma scop` and a line `#pragma endscop` one to four loops, each
-/// from 0 to below a parameter, around one statement that copies a cell of one array into another. Every other text is
-/// fault 13 at byte 0.
-pub fn read_program(alloc: Global, bytes: &[u8]) -> Result<Program, ProgramError>
-    ensures program { IfOk result (λ program. ReadsAsProgram bytes.now (meaning program)) }
-    ensures fault { IfErr result (λ error. IfFault error not_read_yet ((program : AffineProgram) → ReadsAsProgram bytes.now program → ⊥)) }
+/// from 0 to below a parameter, around one statement that copies a cell of one array into another. `None` exactly for
+/// every other text. Want of memory is its only error.
+pub fn read_copy_nest(alloc: Global, bytes: &[u8]) -> Result<Option<Program>, Memory>
+    ensures { IfOk result (λ found. MatchOption found ((program : AffineProgram) → ReadsAsProgram bytes.now program → ⊥) (λ program. ReadsAsProgram bytes.now (meaning program))) }
 {
     match copy_program(alloc, bytes)? {
-        Some(program) => Ok(program),
-        None => Err(ProgramError::Fault(ProgramFault {
-            number: 13,
-            place: 0,
-        })),
+        Some(found) => Ok(Some(found)),
+        None => Ok(None),
     }
 }

@@ -5,7 +5,7 @@ ghost use Rattle.std.specs.List.{AllByRecursion};
 
 use crate::cases::{Case, RIGHT, Terms, WRONG};
 use crate::points::points_of;
-use affine_c::{Program, read_program};
+use affine_c::{Program, read_copy_nest};
 use affine_form::{Form, Multipliers, Place, Refused, Step};
 use domain_count::{Nest, Sums, check_count, fits_count};
 use poly_tree::Poly;
@@ -101,7 +101,10 @@ fn program(alloc: Global, parameters: usize) -> Result<Program, Fail> {
     } else {
         b"#pragma scop\nfor (i = 0; i < N; i++) for (j = 0; j < M; j++) A[i][j] = B[i][j];\n#pragma endscop\n"
     };
-    Ok(read_program(alloc, text)?)
+    match read_copy_nest(alloc, text)? {
+        Some(program) => Ok(program),
+        None => Err(Fail::new("the text is a copy nest's")),
+    }
 }
 
 /// What is answered on a case, at a place of one step.
