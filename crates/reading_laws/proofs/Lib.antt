@@ -1,0 +1,11 @@
+pub mod Rows
+pub mod NameKinds
+pub mod States
+pub mod AffineRules
+pub mod HeadRules
+pub mod References
+pub mod ValueRules
+pub mod LineRules
+pub mod HeaderRules
+pub mod ItemRules
+pub mod Whole

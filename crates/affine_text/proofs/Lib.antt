@@ -1,0 +1,3 @@
+pub mod TreeGrows
+pub mod Lists
+pub mod Rows

@@ -1,0 +1,44 @@
+-- Rows as forms.
+use Rattle.std.proofs.Common.{◌≡◌, refl, sym, ◌∙◌, ap, subst, ℕ, zero, suc, ◌+◌, ◌<◌, ◌≤◌, ◌^◌, List, [], ◌∷◌, ◌++◌, length, map, take, drop, arith, ℤ, pos}
+use Rattle.std.specs.Prelude.{unsigned_abs}
+use Rattle.std.specs.List.{AllByRecursion}
+use Rattle.std.proofs.lemmas.List.{length-append}
+use Rattle.iolb_model.specs.Form.{AffineForm}
+use Rattle.iolb_model.specs.Program.{IsOver}
+use Rattle.affine_form.specs.Form.{IsSmall, IsSmallForm}
+use Rattle.c_reading.specs.Numbers.{constant_of}
+use Rattle.reading_laws.specs.Well.{IsRowOver}
+use Rattle.affine_text.specs.Meaning.{narrowed}
+use Rattle.affine_text.proofs.Lists.{All-mono, All-take, All-drop, All-append, All-mapped, length-take, length-drop}
+
+-- a number below 2^20 is below 2^62
+smaller : (n : ℤ) → unsigned_abs n < 2 ^ 20 → unsigned_abs n < 2 ^ 62
+smaller n h = omega (arith, h)
+
+pub smaller_all : (ns : List ℤ) → AllByRecursion (λ n. unsigned_abs n < 2 ^ 20) ns → AllByRecursion (IsSmall (2 ^ 62)) ns
+smaller_all ns h = All-mono (λ n. unsigned_abs n < 2 ^ 20) (IsSmall (2 ^ 62)) smaller ns h
+
+-- the coefficients of a row's form are small
+pub parts_small : (P : ℤ → Type 0) (p d : ℕ) (row : List ℤ) → AllByRecursion P row → AllByRecursion P (take p (drop 1 row) ++ take d (drop 7 row))
+parts_small P p d row h = All-append P (take p (drop 1 row)) (take d (drop 7 row)) (All-take P p (drop 1 row) (All-drop P 1 row h)) (All-take P d (drop 7 row) (All-drop P 7 row h))
+
+first_small : (row : List ℤ) → AllByRecursion (λ n. unsigned_abs n < 2 ^ 20) row → unsigned_abs (constant_of row) < 2 ^ 20
+first_small [] h = omega arith
+first_small (x ∷ row) h = h.0
+
+pub narrowed_small : (p d : ℕ) (row : List ℤ) → IsRowOver p d row → IsSmallForm (2 ^ 20) (narrowed p d row)
+narrowed_small p d row over = (parts_small (IsSmall (2 ^ 20)) p d row over.small, first_small row over.small)
+
+pub narrowed_over : (p d : ℕ) (row : List ℤ) → p ≤ 6 → d ≤ 4 → IsRowOver p d row → IsOver (p + d) (narrowed p d row)
+narrowed_over p d row few inner over =
+    let first = length-drop 1 row (omega (arith, over.width)) in
+    let last = length-drop 7 row (omega (arith, over.width)) in
+    let left = length-take p (drop 1 row) (omega (arith, first, over.width, few)) in
+    let right = length-take d (drop 7 row) (omega (arith, last, over.width, inner)) in
+    omega (arith, left, right, length-append (take p (drop 1 row)) (take d (drop 7 row)))
+
+pub narrowed_all_small : (p d : ℕ) (rows : List (List ℤ)) → AllByRecursion (IsRowOver p d) rows → AllByRecursion (IsSmallForm (2 ^ 20)) (map (narrowed p d) rows)
+narrowed_all_small p d rows h = All-mapped (narrowed p d) (IsSmallForm (2 ^ 20)) (IsRowOver p d) (narrowed_small p d) rows h
+
+pub narrowed_all_over : (p d : ℕ) (rows : List (List ℤ)) → p ≤ 6 → d ≤ 4 → AllByRecursion (IsRowOver p d) rows → AllByRecursion (IsOver (p + d)) (map (narrowed p d) rows)
+narrowed_all_over p d rows few inner h = All-mapped (narrowed p d) (IsOver (p + d)) (IsRowOver p d) (λ row over. narrowed_over p d row few inner over) rows h

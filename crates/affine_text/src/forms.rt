@@ -1,0 +1,58 @@
+//! Forms of rows.
+
+ghost use Rattle.std.specs.Prelude.{◌≡◌, ◌≤◌, ◌++◌, length, map, IfOk, OnOk};
+ghost use Rattle.std.specs.List.{AllByRecursion};
+ghost use Rattle.reading_laws.specs.Well.{IsRowOver};
+ghost use Rattle.affine_text.specs.Meaning.{narrowed};
+
+use affine_form::{Form, Memory};
+use c_reading::Row;
+use std::alloc::Global;
+
+/// Puts numbers at the end. Want of memory is its only error.
+fn push_numbers(coef: &mut Vec<i128>, numbers: &[i32]) -> Result<(), Memory>
+    ensures { OnOk result (coef.new.items ≡ coef.old.items ++ numbers.now) }
+{
+    for number in numbers {
+        coef.push(i128::from(*number))?;
+    }
+    Ok(())
+}
+
+/// The form over so many parameters and loops whose numbers are in this row. Want of memory is its only error.
+pub(crate) fn form_of(
+    alloc: Global,
+    row: &Row,
+    parameters: usize,
+    depth: usize,
+) -> Result<Form, Memory>
+    requires few { parameters ≤ 6 }
+    requires inner { depth ≤ 4 }
+    requires over { IsRowOver parameters depth row.now }
+    ensures { IfOk result (λ form. form ≡ narrowed parameters depth row.now) }
+{
+    let numbers = row.numbers();
+    let mut coef = Vec::new(alloc);
+    push_numbers(&mut coef, &numbers[1..][..parameters])?;
+    push_numbers(&mut coef, &numbers[7..][..depth])?;
+    Ok(Form::new(coef, i128::from(numbers[0])))
+}
+
+/// The forms of these rows. Want of memory is its only error.
+pub(crate) fn forms_of(
+    alloc: Global,
+    rows: &[Row],
+    parameters: usize,
+    depth: usize,
+) -> Result<Vec<Form>, Memory>
+    requires few { parameters ≤ 6 }
+    requires inner { depth ≤ 4 }
+    requires over { AllByRecursion (IsRowOver parameters depth) rows.now }
+    ensures { IfOk result (λ forms. forms.items ≡ map (narrowed parameters depth) rows.now) }
+{
+    let mut forms = Vec::new(alloc);
+    for row in rows {
+        forms.push(form_of(alloc, row, parameters, depth)?)?;
+    }
+    Ok(forms)
+}
