@@ -42,3 +42,9 @@ pub length-drop : {X : Type 0} (n : ℕ) (xs : List X) → n ≤ length xs → l
 length-drop zero xs h = omega arith
 length-drop (suc n) [] h = absurd (omega (arith, h))
 length-drop (suc n) (x ∷ xs) h = let inner = length-drop n xs (omega (arith, h)) in omega (arith, inner)
+
+-- what is read doesn't depend on what would be read where nothing is
+pub read_or : {X : Type 0} (xs : List X) (k : ℕ) (x d : X) → k < length xs → x ≡ get_or xs k x → x ≡ get_or xs k d
+read_or [] k x d below e = absurd (omega (arith, below))
+read_or (y ∷ xs) zero x d below e = e
+read_or (y ∷ xs) (suc k) x d below e = read_or xs k x d (omega (arith, below)) e

@@ -1,6 +1,6 @@
 //! Forms of rows.
 
-ghost use Rattle.std.specs.Prelude.{◌≡◌, ◌≤◌, ◌++◌, length, map, IfOk, OnOk};
+ghost use Rattle.std.specs.Prelude.{◌≡◌, ◌≤◌, ◌+◌, ◌++◌, length, map, take, drop, IfOk, OnOk};
 ghost use Rattle.std.specs.List.{AllByRecursion};
 ghost use Rattle.reading_laws.specs.Well.{IsRowOver};
 ghost use Rattle.affine_text.specs.Meaning.{narrowed};
@@ -19,6 +19,14 @@ fn push_numbers(coef: &mut Vec<i128>, numbers: &[i32]) -> Result<(), Memory>
     Ok(())
 }
 
+/// So many numbers, from this one on.
+fn numbers_from(numbers: &[i32], from: usize, many: usize) -> &[i32]
+    requires { from + many ≤ length numbers.now }
+    ensures { result.now ≡ take many (drop from numbers.now) }
+{
+    &numbers[from..from + many]
+}
+
 /// The form over so many parameters and loops whose numbers are in this row. Want of memory is its only error.
 pub(crate) fn form_of(
     alloc: Global,
@@ -33,8 +41,8 @@ pub(crate) fn form_of(
 {
     let numbers = row.numbers();
     let mut coef = Vec::new(alloc);
-    push_numbers(&mut coef, &numbers[1..][..parameters])?;
-    push_numbers(&mut coef, &numbers[7..][..depth])?;
+    push_numbers(&mut coef, numbers_from(numbers, 1, parameters))?;
+    push_numbers(&mut coef, numbers_from(numbers, 7, depth))?;
     Ok(Form::new(coef, i128::from(numbers[0])))
 }
 

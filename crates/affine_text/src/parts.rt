@@ -46,7 +46,7 @@ pub(crate) fn program_of(alloc: Global, reading: &Reading) -> Result<Program, Me
     ensures { IfOk result (λ program. IsReadingOf reading.now (meaning program)) }
 {
     let names = reading.parameters(alloc)?;
-    let parameters = names.len();
+    let parameters = names.as_slice().len();
     let assumed = assumed_of(alloc, reading.assumptions(), parameters)?;
     let arrays = reading.arrays(alloc)?;
     let arrays = arrays_of(alloc, arrays.as_slice())?;

@@ -111,7 +111,7 @@ pub(crate) fn statements_of(
         match line {
             Line::Begin(_) => depth += 1,
             Line::Does(statement) => {
-                let number = statements.len() as u16;
+                let number = statements.as_slice().len() as u16;
                 statements.push(statement_at(alloc, statement, parameters, depth, tree, number)?)?;
             }
             Line::End => depth -= 1,
