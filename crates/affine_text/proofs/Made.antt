@@ -1,9 +1,9 @@
 -- What is made of a reading is a program, and the one that it says.
-use Rattle.std.proofs.Common.{◌≡◌, refl, sym, ◌∙◌, ap, subst, ℕ, ◌≤◌, ◌^◌, List, map, length, arith}
+use Rattle.std.proofs.Common.{◌≡◌, sym, ◌∙◌, ap, subst, ℕ, ◌≤◌, ◌^◌, List, map, length, arith}
 use Rattle.std.proofs.lemmas.List.{length-map}
 use Rattle.std.specs.List.{AllByRecursion, enumerate_from}
 use Rattle.iolb_model.specs.Form.{AffineForm}
-use Rattle.iolb_model.specs.Program.{Array, AffineProgram, Statement as ModelStatement}
+use Rattle.iolb_model.specs.Program.{Statement as ModelStatement}
 use Rattle.c_reading.specs.Text.{Reading}
 use Rattle.affine_form.specs.Form.{IsSmallForm}
 use Rattle.affine_form.specs.System.{AffineSystem}

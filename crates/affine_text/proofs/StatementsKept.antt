@@ -1,5 +1,5 @@
 -- What is kept while the statements of a text's lines are made.
-use Rattle.std.proofs.Common.{◌≡◌, refl, sym, ◌∙◌, ap, subst, ℕ, zero, suc, ◌+◌, ◌-◌, ◌<◌, ◌≤◌, List, [], ◌∷◌, ◌++◌, map, length, drop, get_or, append_assoc, arith}
+use Rattle.std.proofs.Common.{◌≡◌, sym, ◌∙◌, ap, subst, ℕ, zero, suc, ◌+◌, ◌-◌, ◌<◌, ◌≤◌, List, [], ◌∷◌, ◌++◌, map, length, drop, get_or, append_assoc, arith}
 use Rattle.std.proofs.lemmas.List.{map_push, length-append}
 use Rattle.std.specs.Prelude.{Some}
 use Rattle.std.specs.List.{AllByRecursion, enumerate_from}
@@ -11,7 +11,7 @@ use Rattle.c_reading.specs.declared.lines.Line.TheVariants.{Begin, Does, End}
 use Rattle.c_reading.specs.declared.lines.Loop.{Loop}
 use Rattle.c_reading.specs.Text.{Reading}
 use Rattle.affine_form.proofs.Lists.{All-push}
-use Rattle.reading_laws.specs.Well.{AreLinesIn, IsAccessIn, IsStatementIn, parameters_of, statement_count}
+use Rattle.reading_laws.specs.Well.{AreLinesIn, IsAccessIn, parameters_of, statement_count}
 use Rattle.affine_c.specs.Limits.{IsStatementWithinLimits}
 use Rattle.affine_c.specs.Parts.{statement_of, step_of}
 use Rattle.affine_c.specs.declared.statement.Statement.{Statement}

@@ -4,7 +4,7 @@ use Rattle.std.proofs.lemmas.List.{append-nil, length-map}
 use Rattle.std.specs.Prelude.{⊤, ◌==◌, if◌then◌else◌, Bool, true, false, Option, Some, None, option_map, IsSomeAnd, slice_get, slice_index_or}
 use Rattle.std.specs.List.{AllByRecursion, range_with_len}
 use Rattle.iolb_model.specs.Form.{AffineForm}
-use Rattle.iolb_model.specs.Program.{Item, assign, loop, Row, done, next, Array, Access, Statement, AffineProgram, IsOver, AccessFits, StatementFits, ItemFits, RowFits, item_statements, row_statements, statement_at, no_statement, IsWellFormed}
+use Rattle.iolb_model.specs.Program.{Item, assign, loop, Row, done, next, Array, Statement, AffineProgram, IsOver, AccessFits, StatementFits, ItemFits, RowFits, item_statements, row_statements, no_statement, IsWellFormed}
 use Rattle.iolb_model.specs.Path.{PathStep, rises, first_of, item_path, row_path}
 use Rattle.execution_laws.proofs.Domains.{way-there}
 use Rattle.c_reading.specs.Access.{Access as ReadAccess, Statement as ReadStatement}
@@ -167,8 +167,10 @@ entered r program depth number name lower upper (Begin l ∷ lines) rest says fe
     let up_over : IsRowOver p depth l.upper = subst (λ (n : ℕ). IsRowOver n depth l.upper) params well.3 in
     record {
       low = well.1;
-      over = (subst (IsOver (p + depth)) lower_is (narrowed_over p depth l.lower few (omega (arith, well.1)) low_over),
-          subst (IsOver (p + depth)) upper_is (narrowed_over p depth l.upper few (omega (arith, well.1)) up_over));
+      over = (
+        subst (IsOver (p + depth)) lower_is (narrowed_over p depth l.lower few (omega (arith, well.1)) low_over),
+        subst (IsOver (p + depth)) upper_is (narrowed_over p depth l.upper few (omega (arith, well.1)) up_over),
+      );
       small = (subst (IsSmallForm (2 ^ 20)) lower_is (narrowed_small p depth l.lower low_over), subst (IsSmallForm (2 ^ 20)) upper_is (narrowed_small p depth l.upper up_over));
       left = record { lines = lines; well = well.4; inner = omega (arith, well.1); same = cc; within = within; statements = table };
     }
@@ -253,14 +255,16 @@ program_fits r program well says =
     let none : drop (0 + taken.many) program.statements ≡ [] = taken.left.statements ∙ no_lines r p 0 (0 + taken.many) taken.left.lines taken.left.same in
     let most = all_dropped program.statements (0 + taken.many) none in
     let many : taken.many ≡ length program.statements = omega (arith, most, taken.left.within) in
-    let start : p + 0 ≡ p = omega arith in
-    (record {
-      numbered = taken.numbers ∙ ap (range_with_len 0) many;
-      assumptions = subst (AllByRecursion (IsOver p)) (sym says.assumptions)
-          (subst (λ (n : ℕ). AllByRecursion (IsOver n) (map (narrowed (length (parameters_of r)) 0) r.assumptions)) (params_over params)
-          (narrowed_all_over (length (parameters_of r)) 0 r.assumptions well.parameters (omega arith) well.assumptions));
-      tree = subst (λ (n : ℕ). RowFits program n program.tree) start taken.fits;
-    }, taken.small) where
+    let start : p + 0 ≡ p = omega arith in (
+      record {
+        numbered = taken.numbers ∙ ap (range_with_len 0) many;
+        assumptions = subst (AllByRecursion (IsOver p)) (sym says.assumptions)
+            (subst (λ (n : ℕ). AllByRecursion (IsOver n) (map (narrowed (length (parameters_of r)) 0) r.assumptions)) (params_over params)
+            (narrowed_all_over (length (parameters_of r)) 0 r.assumptions well.parameters (omega arith) well.assumptions));
+        tree = subst (λ (n : ℕ). RowFits program n program.tree) start taken.fits;
+      },
+      taken.small,
+    ) where
       params_over : {n p : ℕ} → n ≡ p → n + 0 ≡ p
       params_over e = omega (arith, e)
 

@@ -1,11 +1,10 @@
 -- A tree that grows by a line.
-use Rattle.std.proofs.Common.{◌≡◌, refl, sym, ◌∙◌, ap, ℕ, List, [], ◌∷◌, ◌++◌, map, append_assoc}
+use Rattle.std.proofs.Common.{◌≡◌, refl, sym, ◌∙◌, ap, List, [], ◌∷◌, ◌++◌, map, append_assoc}
 use Rattle.std.proofs.lemmas.List.{append-nil, map_push}
-use Rattle.iolb_model.specs.Form.{AffineForm}
-use Rattle.iolb_model.specs.Program.{Item as ModelItem, Row}
+use Rattle.iolb_model.specs.Program.{Item as ModelItem}
 use Rattle.affine_c.specs.declared.item.Item.{Item}
 use Rattle.affine_c.specs.Tree.{item_of, row_from, row_of}
-use Rattle.affine_text.specs.Meaning.{TreeLine, begins, does, ends, item_lines, row_lines}
+use Rattle.affine_text.specs.Meaning.{TreeLine, begins, ends, item_lines, row_lines}
 use Rattle.affine_text.specs.Built.{open_lines}
 use Rattle.affine_text.specs.declared.growing.OpenLoop.{OpenLoop}
 
@@ -52,7 +51,7 @@ lines_end os new o items before item e grown says =
     ∙ ap (λ (ls : List TreeLine). open_lines new ++ row_lines (row_of o.before.items) ++ ls) says
     ∙ append_assoc (open_lines new) (row_lines (row_of o.before.items)) (begins o.name o.lower o.upper ∷ (row_lines (row_of items) ++ ends ∷ []))
     ∙ ap (λ (ls : List TreeLine). open_lines new ++ ls) (sym (append_assoc (row_lines (row_of o.before.items)) (begins o.name o.lower o.upper ∷ row_lines (row_of items)) (ends ∷ []))
-        ∙ ap (λ (ls : List TreeLine). ls ++ ends ∷ []) (sym (append_assoc (row_lines (row_of o.before.items)) (begins o.name o.lower o.upper ∷ []) (row_lines (row_of items)))))
+    ∙ ap (λ (ls : List TreeLine). ls ++ ends ∷ []) (sym (append_assoc (row_lines (row_of o.before.items)) (begins o.name o.lower o.upper ∷ []) (row_lines (row_of items)))))
     ∙ sym (append_assoc (open_lines new) (row_lines (row_of o.before.items) ++ begins o.name o.lower o.upper ∷ [] ++ row_lines (row_of items)) (ends ∷ []))
     ∙ ap (λ (ls : List TreeLine). ls ++ ends ∷ []) (sym (append_assoc (open_lines new) (row_lines (row_of o.before.items) ++ begins o.name o.lower o.upper ∷ []) (row_lines (row_of items)))
-        ∙ ap (λ (ls : List TreeLine). ls ++ row_lines (row_of items)) (sym (ap open_lines e ∙ open_more new o)))
+    ∙ ap (λ (ls : List TreeLine). ls ++ row_lines (row_of items)) (sym (ap open_lines e ∙ open_more new o)))

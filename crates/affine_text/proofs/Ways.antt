@@ -1,5 +1,5 @@
 -- Bounds that are a short way.
-use Rattle.std.proofs.Common.{◌≡◌, sym, subst, ℕ, ◌≤◌, ◌^◌, List, [], ◌∷◌, length, map, arith}
+use Rattle.std.proofs.Common.{◌≡◌, sym, subst, ◌≤◌, ◌^◌, List, [], ◌∷◌, length, map, arith}
 use Rattle.std.specs.Prelude.{Option, Some, IsSomeAnd}
 use Rattle.std.specs.List.{AllByRecursion}
 use Rattle.std.proofs.lemmas.List.{length-map}

@@ -1,7 +1,7 @@
 -- Lists that agree up to a place.
 use Rattle.std.proofs.Common.{◌≡◌, refl, sym, ◌∙◌, ap, subst, ℕ, zero, suc, ◌+◌, ◌<◌, List, [], ◌∷◌, ◌++◌, map, take, length, get_or, arith}
 use Rattle.std.proofs.lemmas.List.{map_push, length-map}
-use Rattle.iolb_model.specs.Program.{Item as ModelItem, Row, done, next}
+use Rattle.iolb_model.specs.Program.{Item as ModelItem}
 use Rattle.iolb_model.specs.Program.{AffineProgram}
 use Rattle.copy_nest.specs.Nest.{program_of}
 use Rattle.copy_nest.specs.Spelling.{ReadsAsProgram}
@@ -9,7 +9,6 @@ use Rattle.affine_c.specs.declared.item.Item.{Item}
 use Rattle.affine_c.specs.Tree.{item_of, row_from, row_of}
 use Rattle.std.specs.Prelude.{Option, Some, None, MatchOption}
 use Rattle.affine_c.specs.Parts.{ProgramParts, meaning}
-use Rattle.affine_c.specs.Reading.{nest_of}
 use Rattle.affine_c.proofs.TextOfNest.{nest_of_complete}
 
 take_more : {X : Type 0} (xs : List X) (k : ℕ) (x : X) → k < length xs → x ≡ get_or xs k x → take (k + 1) xs ≡ take k xs ++ x ∷ []

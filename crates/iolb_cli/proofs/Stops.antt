@@ -3,7 +3,7 @@ use Rattle.std.proofs.Common.{◌≡◌, refl, sym, ◌∙◌, subst, inl, inr, 
 use Rattle.std.specs.Prelude.{◌⊎◌, Option, Some, None, Result, Ok, Err, IfOk, IfErr, IfSome, Vec}
 use Rattle.std.specs.declared.alloc.Global.{Global}
 use Rattle.iolb_model.specs.Program.{AffineProgram}
-use Rattle.copy_nest.specs.Spelling.{ReadsAsProgram}
+use Rattle.affine_text.specs.Meaning.{Means}
 use Rattle.iolb_host.specs.declared.files.FileFault.{FileFault}
 use Rattle.iolb_host.specs.declared.files.FileFault.TheVariants.{Missing, TooLong, Failed, Memory as NoMemoryForFile}
 use Rattle.iolb_host.specs.Count.{Rose}
@@ -12,7 +12,7 @@ use Rattle.iolb_cli.specs.declared.status.Status.{Status}
 use Rattle.iolb_cli.specs.declared.status.Status.TheVariants.{Done, WriteFault, NoMemory}
 use Rattle.iolb_cli.specs.declared.stop.Stop.{Stop}
 use Rattle.iolb_cli.specs.declared.stop.Stop.TheVariants.{Words, ProgramFile, ProgramText, CertificateFile, CertificateText, Condition, Memory}
-use Rattle.iolb_cli.specs.Reading.{Counts, FaultCause}
+use Rattle.iolb_cli.specs.Reading.{IsContent, Counts, FaultCause}
 use Rattle.iolb_cli.specs.Lines.{out_of_memory}
 use Rattle.iolb_cli.specs.Stop.{program_most, HoldsProgram, IsAccepted, CheckStop, stop_status, Call, Stops}
 use Rattle.iolb_cli.specs.Judged.{IsGoodFor, CertificateStop}
@@ -35,24 +35,26 @@ fault_from files a b c d e f a' d' e' name most TooLong h k l cause = (rose_from
 fault_from files a b c d e f a' d' e' name most Failed h k l cause = rose_from e e' f l cause
 fault_from files a b c d e f a' d' e' name most NoMemoryForFile h k l cause = tt
 
-pub stop_from : (files : Option FileMap) (a b c d e f a' d' e' : ℕ) (p name : List ℕ) (program : AffineProgram) (stop : Stop) → a ≤ a' → c ≤ d' → e ≤ e'
-    → HoldsProgram files p program → CertificateStop files (counts a' b d' d e' f) name program stop → CheckStop files (counts a b c d e f) p name stop
-stop_from files a b c d e f a' d' e' p name program Words h k l there cause = cause
-stop_from files a b c d e f a' d' e' p name program (ProgramFile fault) h k l there cause = absurd cause
-stop_from files a b c d e f a' d' e' p name program (ProgramText fault) h k l there cause = absurd cause
-stop_from files a b c d e f a' d' e' p name program (CertificateFile fault) h k l there cause = (program, there, fault_from files a b c d e f a' d' e' name _ fault h k l cause)
-stop_from files a b c d e f a' d' e' p name program (CertificateText fault) h k l there cause = (program, there, cause.0, cause.1, cause.2)
-stop_from files a b c d e f a' d' e' p name program (Condition failed) h k l there cause = (program, cause.0, there, cause.1, cause.2)
-stop_from files a b c d e f a' d' e' p name program Memory h k l there cause = tt
+pub stop_from : (files : Option FileMap) (a b c d e f a' d' e' : ℕ) (p source name : List ℕ) (program : AffineProgram) (stop : Stop) → a ≤ a' → c ≤ d' → e ≤ e'
+    → HoldsProgram files p source program → CertificateStop files (counts a' b d' d e' f) source name program stop → CheckStop files (counts a b c d e f) p name stop
+stop_from files a b c d e f a' d' e' p source name program Words h k l there cause = cause
+stop_from files a b c d e f a' d' e' p source name program (ProgramFile fault) h k l there cause = absurd cause
+stop_from files a b c d e f a' d' e' p source name program (ProgramText fault) h k l there cause = absurd cause
+stop_from files a b c d e f a' d' e' p source name program (CertificateFile fault) h k l there cause = (source, program, there, fault_from files a b c d e f a' d' e' name _ fault h k l cause)
+stop_from files a b c d e f a' d' e' p source name program (CertificateText fault) h k l there cause = (source, program, there, cause.0, cause.1, cause.2)
+stop_from files a b c d e f a' d' e' p source name program (Condition failed) h k l there cause = (source, program, cause.1, there, cause.0, cause.2, cause.3)
+stop_from files a b c d e f a' d' e' p source name program Memory h k l there cause = tt
 
-pub stop_result : (r : Result (Vec ℕ Global) Stop) (files told : Option FileMap) (a b c d e f a' d' e' : ℕ) (p name : List ℕ) (program : AffineProgram) → told ≡ files → a ≤ a' → c ≤ d' → e ≤ e'
-    → HoldsProgram files p program → IfErr r (λ stop. CertificateStop told (counts a' b d' d e' f) name program stop) → IfErr r (λ stop. CheckStop files (counts a b c d e f) p name stop)
-stop_result (Ok text) files told a b c d e f a' d' e' p name program t h k l there cause = tt
-stop_result (Err stop) files told a b c d e f a' d' e' p name program t h k l there cause =
-    stop_from files a b c d e f a' d' e' p name program stop h k l there (subst (λ (o : Option FileMap). CertificateStop o (counts a' b d' d e' f) name program stop) t cause)
+pub stop_result : (r : Result (Vec ℕ Global) Stop) (files told : Option FileMap) (a b c d e f a' d' e' : ℕ) (p source name : List ℕ) (program : AffineProgram) → told ≡ files → a ≤ a' → c ≤ d' → e ≤ e'
+    → HoldsProgram files p source program → IfErr r (λ stop. CertificateStop told (counts a' b d' d e' f) source name program stop) → IfErr r (λ stop. CheckStop files (counts a b c d e f) p name stop)
+stop_result (Ok text) files told a b c d e f a' d' e' p source name program t h k l there cause = tt
+stop_result (Err stop) files told a b c d e f a' d' e' p source name program t h k l there cause =
+    stop_from files a b c d e f a' d' e' p source name program stop h k l there (subst (λ (o : Option FileMap). CertificateStop o (counts a' b d' d e' f) source name program stop) t cause)
 
-accepted_from : (files : Option FileMap) (p name : List ℕ) (program : AffineProgram) (text : List ℕ) → HoldsProgram files p program → IsGoodFor files name program text → IsAccepted files p name text
-accepted_from files p name program text there good = record {
+accepted_from : (files : Option FileMap) (p source name : List ℕ) (program : AffineProgram) (text : List ℕ) → HoldsProgram files p source program → IsGoodFor files source name program text → IsAccepted files p name text
+accepted_from files p source name program text there good = record {
+  source = source;
+  copies = good.copies;
   program = program;
   matrix = good.matrix;
   bound = good.good.bound;
@@ -64,22 +66,21 @@ accepted_from files p name program text there good = record {
   holds = good.good.holds;
 }
 
-pub accepted_result : (r : Result (Vec ℕ Global) Stop) (files told : Option FileMap) (p name : List ℕ) (program : AffineProgram) → told ≡ files
-    → HoldsProgram files p program → IfOk r (λ text. IsGoodFor told name program text.items) → IfOk r (λ text. IsAccepted files p name text.items)
-accepted_result (Err stop) files told p name program t there good = tt
-accepted_result (Ok text) files told p name program t there good =
-    accepted_from files p name program text.items there (subst (λ (o : Option FileMap). IsGoodFor o name program text.items) t good)
+pub accepted_result : (r : Result (Vec ℕ Global) Stop) (files told : Option FileMap) (p source name : List ℕ) (program : AffineProgram) → told ≡ files
+    → HoldsProgram files p source program → IfOk r (λ text. IsGoodFor told source name program text.items) → IfOk r (λ text. IsAccepted files p name text.items)
+accepted_result (Err stop) files told p source name program t there good = tt
+accepted_result (Ok text) files told p source name program t there good =
+    accepted_from files p source name program text.items there (subst (λ (o : Option FileMap). IsGoodFor o source name program text.items) t good)
 
 told_from : (files : Option FileMap) (name : List ℕ) (most : ℕ) (bytes : Vec ℕ Global) → IfSome files (λ map. Answers (content_of map name) most (Ok bytes)) → IfSome files (λ map. content_of map name ≡ Some bytes.items)
 told_from None name most bytes h = tt
 told_from (Some map) name most bytes h = h.0
 
 pub program_there : (files : Option FileMap) (name : List ℕ) (bytes : Vec ℕ Global) (slice : List ℕ) (program : AffineProgram) → slice ≡ bytes.items → length bytes.items ≤ program_most
-    → IfSome files (λ map. Answers (content_of map name) program_most (Ok bytes)) → ReadsAsProgram slice program → HoldsProgram files name program
-program_there files name bytes slice program e few told reads = record {
-  bytes = bytes.items;
-  content = record { few = few; told = told_from files name program_most bytes told };
-  reads = subst (λ (l : List ℕ). ReadsAsProgram l program) e reads;
+    → IfSome files (λ map. Answers (content_of map name) program_most (Ok bytes)) → Means slice program → HoldsProgram files name slice program
+program_there files name bytes slice program e few told means = record {
+  content = subst (λ (l : List ℕ). IsContent files name program_most l) (sym e) (record { few = few; told = told_from files name program_most bytes told });
+  means = means;
 }
 
 -- a call that stopped and said so
@@ -137,12 +138,14 @@ headline call output error status outcome e = said_bound (subst (λ (s : Status)
   said_bound (text, done, gains, stays) = record {
     program_name = done.program;
     certificate_name = done.certificate;
+    source = done.accepted.source;
     program = done.accepted.program;
     matrix = done.accepted.matrix;
     bound = done.accepted.bound;
     asked = done.asked;
     holds_program = done.accepted.holds_program;
     holds_certificate = done.accepted.holds_certificate;
+    copies = done.accepted.copies;
     meets = done.accepted.meets;
     bound_is = done.accepted.bound_is;
     printed = subst (Gains output) done.accepted.printed gains;

@@ -4,6 +4,7 @@ use Rattle.std.specs.List.{AllByRecursion}
 use Rattle.iolb_model.specs.Program.{AffineProgram}
 use Rattle.affine_form.specs.Form.{IsSmall}
 use Rattle.affine_form.specs.Matrix.{IntegerMatrix}
+use Rattle.copy_nest.specs.Spelling.{ReadsAsProgram}
 use Rattle.iolb_check.specs.Certificate.{matrix_rows}
 use Rattle.serde_json.specs.Data.{Data}
 use Rattle.serde_json.specs.Read.{read}
@@ -43,11 +44,29 @@ pub record IsOtherValue (bytes : List ℕ) (program : AffineProgram) (fault : Ce
   pub some : (value : Data) × HasValue bytes value
   pub cause : (matrix : IntegerMatrix) → ReadsAsCertificate bytes program matrix → ⊥
 
--- which fault the text of a certificate has
-abbrev pub IsTextFault : List ℕ → AffineProgram → CertFault → Type 0
-IsTextFault bytes program fault = IsNoJson bytes fault ⊎ IsOtherValue bytes program fault
-
--- where the error is a fault, the text has it
+-- where the error is a fault, the text of a copy nest's certificate has it
 abbrev pub IfTextFault : List ℕ → AffineProgram → CertError → Type 0
-IfTextFault bytes program (Fault fault) = IsTextFault bytes program fault
+IfTextFault bytes program (Fault fault) = IsNoJson bytes fault ⊎ IsOtherValue bytes program fault
 IfTextFault bytes program Memory = ⊤
+
+-- fault 4 of a certificate of any program: there is a value, and where the program's text is a copy nest's, the value is
+-- that of no certificate that is read yet. Of other programs no certificate is read yet.
+pub record IsUnread (source bytes : List ℕ) (program : AffineProgram) (fault : CertFault) : Type 0 where
+  pub number : fault.number ≡ 4
+  pub place : fault.place ≡ []
+  pub some : (value : Data) × HasValue bytes value
+  pub cause : ReadsAsProgram source program → (matrix : IntegerMatrix) → ReadsAsCertificate bytes program matrix → ⊥
+
+-- where the error is a fault, it is 1 where there is no value, and else 4
+abbrev pub IfOtherFault : List ℕ → CertError → Type 0
+IfOtherFault bytes (Fault fault) = IsNoJson bytes fault ⊎ ((fault ≡ record { number = 4; place = [] }) × ((value : Data) × HasValue bytes value))
+IfOtherFault bytes Memory = ⊤
+
+-- which fault the text of a certificate has, where this is the program's text
+abbrev pub IsTextFault : List ℕ → List ℕ → AffineProgram → CertFault → Type 0
+IsTextFault source bytes program fault = IsNoJson bytes fault ⊎ IsUnread source bytes program fault
+
+-- where the error is a fault, the text of a certificate of any program has it
+abbrev pub IfUnread : List ℕ → List ℕ → AffineProgram → CertError → Type 0
+IfUnread source bytes program (Fault fault) = IsTextFault source bytes program fault
+IfUnread source bytes program Memory = ⊤

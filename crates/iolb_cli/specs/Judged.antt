@@ -5,6 +5,7 @@ use Rattle.iolb_model.specs.Bound.{Bound}
 use Rattle.iolb_model.specs.Printed.{bound_text}
 use Rattle.iolb_model.specs.Headline.{BoundHolds}
 use Rattle.copy_nest.specs.Nest.{CopyNest}
+use Rattle.copy_nest.specs.Spelling.{ReadsAsProgram}
 use Rattle.copy_nest.specs.Count.{copy_bound}
 use Rattle.affine_form.specs.Matrix.{IntegerMatrix}
 use Rattle.affine_form.specs.declared.refused.Refused.TheVariants.{No}
@@ -35,18 +36,19 @@ JudgeStop program matrix (CertificateText fault) = ⊥
 JudgeStop program matrix (Condition failed) = IsRefusal program matrix (No failed)
 JudgeStop program matrix Memory = ⊤
 
--- the file of this name holds a certificate of the program that is good
-pub record IsGoodFor (files : Option FileMap) (name : List ℕ) (program : AffineProgram) (text : List ℕ) : Type 0 where
+-- the program's text is a copy nest's, and the file of this name holds a certificate of the program that is good
+pub record IsGoodFor (files : Option FileMap) (source name : List ℕ) (program : AffineProgram) (text : List ℕ) : Type 0 where
+  pub copies : ReadsAsProgram source program
   pub matrix : IntegerMatrix
   pub holds : HoldsCertificate files name program matrix
   pub good : IsGood program matrix text
 
 -- why the check of a program that was read stops
-abbrev pub CertificateStop : Option FileMap → Counts → List ℕ → AffineProgram → Stop → Type 0
-CertificateStop files counts name program Words = ⊥
-CertificateStop files counts name program (ProgramFile fault) = ⊥
-CertificateStop files counts name program (ProgramText fault) = ⊥
-CertificateStop files counts name program (CertificateFile fault) = FaultCause files counts name certificate_most fault
-CertificateStop files counts name program (CertificateText fault) = (bytes : List ℕ) × IsContent files name certificate_most bytes × IsTextFault bytes program fault
-CertificateStop files counts name program (Condition failed) = (matrix : IntegerMatrix) × HoldsCertificate files name program matrix × IsRefusal program matrix (No failed)
-CertificateStop files counts name program Memory = ⊤
+abbrev pub CertificateStop : Option FileMap → Counts → List ℕ → List ℕ → AffineProgram → Stop → Type 0
+CertificateStop files counts source name program Words = ⊥
+CertificateStop files counts source name program (ProgramFile fault) = ⊥
+CertificateStop files counts source name program (ProgramText fault) = ⊥
+CertificateStop files counts source name program (CertificateFile fault) = FaultCause files counts name certificate_most fault
+CertificateStop files counts source name program (CertificateText fault) = (bytes : List ℕ) × IsContent files name certificate_most bytes × IsTextFault source bytes program fault
+CertificateStop files counts source name program (Condition failed) = ReadsAsProgram source program × (matrix : IntegerMatrix) × HoldsCertificate files name program matrix × IsRefusal program matrix (No failed)
+CertificateStop files counts source name program Memory = ⊤

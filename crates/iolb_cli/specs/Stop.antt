@@ -9,7 +9,7 @@ use Rattle.copy_nest.specs.Spelling.{ReadsAsProgram}
 use Rattle.copy_nest.specs.Count.{copy_bound}
 use Rattle.affine_form.specs.Matrix.{IntegerMatrix}
 use Rattle.affine_form.specs.declared.refused.Refused.TheVariants.{No}
-use Rattle.affine_c.specs.Fault.{not_read_yet}
+use Rattle.affine_text.specs.Meaning.{Means, HasFault}
 use Rattle.iolb_check.specs.Certificate.{FitsNest, MeetsConditions}
 use Rattle.iolb_check.specs.Refusal.{IsRefusal}
 use Rattle.iolb_host.specs.Files.{FileMap}
@@ -31,11 +31,10 @@ program_most = 4194304
 abbrev pub certificate_most : ℕ
 certificate_most = 67108864
 
--- the file of this name holds the text of this program; where the files don't tell their content, it may
-pub record HoldsProgram (files : Option FileMap) (name : List ℕ) (program : AffineProgram) : Type 0 where
-  pub bytes : List ℕ
-  pub content : IsContent files name program_most bytes
-  pub reads : ReadsAsProgram bytes program
+-- the file of this name holds this text, which means this program; where the files don't tell their content, it may
+pub record HoldsProgram (files : Option FileMap) (name source : List ℕ) (program : AffineProgram) : Type 0 where
+  pub content : IsContent files name program_most source
+  pub means : Means source program
 
 -- the file of this name holds, or may hold, the text of this program's certificate with this matrix
 pub record HoldsCertificate (files : Option FileMap) (name : List ℕ) (program : AffineProgram) (matrix : IntegerMatrix) : Type 0 where
@@ -46,10 +45,12 @@ pub record HoldsCertificate (files : Option FileMap) (name : List ℕ) (program 
 -- The two files hold a program and a certificate that meets the conditions, this is the text of their bound, and the
 -- bound holds: every complete pebbling makes at least as many loads as it says.
 pub record IsAccepted (files : Option FileMap) (program_name certificate_name text : List ℕ) : Type 0 where
+  pub source : List ℕ
   pub program : AffineProgram
   pub matrix : IntegerMatrix
   pub bound : Bound
-  pub holds_program : HoldsProgram files program_name program
+  pub holds_program : HoldsProgram files program_name source program
+  pub copies : ReadsAsProgram source program
   pub holds_certificate : HoldsCertificate files certificate_name program matrix
   pub meets : MeetsConditions program matrix
   pub bound_is : (nest : CopyNest) × FitsNest program matrix nest × (bound ≡ copy_bound nest)
@@ -61,13 +62,15 @@ pub record IsAccepted (files : Option FileMap) (program_name certificate_name te
 abbrev pub CheckStop : Option FileMap → Counts → List ℕ → List ℕ → Stop → Type 0
 CheckStop files counts program_name certificate_name Words = ⊥
 CheckStop files counts program_name certificate_name (ProgramFile fault) = FaultCause files counts program_name program_most fault
-CheckStop files counts program_name certificate_name (ProgramText fault) = (bytes : List ℕ) × IsContent files program_name program_most bytes
-    × (fault ≡ not_read_yet) × ((program : AffineProgram) → ReadsAsProgram bytes program → ⊥)
-CheckStop files counts program_name certificate_name (CertificateFile fault) = (program : AffineProgram) × HoldsProgram files program_name program
-    × FaultCause files counts certificate_name certificate_most fault
-CheckStop files counts program_name certificate_name (CertificateText fault) = (program : AffineProgram) × HoldsProgram files program_name program
-    × (bytes : List ℕ) × IsContent files certificate_name certificate_most bytes × IsTextFault bytes program fault
-CheckStop files counts program_name certificate_name (Condition failed) = (program : AffineProgram) × (matrix : IntegerMatrix) × HoldsProgram files program_name program
+CheckStop files counts program_name certificate_name (ProgramText fault) = (source : List ℕ) × IsContent files program_name program_most source
+    × HasFault source fault
+CheckStop files counts program_name certificate_name (CertificateFile fault) = (source : List ℕ) × (program : AffineProgram)
+    × HoldsProgram files program_name source program × FaultCause files counts certificate_name certificate_most fault
+CheckStop files counts program_name certificate_name (CertificateText fault) = (source : List ℕ) × (program : AffineProgram)
+    × HoldsProgram files program_name source program × (bytes : List ℕ) × IsContent files certificate_name certificate_most bytes
+    × IsTextFault source bytes program fault
+CheckStop files counts program_name certificate_name (Condition failed) = (source : List ℕ) × (program : AffineProgram) × (matrix : IntegerMatrix)
+    × HoldsProgram files program_name source program × ReadsAsProgram source program
     × HoldsCertificate files certificate_name program matrix × IsRefusal program matrix (No failed)
 CheckStop files counts program_name certificate_name Memory = ⊤
 

@@ -1,8 +1,7 @@
 //! The check of a program's file by a certificate's.
 
 ghost use Rattle.std.specs.Prelude.{◌≡◌, ◌≤◌, ℕ, IfOk, IfErr};
-ghost use Rattle.copy_nest.specs.Nest.{CopyNest, program_of};
-ghost use Rattle.copy_nest.specs.Spelling.{IsCopyNest};
+ghost use Rattle.copy_nest.specs.Nest.{CopyNest};
 ghost use Rattle.affine_c.specs.Parts.{meaning};
 ghost use Rattle.iolb_check.specs.Certificate.{FitsNest};
 ghost use Rattle.iolb_cli.specs.Reading.{Counts};
@@ -11,10 +10,11 @@ ghost use Rattle.iolb_cli.specs.Stop.{IsAccepted, CheckStop};
 
 use crate::bound_lines::bound_text;
 use crate::cert_error::CertError;
-use crate::certificate_text::read_certificate;
+use crate::certificate_text::read_any_certificate;
 use crate::stop::Stop;
-use affine_c::{Program, ProgramError, read_program};
+use affine_c::Program;
 use affine_form::Refused;
+use affine_text::{ProgramError, read_program};
 use iolb_check::{Certificate, check};
 use iolb_host::Files;
 use std::alloc::Global;
@@ -41,19 +41,19 @@ fn judge(alloc: Global, program: &Program, certificate: &Certificate) -> Result<
     }
 }
 
-/// Reads the certificate in a file, and checks it.
+/// Reads the certificate in a file for the program that a text means, and checks it.
 fn check_certificate<F: Files>(
     alloc: Global,
+    source: &[u8],
     program: &Program,
     certificate: &str,
     files: &mut F,
 ) -> Result<Vec<u8>, Stop>
-    requires { (nest : CopyNest) × IsCopyNest nest × (meaning program.now ≡ program_of nest) }
     ensures told_stays { F.told files.new ≡ F.told files.old }
     ensures missing_never_falls { F.missing files.old ≤ F.missing files.new }
     ensures long_never_falls { F.long files.old ≤ F.long files.new }
     ensures faults_never_fall { F.faults files.old ≤ F.faults files.new }
-    ensures good { IfOk result (λ text. IsGoodFor (F.told files.old) certificate.now (meaning program.now) text.items) }
+    ensures good { IfOk result (λ text. IsGoodFor (F.told files.old) source.now certificate.now (meaning program.now) text.items) }
     ensures stop { IfErr result (λ stop. CertificateStop (F.told files.old) (record {
       missing = F.missing files.old;
       missing_after = F.missing files.new;
@@ -61,13 +61,13 @@ fn check_certificate<F: Files>(
       long_after = F.long files.new;
       failed = F.faults files.old;
       failed_after = F.faults files.new;
-    }) certificate.now (meaning program.now) stop) }
+    }) source.now certificate.now (meaning program.now) stop) }
 {
     let bytes = match files.read(certificate, CERTIFICATE_MOST) {
         Ok(bytes) => bytes,
         Err(fault) => return Err(Stop::CertificateFile(fault)),
     };
-    match read_certificate(alloc, program, bytes.as_slice()) {
+    match read_any_certificate(alloc, source, program, bytes.as_slice()) {
         Ok(certificate) => judge(alloc, program, &certificate),
         Err(CertError::Fault(fault)) => Err(Stop::CertificateText(fault)),
         Err(CertError::Memory) => Err(Stop::Memory),
@@ -95,8 +95,9 @@ pub(crate) fn check_files<F: Files>(
         Ok(bytes) => bytes,
         Err(fault) => return Err(Stop::ProgramFile(fault)),
     };
-    match read_program(alloc, bytes.as_slice()) {
-        Ok(program) => check_certificate(alloc, &program, certificate, files),
+    let source = bytes.as_slice();
+    match read_program(alloc, source) {
+        Ok(program) => check_certificate(alloc, source, &program, certificate, files),
         Err(ProgramError::Fault(fault)) => Err(Stop::ProgramText(fault)),
         Err(ProgramError::Memory) => Err(Stop::Memory),
     }

@@ -7,8 +7,8 @@ ghost use Rattle.iolb_cli.specs.Stop.{stop_line as line_of_stop};
 use crate::cert_error::CertFault;
 use crate::pointer_text::pointer_text;
 use crate::stop::Stop;
-use affine_c::ProgramFault;
 use affine_form::{Memory, No};
+use affine_text::ProgramFault;
 use iolb_host::FileFault;
 use std::alloc::Global;
 

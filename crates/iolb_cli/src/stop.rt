@@ -5,8 +5,8 @@ ghost use Rattle.iolb_cli.specs.Stop.{file_status, stop_status};
 
 use crate::cert_error::CertFault;
 use crate::status::Status;
-use affine_c::ProgramFault;
 use affine_form::No;
+use affine_text::ProgramFault;
 use iolb_host::FileFault;
 
 /// Why a call of the program stops before it is done.

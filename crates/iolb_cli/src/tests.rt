@@ -16,6 +16,8 @@ const TRANSPOSE: &str =
 const GEMM: &str =
     "#include \"gemm.h\"\nstatic void kernel_gemm(int ni, int nj, int nk) {\n  int i, j, k;\n#pragma scop\n  for (i = 0; i < _PB_NI; i++) {\n    for (j = 0; j < _PB_NJ; j++)\n      C[i][j] *= beta; /* scale first */\n    for (k = 0; k < _PB_NK; k++)\n      for (j = 0; j < _PB_NJ; j++)\n        C[i][j] += alpha * A[i][k] * B[k][j];\n  }\n#pragma endscop\n}\n";
 
+const STEP_TWO: &str = "#pragma scop\nfor (i = 0; i < N; i += 2) x = 1;\n#pragma endscop\n";
+
 const STRAIGHT: &str =
     "{\"branches\":[{\"disjoint\":[],\"terms\":[{\"cold\":{\"inside\":[[1,0,2,1],[1,0,3,1],[1,0,4,1],[1,0,5,1]],\"inverse\":{\"matrix\":[[1,0],[0,1]],\"scale\":1},\"leaves\":[{\"stop\":[]}],\"nest\":[[[0,0,0],[1,0,-1]],[[0,0,0,0],[0,1,0,-1]]],\"point\":[[0,0,1,0,0],[0,0,0,1,0]],\"read\":0,\"shown\":[[1,1,0,1],[1,1,1,1]],\"statement\":0,\"sums\":[{\"den\":1,\"terms\":[[1,0,1,1]]},{\"den\":1,\"terms\":[[1,0,0,0,1]]}]}}]}],\"quasts\":[[{\"input\":[]}]],\"version\":1}\n";
 
@@ -29,10 +31,11 @@ const USAGE: &str =
 
 const BOUND: &str = "assume N - 1 >= 0\nassume M - 1 >= 0\nbranch 0\n  cold N*M\nbranches 1\n";
 
-const FILES: [(&str, &str); 9] = [
+const FILES: [(&str, &str); 10] = [
     ("copy.c", COPY),
     ("transpose.c", TRANSPOSE),
     ("gemm.c", GEMM),
+    ("step-two.c", STEP_TWO),
     ("copy.json", STRAIGHT),
     ("swapped.json", SWAPPED),
     ("cut.json", CUT),
@@ -90,10 +93,22 @@ fn worked_calls(rt: HostRuntime) -> Result<(), Fail> {
         ("check transpose.c swapped.json", Status::Done, BOUND, ""),
         ("check copy.c swapped.json", Status::Refused, "", CONDITION),
         (
-            "check gemm.c copy.json",
+            "check step-two.c copy.json",
             Status::ProgramText,
             "",
-            "program refused: fault 13 at byte 0\n",
+            "program refused: fault 5 at byte 32\n",
+        ),
+        (
+            "check gemm.c copy.json",
+            Status::OtherText,
+            "",
+            "certificate text refused: fault 4 at \n",
+        ),
+        (
+            "check gemm.c cut.json",
+            Status::OtherText,
+            "",
+            "certificate text refused: fault 1\n",
         ),
         (
             "check copy.c cut.json",

@@ -1,4 +1,4 @@
-use Rattle.std.proofs.Common.{refl, sym, ◌∙◌, ap}
+use Rattle.std.proofs.Common.{sym, ◌∙◌, ap}
 use Rattle.std.specs.Prelude.{option_map}
 use Rattle.affine_c.specs.Parts.{meaning}
 use Rattle.affine_c.proofs.Readings.{program_sound, program_absent}

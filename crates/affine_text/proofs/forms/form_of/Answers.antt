@@ -1,4 +1,4 @@
-use Rattle.std.proofs.Common.{◌≡◌, sym, ◌∙◌, ap, subst, ◌++◌, ◌^◌, take, drop, List, ℤ, []}
+use Rattle.std.proofs.Common.{◌≡◌, sym, ◌∙◌, ap, subst, ◌++◌, ◌^◌, take, drop, List, ℤ}
 use Rattle.std.specs.List.{AllByRecursion}
 use Rattle.affine_form.specs.Form.{IsSmall}
 use Rattle.affine_text.proofs.Rows.{smaller_all, parts_small}

@@ -4,13 +4,12 @@ use Rattle.iolb_model.specs.Program.{AffineProgram}
 use Rattle.affine_c.specs.Parts.{array_of}
 use Rattle.affine_c.specs.Tree.{row_of}
 use Rattle.affine_c.specs.declared.item.Item.{Item}
-use Rattle.affine_c.specs.declared.statement.Statement.{Statement}
-use Rattle.reading_laws.specs.Well.{parameters_of, arrays_of, statement_count}
-use Rattle.affine_text.specs.Meaning.{narrowed, row_lines, tree_lines, statements_among, IsReadingOf}
+use Rattle.reading_laws.specs.Well.{parameters_of, arrays_of}
+use Rattle.affine_text.specs.Meaning.{narrowed, tree_lines, statements_among, IsReadingOf}
 use Rattle.affine_text.specs.Built.{HasShortWays}
 use Rattle.affine_text.proofs.TreeFits.{program_has_ways, statements_counted}
 use Rattle.affine_text.proofs.StatementsKept.{StandsIn}
-use Rattle.affine_text.proofs.Made.{Made, made_says, made_program}
+use Rattle.affine_text.proofs.Made.{made_program}
 use Rattle.affine_text.proofs.parts.program_of.Goals as goal
 
 pub statements_of-requires-clause-short : goal.statements_of-requires-clause-short

@@ -1,4 +1,4 @@
-use Rattle.std.proofs.Common.{◌≡◌, ap, ◌∙◌, map, ◌^◌, sym, subst}
+use Rattle.std.proofs.Common.{ap, ◌∙◌, map, ◌^◌, sym, subst}
 use Rattle.std.specs.List.{AllByRecursion}
 use Rattle.affine_form.specs.Form.{IsSmallForm}
 use Rattle.affine_text.specs.Meaning.{narrowed}

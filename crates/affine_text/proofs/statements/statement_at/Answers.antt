@@ -1,5 +1,5 @@
-use Rattle.std.proofs.Common.{◌≡◌, sym, ◌∙◌, ap, subst, ◌≤◌, length, map, List, arith}
-use Rattle.std.specs.Prelude.{Some, Option, option_map}
+use Rattle.std.proofs.Common.{◌≡◌, sym, ◌∙◌, ap, length, map, arith}
+use Rattle.std.specs.Prelude.{Some, option_map}
 use Rattle.iolb_model.specs.Path.{row_path}
 use Rattle.affine_c.specs.Parts.{access_of, step_of}
 use Rattle.affine_c.specs.Tree.{row_of}

@@ -1,4 +1,4 @@
-use Rattle.std.proofs.Common.{◌≡◌, sym, ◌∙◌, ap, subst, ◌+◌, ◌-◌, ◌∷◌, ℕ, List, length, drop}
+use Rattle.std.proofs.Common.{◌≡◌, sym, ap, subst, ◌+◌, ◌-◌, ◌∷◌, ℕ, List, length, drop}
 use Rattle.std.specs.List.{AllByRecursion}
 use Rattle.c_reading.specs.declared.lines.Line.{Line}
 use Rattle.c_reading.specs.declared.lines.Line.TheVariants.{Begin, Does, End}

@@ -39,7 +39,7 @@ loop-line-preserved c =
           (kept_begin r p so (lines_so_far w.begin.new.self) depth c.loop-line.number w.in-Begin.header rest w.in_ok-name-in-Begin.name w.in_ok-lower-in-Begin.lower w.in_ok-upper-in-Begin.upper
           (at_line c (Begin w.in-Begin.header) w.in-Begin.is) w.in_ok-begin-in-Begin.ensures.lines
           (w.in_ok-name-in-Begin.ensures ∙ read_or r.names w.in-Begin.header.name w.index-names-header.result [] (at_line c (Begin w.in-Begin.header) w.in-Begin.is).well.0
-              (w.index-names-header.is ∙ ap (λ (ns : List (List ℕ)). get_or ns w.in-Begin.header.name w.index-names-header.result) c.names-names.ensures))
+          (w.index-names-header.is ∙ ap (λ (ns : List (List ℕ)). get_or ns w.in-Begin.header.name w.index-names-header.result) c.names-names.ensures))
           (w.in_ok-lower-in-Begin.ensures ∙ ap (λ (n : ℕ). narrowed p n w.in-Begin.header.lower) w.depth-depth.ensures)
           (w.in_ok-upper-in-Begin.ensures ∙ ap (λ (n : ℕ). narrowed p n w.in-Begin.header.upper) w.depth-depth.ensures))
       | in-Does+in_ok-assign-in-Does w ↦

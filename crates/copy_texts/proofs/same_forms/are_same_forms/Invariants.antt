@@ -1,4 +1,4 @@
-use Rattle.std.proofs.Common.{◌≡◌, map, take}
+use Rattle.std.proofs.Common.{◌≡◌, take}
 use Rattle.copy_texts.proofs.same_forms.are_same_forms.Given as goal
 
 abbrev pub invariant-loop-i : goal.invariant-loop-i

@@ -1,4 +1,4 @@
-use Rattle.std.proofs.Common.{◌≡◌, ◌∙◌, ap, List, [], ◌∷◌, ◌++◌}
+use Rattle.std.proofs.Common.{◌∙◌, ap, ◌++◌}
 use Rattle.iolb_model.specs.Program.{Item as ModelItem}
 use Rattle.affine_c.specs.Tree.{row_of}
 use Rattle.affine_text.specs.Meaning.{item_lines, row_lines}

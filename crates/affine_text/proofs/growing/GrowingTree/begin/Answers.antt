@@ -1,5 +1,4 @@
 use Rattle.std.proofs.Common.{◌∙◌, ap}
-use Rattle.affine_c.specs.declared.item.Item.{Item}
 use Rattle.affine_text.proofs.TreeGrows.{lines_begin}
 use Rattle.affine_text.proofs.growing.GrowingTree.begin.Goals as goal
 

@@ -1,7 +1,5 @@
-use Rattle.std.proofs.Common.{◌≡◌, sym, ◌∙◌, ap, List, ◌++◌, ◌∷◌, []}
+use Rattle.std.proofs.Common.{◌∙◌, ap, ◌++◌, ◌∷◌, []}
 use Rattle.std.specs.Prelude.{option_to_list, Option}
-use Rattle.iolb_model.specs.Program.{Item as ModelItem}
-use Rattle.affine_c.specs.declared.item.Item.{Item}
 use Rattle.affine_c.specs.Tree.{row_of}
 use Rattle.affine_text.specs.Meaning.{begins, ends, item_lines, row_lines}
 use Rattle.affine_text.specs.declared.growing.OpenLoop.{OpenLoop}
