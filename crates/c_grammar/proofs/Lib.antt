@@ -1,0 +1,15 @@
+pub mod Steps
+pub mod Small
+pub mod Forms
+pub mod SoundAffine
+pub mod SoundRefs
+pub mod SoundValues
+pub mod SoundItems
+pub mod SoundText
+pub mod Lexical
+pub mod Spelled
+pub mod RunAffine
+pub mod RunRefs
+pub mod RunValues
+pub mod RunItems
+pub mod RunText

@@ -1,0 +1,359 @@
+-- What a rule of the reading takes from the words that are left, and what it leaves.
+use Rattle.std.proofs.Common.{◌≡◌, ℕ, suc, ◌-◌, arith, Bool, true, false, List, [], ◌∷◌, ◌++◌, length, map, drop, refl, sym, ap, ◌∙◌, Option, Some, subst}
+use Rattle.std.specs.Prelude.{◌==◌, ◌&&◌, ◌||◌, if◌then◌else◌, Result, Ok, Err}
+use Rattle.std.proofs.lemmas.List.{append_assoc, append-nil}
+use Rattle.std.proofs.lemmas.Bool.Decides.{nat_tests}
+use Rattle.std.proofs.lemmas.Slice.Eq.{bytes_eq-Decides}
+use Rattle.c_tokens.specs.declared.token.Token.{Token}
+use Rattle.c_tokens.specs.declared.token.TokenKind.{TokenKind}
+use Rattle.c_tokens.specs.declared.token.TokenKind.TheVariants as token
+use Rattle.c_tokens.specs.Bytes.{is_space, is_name_start}
+use Rattle.c_tokens.specs.Pieces.{name_kind, is_keyword, begins_number}
+use Rattle.c_reading.specs.declared.error.ReadFault.{ReadFault}
+use Rattle.c_reading.specs.Input.{Input, Rule, Outcome, and_then, given as rule_given, kind, spelling, next, sees, left, is_name_kind, is_number_kind}
+use Rattle.c_reading.specs.Head.{is_line_end, is_parameters, is_assumptions}
+use Rattle.c_reading.specs.Items.{is_end}
+use Rattle.c_grammar.specs.Words.{Word, word_of, program_end, line_end, a_name, a_number, a_symbol}
+use Rattle.c_grammar.specs.Meaning.{Names, Meaning, then_in, given}
+
+-- the words that are left
+abbrev pub words : Input → List Word
+words i = map (word_of i.text) i.tokens
+
+-- the names so far, without what is left
+abbrev pub bare : Input → Input
+bare i = record i { text = []; tokens = [] }
+
+-- the first word, or an end where none is left
+abbrev pub first : List Word → Word
+first [] = program_end
+first (w ∷ ws) = w
+
+-- ---- kinds and bytes of words
+
+-- the kind that bytes have by themselves: the heads of directives have one, and what has no bytes
+unfoldable pub spelled_kind : List ℕ → TokenKind
+spelled_kind [] = token.End
+spelled_kind (b ∷ rest) =
+    if is_name_start b then name_kind (b ∷ rest)
+    else (if begins_number b rest then token.Number
+    else (if is_space b || b == 35 then token.Parameters
+    else token.Symbol))
+
+-- kinds that bytes alone don't tell apart are one class
+abbrev pub class : TokenKind → TokenKind
+class token.Assumptions = token.Parameters
+class token.LineEnd = token.End
+class token.Directive = token.End
+class token.Bad = token.End
+class token.Parameters = token.Parameters
+class token.Name = token.Name
+class token.Word = token.Word
+class token.Number = token.Number
+class token.Symbol = token.Symbol
+class token.End = token.End
+
+-- the kind that stands last
+abbrev pub is_last : TokenKind → Bool
+is_last token.End = true
+is_last _ = false
+
+-- the kinds behind which words follow
+abbrev pub goes_on : TokenKind → Bool
+goes_on token.Assumptions = true
+goes_on token.LineEnd = true
+goes_on token.Directive = false
+goes_on token.Bad = false
+goes_on token.Parameters = true
+goes_on token.Name = true
+goes_on token.Word = true
+goes_on token.Number = true
+goes_on token.Symbol = true
+goes_on token.End = false
+
+-- words whose bytes have their kinds, up to one behind which none is taken
+abbrev pub AreLexical : List Word → Type 0
+AreLexical [] = ⊥
+AreLexical (w ∷ ws) = (class w.kind ≡ spelled_kind w.bytes) × (is_last w.kind ≡ true → ws ≡ []) × (goes_on w.kind ≡ true → AreLexical ws)
+
+-- a kind that bytes tell
+pub record IsPlain (k : TokenKind) : Type 0 where
+  pub only : (other : TokenKind) → class other ≡ class k → other ≡ k
+  pub inside : goes_on k ≡ true
+
+-- the kinds of these words stand for themselves alone
+only_symbol : (k : TokenKind) → class k ≡ token.Symbol → k ≡ token.Symbol
+only_symbol token.Symbol e = refl
+only_symbol _ e = cc
+
+only_name : (k : TokenKind) → class k ≡ token.Name → k ≡ token.Name
+only_name token.Name e = refl
+only_name _ e = cc
+
+only_number : (k : TokenKind) → class k ≡ token.Number → k ≡ token.Number
+only_number token.Number e = refl
+only_number _ e = cc
+
+only_keyword : (k : TokenKind) → class k ≡ token.Word → k ≡ token.Word
+only_keyword token.Word e = refl
+only_keyword _ e = cc
+
+-- bytes tell these kinds
+pub symbols : IsPlain token.Symbol
+symbols = record { only = only_symbol; inside = refl }
+
+pub names : IsPlain token.Name
+names = record { only = only_name; inside = refl }
+
+pub numbers : IsPlain token.Number
+numbers = record { only = only_number; inside = refl }
+
+pub keywords : IsPlain token.Word
+keywords = record { only = only_keyword; inside = refl }
+
+-- ---- steps
+
+-- these words were taken, and those behind them are lexical
+pub record Took (i : Input) (ws : List Word) (j : Input) : Type 0 where
+  pub spelled : words i ≡ ws ++ words j
+  pub lexical : AreLexical (words j)
+
+-- words were taken, and then others
+pub took_then : {i j k : Input} {ws vs : List Word} → Took i ws j → Took j vs k → Took i (ws ++ vs) k
+took_then {i} {j} {k} {ws} {vs} a b = record { spelled = a.spelled ∙ ap (λ l. ws ++ l) b.spelled ∙ sym (append_assoc ws vs (words k)); lexical = b.lexical }
+
+-- no word was taken
+pub took_none : {i : Input} → AreLexical (words i) → Took i [] i
+took_none g = record { spelled = refl; lexical = g }
+
+-- the next token's bytes are the first word's
+pub spelling_is : (i : Input) → spelling i ≡ (first (words i)).bytes
+unfolding spelling
+spelling_is i = at i.tokens where
+  at : (ts : List Token) → spelling (record i { tokens = ts }) ≡ (first (map (word_of i.text) ts)).bytes
+  at [] = refl
+  at (t ∷ ts) = refl
+
+-- its kind is the first word's
+pub kind_is : (i : Input) → kind i ≡ (first (words i)).kind
+kind_is i = at i.tokens where
+  at : (ts : List Token) → kind (record i { tokens = ts }) ≡ (first (map (word_of i.text) ts)).kind
+  at [] = refl
+  at (t ∷ ts) = refl
+
+-- without the next token the first word is gone
+pub next_is : (i : Input) → words (next i) ≡ drop 1 (words i)
+unfolding next
+next_is i = at i.tokens where
+  at : (ts : List Token) → map (word_of i.text) (drop 1 ts) ≡ drop 1 (map (word_of i.text) ts)
+  at [] = refl
+  at (t ∷ ts) = refl
+
+-- the names stay
+pub bare_next : (i : Input) → bare (next i) ≡ bare i
+unfolding next
+bare_next i = refl
+
+-- as many tokens are left as words
+pub left_is : (i : Input) → left i ≡ length (words i)
+left_is i = at i.tokens where
+  at : (ts : List Token) → length ts ≡ length (map (word_of i.text) ts)
+  at [] = refl
+  at (t ∷ ts) = ap suc (at ts)
+
+-- a word of a kind behind which words follow
+taken : (k : TokenKind) (ws vs : List Word) → goes_on k ≡ true → (first ws).kind ≡ k → AreLexical ws → vs ≡ drop 1 ws → (ws ≡ record { kind = k; bytes = (first ws).bytes } ∷ vs) × AreLexical vs
+taken k [] vs inside is g e = absurd g
+taken k (w ∷ ws) vs inside is g e = (
+  ap (λ l. w ∷ l) (sym e) ∙ ap (λ m. record { kind = m; bytes = w.bytes } ∷ vs) is,
+  subst AreLexical (sym e) (g.2 (ap goes_on is ∙ inside)),
+)
+
+-- a token of this kind is a word of it
+pub took_kind : (k : TokenKind) (i : Input) → goes_on k ≡ true → AreLexical (words i) → kind i ≡ k → Took i (record { kind = k; bytes = spelling i } ∷ []) (next i)
+took_kind k i inside g is =
+    let both = taken k (words i) (words (next i)) inside (sym (kind_is i) ∙ is) g (next_is i) in
+    record { spelled = both.0 ∙ ap (λ b. record { kind = k; bytes = b } ∷ words (next i)) (sym (spelling_is i)); lexical = both.1 }
+
+-- the next word's bytes have its kind
+lexical_first : (ws : List Word) → AreLexical ws → class (first ws).kind ≡ spelled_kind (first ws).bytes
+lexical_first [] g = absurd g
+lexical_first (w ∷ ws) g = g.0
+
+-- the next token's bytes have its kind
+pub kind_spelled : (i : Input) → AreLexical (words i) → class (kind i) ≡ spelled_kind (spelling i)
+kind_spelled i g = ap class (kind_is i) ∙ lexical_first (words i) g ∙ ap spelled_kind (sym (spelling_is i))
+
+-- a word that is seen has these bytes
+pub sees_spelling : (word : List ℕ) (i : Input) → sees word i ≡ true → spelling i ≡ word
+unfolding sees
+sees_spelling word i is = (bytes_eq-Decides (spelling i) word).0 is
+
+-- a word whose bytes are seen
+pub took_word : (word : List ℕ) (k : TokenKind) → IsPlain k → spelled_kind word ≡ class k → (i : Input) → AreLexical (words i) → sees word i ≡ true → Took i (record { kind = k; bytes = word } ∷ []) (next i)
+took_word word k plain word_is i g seen =
+    let same : spelling i ≡ word = sees_spelling word i seen in
+    let kinds : kind i ≡ k = plain.only (kind i) (kind_spelled i g ∙ ap spelled_kind same ∙ word_is) in
+    let took = took_kind k i plain.inside g kinds in
+    record { spelled = took.spelled ∙ ap (λ b. record { kind = k; bytes = b } ∷ words (next i)) same; lexical = took.lexical }
+
+-- a symbol that is seen is a word
+pub took_symbol : (word : List ℕ) → spelled_kind word ≡ token.Symbol → (i : Input) → AreLexical (words i) → sees word i ≡ true → Took i (a_symbol word ∷ []) (next i)
+took_symbol word is i g seen = took_word word token.Symbol symbols is i g seen
+
+-- each test of a kind finds it alone
+pub name_kind_is : (k : TokenKind) → is_name_kind k ≡ true → k ≡ token.Name
+name_kind_is token.Name e = refl
+name_kind_is _ e = cc
+
+pub number_kind_is : (k : TokenKind) → is_number_kind k ≡ true → k ≡ token.Number
+number_kind_is token.Number e = refl
+number_kind_is _ e = cc
+
+pub line_end_is : (k : TokenKind) → is_line_end k ≡ true → k ≡ token.LineEnd
+line_end_is token.LineEnd e = refl
+line_end_is _ e = cc
+
+pub parameters_is : (k : TokenKind) → is_parameters k ≡ true → k ≡ token.Parameters
+parameters_is token.Parameters e = refl
+parameters_is _ e = cc
+
+pub assumptions_is : (k : TokenKind) → is_assumptions k ≡ true → k ≡ token.Assumptions
+assumptions_is token.Assumptions e = refl
+assumptions_is _ e = cc
+
+pub end_is : (k : TokenKind) → is_end k ≡ true → k ≡ token.End
+end_is token.End e = refl
+end_is _ e = cc
+
+-- a name is a word
+pub took_name : (i : Input) → AreLexical (words i) → is_name_kind (kind i) ≡ true → Took i (a_name (spelling i) ∷ []) (next i)
+took_name i g is = took_kind token.Name i refl g (name_kind_is (kind i) is)
+
+-- a number is a word
+pub took_number : (i : Input) → AreLexical (words i) → is_number_kind (kind i) ≡ true → Took i (a_number (spelling i) ∷ []) (next i)
+took_number i g is = took_kind token.Number i refl g (number_kind_is (kind i) is)
+
+-- the head of a line that names parameters is a word
+pub took_parameters : (i : Input) → AreLexical (words i) → is_parameters (kind i) ≡ true → Took i (record { kind = token.Parameters; bytes = spelling i } ∷ []) (next i)
+took_parameters i g is = took_kind token.Parameters i refl g (parameters_is (kind i) is)
+
+-- the head of a line that assumes is a word
+pub took_assumptions : (i : Input) → AreLexical (words i) → is_assumptions (kind i) ≡ true → Took i (record { kind = token.Assumptions; bytes = spelling i } ∷ []) (next i)
+took_assumptions i g is = took_kind token.Assumptions i refl g (assumptions_is (kind i) is)
+
+-- what has no bytes
+no_bytes : (bytes : List ℕ) → token.End ≡ spelled_kind bytes → bytes ≡ []
+unfolding spelled_kind
+no_bytes [] e = refl
+no_bytes (b ∷ rest) e = cases (is_name_start b) (is_keyword (b ∷ rest)) (begins_number b rest) (is_space b || b == 35) e where
+  cases : (n k m h : Bool) → token.End ≡ (if n then (if k then token.Word else token.Name) else (if m then token.Number else (if h then token.Parameters else token.Symbol))) → b ∷ rest ≡ []
+  cases true true m h e = cc
+  cases true false m h e = cc
+  cases false k true h e = cc
+  cases false k false true e = cc
+  cases false k false false e = cc
+
+-- the end of a line is a word
+pub took_line_end : (i : Input) → AreLexical (words i) → is_line_end (kind i) ≡ true → Took i (line_end ∷ []) (next i)
+took_line_end i g is =
+    let kinds = line_end_is (kind i) is in
+    let took = took_kind token.LineEnd i refl g kinds in
+    let none = no_bytes (spelling i) (ap class (sym kinds) ∙ kind_spelled i g) in
+    record { spelled = took.spelled ∙ ap (λ b. record { kind = token.LineEnd; bytes = b } ∷ words (next i)) none; lexical = took.lexical }
+
+-- the end stands last
+end_words : (ws : List Word) → AreLexical ws → (first ws).kind ≡ token.End → ws ≡ program_end ∷ []
+end_words [] g is = absurd g
+end_words (w ∷ ws) g is =
+    let none = no_bytes w.bytes (ap class (sym is) ∙ g.0) in
+    ap (λ l. w ∷ l) (g.1 (ap is_last is)) ∙ ap (λ k. record { kind = k; bytes = w.bytes } ∷ []) is ∙ ap (λ b. record { kind = token.End; bytes = b } ∷ []) none
+
+-- the end of the program is the last word
+pub at_end : (i : Input) → AreLexical (words i) → is_end (kind i) ≡ true → words i ≡ program_end ∷ []
+at_end i g is = end_words (words i) g (sym (kind_is i) ∙ end_is (kind i) is)
+
+-- ---- a rule's outcome, taken apart
+
+-- steps that succeeded together did so one by one
+pub and_then_ok : {A B P : Type 0} (f : A → Rule B) {q : B × Input} (r : Outcome A) → and_then r f ≡ Ok q → ((p : A × Input) → r ≡ Ok p → f p.0 p.1 ≡ Ok q → P) → P
+and_then_ok f (Ok p) e k = k p refl e
+and_then_ok f (Err x) e k = absurd cc
+
+-- either side of a test
+pub if_ok : {A P : Type 0} (x y : A) {z : A} (c : Bool) → (if c then x else y) ≡ z → (c ≡ true → x ≡ z → P) → (c ≡ false → y ≡ z → P) → P
+if_ok x y true e t f = t refl e
+if_ok x y false e t f = f refl e
+
+-- a test that succeeded, where else there is a fault
+pub only_then : {A P : Type 0} (x : A) (y : ReadFault) {z : A} (c : Bool) → (if c then Ok x else Err y) ≡ Ok z → (c ≡ true → x ≡ z → P) → P
+only_then x y true e t = t refl cc
+only_then x y false e t = absurd cc
+
+-- ---- meanings, put together
+
+-- a step means something, and what follows
+pub means_then : {A B : Type 0} (m : Option (A × Names)) (f : A → Meaning B) {a : A} {s : Names} {q : Option (B × Names)} → m ≡ Some (a, s) → f a s ≡ q → then_in m f ≡ q
+means_then m f e g = ap (λ o. then_in o f) e ∙ g
+
+-- what was given means something, and what follows
+pub means_given : {A B : Type 0} (o : Option A) (f : A → Meaning B) (s : Names) {a : A} {q : Option (B × Names)} → o ≡ Some a → f a s ≡ q → then_in (given o s) f ≡ q
+means_given o f s e g = ap (λ o. then_in (given o s) f) e ∙ g
+
+-- the same was given
+pub same_ok : {A : Type 0} {x z : A} → ◌≡◌ {A = Result A ReadFault} (Ok x) (Ok z) → x ≡ z
+same_ok e = cc
+
+-- what holds of a value holds of what was given
+pub ok_is : {A : Type 0} {x : A} (P : A → Type 0) (z : A) → ◌≡◌ {A = Result A ReadFault} (Ok x) (Ok z) → P x → P z
+ok_is P z e p = subst P (same_ok e) p
+
+-- the same, behind a test that succeeded
+pub ok_if : {A : Type 0} {x : A} (P : A → Type 0) (z : A) (y : ReadFault) (c : Bool) → ◌≡◌ {A = Result A ReadFault} (if c then Ok x else Err y) (Ok z) → (c ≡ true → P x) → P z
+ok_if P z y true e p = subst P (same_ok e) (p refl)
+ok_if P z y false e p = absurd cc
+
+-- what was given, before other steps
+pub given_ok : {A B P : Type 0} (r : Result A ReadFault) (f : A → Rule B) (j : Input) {q : B × Input} → and_then (rule_given r j) f ≡ Ok q → ((a : A) → r ≡ Ok a → f a j ≡ Ok q → P) → P
+given_ok (Ok a) f j e k = k a refl e
+given_ok (Err x) f j e k = absurd cc
+
+-- the same words are left elsewhere
+pub took_as : {i j : Input} {ws : List Word} (k : Input) → words k ≡ words j → Took i ws j → Took i ws k
+took_as {i} {j} {ws} k same t = record { spelled = t.spelled ∙ ap (λ l. ws ++ l) (sym same); lexical = subst AreLexical (sym same) t.lexical }
+
+-- what was given in the end
+pub given_end : {A P : Type 0} (r : Result A ReadFault) (j : Input) {q : A × Input} → rule_given r j ≡ Ok q → ((a : A) → r ≡ Ok a → ◌≡◌ {A = Outcome A} (Ok (a, j)) (Ok q) → P) → P
+given_end (Ok a) j e k = k a refl e
+given_end (Err x) j e k = absurd cc
+
+-- a test succeeded or failed
+pub bool_cases : {P : Type 0} (c : Bool) → (c ≡ true → P) → (c ≡ false → P) → P
+bool_cases true t f = t refl
+bool_cases false t f = f refl
+
+-- no words more were taken
+pub plus_none : {i j : Input} {ws : List Word} → Took i (ws ++ []) j → Took i ws j
+plus_none {i} {j} {ws} t = subst (λ (l : List Word). Took i l j) (append-nil ws) t
+
+-- the same words were there before
+pub took_from : {i j : Input} {ws : List Word} (k : Input) → words k ≡ words i → Took i ws j → Took k ws j
+took_from k same t = record { spelled = same ∙ t.spelled; lexical = t.lexical }
+
+-- neither of two tests succeeded
+pub or_none : (a b : Bool) → (a || b) ≡ false → (a ≡ false) × (b ≡ false)
+or_none true b e = cc
+or_none false b e = (refl, e)
+
+-- both of two tests succeeded
+pub and_both : (a b : Bool) → (a && b) ≡ true → (a ≡ true) × (b ≡ true)
+and_both true b e = (refl, e)
+and_both false b e = cc
+
+-- one more than a number isn't 0
+pub suc_not_zero : (d : ℕ) → (suc d == 0) ≡ false
+suc_not_zero d = grind (arith, nat_tests)
+
+-- a bracket less
+pub one_less : (d : ℕ) → suc d - 1 ≡ d
+one_less d = omega arith

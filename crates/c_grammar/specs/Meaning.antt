@@ -1,0 +1,374 @@
+-- What a tree of the grammar means, with the names seen so far, and whether it is within the limits: None where it isn't,
+-- or where a name is used against its kind.
+use Rattle.std.specs.Prelude.{ℕ, zero, suc, ◌+◌, ◌-◌, ◌^◌, ◌==◌, ◌&&◌, ◌||◌, nat_lt, nat_le, Bool, true, false, not, if◌then◌else◌, ℤ, pos, negsuc, List, [], ◌∷◌, ◌++◌, length, Option, Some, None, option_map, option_and_then}
+use Rattle.c_reading.specs.declared.named.Kind.{Kind}
+use Rattle.c_reading.specs.declared.named.Kind.TheVariants as kind
+use Rattle.c_reading.specs.declared.lines.Loop.{Loop}
+use Rattle.c_reading.specs.declared.lines.Line.TheVariants as line
+use Rattle.c_reading.specs.Access.{Access}
+use Rattle.c_reading.specs.Input.{Input}
+use Rattle.c_reading.specs.Numbers.{most_parameters, most_loops, single, parameter_slot, loop_slot, combined, zeros, constant_of, value_from, is_integer}
+use Rattle.c_reading.specs.Affine.{kind_of, number_of, with_name, is_short, sign_of}
+use Rattle.c_reading.specs.Compare.{Rows, most_brackets, most_rows}
+use Rattle.c_reading.specs.Head.{Head}
+use Rattle.c_reading.specs.Refs.{most_arrays, most_subscripts, with_kind}
+use Rattle.c_reading.specs.Values.{Accesses, most_reads}
+use Rattle.c_reading.specs.Items.{most_statements, first_reads, is_array, with_line}
+use Rattle.c_reading.specs.Text.{Reading, assumptions_of, start_of}
+use Rattle.c_grammar.specs.Affine as tree
+use Rattle.c_grammar.specs.Value as value
+use Rattle.c_grammar.specs.Item as item
+use Rattle.c_grammar.specs.Text as text
+
+-- The names so far in order of first sight with their kinds, how many are parameters and how many arrays, and the lines of
+-- the program so far with how many of them are statements: an input, of which no text and no tokens are left.
+abbrev pub Names : Type 0
+Names = Input
+
+-- what a tree means behind these names, and the names behind it
+abbrev pub Meaning : Type 0 → Type 0
+Meaning A = Names → Option (A × Names)
+
+-- what follows means something only where this does
+abbrev pub then_in : {A B : Type 0} → Option (A × Names) → (A → Meaning B) → Option (B × Names)
+then_in None f = None
+then_in (Some p) f = f p.0 p.1
+
+-- one meaning, then another that has its value
+infixl 10 ◌>>=◌
+abbrev pub ◌>>=◌ : {A B : Type 0} → Meaning A → (A → Meaning B) → Meaning B
+m >>= f = λ s. then_in (m s) f
+
+-- one meaning, then another
+infixl 10 ◌>>◌
+abbrev pub ◌>>◌ : {A B : Type 0} → Meaning A → Meaning B → Meaning B
+m >> n = m >>= (λ _. n)
+
+-- this value
+abbrev pub pure : {A : Type 0} → A → Meaning A
+pure a = λ s. Some (a, s)
+
+-- this value, where it is there
+abbrev pub given : {A : Type 0} → Option A → Meaning A
+given None = λ s. None
+given (Some a) = pure a
+
+-- no meaning
+abbrev pub none : {A : Type 0} → Meaning A
+none = λ s. None
+
+-- ---- affine expressions
+
+-- an expression's numbers, and whether a name stands in it
+pub record Form : Type 0 where
+  pub numbers : List ℤ
+  pub has_name : Bool
+
+-- the form of these numbers, where they are small
+abbrev pub form : Bool → Option (List ℤ) → Option Form
+form has_name numbers = option_map (λ ns. record { numbers = ns; has_name = has_name }) numbers
+
+-- a name's place among the numbers, by its kind: that of a parameter, which a new name becomes, or of a loop around it
+abbrev pub slot_by : List ℕ → Option Kind → Meaning ℕ
+slot_by name None s =
+    if is_short name && nat_lt s.parameters most_parameters
+    then Some (parameter_slot s.parameters, record (with_name name (kind.Parameter s.parameters) s) { parameters = s.parameters + 1 })
+    else None
+slot_by name (Some (kind.Parameter k)) s = Some (parameter_slot k, s)
+slot_by name (Some (kind.OpenLoop depth)) s = Some (loop_slot depth, s)
+slot_by name (Some kind.ClosedLoop) s = None
+slot_by name (Some (kind.Array number subscripts)) s = None
+
+-- the same, of a name
+unfoldable pub slot : List ℕ → Meaning ℕ
+slot name s = slot_by name (kind_of name s) s
+
+-- digits alone, without a leading 0, which mean a number below 2^20
+unfoldable pub integer_means : List ℕ → Option ℤ
+integer_means bytes = if is_integer bytes && nat_lt (value_from 0 bytes) (2 ^ 20) then Some (pos (value_from 0 bytes)) else None
+
+-- the negative of a form
+abbrev pub negated : Form → Option Form
+negated a = form a.has_name (combined (negsuc 0) (pos 0) zeros a.numbers)
+
+-- a product: at most one of the two has a name, and the other is its constant
+abbrev pub times : Form → Form → Option Form
+times a b =
+    if a.has_name && b.has_name then None
+    else form (a.has_name || b.has_name)
+    (if b.has_name then combined (constant_of a.numbers) (pos 0) zeros b.numbers else combined (constant_of b.numbers) (pos 0) zeros a.numbers)
+
+-- a sum, or a difference
+abbrev pub plus : Bool → Form → Form → Option Form
+plus negative a b = form (a.has_name || b.has_name) (combined (sign_of negative) (pos 0) a.numbers b.numbers)
+
+-- Expressions, where so many brackets may still be opened. What follows a term or a factor is added or multiplied from left
+-- to right.
+unfoldable mutual
+  pub affine_means : ℕ → tree.Affine → Meaning Form
+  affine_means brackets (tree.sum t ss) = term_means brackets t >>= (λ a. sums_means brackets a ss)
+
+  pub sums_means : ℕ → Form → tree.Sums → Meaning Form
+  sums_means brackets a tree.sum_end = pure a
+  sums_means brackets a (tree.plus t ss) = term_means brackets t >>= (λ b. given (plus false a b) >>= (λ c. sums_means brackets c ss))
+  sums_means brackets a (tree.minus t ss) = term_means brackets t >>= (λ b. given (plus true a b) >>= (λ c. sums_means brackets c ss))
+
+  pub term_means : ℕ → tree.Term → Meaning Form
+  term_means brackets (tree.product f ps) = factor_means brackets f >>= (λ a. products_means brackets a ps)
+
+  pub products_means : ℕ → Form → tree.Products → Meaning Form
+  products_means brackets a tree.product_end = pure a
+  products_means brackets a (tree.times f ps) = factor_means brackets f >>= (λ b. given (times a b) >>= (λ c. products_means brackets c ps))
+
+  pub factor_means : ℕ → tree.Factor → Meaning Form
+  factor_means brackets (tree.integer bytes) = given (integer_means bytes) >>= (λ n. pure (record { numbers = single 0 n; has_name = false }))
+  factor_means brackets (tree.name name) = slot name >>= (λ at. pure (record { numbers = single at (pos 1); has_name = true }))
+  factor_means zero (tree.in_brackets a) = none
+  factor_means (suc brackets) (tree.in_brackets a) = affine_means brackets a
+  factor_means brackets (tree.negative f) = factor_means brackets f >>= (λ a. given (negated a))
+  factor_means brackets (tree.positive f) = factor_means brackets f
+
+-- ---- comparisons
+
+-- one row more
+abbrev pub row_behind : Rows → Option (List ℤ) → Option Rows
+row_behind rows row = option_map (λ r. rows ++ r ∷ []) row
+
+-- one row more: a less b, and less this much
+abbrev pub with_row : Rows → ℤ → List ℤ → List ℤ → Option Rows
+with_row rows less a b = row_behind rows (combined (negsuc 0) less a b)
+
+-- the rows behind these, with those of a comparison of a with b: forms that are at least 0
+abbrev pub with_compare : Rows → tree.Comparison → List ℤ → List ℤ → Option Rows
+with_compare rows tree.at_least a b = with_row rows (pos 0) a b
+with_compare rows tree.above a b = with_row rows (pos 1) a b
+with_compare rows tree.at_most a b = with_row rows (pos 0) b a
+with_compare rows tree.below a b = with_row rows (pos 1) b a
+with_compare rows tree.equal a b = option_and_then (λ more. with_row more (pos 0) b a) (with_row rows (pos 0) a b)
+
+-- how many they are
+abbrev pub row_count : tree.Comparison → ℕ
+row_count tree.equal = 2
+row_count _ = 1
+
+-- the rows, where they aren't too many with those of a compare
+abbrev pub if_rows : Rows → tree.Comparison → Option Rows → Option Rows
+if_rows rows c more = if nat_le (length rows + row_count c) most_rows then more else None
+
+-- the rows behind these, with those of a compare
+unfoldable pub compare_means : Rows → tree.Compare → Meaning Rows
+compare_means rows c =
+    affine_means most_brackets c.left >>= (λ a. affine_means most_brackets c.right >>= (λ b.
+    given (if_rows rows c.comparison (with_compare rows c.comparison a.numbers b.numbers))))
+
+-- ---- references
+
+-- an array's number, and its number of subscripts where it was seen before
+pub record Seen : Type 0 where
+  pub array : ℕ
+  pub subscripts : Option ℕ
+
+-- an array's name, by its kind: a new name becomes an array
+abbrev pub array_by : List ℕ → Option Kind → Meaning Seen
+array_by name None s =
+    if is_short name && nat_lt s.arrays most_arrays
+    then Some (record { array = s.arrays; subscripts = None }, record (with_name name (kind.Array s.arrays 0) s) { arrays = s.arrays + 1 })
+    else None
+array_by name (Some (kind.Parameter k)) s = None
+array_by name (Some (kind.OpenLoop depth)) s = None
+array_by name (Some kind.ClosedLoop) s = None
+array_by name (Some (kind.Array number subscripts)) s = Some (record { array = number; subscripts = Some subscripts }, s)
+
+-- the same, of a name
+unfoldable pub array : List ℕ → Meaning Seen
+array name s = array_by name (kind_of name s) s
+
+-- at most four subscripts, each in a bracket, behind these
+unfoldable pub subscripts_means : ℕ → Rows → tree.Subscripts → Meaning Rows
+subscripts_means brackets rows tree.subscript_end = pure rows
+subscripts_means zero rows (tree.subscript a ss) = none
+subscripts_means (suc brackets) rows (tree.subscript a ss) =
+    if nat_le most_subscripts (length rows) then none
+    else affine_means brackets a >>= (λ row. subscripts_means (suc brackets) (rows ++ row.numbers ∷ []) ss)
+
+-- as many subscripts as the array has, of which the first reference to it decides
+abbrev pub access_by : ℕ → Rows → ℕ → Option ℕ → Meaning Access
+access_by at rows number None s = Some (record { array = number; subscripts = rows }, with_kind at (kind.Array number (length rows)) s)
+access_by at rows number (Some count) s = if length rows == count then Some (record { array = number; subscripts = rows }, s) else None
+
+-- a reference, where this many names stand before it
+unfoldable pub access_from : ℕ → ℕ → tree.Reference → Meaning Access
+access_from brackets at r =
+    array r.name >>= (λ seen. subscripts_means brackets [] r.subscripts >>= (λ rows. access_by at rows seen.array seen.subscripts))
+
+-- a reference
+unfoldable pub reference_means : ℕ → tree.Reference → Meaning Access
+reference_means brackets r s = access_from brackets (length s.names) r s
+
+-- ---- values: of them only the references are kept, in order, behind those before
+
+-- one reference more, where they aren't too many
+unfoldable pub with_read : ℕ → Accesses → tree.Reference → Meaning Accesses
+with_read brackets reads r =
+    if nat_le most_reads (length reads) then none else reference_means brackets r >>= (λ a. pure (reads ++ a ∷ []))
+
+-- a parameter or a loop is a plain number, without subscripts
+abbrev pub plain_means : Accesses → tree.Subscripts → Meaning Accesses
+plain_means reads tree.subscript_end = pure reads
+plain_means reads (tree.subscript a ss) = none
+
+-- a name that isn't called, by its kind
+abbrev pub named_means : ℕ → Accesses → tree.Reference → Option Kind → Meaning Accesses
+named_means brackets reads r None = with_read brackets reads r
+named_means brackets reads r (Some (kind.Parameter k)) = plain_means reads r.subscripts
+named_means brackets reads r (Some (kind.OpenLoop depth)) = plain_means reads r.subscripts
+named_means brackets reads r (Some kind.ClosedLoop) = none
+named_means brackets reads r (Some (kind.Array number subscripts)) = with_read brackets reads r
+
+-- the same, of a name
+unfoldable pub name_means : ℕ → Accesses → tree.Reference → Meaning Accesses
+name_means brackets reads r s = named_means brackets reads r (kind_of r.name s) s
+
+-- Values, where so many brackets may still be opened. A function's name has no kind.
+unfoldable mutual
+  pub value_means : ℕ → Accesses → value.Value → Meaning Accesses
+  value_means brackets reads (value.value u os) = unary_means brackets reads u >>= (λ more. operands_means brackets more os)
+
+  pub operands_means : ℕ → Accesses → value.Operands → Meaning Accesses
+  operands_means brackets reads value.operand_end = pure reads
+  operands_means brackets reads (value.operand o u os) = unary_means brackets reads u >>= (λ more. operands_means brackets more os)
+
+  pub unary_means : ℕ → Accesses → value.Unary → Meaning Accesses
+  unary_means brackets reads (value.number bytes) = pure reads
+  unary_means brackets reads (value.reference r) = name_means brackets reads r
+  unary_means zero reads (value.call_of_none name) = none
+  unary_means (suc brackets) reads (value.call_of_none name) = if is_short name then pure reads else none
+  unary_means zero reads (value.call name vs) = none
+  unary_means (suc brackets) reads (value.call name vs) = if is_short name then arguments_means brackets reads vs else none
+  unary_means zero reads (value.in_brackets v) = none
+  unary_means (suc brackets) reads (value.in_brackets v) = value_means brackets reads v
+  unary_means brackets reads (value.negative u) = unary_means brackets reads u
+  unary_means brackets reads (value.positive u) = unary_means brackets reads u
+
+  pub arguments_means : ℕ → Accesses → value.Arguments → Meaning Accesses
+  arguments_means brackets reads (value.last_argument v) = value_means brackets reads v
+  arguments_means brackets reads (value.argument v vs) = value_means brackets reads v >>= (λ more. arguments_means brackets more vs)
+
+-- ---- statements
+
+-- whether the reference that is written is read before
+abbrev pub updates : item.Assigner → Bool
+updates item.sets = false
+updates item.adds = true
+updates item.subtracts = true
+updates item.multiplies = true
+updates item.divides = true
+
+-- a statement's line
+abbrev pub with_statement : Access → Accesses → Meaning (Unit {0})
+with_statement writes reads s = Some (tt, with_line (line.Does (record { writes = writes; reads = reads })) s)
+
+-- so many statements
+abbrev pub with_count : ℕ → Meaning (Unit {0})
+with_count count s = Some (tt, record s { statements = count })
+
+-- an assignment: the reference that it writes, then those of its value
+unfoldable pub assign_means : ℕ → item.Assign → Meaning (Unit {0})
+assign_means brackets a =
+    reference_means brackets a.target >>= (λ writes. value_means brackets (first_reads (updates a.assigner) writes) a.value >>= (λ reads.
+    with_statement writes reads))
+
+-- an assignment to an array or a new name, where statements aren't too many
+unfoldable pub statement_means : ℕ → item.Assign → Meaning (Unit {0})
+statement_means brackets a s =
+    if not (is_array (kind_of a.target.name s)) || nat_le most_statements s.statements then None
+    else (assign_means brackets a >> with_count (s.statements + 1)) s
+
+-- ---- loops
+
+-- the number at which a name stands, where it does
+abbrev pub loop_again : Option ℕ → Meaning ℕ
+loop_again None s = None
+loop_again (Some at) s = Some (at, s)
+
+-- the number of a loop's name, by its kind: a new name, or that of a loop that was left
+abbrev pub loop_by : List ℕ → Option Kind → Meaning ℕ
+loop_by name None s = if is_short name then Some (length s.names, with_name name kind.ClosedLoop s) else None
+loop_by name (Some kind.ClosedLoop) s = loop_again (number_of name s) s
+loop_by name (Some (kind.Parameter k)) s = None
+loop_by name (Some (kind.OpenLoop depth)) s = None
+loop_by name (Some (kind.Array number subscripts)) s = None
+
+-- the same, of a name
+unfoldable pub loop_name : List ℕ → Meaning ℕ
+loop_name name s = loop_by name (kind_of name s) s
+
+-- how much less than its expression an upper bound is
+abbrev pub excluded : Bool → ℤ
+excluded true = pos 1
+excluded false = pos 0
+
+-- an upper bound
+abbrev pub upper_bound : Bool → List ℤ → Option (List ℤ)
+upper_bound excludes numbers = combined (pos 1) (excluded excludes) zeros numbers
+
+-- a header, in whose bracket so many more may be opened
+unfoldable pub header_means : ℕ → item.Header → Meaning Loop
+header_means brackets h =
+    loop_name h.name >>= (λ at. affine_means brackets h.lower >>= (λ lower. affine_means brackets h.upper >>= (λ upper.
+    given (upper_bound h.excludes upper.numbers) >>= (λ numbers. pure (record { name = at; lower = lower.numbers; upper = numbers })))))
+
+-- a loop begins at this depth
+unfoldable pub begin : ℕ → Loop → Meaning (Unit {0})
+begin depth l s = Some (tt, with_kind l.name (kind.OpenLoop depth) (with_line (line.Begin l) s))
+
+-- it ends
+unfoldable pub end : ℕ → Meaning (Unit {0})
+end at s = Some (tt, with_kind at kind.ClosedLoop (with_line line.End s))
+
+-- items, where so many loops and so many brackets may still be opened
+unfoldable mutual
+  pub item_means : ℕ → ℕ → item.Item → Meaning (Unit {0})
+  item_means more brackets item.nothing = pure tt
+  item_means more zero (item.block is) = none
+  item_means more (suc brackets) (item.block is) = items_means more brackets is
+  item_means zero brackets (item.loop h i) = none
+  item_means (suc more) zero (item.loop h i) = none
+  item_means (suc more) (suc brackets) (item.loop h i) =
+      header_means brackets h >>= (λ l. begin (most_loops - 1 - more) l >> item_means more (suc brackets) i >> end l.name)
+  item_means more brackets (item.statement a) = statement_means brackets a
+
+  pub items_means : ℕ → ℕ → item.Items → Meaning (Unit {0})
+  items_means more brackets item.item_end = pure tt
+  items_means more brackets (item.item i is) = item_means more brackets i >> items_means more brackets is
+
+-- ---- texts
+
+-- names, each a parameter
+unfoldable pub parameters_mean : List (List ℕ) → Meaning (Unit {0})
+parameters_mean [] = pure tt
+parameters_mean (name ∷ names) = slot name >> parameters_mean names
+
+-- the rows behind these, with those of compares
+unfoldable pub compares_mean : Rows → text.Compares → Meaning Rows
+compares_mean rows (text.last_compare c) = compare_means rows c
+compares_mean rows (text.compare c cs) = compare_means rows c >>= (λ more. compares_mean more cs)
+
+-- what lines assume, behind this
+unfoldable pub lines_mean : Head → text.Lines → Meaning Head
+lines_mean h text.line_none = pure h
+lines_mean h (text.parameters head names ls) = parameters_mean names >> lines_mean h ls
+lines_mean h (text.assumptions head cs ls) = compares_mean h.rows cs >>= (λ rows. lines_mean (record { assumed = true; rows = rows }) ls)
+
+-- what is read, where something is meant
+abbrev pub reading_from : Option (Head × Names) → Option Reading
+reading_from None = None
+reading_from (Some p) = Some (record { names = p.1.names; kinds = p.1.kinds; assumptions = assumptions_of p.0 p.1; lines = p.1.lines })
+
+-- the lines in front of a program, then its items
+unfoldable pub whole_means : text.Text → Meaning Head
+whole_means t = lines_mean (record { assumed = false; rows = [] }) t.lines >>= (λ h. items_means most_loops most_brackets t.items >> pure h)
+
+-- what a text means, where it is within the limits
+abbrev pub text_means : text.Text → Option Reading
+text_means t = reading_from (whole_means t (start_of [] []))

@@ -1,0 +1,6 @@
+//! The grammar of C texts in its own words: the texts that are read are those that it spells within the limits.
+#![tactic(auto)]
+
+mod law;
+
+pub use law::{accepted_texts_spell, spelled_texts_are_accepted};
