@@ -6,3 +6,4 @@ pub mod Ways
 pub mod StatementsKept
 pub mod TreeFits
 pub mod Made
+pub mod OneProgram

@@ -5,10 +5,12 @@ mod bounds;
 mod fault;
 mod forms;
 mod growing;
+mod law;
 mod parts;
 mod read;
 mod statements;
 mod tree;
 
 pub use fault::{ProgramError, ProgramFault};
+pub use law::texts_mean_one_program;
 pub use read::read_program;
