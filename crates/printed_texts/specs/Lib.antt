@@ -1,0 +1,4 @@
+pub mod Words
+pub mod Same
+pub mod Printable
+pub mod Laws

@@ -1,0 +1,4 @@
+pub mod Rows
+pub mod Widened
+pub mod Narrowed
+pub mod Whole
