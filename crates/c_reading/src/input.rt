@@ -1,6 +1,6 @@
 //! The tokens of a text that are left, and the names that were seen.
 
-ghost use Rattle.std.specs.Prelude.{◌≡◌, length, take, drop, position, bytes_eq, OnOk, IfErr, ◌≤◌, ◌<◌, ◌+◌};
+ghost use Rattle.std.specs.Prelude.{◌≡◌, length, take, drop, OnOk, IfErr, ◌≤◌, ◌<◌, ◌+◌};
 ghost use Rattle.c_reading.specs.Input as spec;
 ghost use Rattle.c_reading.specs.Input.{Reads};
 ghost use Rattle.c_reading.specs.Refs.{with_kind};
@@ -12,8 +12,8 @@ use crate::error::{ReadError, ReadFault};
 use crate::lines::Line;
 use crate::named::Kind;
 use crate::rows::Rows;
+use crate::seen::Names;
 use crate::text::Reading;
-use affine_form::Name;
 use c_tokens::{Token, TokenKind};
 use std::alloc::Global;
 use std::marker::Model;
@@ -24,7 +24,7 @@ pub(crate) struct Reader<'a> {
     alloc: Global,
     text: &'a [u8],
     tokens: &'a [Token],
-    names: Vec<Name>,
+    names: Names<'a>,
     kinds: Vec<Kind>,
     parameters: u8,
     arrays: u16,
@@ -37,7 +37,7 @@ impl<'a> Model for Reader<'a> {
 
     ghost Value = { Input };
 
-    ghost view = { λ r. record { text = r.text.now; tokens = r.tokens.now; names = r.names.items; kinds = r.kinds.items; parameters = r.parameters; arrays = r.arrays; lines = r.lines.items; statements = r.statements } };
+    ghost view = { λ r. record { text = r.text.now; tokens = r.tokens.now; names = r.names; kinds = r.kinds.items; parameters = r.parameters; arrays = r.arrays; lines = r.lines.items; statements = r.statements } };
 }
 
 /// The first token, or an end where none is left.
@@ -68,13 +68,6 @@ fn front(bytes: &[u8], count: usize) -> &[u8]
     bytes.get(..count).unwrap_or(bytes)
 }
 
-/// The number of a name among these.
-fn number_of(names: &[Name], name: &[u8]) -> Option<usize>
-    ensures { result ≡ position (bytes_eq name.now) names.now }
-{
-    names.iter().position(|known| name == known.bytes())
-}
-
 /// Whether a name has 1 to 64 bytes.
 pub(crate) fn is_short(name: &[u8]) -> bool
     ensures { result ≡ is_short name.now }
@@ -91,7 +84,7 @@ impl<'a> Reader<'a> {
             alloc,
             text,
             tokens,
-            names: Vec::new(alloc),
+            names: Names::new(alloc),
             kinds: Vec::new(alloc),
             parameters: 0,
             arrays: 0,
@@ -104,7 +97,7 @@ impl<'a> Reader<'a> {
     pub fn into_reading(self, assumptions: Rows) -> Reading
         ensures { result ≡ record { names = self.entry.names; kinds = self.entry.kinds; assumptions = assumptions; lines = self.entry.lines } }
     {
-        Reading::new(self.names, self.kinds, assumptions, self.lines)
+        Reading::new(self.names.into_list(), self.kinds, assumptions, self.lines)
     }
 
     /// How many of the names are parameters.
@@ -211,19 +204,18 @@ impl<'a> Reader<'a> {
     pub fn kind_of(&self, name: &[u8]) -> Option<Kind>
         ensures { result ≡ kind_of name.now self.now }
     {
-        let at = number_of(self.names.as_slice(), name)?;
+        let at = self.names.number_of(name)?;
         self.kinds.get(at).copied()
     }
 
     /// One name more, of this kind.
     #[tactic(auto, unfolding(crate::specs::Affine::with_name))]
-    pub fn add_name(&mut self, name: &[u8], kind: Kind) -> Result<(), ReadError>
+    pub fn add_name(&mut self, name: &'a [u8], kind: Kind) -> Result<(), ReadError>
         requires some { 1 ≤ length name.now }
         requires few { length name.now ≤ 64 }
         ensures added { OnOk result (self.new ≡ with_name name.now kind self.old) }
         ensures memory { IfErr result (λ e. e ≡ ReadError.Memory) }
     {
-        let name = Name::new(Vec::from_slice(self.alloc, name)?);
         self.names.push(name)?;
         self.kinds.push(kind)?;
         Ok(())
@@ -233,7 +225,7 @@ impl<'a> Reader<'a> {
     pub fn number_of(&self, name: &[u8]) -> Option<usize>
         ensures { result ≡ number_of name.now self.now }
     {
-        number_of(self.names.as_slice(), name)
+        self.names.number_of(name)
     }
 
     /// How many statements there are.

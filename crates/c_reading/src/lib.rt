@@ -14,6 +14,7 @@ mod named;
 mod numbers;
 mod refs;
 mod rows;
+mod seen;
 #[cfg(test)]
 mod tests;
 mod text;
