@@ -42,14 +42,17 @@ Nests (n ∷ around) (End ∷ lines) last = Nests around lines last
 abbrev pub IsLoopAt : List Kind → ℕ → Type 0
 IsLoopAt kinds at = (k : Kind) × (slice_get kinds at ≡ Some k) × IsLoop k
 
+-- a place of the name of an open loop
 abbrev pub IsOpenAt : List Kind → ℕ → Type 0
 IsOpenAt kinds at = (depth : ℕ) × (slice_get kinds at ≡ Some (OpenLoop depth))
 
+-- a line that begins a loop has a loop's name
 abbrev pub IsLoopLine : List Kind → Line → Type 0
 IsLoopLine kinds (Begin l) = IsLoopAt kinds l.name
 IsLoopLine kinds (Does s) = ⊤
 IsLoopLine kinds End = ⊤
 
+-- lines behind lines nest
 nests_both : (around middle last : List ℕ) (xs ys : List Line) → Nests around xs middle → Nests middle ys last → Nests around (xs ++ ys) last
 nests_both around middle last [] ys h g = subst (λ a. Nests a ys last) (sym h) g
 nests_both around middle last (Begin l ∷ xs) ys h g = (h.0, nests_both (l.name ∷ around) middle last xs ys h.1 g)
@@ -57,12 +60,14 @@ nests_both around middle last (Does s ∷ xs) ys h g = nests_both around middle 
 nests_both [] middle last (End ∷ xs) ys h g = absurd h
 nests_both (n ∷ around) middle last (End ∷ xs) ys h g = nests_both around middle last xs ys h g
 
+-- the arrays of lines behind lines
 lines_both : (xs ys : List Line) → line_numbers (xs ++ ys) ≡ line_numbers xs ++ line_numbers ys
 lines_both [] ys = refl
 lines_both (Begin l ∷ xs) ys = lines_both xs ys
 lines_both (Does s ∷ xs) ys = ap (λ ns. s.writes.array ∷ ns) (ap (λ ns. numbers_of s.reads ++ ns) (lines_both xs ys) ∙ sym (append_assoc (numbers_of s.reads) (line_numbers xs) (line_numbers ys)))
 lines_both (End ∷ xs) ys = lines_both xs ys
 
+-- lines' loops stay loops
 loop_lines_more : (old new : List Kind) → ((at : ℕ) → IsLoopAt old at → IsLoopAt new at) → (lines : List Line) → AllByRecursion (IsLoopLine old) lines → AllByRecursion (IsLoopLine new) lines
 loop_lines_more old new f [] h = tt
 loop_lines_more old new f (Begin l ∷ lines) h = (f l.name h.0, loop_lines_more old new f lines h.1)
@@ -80,6 +85,7 @@ pub record AddsLines (i j : Input) : Type 0 where
   pub loop_lines : Sound i → AllByRecursion (IsLoopLine j.kinds) new
   pub order : Sound i → IsOrdered i.arrays (line_numbers new) j.arrays
 
+-- a rule that adds no line
 pub adds_quiet : {i j : Input} → Quiet i j → AddsLines i j
 adds_quiet {i} q = record {
   sound = q.later.sound;
@@ -92,10 +98,12 @@ adds_quiet {i} q = record {
   order = λ s. sym q.arrays;
 }
 
+-- open loops stay open
 all_opens_stay : (old new : List Kind) → ((at : ℕ) → IsOpenAt old at → IsOpenAt new at) → (around : List ℕ) → AllByRecursion (IsOpenAt old) around → AllByRecursion (IsOpenAt new) around
 all_opens_stay old new f [] h = tt
 all_opens_stay old new f (n ∷ around) h = (f n h.0, all_opens_stay old new f around h.1)
 
+-- one rule behind another
 pub adds_both : {i j k : Input} → AddsLines i j → AddsLines j k → AddsLines i k
 adds_both {i} {j} {k} a b = record {
   sound = λ s. b.sound (a.sound s);
@@ -112,27 +120,33 @@ adds_both {i} {j} {k} a b = record {
 abbrev pub Adding : {A : Type 0} → Input → Outcome A → Type 0
 Adding i o = Gives o (λ _ j. AddsLines i j)
 
+-- a rule that adds no line is one that may
 adding_quiet : {A : Type 0} {i : Input} {o : Outcome A} → Quietly i o → Adding i o
 adding_quiet {o = o} g = weaken o g (λ a j q. adds_quiet q)
 
+-- one rule behind another adds the lines of both
 adding_both : {A B : Type 0} {i : Input} {o : Outcome A} {f : A → Rule B} → Adding i o → ((a : A) (j : Input) → Adding j (f a j)) → Adding i (and_then o f)
 adding_both {o = o} {f = f} g h = chained o g (λ a j q. weaken (f a j) (h a j) (λ b k r. adds_both q r))
 
+-- a rule behind the next token
 adding_behind : {A : Type 0} {i : Input} {o : Outcome A} → Adding (next i) o → Adding i o
 adding_behind {i = i} {o = o} g = weaken o g (λ a j r. adds_both (adds_quiet (quiet_next i)) r)
 
 -- ---- statements
 
+-- an operator adds no name
 operator_quiet : (i : Input) → Quietly i (operator i)
 unfolding operator
 operator_quiet i = either (sees (codes "=") i) (λ _. passes) (λ _. either (sees (codes "+=") i || sees (codes "-=") i || sees (codes "*=") i || sees (codes "/=") i) (λ _. passes) (λ _. err))
 
+-- a reference's array was seen behind it
 seen_after : (number seen last : ℕ) → number ≤ seen → next_seen seen number ≡ last → number < last
 seen_after number seen last le e = elim (nat_lt number seen) as (λ v. nat_lt number seen ≡ v → number < last) [
   | true ↦ λ h. let same : seen ≡ last = rw h at e in let below : number < seen = grind (arith, nat_tests) in omega arith
   | false ↦ λ h. let same : suc seen ≡ last = rw h at e in omega arith
 ] refl
 
+-- the reference that is read first was seen
 first_order : (updates : Bool) (writes : Access) (seen last : ℕ) → seen ≡ last → writes.array < seen → IsOrdered seen (numbers_of (first_reads updates writes)) last
 first_order true writes seen last same below = subst (IsOrdered seen (writes.array ∷ [])) same (known_order writes.array seen below)
 first_order false writes seen last same below = same
@@ -141,6 +155,7 @@ first_order false writes seen last same below = same
 lined : (i : Input) (ls : List Line) (n : ℕ) → Sound i → Sound (record i { lines = ls; statements = n })
 lined i ls n s = record { same = s.same; names = s.names; distinct = s.distinct; parameters = s.parameters; arrays = s.arrays; numbers = s.numbers; spelled = s.spelled }
 
+-- a statement adds its line, from its parts
 statement_line : (i a b c : Input) (w : Access) (updates : Bool) (reads : Accesses) → Seen i w a → Quiet a b → MoreReads b (first_reads updates w) reads c → AddsLines i (with_line (Does (record { writes = w; reads = reads })) c)
 unfolding with_line
 statement_line i a b c w updates reads seen quiet more =
@@ -161,6 +176,7 @@ statement_line i a b c w updates reads seen quiet more =
           (written.0, subst (λ ns. IsOrdered (next_seen i.arrays w.array) ns c.arrays) (sym (append-nil (numbers_of reads))) (subst (λ n. IsOrdered n (numbers_of reads) c.arrays) (sym written.1) read));
     }
 
+-- an assignment adds one line
 assign_adds : (brackets : ℕ) (i : Input) → kind i ≡ token.Name → Adding i (assign brackets i)
 unfolding assign add_statement
 assign_adds brackets i is =
@@ -169,10 +185,12 @@ assign_adds brackets i is =
     chained (value brackets (first_reads updates w) b) (value_more brackets (first_reads updates w) b) (λ reads c more.
     ok (statement_line i a b c w updates reads seen quiet more))))
 
+-- statements are counted
 counted_adds : (n : ℕ) (i : Input) → Adding i (count_statements n i)
 unfolding count_statements
 counted_adds n i = ok (adds_quiet (record { later = record { sound = λ s. lined i i.lines n s; kinds = λ s at k e. e; lines = refl }; arrays = refl }))
 
+-- a statement adds one line
 statement_adds : (brackets : ℕ) (i : Input) → kind i ≡ token.Name → Adding i (statement brackets i)
 unfolding statement
 statement_adds brackets i is = either (not (is_array (kind_of (spelling i) i))) (λ _. err) (λ _. either (nat_le 32 i.statements) (λ _. err)
@@ -180,18 +198,22 @@ statement_adds brackets i is = either (not (is_array (kind_of (spelling i) i))) 
 
 -- ---- headers
 
+-- a comparison adds no name
 comparison_quiet : (i : Input) → Quietly i (comparison i)
 unfolding comparison
 comparison_quiet i = either (sees (codes "<") i) (λ _. passes) (λ _. either (sees (codes "<=") i) (λ _. passes) (λ _. either (sees (codes ">") i || sees (codes ">=") i) (λ _. err) (λ _. err)))
 
+-- a lower bound sees no array
 lower_quiet : (brackets : ℕ) (i : Input) → Quietly i (lower_bound brackets i)
 unfolding lower_bound
 lower_quiet brackets i = quiet_bind (expect_quiet (codes "=") i) (λ _ j. quiet_bind (affine_quiet brackets None j) (λ a k. quiet_bind (closed_quiet (codes ";") a k) (λ b l. stays)))
 
+-- an upper bound behind its comparison sees no array
 upper_from_quiet : (brackets start : ℕ) (less : ℤ) (i : Input) → Quietly i (upper_from brackets start less i)
 unfolding upper_from
 upper_from_quiet brackets start less i = quiet_bind (affine_quiet brackets None i) (λ a j. quiet_bind (gives (bound start less a.numbers)) (λ numbers k. quiet_bind (closed_quiet (codes ";") a k) (λ b l. stays)))
 
+-- an upper bound sees no array
 upper_quiet : (brackets : ℕ) (name : List ℕ) (i : Input) → Quietly i (upper_bound brackets name i)
 unfolding upper_bound
 upper_quiet brackets name i = quiet_bind (expect_quiet name i) (λ _ j. quiet_bind (comparison_quiet j) (λ less k. upper_from_quiet brackets (place k) less k))
@@ -200,11 +222,13 @@ in_step_quiet : (start : ℕ) (bytes : List ℕ) (i : Input) → Quietly i (expe
 unfolding expect_in_step
 in_step_quiet start bytes i = either (sees bytes i) (λ _. passes) (λ _. err)
 
+-- what follows a step's name adds none
 step_behind_quiet : (start : ℕ) (name : List ℕ) (i : Input) → Quietly i (step_behind_name start name i)
 unfolding step_behind_name
 step_behind_quiet start name i = either (sees (codes "++") i) (λ _. passes) (λ _. either (sees (codes "+=") i) (λ _. behind (in_step_quiet start (codes "1") (next i)))
     (λ _. either (sees (codes "=") i) (λ _. behind (quiet_bind (quiet_bind (in_step_quiet start name (next i)) (λ _ j. in_step_quiet start (codes "+") j)) (λ _ k. in_step_quiet start (codes "1") k))) (λ _. err)))
 
+-- a step adds no name
 step_quiet : (name : List ℕ) (i : Input) → Quietly i (step name i)
 unfolding step
 step_quiet name i = either (sees name i) (λ _. behind (step_behind_quiet (place i) name (next i))) (λ _. either (sees (codes "++") i) (λ _. behind (in_step_quiet (place i) name (next i))) (λ _. err))
@@ -214,12 +238,15 @@ pub record Closed (i : Input) (at : ℕ) (j : Input) : Type 0 where
   pub quiet : Quiet i j
   pub closed : Sound i → slice_get j.kinds at ≡ Some ClosedLoop
 
+-- a loop's name stays closed
 closed_then : {i j k : Input} {at : ℕ} → Closed i at j → Quiet j k → Closed i at k
 closed_then {at = at} c q = record { quiet = quiet_both c.quiet q; closed = λ s. q.later.kinds (c.quiet.later.sound s) at ClosedLoop (c.closed s) }
 
+-- a loop's name behind other names
 closed_behind : {i j k : Input} {at : ℕ} → Quiet i j → Closed j at k → Closed i at k
 closed_behind q c = record { quiet = quiet_both q c.quiet; closed = λ s. c.closed (q.later.sound s) }
 
+-- a new loop's name is closed
 new_loop_closed : (i : Input) → kind i ≡ token.Name → kind_of (spelling i) i ≡ None → Gives (new_loop i) (λ at j. Closed i at j)
 unfolding new_loop with_name
 new_loop_closed i is none = either (is_short (spelling i))
@@ -235,6 +262,7 @@ new_loop_closed i is none = either (is_short (spelling i))
     ok (closed_then (record { quiet = first; closed = λ s. ap (slice_get (i.kinds ++ ClosedLoop ∷ [])) (sym s.same) ∙ get_last i.kinds ClosedLoop }) (quiet_next _)))
     (λ _. err)
 
+-- a name of a loop that was left is closed
 again_closed : (i : Input) (number : Option ℕ) → number_of (spelling i) i ≡ number → kind_of (spelling i) i ≡ Some ClosedLoop → Gives (loop_again number i) (λ at j. Closed i at j)
 again_closed i None e f = err
 again_closed i (Some at) e f =
@@ -243,6 +271,7 @@ again_closed i (Some at) e f =
     let here : slice_get i.kinds at ≡ Some ClosedLoop = ap (slice_get i.kinds) (sym same) ∙ found.2 in
     ok (closed_then (record { quiet = quiet_self i; closed = λ s. here }) (quiet_next i))
 
+-- a loop's name is closed, by its kind
 by_closed : (i : Input) (number : Option ℕ) (k : Option Kind) → kind i ≡ token.Name → number_of (spelling i) i ≡ number → kind_of (spelling i) i ≡ k → Gives (loop_name_by number k i) (λ at j. Closed i at j)
 by_closed i number None is e f = new_loop_closed i is f
 by_closed i number (Some (Parameter n)) is e f = err
@@ -250,10 +279,12 @@ by_closed i number (Some (OpenLoop depth)) is e f = err
 by_closed i number (Some ClosedLoop) is e f = again_closed i number e f
 by_closed i number (Some (Array n rank)) is e f = err
 
+-- the name in a header is closed
 name_closed : (i : Input) → Gives (loop_name i) (λ at j. Closed i at j)
 unfolding loop_name
 name_closed i = either (is_name_kind (kind i)) (λ h. by_closed i (number_of (spelling i) i) (kind_of (spelling i) i) (name_kind_is (kind i) h) refl refl) (λ _. err)
 
+-- a header behind its bracket
 header_of_closed : (brackets : ℕ) (name : List ℕ) (i : Input) → Gives (header_of brackets name i) (λ h j. Closed i h.name j)
 unfolding header_of
 header_of_closed brackets name i =
@@ -264,10 +295,12 @@ header_of_closed brackets name i =
     chained (expect (codes ")") m) (expect_quiet (codes ")") m) (λ _ n u.
     ok (closed_then c (quiet_both q (quiet_both r (quiet_both t u)))))))))
 
+-- a header's bracket adds no name
 for_quiet : (brackets : ℕ) (i : Input) → Quietly i (for_bracket brackets i)
 unfolding for_bracket
 for_quiet brackets i = either (sees (codes "(") (next i)) (λ _. behind (bracket_quiet brackets (next i))) (λ _. err)
 
+-- a type adds no name
 skip_quiet : (i : Input) → Quiet i (skip_int i)
 unfolding skip_int
 skip_quiet i = which (sees (codes "int") i) where
@@ -275,6 +308,7 @@ skip_quiet i = which (sees (codes "int") i) where
   which true = quiet_next i
   which false = quiet_self i
 
+-- a header's loop isn't open
 header_closed : (brackets : ℕ) (i : Input) → Gives (header brackets i) (λ h j. Closed i h.name j)
 unfolding header
 header_closed brackets i =
@@ -283,11 +317,13 @@ header_closed brackets i =
 
 -- ---- loops
 
+-- a member that is set
 get_set : {X : Type 0} (xs : List X) (at : ℕ) (x y : X) → slice_get xs at ≡ Some x → slice_get (set xs at y) at ≡ Some y
 get_set [] at x y e = cc
 get_set (z ∷ xs) zero x y e = refl
 get_set (z ∷ xs) (suc at) x y e = get_set xs at x y e
 
+-- a loop stays one where another becomes one
 loop_set : (kinds : List Kind) (at : ℕ) (k : Kind) (other : ℕ) → IsLoop k → IsLoopAt kinds other → IsLoopAt (set kinds at k) other
 loop_set [] at k other is (l, e, h) = cc
 loop_set (x ∷ kinds) zero k zero is l = (k, refl, is)
@@ -295,6 +331,7 @@ loop_set (x ∷ kinds) zero k (suc other) is l = l
 loop_set (x ∷ kinds) (suc at) k zero is l = l
 loop_set (x ∷ kinds) (suc at) k (suc other) is l = loop_set kinds at k other is l
 
+-- arrays keep their numbers where a loop's kind changes
 below_loop : (n : ℕ) (kinds : List Kind) (at : ℕ) (k : Kind) → IsBelow n k → AllByRecursion (IsBelow n) kinds → AllByRecursion (IsBelow n) (set kinds at k)
 below_loop n [] at k b h = tt
 below_loop n (l ∷ kinds) zero k b h = (b, h.1)
@@ -316,10 +353,12 @@ changed_sound i at old k ls e was is below s = record {
 open_apart : (kinds : List Kind) (at other : ℕ) → slice_get kinds at ≡ Some ClosedLoop → IsOpenAt kinds other → other ≡ at → ⊥
 open_apart kinds at other closed o same = let both : Some (OpenLoop o.0) ≡ Some ClosedLoop = sym o.1 ∙ ap (slice_get kinds) same ∙ closed in cc
 
+-- no open loop is one that is closed
 opens_apart : (kinds : List Kind) (at : ℕ) → slice_get kinds at ≡ Some ClosedLoop → (around : List ℕ) → AllByRecursion (IsOpenAt kinds) around → AllByRecursion (λ n. n ≡ at → ⊥) around
 opens_apart kinds at closed [] h = tt
 opens_apart kinds at closed (n ∷ around) h = (open_apart kinds at n closed h.0, opens_apart kinds at closed around h.1)
 
+-- open loops stay open where another opens
 opens_other : (kinds : List Kind) (at : ℕ) (k : Kind) → slice_get kinds at ≡ Some ClosedLoop → (around : List ℕ) → AllByRecursion (IsOpenAt kinds) around → AllByRecursion (IsOpenAt (set kinds at k)) around
 opens_other kinds at k closed [] h = tt
 opens_other kinds at k closed (n ∷ around) h = ((h.0.0, get_other kinds at n (OpenLoop h.0.0) k (open_apart kinds at n closed h.0) h.0.1), opens_other kinds at k closed around h.1)
@@ -328,9 +367,11 @@ opens_other kinds at k closed (n ∷ around) h = ((h.0.0, get_other kinds at n (
 abbrev opened_at : ℕ → Loop → Input → Input
 opened_at depth h j = record j { kinds = set j.kinds h.name (OpenLoop depth); lines = j.lines ++ Begin h ∷ [] }
 
+-- where the loop ended
 abbrev closed_at : Loop → Input → Input
 closed_at h l = record l { kinds = set l.kinds h.name ClosedLoop; lines = l.lines ++ End ∷ [] }
 
+-- a loop behind its header
 loop_adds : (depth : ℕ) (h : Loop) (j l : Input) → slice_get j.kinds h.name ≡ Some ClosedLoop → AddsLines (opened_at depth h j) l → AddsLines j (closed_at h l)
 loop_adds depth h j l closed a =
     let before : Sound j → Sound (opened_at depth h j) = λ (s : Sound j). changed_sound j h.name ClosedLoop (OpenLoop depth) (j.lines ++ Begin h ∷ []) closed tt tt tt s in
@@ -376,6 +417,7 @@ whole_loop depth h i j l c a =
 abbrev pub AddsAll : Rule (Unit {0}) → Type 0
 AddsAll rule = (i : Input) → Adding i (rule i)
 
+-- a loop over an item
 for_adds : (inner : Rule (Unit {0})) (depth brackets : ℕ) → AddsAll inner → AddsAll (for_loop inner depth brackets)
 unfolding for_loop opened closed with_kind with_line
 for_adds inner depth brackets each i =
@@ -385,11 +427,13 @@ for_adds inner depth brackets each i =
 
 -- ---- blocks and items
 
+-- the items of a block
 block_items_add : (turns : ℕ) (each : Rule (Unit {0})) → AddsAll each → AddsAll (block_items each turns)
 unfolding block_items
 block_items_add zero each h i = err
 block_items_add (suc turns) each h i = either (sees (codes "}") i) (λ _. adding_quiet passes) (λ _. adding_both (h i) (λ _ j. block_items_add turns each h j))
 
+-- an item, where blocks and loops add lines
 item_by_adds : (brackets : ℕ) (inner loop : Rule (Unit {0})) → AddsAll inner → AddsAll loop → AddsAll (item_by inner loop brackets)
 unfolding item_by
 item_by_adds brackets inner loop g h i = either (sees (codes ";") i) (λ _. adding_quiet passes)
@@ -398,30 +442,36 @@ item_by_adds brackets inner loop g h i = either (sees (codes ";") i) (λ _. addi
     (λ _. either (sees (codes "if") i) (λ _. err)
     (λ _. either (is_name_kind (kind i)) (λ is. statement_adds brackets i (name_kind_is (kind i) is)) (λ _. err)))))
 
+-- a block, where loops add lines
 block_adds : (loop : ℕ → Rule (Unit {0})) → ((brackets : ℕ) → AddsAll (loop brackets)) → (brackets : ℕ) → AddsAll (block loop brackets)
 unfolding block all_block_items
 block_adds loop h zero i = err
 block_adds loop h (suc brackets) i =
     adding_behind (block_items_add (left (next i)) (item_by (block loop brackets) (loop brackets) brackets) (item_by_adds brackets (block loop brackets) (loop brackets) (block_adds loop h brackets) (h brackets)) (next i))
 
+-- an item, where loops add lines
 item_over_adds : (loop : ℕ → Rule (Unit {0})) → ((brackets : ℕ) → AddsAll (loop brackets)) → (brackets : ℕ) → AddsAll (item_over loop brackets)
 unfolding item_over
 item_over_adds loop h brackets = item_by_adds brackets (block loop brackets) (loop brackets) (block_adds loop h brackets) (h brackets)
 
+-- a loop with those inside it
 loops_add : (more brackets : ℕ) → AddsAll (loops more brackets)
 unfolding loops
 loops_add zero brackets i = err
 loops_add (suc more) brackets i = for_adds (item_over (loops more) brackets) (4 - 1 - more) brackets (item_over_adds (loops more) (loops_add more) brackets) i
 
+-- an item
 item_adds : (more brackets : ℕ) → AddsAll (item more brackets)
 unfolding item
 item_adds more brackets = item_over_adds (loops more) (loops_add more) brackets
 
+-- items up to the closing line
 items_add : (turns : ℕ) → AddsAll (items turns)
 unfolding items
 items_add zero i = err
 items_add (suc turns) i = either (is_end (kind i)) (λ _. adding_quiet stays) (λ _. adding_both (item_adds 4 64 i) (λ _ j. items_add turns j))
 
+-- all items of a program
 pub all_items_add : AddsAll all_items
 unfolding all_items
 all_items_add i = items_add (left i) i

@@ -19,18 +19,21 @@ among test [] kinds = []
 among test (n ∷ names) [] = []
 among test (n ∷ names) (k ∷ kinds) = cond (test k) (n ∷ among test names kinds) (among test names kinds)
 
+-- whether a kind is a parameter's
 abbrev pub is_parameter : Kind → Bool
 is_parameter (Parameter k) = true
 is_parameter (OpenLoop depth) = false
 is_parameter ClosedLoop = false
 is_parameter (Array k rank) = false
 
+-- whether a kind is an array's
 abbrev pub is_array : Kind → Bool
 is_array (Parameter k) = false
 is_array (OpenLoop depth) = false
 is_array ClosedLoop = false
 is_array (Array k rank) = true
 
+-- the parameters are the names of their kind
 pub parameters-among : (names : List (List ℕ)) (kinds : List Kind) → parameters_among names kinds ≡ among is_parameter names kinds
 parameters-among [] kinds = refl
 parameters-among (n ∷ names) [] = refl
@@ -39,10 +42,12 @@ parameters-among (n ∷ names) (OpenLoop depth ∷ kinds) = parameters-among nam
 parameters-among (n ∷ names) (ClosedLoop ∷ kinds) = parameters-among names kinds
 parameters-among (n ∷ names) (Array k rank ∷ kinds) = parameters-among names kinds
 
+-- the names of arrays
 abbrev pub names_of : List program.Array → List (List ℕ)
 names_of [] = []
 names_of (a ∷ arrays) = a.name ∷ names_of arrays
 
+-- the arrays' names are those of their kind
 pub arrays-among : (names : List (List ℕ)) (kinds : List Kind) → names_of (map array_of (arrays_among names kinds)) ≡ among is_array names kinds
 arrays-among [] kinds = refl
 arrays-among (n ∷ names) [] = refl
@@ -53,10 +58,12 @@ arrays-among (n ∷ names) (Array k rank ∷ kinds) = ap (λ ns. n ∷ ns) (arra
 
 -- ---- names that differ
 
+-- no name stands again behind itself
 abbrev pub Differ : List (List ℕ) → Type 0
 Differ [] = ⊤
 Differ (n ∷ names) = (list_any (bytes_eq n) names ≡ false) × Differ names
 
+-- a name that stands nowhere
 none_any : (n : List ℕ) (names : List (List ℕ)) → ((at : ℕ) → slice_get names at ≡ Some n → ⊥) → list_any (bytes_eq n) names ≡ false
 none_any n [] f = refl
 none_any n (m ∷ names) f = elim (bytes_eq n m) as (λ v. bytes_eq n m ≡ v → list_any (bytes_eq n) (m ∷ names) ≡ false) [
@@ -64,10 +71,12 @@ none_any n (m ∷ names) f = elim (bytes_eq n m) as (λ v. bytes_eq n m ≡ v �
   | false ↦ λ e. rw e (none_any n names (λ at g. f (suc at) g))
 ] refl
 
+-- names at different places differ
 pub distinct-differ : (names : List (List ℕ)) → AreDistinct names → Differ names
 distinct-differ [] d = tt
 distinct-differ (n ∷ names) d = (none_any n names (λ at e. (let same : 0 ≡ suc at = d 0 (suc at) n refl e in omega arith)), distinct-differ names (λ a b m e f. (let same : suc a ≡ suc b = d (suc a) (suc b) m e f in omega arith)))
 
+-- a name that isn't there isn't among some of them
 among_any : (test : Kind → Bool) (n : List ℕ) (names : List (List ℕ)) (kinds : List Kind) → list_any (bytes_eq n) names ≡ false → list_any (bytes_eq n) (among test names kinds) ≡ false
 among_any test n [] kinds h = refl
 among_any test n (m ∷ names) [] h = refl
@@ -77,18 +86,21 @@ among_any test n (m ∷ names) (k ∷ kinds) h =
     let rest : list_any (bytes_eq n) (among test names kinds) ≡ false = among_any test n names kinds both.1 in
     elim (test k) as (λ v. test k ≡ v → list_any (bytes_eq n) (among test (m ∷ names) (k ∷ kinds)) ≡ false) [ true ↦ λ e. rw e (rw here rest) | false ↦ λ e. rw e rest ] refl
 
+-- some of names that differ
 pub among_differs : (test : Kind → Bool) (names : List (List ℕ)) (kinds : List Kind) → Differ names → Differ (among test names kinds)
 among_differs test [] kinds d = tt
 among_differs test (m ∷ names) [] d = tt
 among_differs test (m ∷ names) (k ∷ kinds) d =
     elim (test k) as (λ v. test k ≡ v → Differ (among test (m ∷ names) (k ∷ kinds))) [ true ↦ λ e. rw e (among_any test m names kinds d.0, among_differs test names kinds d.1) | false ↦ λ e. rw e (among_differs test names kinds d.1) ] refl
 
+-- what holds of each name holds of some
 pub among_all : (P : List ℕ → Type 0) (test : Kind → Bool) (names : List (List ℕ)) (kinds : List Kind) → AllByRecursion P names → AllByRecursion P (among test names kinds)
 among_all P test [] kinds h = tt
 among_all P test (m ∷ names) [] h = tt
 among_all P test (m ∷ names) (k ∷ kinds) h =
     elim (test k) as (λ v. test k ≡ v → AllByRecursion P (among test (m ∷ names) (k ∷ kinds))) [ true ↦ λ e. rw e (h.0, among_all P test names kinds h.1) | false ↦ λ e. rw e (among_all P test names kinds h.1) ] refl
 
+-- a name that isn't there has no place
 place_absent : (name : List ℕ) (names : List (List ℕ)) → list_any (bytes_eq name) names ≡ false → place_of name names ≡ None
 place_absent name [] h = refl
 place_absent name (n ∷ names) h = let both = or_false (bytes_eq name n) (list_any (bytes_eq name) names) h in let here : bytes_eq name n ≡ false = both.0 in rw here (ap (option_map suc) (place_absent name names both.1))
@@ -124,9 +136,11 @@ pub record Found (test : Kind → Bool) (names : List (List ℕ)) (kinds : List 
   pub kind_is : slice_get kinds at ≡ Some kind
   pub so : test kind ≡ true
 
+-- a name more in front
 found_next : {test : Kind → Bool} {names : List (List ℕ)} {kinds : List Kind} {name : List ℕ} (n : List ℕ) (k : Kind) → Found test names kinds name → Found test (n ∷ names) (k ∷ kinds) name
 found_next n k f = record { at = suc f.at; kind = f.kind; name_is = f.name_is; kind_is = f.kind_is; so = f.so }
 
+-- each name among those that pass stands among all
 pub among_found : (test : Kind → Bool) (names : List (List ℕ)) (kinds : List Kind) (j : ℕ) (name : List ℕ) → slice_get (among test names kinds) j ≡ Some name → Found test names kinds name
 among_found test [] kinds j name e = cc
 among_found test (n ∷ names) [] j name e = cc
@@ -141,6 +155,7 @@ among_found test (n ∷ names) (k ∷ kinds) j name e =
 
 -- ---- arrays
 
+-- the place of an array behind another
 array_position-more : (t : program.Array → Bool) (a : program.Array) (arrays : List program.Array) → position t (a ∷ arrays) ≡ cond (t a) (Some 0) (option_map suc (position t arrays))
 array_position-more t a arrays =
     let m : ℕ = position_or_len t arrays in
@@ -151,15 +166,18 @@ array_position-more t a arrays =
       | false ↦ λ e. rw e (ap (λ b. cond b (Some (1 + m)) None) same ∙ one_more (nat_lt m (length arrays)) m)
     ] refl
 
+-- an array's place is that of its name
 pub array_position : (name : List ℕ) (arrays : List program.Array) → position (λ (a : program.Array). bytes_eq name a.name) arrays ≡ place_of name (names_of arrays)
 array_position name [] = refl
 array_position name (a ∷ arrays) = array_position-more (λ (b : program.Array). bytes_eq name b.name) a arrays ∙ ap (λ o. cond (bytes_eq name a.name) (Some 0) (option_map suc o)) (array_position name arrays)
 
+-- an array's name at its number
 pub names_get : (arrays : List program.Array) (k : ℕ) (a : program.Array) → slice_get arrays k ≡ Some a → slice_get (names_of arrays) k ≡ Some a.name
 names_get [] k a e = cc
 names_get (b ∷ arrays) zero a e = let same : b ≡ a = cc in ap (λ (c : program.Array). Some c.name) same
 names_get (b ∷ arrays) (suc k) a e = names_get arrays k a e
 
+-- each array has a C name and at most 4 subscripts
 pub all_arrays : (names : List (List ℕ)) (kinds : List Kind) → AllByRecursion IsName names → AllByRecursion (λ (a : List ℕ × ℕ). a.1 ≤ 4) (arrays_among names kinds) → AllByRecursion (λ (a : program.Array). IsName a.name × (a.rank ≤ 4)) (map array_of (arrays_among names kinds))
 all_arrays [] kinds h r = tt
 all_arrays (n ∷ names) [] h r = tt
@@ -168,6 +186,7 @@ all_arrays (n ∷ names) (OpenLoop depth ∷ kinds) h r = all_arrays names kinds
 all_arrays (n ∷ names) (ClosedLoop ∷ kinds) h r = all_arrays names kinds h.1 r
 all_arrays (n ∷ names) (Array k rank ∷ kinds) h r = ((h.0, r.0), all_arrays names kinds h.1 r.1)
 
+-- the rank of an array at its number
 pub array_get : (arrays : List (List ℕ × ℕ)) (k n : ℕ) → IsSomeAnd (slice_get arrays k) (λ (a : List ℕ × ℕ). n ≡ a.1) → IsSomeAnd (slice_get (map array_of arrays) k) (λ (a : program.Array). n ≡ a.rank)
 array_get [] k n h = h
 array_get (a ∷ arrays) zero n h = h

@@ -27,6 +27,7 @@ use Rattle.printed_texts.proofs.Accesses.{IsOther, Step, Extends, some_and, get_
 
 -- ---- what follows a value
 
+-- bytes that go on with no value
 pub record IsBehind (bytes : List ℕ) : Type 0 where
   pub no_subscript : bytes_eq bytes (codes "[") ≡ false
   pub no_call : bytes_eq bytes (codes "(") ≡ false
@@ -36,12 +37,15 @@ pub record IsBehind (bytes : List ℕ) : Type 0 where
   pub no_slash : bytes_eq bytes (codes "/") ≡ false
   pub no_percent : bytes_eq bytes (codes "%") ≡ false
 
+-- a comma ends a value
 pub comma_behind : IsBehind (codes ",")
 comma_behind = record { no_subscript = refl; no_call = refl; no_plus = refl; no_minus = refl; no_star = refl; no_slash = refl; no_percent = refl }
 
+-- a bracket ends a value
 pub bracket_behind : IsBehind (codes ")")
 bracket_behind = record { no_subscript = refl; no_call = refl; no_plus = refl; no_minus = refl; no_star = refl; no_slash = refl; no_percent = refl }
 
+-- a semicolon ends a value
 pub semicolon_behind : IsBehind (codes ";")
 semicolon_behind = record { no_subscript = refl; no_call = refl; no_plus = refl; no_minus = refl; no_star = refl; no_slash = refl; no_percent = refl }
 
@@ -57,23 +61,28 @@ no_operator i tokens bits follows h =
     let f : sees (codes "%") (at tokens i) ≡ false = sees-at i tokens e.kind e.bytes e.bits e.next (codes "%") ∙ e.so.no_percent in
     (rw (a, b, c, d, f) refl, omega (arith, e.next.more))
 
+-- no operand follows
 operands_none : (within : Accesses → Rule Accesses) (brackets turns : ℕ) (reads : Accesses) (j : Input) → 1 ≤ turns → is_operator j ≡ false → operands within brackets turns reads j ≡ Ok (reads, j)
 unfolding operands
 operands_none within brackets zero reads j some none = absurd (omega arith)
 operands_none within brackets (suc turns) reads j some none = rw none refl
 
+-- a value of one part
 pub value_is : (within : Accesses → Rule Accesses) (brackets : ℕ) (reads more : Accesses) (j last : Input) → all_signs j ≡ Ok (false, j) → primary within brackets reads j ≡ Ok (more, last) → is_operator last ≡ false → 1 ≤ left last → value_by within brackets reads j ≡ Ok (more, last)
 unfolding value_by unary
 value_is within brackets reads more j last signs_are e none some = rw (signs_are, e) (operands_none within brackets (left last) more last some none)
 
+-- a number is a value without reads
 pub primary_number : (within : Accesses → Rule Accesses) (brackets : ℕ) (reads : Accesses) (j : Input) → kind j ≡ token.Number → primary within brackets reads j ≡ Ok (reads, next j)
 unfolding primary
 primary_number within brackets reads j is = rw is refl
 
+-- a name that isn't called
 primary_name : (within : Accesses → Rule Accesses) (brackets : ℕ) (reads : Accesses) (j : Input) (o : Outcome Accesses) → kind j ≡ token.Name → sees (codes "(") (next j) ≡ false → name_by brackets reads (kind_of (spelling j) j) j ≡ o → primary within brackets reads j ≡ o
 unfolding primary named
 primary_name within brackets reads j o is plain e = rw (is, plain) e
 
+-- a call, from its parts
 pub primary_call : (within : Accesses → Rule Accesses) (brackets : ℕ) (reads : Accesses) (j second third : Input) (o : Outcome Accesses) → kind j ≡ token.Name → sees (codes "(") (next j) ≡ true → is_short (spelling j) ≡ true → 1 ≤ brackets → next j ≡ second → next second ≡ third
     → sees (codes ")") third ≡ false → all_arguments within reads third ≡ o → primary within brackets reads j ≡ o
 unfolding primary named call open_bracket called
@@ -89,12 +98,14 @@ IsReadable (Some (OpenLoop depth)) = ⊥
 IsReadable (Some ClosedLoop) = ⊥
 IsReadable (Some (Array k rank)) = ⊤
 
+-- one reference more
 one_read-is : (brackets : ℕ) (reads : Accesses) (a : Access) (j last : Input) → length reads < 32 → access brackets j ≡ Ok (a, last) → one_read brackets reads j ≡ Ok (reads ++ a ∷ [], last)
 unfolding one_read
 one_read-is brackets reads a j last few e =
     let below : nat_le 32 (length reads) ≡ false = grind (arith, nat_tests) in
     rw (below, e) refl
 
+-- a name that may be read is read as a reference
 read_by : (brackets : ℕ) (reads : Accesses) (k : Option Kind) (j : Input) → IsReadable k → name_by brackets reads k j ≡ one_read brackets reads j
 read_by brackets reads None j is = refl
 read_by brackets reads (Some (Parameter k)) j is = absurd is
@@ -113,6 +124,7 @@ pub record AreRead (p : AffineProgram) (around : List (List ℕ)) (seen count : 
   pub names : Extends i.names j.names
   pub lines : j.lines ≡ i.lines
 
+-- no bracket of a call follows an array's name
 subscripts_no_call : (names : List (List ℕ)) (forms : List AffineForm) (more : List Bit) → IsFollowed IsBehind more → IsFollowed (λ b. bytes_eq b (codes "(") ≡ false) (subscripts_bits names forms more)
 subscripts_no_call names [] more follows = followed IsBehind (λ b. bytes_eq b (codes "(") ≡ false) (λ b e. e.no_call) more follows
 subscripts_no_call names (form ∷ forms) more follows = refl
@@ -154,21 +166,26 @@ module _ (p : AffineProgram) (around : List (List ℕ)) (is : IsPrintable p) (lo
         so = record { same = ap (λ b. before ++ b ∷ []) one.so.same; knows = one.so.knows; names = one.so.names; lines = one.so.lines };
       }
 
+-- the last argument
 arguments_last : (within : Accesses → Rule Accesses) (turns : ℕ) (reads more : Accesses) (j last : Input) → within reads j ≡ Ok (more, last) → sees (codes ",") last ≡ false → sees (codes ")") last ≡ true → arguments within (suc turns) reads j ≡ Ok (more, next last)
 unfolding arguments expect
 arguments_last within turns reads more j last e no_comma closes = rw (e, no_comma, closes) refl
 
+-- an argument with others behind it
 arguments_more : (within : Accesses → Rule Accesses) (turns : ℕ) (reads more : Accesses) (j last after : Input) (o : Outcome Accesses) → within reads j ≡ Ok (more, last) → sees (codes ",") last ≡ true → next last ≡ after → arguments within turns more after ≡ o → arguments within (suc turns) reads j ≡ o
 unfolding arguments
 arguments_more within turns reads more j last after o e comma skipped f = rw (e, comma, skipped) f
 
+-- names that are extended twice
 pub extends_both : (a b c : List (List ℕ)) → Extends a b → Extends b c → Extends a c
 extends_both a b c first second = (first.0 ++ second.0, second.1 ∙ ap (λ ns. ns ++ second.0) first.1 ∙ append_assoc a first.0 second.0)
 
+-- subscripts have no fewer words than what follows them
 pub words_references : (names : List (List ℕ)) (forms : List AffineForm) (more : List Bit) → words more ≤ words (subscripts_bits names forms more)
 words_references names [] more = omega arith
 words_references names (form ∷ forms) more = omega (arith, words_terms (form_terms names form) (symbol (codes "]") ∷ subscripts_bits names forms more), words_references names forms more)
 
+-- each read has a word
 pub words_others : (p : AffineProgram) (names : List (List ℕ)) (reads : List program.Access) (more : List Bit) → length reads + words more ≤ words (others_bits p names reads more)
 words_others p names [] more = omega arith
 words_others p names (read ∷ reads) more = omega (arith, words_references names read.subscripts (others_bits p names reads more), words_others p names reads more)

@@ -22,33 +22,42 @@ goes_on p (b ∷ bytes) = p b
 abbrev pub ends_name : ℕ → Bool
 ends_name b = not (is_name_byte b)
 
+-- a byte that ends a number
 abbrev pub ends_number : ℕ → Bool
 ends_number b = not (is_name_byte b || b == 46 || is_sign b)
 
+-- both tests hold
 pub and_parts : (a b : Bool) → (a && b) ≡ true → (a ≡ true) × (b ≡ true)
 and_parts true b e = (refl, e)
 and_parts false b e = absurd cc
 
+-- two tests that hold
 pub and_true : (a b : Bool) → a ≡ true → b ≡ true → (a && b) ≡ true
 and_true true b e f = f
 and_true false b e f = absurd cc
 
+-- a test whose opposite holds
 pub not_true : (a : Bool) → not a ≡ true → a ≡ false
 not_true true e = absurd cc
 not_true false e = refl
 
+-- neither test holds
 pub or_false : (a b : Bool) → (a || b) ≡ false → (a ≡ false) × (b ≡ false)
 or_false true b e = absurd cc
 or_false false b e = (refl, e)
 
+-- a byte that begins a name is no space
 pub name_start-no_space : (b : ℕ) → is_name_start b ≡ true → is_space b ≡ false
 name_start-no_space b h = grind (arith, nat_tests)
 
+-- a byte that begins a name is no newline
 pub name_start-in_line : (b : ℕ) → is_name_start b ≡ true → (b == 10) ≡ false
 name_start-in_line b h = grind (arith, nat_tests)
 
+-- a byte that begins a name begins a word
 pub name_start-safe : (b : ℕ) → is_name_start b ≡ true → is_safe b ≡ true
 name_start-safe b h = grind (arith, nat_tests)
 
+-- a byte of a name is no newline
 pub name_byte-in_line : (b : ℕ) → is_name_byte b ≡ true → is_in_line b ≡ true
 name_byte-in_line b h = grind (arith, nat_tests)

@@ -26,6 +26,7 @@ use Rattle.printed_texts.proofs.Adds.{line_numbers, Nests, IsLoopLine, all_items
 abbrev Grows : {X : Type 0} → (ℕ → Rows → X → List ℤ → List ℤ → Result Rows ReadFault) → X → Type 0
 Grows add c = (start : ℕ) (rows : Rows) (a b : List ℤ) → IsWhereGood (λ (all : Rows). 0 < length all) (add start rows c a b)
 
+-- one row more
 row_grows : (start : ℕ) (rows : Rows) (less : ℤ) (a b : List ℤ) → IsWhereGood (λ (all : Rows). 0 < length all) (with_row start rows less a b)
 unfolding with_row
 row_grows start rows less a b = placed (combined (negsuc 0) less a b) where
@@ -33,14 +34,17 @@ row_grows start rows less a b = placed (combined (negsuc 0) less a b) where
   placed None = tt
   placed (Some row) = omega (arith, length-append rows (row ∷ []))
 
+-- two rows more
 both_grow : (start : ℕ) (a b : List ℤ) (r : Result Rows ReadFault) → IsWhereGood (λ (all : Rows). 0 < length all) (with_both start a b r)
 both_grow start a b (Err e) = tt
 both_grow start a b (Ok rows) = row_grows start rows (pos 0) b a
 
+-- one of two values
 some_if : {X : Type 0} (P : X → Type 0) (b : Bool) (x : X) (o : Option X) → P x → IsWhereSome P o → IsWhereSome P (if b then Some x else o)
 some_if P true x o p h = p
 some_if P false x o p h = h
 
+-- each comparison adds a row
 comparison_grows : (i : Input) → IsWhereSome (Grows with_compare) (comparison i)
 unfolding comparison with_compare
 comparison_grows i =
@@ -50,10 +54,12 @@ comparison_grows i =
     (some_if (Grows with_compare) (sees (codes "<") i) _ _ (λ start rows a b. row_grows start rows (pos 1) b a)
     (some_if (Grows with_compare) (sees (codes "==") i) _ None (λ start rows a b. both_grow start a b (with_row start rows (pos 0) a b)) tt))))
 
+-- no value, or a value
 option_cases : {X : Type 0} (o : Option X) (P : Option X → Type 0) → P None → ((x : X) → P (Some x)) → P o
 option_cases None P p f = p
 option_cases (Some x) P p f = f x
 
+-- a comparison that is taken adds a row
 taken_grows : (start count : ℕ) (a : Affine) (i : Input) → Gives (comparison_by start count a (comparison i) i) (λ c j. Quiet i j × Grows with_compare c)
 unfolding comparison_by
 taken_grows start count a i =
@@ -67,6 +73,7 @@ given_holds : {A : Type 0} (P : A → Type 0) (i : Input) (r : Result A ReadFaul
 given_holds P i (Ok a) h = ok (quiet_self i, h)
 given_holds P i (Err e) h = err
 
+-- a compare gives a row, from where it begins
 compare_from_grows : (start : ℕ) (rows : Rows) (i : Input) → Gives (compare_from start rows i) (λ c j. Quiet i j × (0 < length c.rows))
 unfolding compare_from
 compare_from_grows start rows i =
@@ -76,21 +83,25 @@ compare_from_grows start rows i =
     chained (given (with_compare start rows c a.numbers b.numbers) l) (given_holds (λ (all : Rows). 0 < length all) l (with_compare start rows c a.numbers b.numbers) (r.1 start rows a.numbers b.numbers)) (λ all m u.
     ok (quiet_both q (quiet_both r.0 (quiet_both (quiet_next k) (quiet_both t u.0))), u.1)))))
 
+-- a compare gives a row
 compare_grows : (rows : Rows) (i : Input) → Gives (compare rows i) (λ c j. Quiet i j × (0 < length c.rows))
 unfolding compare
 compare_grows rows i = compare_from_grows (place i) rows i
 
 -- ---- directives
 
+-- a line of names sees no array
 names_quiet : (turns : ℕ) (i : Input) → Quietly i (parameter_names turns i)
 unfolding parameter_names
 names_quiet zero i = err
 names_quiet (suc turns) i = either (is_line_end (kind i)) (λ _. passes) (λ _. either (is_name_kind (kind i)) (λ h. quiet_bind (slot_quiet i (name_kind_is (kind i) h)) (λ _ j. names_quiet turns j)) (λ _. err))
 
+-- the end of a line keeps the rows
 closed_grows : (c : Compared) (i : Input) → 0 < length c.rows → Gives (closed_line c i) (λ rows j. Quiet i j × (0 < length rows))
 unfolding closed_line
 closed_grows c i h = either (is_line_end (kind i)) (λ _. ok (quiet_next i, h)) (λ _. err)
 
+-- compares give a row
 compares_grow : (turns : ℕ) (rows : Rows) (i : Input) → Gives (compares turns rows i) (λ all j. Quiet i j × (0 < length all))
 unfolding compares
 compares_grow zero rows i = err
@@ -102,6 +113,7 @@ compares_grow (suc turns) rows i = chained (compare rows i) (compare_grows rows 
 abbrev pub HasRows : Head → Type 0
 HasRows h = h.assumed ≡ true → 0 < length h.rows
 
+-- directives see no array, and a line that assumes gives a row
 directives_hold : (turns : ℕ) (h : Head) (i : Input) → HasRows h → Gives (directives turns h i) (λ g j. Quiet i j × HasRows g)
 unfolding directives all_parameter_names all_compares
 directives_hold zero h i has = err
@@ -113,6 +125,7 @@ directives_hold (suc turns) h i has = either (is_parameters (kind i))
     weaken (directives turns (record { assumed = true; rows = rows }) j) (directives_hold turns (record { assumed = true; rows = rows }) j (λ _. q.1)) (λ g k r. (quiet_both (quiet_next i) (quiet_both q.0 r.0), r.1))))
     (λ _. ok (quiet_self i, has)))
 
+-- the directives of a text
 head_holds : (i : Input) → Gives (head i) (λ h j. Quiet i j × HasRows h)
 unfolding head
 head_holds i = directives_hold (left i) (record { assumed = false; rows = [] }) i (λ e. cc)
@@ -127,6 +140,7 @@ pub record Ends (h : Head) (i : Input) : Type 0 where
   pub loop_lines : AllByRecursion (IsLoopLine i.kinds) i.lines
   pub order : IsOrdered 0 (line_numbers i.lines) i.arrays
 
+-- what holds behind the text of these tokens
 text_ends : (bytes : List ℕ) (tokens : List Token) → AllByRecursion (IsSpelled bytes) tokens → Gives (text_rule (start_of bytes tokens)) Ends
 unfolding text_rule
 text_ends bytes tokens spelled =
@@ -156,6 +170,7 @@ pub record IsSound (r : Reading) : Type 0 where
   pub assumptions : r.assumptions ≡ assumptions_of head input
   pub ends : Ends head input
 
+-- what is read without a fault is sound
 reading_sound : (o : Outcome Head) (r : Reading) → Gives o Ends → reading_from o ≡ Ok r → IsSound r
 reading_sound (Err e) r g h = cc
 reading_sound (Ok p) r g h =
@@ -170,6 +185,7 @@ reading_sound (Ok p) r g h =
       ends = g.holds;
     }
 
+-- what is read of some tokens is sound
 by_tokens : (bytes : List ℕ) (o : Option (List Token)) (r : Reading) → ((tokens : List Token) → o ≡ Some tokens → AllByRecursion (IsSpelled bytes) tokens) → reading_by bytes o ≡ Ok r → IsSound r
 by_tokens bytes None r spelled h = cc
 by_tokens bytes (Some tokens) r spelled h = reading_sound (text_rule (start_of bytes tokens)) r (text_ends bytes tokens (spelled tokens refl)) h
@@ -179,6 +195,7 @@ rows-length : (k : ℕ) → length (all_at_least_one k) ≡ k
 rows-length zero = refl
 rows-length (suc k) = omega (arith, length-append (all_at_least_one k) (at_least_one k ∷ []), rows-length k)
 
+-- something is assumed where there is a parameter
 pub some_rows : (h : Head) (i : Input) → Ends h i → 0 < length (parameters_among i.names i.kinds) → 0 < length (assumptions_of h i)
 unfolding assumptions_of
 some_rows h i e some = which h.assumed refl where

@@ -29,6 +29,7 @@ use Rattle.printed_texts.proofs.Steps.{at, Next, word_next, end_next, next-at, s
 abbrev pub GoesOn : List ℕ → Type 0
 GoesOn bytes = bytes_eq bytes (codes "*") ≡ false
 
+-- bytes that go on with no sum
 pub record IsEnd (bytes : List ℕ) : Type 0 where
   pub no_star : bytes_eq bytes (codes "*") ≡ false
   pub no_minus : bytes_eq bytes (codes "-") ≡ false
@@ -43,6 +44,7 @@ IsFollowed P (passed bytes ∷ bits) = IsFollowed P bits
 IsFollowed P (word kind bytes ∷ bits) = P bytes
 IsFollowed P (end kind ∷ bits) = P []
 
+-- what follows from what holds of the first word
 pub followed : (P Q : List ℕ → Type 0) → ((bytes : List ℕ) → P bytes → Q bytes) → (bits : List Bit) → IsFollowed P bits → IsFollowed Q bits
 followed P Q f [] h = h
 followed P Q f (space ∷ bits) h = followed P Q f bits h
@@ -59,6 +61,7 @@ pub record First (P : List ℕ → Type 0) (i : Input) (tokens : List Token) : T
   pub bits : List Bit
   pub next : Next i.text kind bytes bits tokens
 
+-- the first word of some that follow
 pub first_word : (P : List ℕ → Type 0) (i : Input) (bits : List Bit) (tokens : List Token) → IsFollowed P bits → AreTokens i.text bits tokens → First P i tokens
 first_word P i [] tokens follows h = absurd follows
 first_word P i (space ∷ bits) tokens follows h = first_word P i bits tokens follows h
@@ -92,6 +95,7 @@ kind_slot (Some (OpenLoop depth)) = Some (loop_slot depth)
 kind_slot (Some ClosedLoop) = None
 kind_slot (Some (Array number subscripts)) = None
 
+-- the place of a name that has one
 slot_known : (k : Option Kind) (s : ℕ) (i : Input) → kind_slot k ≡ Some s → slot_by k i ≡ Ok (s, next i)
 slot_known None s i e = cc
 slot_known (Some (Parameter k)) s i e = let same : parameter_slot k ≡ s = cc in ap (λ n. Ok (n, next i)) same
@@ -99,6 +103,7 @@ slot_known (Some (OpenLoop depth)) s i e = let same : loop_slot depth ≡ s = cc
 slot_known (Some ClosedLoop) s i e = cc
 slot_known (Some (Array number subscripts)) s i e = cc
 
+-- tokens don't change a name's kind
 pub kind_of-at : (name : List ℕ) (tokens : List Token) (i : Input) → kind_of name (at tokens i) ≡ kind_of name i
 unfolding kind_of
 kind_of-at name tokens i = refl
@@ -114,10 +119,12 @@ slot-at i tokens name bits s is known =
 
 -- ---- factors
 
+-- a number times 1
 times_one : (c : ℤ) → (pos 0 +ℤ (c *ℤ pos 1)) -ℤ pos 0 ≡ c
 times_one c = omega (arith, ints)
 
 module _ (bracketed : Option ℕ → Rule Affine) (start : ℕ) where
+  -- a name alone
   atom_name : (i : Input) (tokens : List Token) (name : List ℕ) (bits : List Bit) (s : ℕ) → Next i.text token.Name name bits tokens → kind_slot (kind_of name i) ≡ Some s
       → atom bracketed None (at tokens i) ≡ Ok (one_name s, at (drop 1 tokens) i)
   unfolding atom
@@ -126,6 +133,7 @@ module _ (bracketed : Option ℕ → Rule Affine) (start : ℕ) where
       let found : slot (at tokens i) ≡ Ok (s, at (drop 1 tokens) i) = slot-at i tokens name bits s is known in
       rw (kind_is, found) refl
 
+  -- a number alone
   atom_number : (i : Input) (tokens : List Token) (n : ℕ) (ds : List ℕ) (bits : List Bit) → Next i.text token.Number ds bits tokens → Writes n ds → n < 2 ^ 20
       → atom bracketed None (at tokens i) ≡ Ok (one_number (pos n), at (drop 1 tokens) i)
   unfolding atom
@@ -138,6 +146,7 @@ module _ (bracketed : Option ℕ → Rule Affine) (start : ℕ) where
       let passed : next (at tokens i) ≡ at (drop 1 tokens) i = next-at i tokens in
       rw (kind_is, spelled, integer, value, below, passed) refl
 
+  -- a factor, from its parts
   factor_is : (j first last : Input) (negative : Bool) (a b : Affine) → all_signs j ≡ Ok (negative, first) → atom bracketed None first ≡ Ok (a, last) → signed start negative a ≡ Ok b → factor bracketed start None j ≡ Ok (b, last)
   unfolding factor
   factor_is j first last negative a b e f g = rw (e, f, g) refl
@@ -160,11 +169,13 @@ module _ (bracketed : Option ℕ → Rule Affine) (start : ℕ) where
       ∙ ap (λ ns. small start (combined c (pos 0) zeros ns) (a.has_name || true) b.ends_in_name) second
       ∙ ap (λ o. small start o (a.has_name || true) b.ends_in_name) (combined_single c zeros s (pos 1) c refl (replicate_small 11) within (ap (λ z. (z +ℤ (c *ℤ pos 1)) -ℤ pos 0) (get_or-replicate 11 s (pos 0) (pos 0) within) ∙ times_one c) fits))
 
+  -- no factor follows
   products_none : (turns : ℕ) (a : Affine) (j : Input) → 1 ≤ turns → sees (codes "*") j ≡ false → products bracketed start None turns a j ≡ Ok (a, j)
   unfolding products
   products_none zero a j some no_star = absurd (omega arith)
   products_none (suc turns) a j some no_star = rw no_star refl
 
+  -- one factor follows
   products_one : (turns : ℕ) (a b c : Affine) (j after last : Input) → 2 ≤ turns → a.has_name ≡ false → sees (codes "*") j ≡ true → next j ≡ after → factor bracketed start None after ≡ Ok (b, last) → product start a b ≡ Ok c
       → sees (codes "*") last ≡ false → products bracketed start None turns a j ≡ Ok (c, last)
   unfolding products
@@ -174,6 +185,7 @@ module _ (bracketed : Option ℕ → Rule Affine) (start : ℕ) where
       let none : star_of None a.has_name (place j) ≡ None = ap (λ b. star_of None b (place j)) no_name in
       rw (star, none, skipped, second, multiplied) rest
 
+  -- a term, from its parts
   term_is : (j first : Input) (a : Affine) (o : Outcome Affine) → factor bracketed start None j ≡ Ok (a, first) → products bracketed start None (left first) a first ≡ o → term bracketed start None j ≡ o
   unfolding term
   term_is j first a o e f = rw e f
@@ -224,12 +236,14 @@ digits_end (d ∷ ds) (b ∷ bytes) some all other few = differ (d == b) refl wh
   differ false e = rw e refl
 
 module _ (bracketed : Option ℕ → Rule Affine) (start : ℕ) (i : Input) (more : List Bit) (follows : IsFollowed GoesOn more) where
+  -- no product goes on
   no_star : (tokens : List Token) → AreTokens i.text more tokens → (1 ≤ length tokens) × (sees (codes "*") (at tokens i) ≡ false)
   no_star tokens h =
       let e : First GoesOn i tokens = first_word GoesOn i more tokens follows h in
       (omega (arith, e.next.more), sees-at i tokens e.kind e.bytes e.bits e.next (codes "*") ∙ e.so)
 
   module _ (negative : Bool) (first tokens : List Token) (signs_are : all_signs (at first i) ≡ Ok (negative, at tokens i)) where
+    -- a number is read as a term
     read_number : (n : ℕ) (v : ℤ) → AreTokens i.text (word token.Number (decimal n) ∷ more) tokens → n < 2 ^ 20 → (pos 0 +ℤ (sign_of negative *ℤ pos n)) -ℤ pos 0 ≡ v → IsSmall v
         → Reading (term bracketed start None (at first i)) i more (HasNumbers (single 0 v))
     read_number n v h small_n e fits =
@@ -248,6 +262,7 @@ module _ (bracketed : Option ℕ → Rule Affine) (start : ℕ) (i : Input) (mor
           left = is.rest;
         }
 
+    -- a name is read as a term
     read_name : (name : List ℕ) (s : ℕ) (v : ℤ) → AreTokens i.text (word token.Name name ∷ more) tokens → kind_slot (kind_of name i) ≡ Some s → s < 11 → (pos 0 +ℤ (sign_of negative *ℤ pos 1)) -ℤ pos 0 ≡ v → IsSmall v
         → Reading (term bracketed start None (at first i)) i more (HasNumbers (single s v))
     read_name name s v h known within e fits =
@@ -266,6 +281,7 @@ module _ (bracketed : Option ℕ → Rule Affine) (start : ℕ) (i : Input) (mor
           left = is.rest;
         }
 
+    -- a number times a name is read as a term
     read_product : (n : ℕ) (name : List ℕ) (s : ℕ) (v : ℤ) → AreTokens i.text (word token.Number (decimal n) ∷ symbol (codes "*") ∷ word token.Name name ∷ more) tokens → n < 2 ^ 20 → IsName name → kind_slot (kind_of name i) ≡ Some s → s < 11
         → (pos 0 +ℤ (sign_of negative *ℤ pos n)) -ℤ pos 0 ≡ v → IsSmall v → Reading (term bracketed start None (at first i)) i more (HasNumbers (single s v))
     read_product n name s v h small_n is_name known within e fits =

@@ -19,6 +19,7 @@ use Rattle.printed_texts.proofs.Lexed.{Region, IsWordAt}
 
 -- ---- names
 
+-- the run of bytes of a kind up to one of another
 run : (p : ℕ → Bool) (xs rest : List ℕ) → list_all p xs ≡ true → goes_on (λ b. not (p b)) rest ≡ true → prefix_len p (xs ++ rest) ≡ length xs
 run p [] [] all ends = refl
 run p [] (b ∷ rest) all ends = let stops : p b ≡ false = not_true (p b) ends in rw stops refl
@@ -27,15 +28,18 @@ run p (x ∷ xs) rest all ends =
     let here : p x ≡ true = both.0 in
     rw here (ap (λ n. 1 + n) (run p xs rest both.1 ends) ∙ one-add (length xs))
 
+-- a name has no newline
 all_in_line : (bytes : List ℕ) → list_all is_name_byte bytes ≡ true → list_all is_in_line bytes ≡ true
 all_in_line [] h = refl
 all_in_line (b ∷ bytes) h =
     let both = and_parts (is_name_byte b) (list_all is_name_byte bytes) h in
     and_true (is_in_line b) (list_all is_in_line bytes) (name_byte-in_line b both.0) (all_in_line bytes both.1)
 
+-- a name stands there
 name_piece : (region : Region) (b : ℕ) (rest : List ℕ) → is_space b ≡ false → (b == 10) ≡ false → is_name_start b ≡ true → piece_of region (b ∷ rest) ≡ name_at (b ∷ rest)
 name_piece region b rest no_space in_line start = rw (no_space, in_line, start) refl
 
+-- a name is one token in front of what ends it
 pub name_fits : (name rest : List ℕ) → IsName name → goes_on ends_name rest ≡ true → IsWordAt Name name rest
 name_fits [] rest is ends = absurd (let e = is.begins in cc)
 name_fits (b ∷ bytes) rest is ends =
@@ -57,21 +61,27 @@ name_fits (b ∷ bytes) rest is ends =
 
 -- ---- numbers
 
+-- a digit is no newline
 digit-in_line : (b : ℕ) → is_digit b ≡ true → is_in_line b ≡ true
 digit-in_line b h = grind (arith, nat_tests)
 
+-- a digit begins a word
 digit-safe : (b : ℕ) → is_digit b ≡ true → is_safe b ≡ true
 digit-safe b h = grind (arith, nat_tests)
 
+-- a digit is no space
 digit-no_space : (b : ℕ) → is_digit b ≡ true → is_space b ≡ false
 digit-no_space b h = grind (arith, nat_tests)
 
+-- a digit begins no name
 digit-no_name_start : (b : ℕ) → is_digit b ≡ true → is_name_start b ≡ false
 digit-no_name_start b h = grind (arith, nat_tests)
 
+-- a digit goes on with a number
 digit-number_byte : (before b : ℕ) → is_digit b ≡ true → is_number_byte before b ≡ true
 digit-number_byte before b h = elim (is_letter b) as (λ v. is_letter b ≡ v → is_number_byte before b ≡ true) [ true ↦ λ e. rw e refl | false ↦ λ e. rw (e, h) refl ] refl
 
+-- what ends a number doesn't go on with it
 ends-number_byte : (before b : ℕ) → ends_number b ≡ true → is_number_byte before b ≡ false
 ends-number_byte before b h =
     let apart = or_false (is_name_byte b || b == 46) (is_sign b) (not_true _ h) in
@@ -84,10 +94,12 @@ ends-number_byte before b h =
     let s : is_sign b ≡ false = apart.1 in
     rw (a, d, p, s) refl
 
+-- digits have no newline
 digits_in_line : (ds : List ℕ) → list_all is_digit ds ≡ true → list_all is_in_line ds ≡ true
 digits_in_line [] h = refl
 digits_in_line (d ∷ ds) h = let both = and_parts (is_digit d) (list_all is_digit ds) h in and_true (is_in_line d) (list_all is_in_line ds) (digit-in_line d both.0) (digits_in_line ds both.1)
 
+-- a number goes on up to what ends it
 number_run : (before : ℕ) (ds rest : List ℕ) → list_all is_digit ds ≡ true → goes_on ends_number rest ≡ true → number_rest before (ds ++ rest) ≡ length ds
 number_run before [] [] all ends = refl
 number_run before [] (b ∷ rest) all ends = let stops = ends-number_byte before b ends in rw stops refl
@@ -96,6 +108,7 @@ number_run before (d ∷ ds) rest all ends =
     let here = digit-number_byte before d both.0 in
     rw here (ap (λ n. 1 + n) (number_run d ds rest both.1 ends) ∙ one-add (length ds))
 
+-- a number is one token in front of what ends it
 pub number_fits : (ds rest : List ℕ) → 1 ≤ length ds → list_all is_digit ds ≡ true → goes_on ends_number rest ≡ true → IsWordAt Number ds rest
 number_fits [] rest some all ends = absurd (omega arith)
 number_fits (d ∷ ds) rest some all ends =
@@ -118,6 +131,7 @@ number_fits (d ∷ ds) rest some all ends =
 abbrev pub is_symbol : ℕ → Bool
 is_symbol b = not (is_space b || b == 10 || b == 35 || is_name_byte b || b == 46 || b == 47) && is_among (codes "()[]{};,=+-*/%<>!&|?:.") b
 
+-- a symbol of one byte is one token in front of what makes no pair
 pub single_fits : (b : ℕ) (rest : List ℕ) → is_symbol b ≡ true → begins_pair b rest ≡ false → IsWordAt Symbol (b ∷ []) rest
 single_fits b rest is pair =
     let both = and_parts _ (is_among (codes "()[]{};,=+-*/%<>!&|?:.") b) is in
@@ -156,12 +170,15 @@ never_pair b (c ∷ rest) first second = rw (first, second) (none (c == 61) (c =
 pub plain_fits : (b : ℕ) (rest : List ℕ) → is_symbol b ≡ true → is_among (codes "+-*/<>=!") b ≡ false → is_among (codes "+-&|") b ≡ false → IsWordAt Symbol (b ∷ []) rest
 plain_fits b rest is first second = single_fits b rest is (never_pair b rest first second)
 
+-- a byte of a name is no `=`
 name_byte-no_equals : (c : ℕ) → is_name_byte c ≡ true → (c == 61) ≡ false
 name_byte-no_equals c h = grind (arith, nat_tests)
 
+-- a byte of a name is no `-`
 name_byte-no_minus : (c : ℕ) → is_name_byte c ≡ true → (c == 45) ≡ false
 name_byte-no_minus c h = grind (arith, nat_tests)
 
+-- a byte of a name is no `*`
 name_byte-no_star : (c : ℕ) → is_name_byte c ≡ true → (c == 42) ≡ false
 name_byte-no_star c h = grind (arith, nat_tests)
 
@@ -170,12 +187,14 @@ pub minus_before : (rest : List ℕ) → begins_so is_name_byte rest ≡ true �
 minus_before [] h = absurd cc
 minus_before (c ∷ rest) h = let a = name_byte-no_equals c h in let b = name_byte-no_minus c h in rw (a, b) refl
 
+-- a `*` in front of a name is one symbol
 pub star_before : (rest : List ℕ) → begins_so is_name_byte rest ≡ true → begins_pair 42 rest ≡ false
 star_before [] h = absurd cc
 star_before (c ∷ rest) h = let a = name_byte-no_equals c h in let b = name_byte-no_star c h in rw (a, b) refl
 
 -- ---- decimal numbers
 
+-- the value of digits with one more
 value_from-append : (n : ℕ) (ds : List ℕ) (c : ℕ) → value_from n (ds ++ c ∷ []) ≡ min (10 * value_from n ds + (c - 48)) (2 ^ 20)
 value_from-append n [] c = refl
 value_from-append n (d ∷ ds) c = value_from-append (min (10 * n + (d - 48)) (2 ^ 20)) ds c
@@ -188,12 +207,15 @@ pub record Writes (n : ℕ) (ds : List ℕ) : Type 0 where
   pub is_integer : is_integer ds ≡ true
   pub value : value_from 0 ds ≡ n
 
+-- a digit's byte
 digit_is : (n : ℕ) → n < 10 → is_digit (48 + n) ≡ true
 digit_is n h = grind (arith, nat_tests)
 
+-- a digit that isn't 0
 digit_lead : (n : ℕ) → 0 < n → not (48 + n == 48) ≡ true
 digit_lead n h = grind (arith, nat_tests)
 
+-- one digit
 writes_one : (n : ℕ) → n < 10 → Writes n ((48 + n) ∷ [])
 writes_one n h = record {
   some = omega arith;
@@ -203,15 +225,18 @@ writes_one n h = record {
   value = omega arith;
 }
 
+-- digits with one more are an integer
 longer_integer : (ds : List ℕ) (c : ℕ) → begins_so (λ b. not (b == 48)) ds ≡ true → list_all is_digit (ds ++ c ∷ []) ≡ true → is_integer (ds ++ c ∷ []) ≡ true
 longer_integer [] c lead all = absurd cc
 longer_integer (b ∷ []) c lead all = and_true (not (b == 48)) _ lead all
 longer_integer (b ∷ d ∷ ds) c lead all = and_true (not (b == 48)) _ lead all
 
+-- what stands first stays first
 leads_longer : (p : ℕ → Bool) (ds more : List ℕ) → begins_so p ds ≡ true → begins_so p (ds ++ more) ≡ true
 leads_longer p [] more h = absurd cc
 leads_longer p (d ∷ ds) more h = h
 
+-- one digit more
 writes_more : (n : ℕ) (ds : List ℕ) → 10 ≤ n → n < 2 ^ 20 → Writes (n / 10) ds → Writes n (ds ++ (48 + n % 10) ∷ [])
 writes_more n ds long small is =
     let lead : begins_so (λ b. not (b == 48)) ds ≡ true = is.lead (omega arith) in
@@ -224,6 +249,7 @@ writes_more n ds long small is =
       value = value_from-append 0 ds (48 + n % 10) ∙ ap (λ v. min (10 * v + (48 + n % 10 - 48)) (2 ^ 20)) is.value ∙ omega arith;
     }
 
+-- the decimal text of a number
 pub writes_decimal : (n : ℕ) → n < 2 ^ 20 → Writes n (decimal n)
 writes_decimal n small =
     decimal_by_steps (λ m ds. m < 2 ^ 20 → Writes m ds) (λ m l few. writes_one m l) (λ m ds l is few. writes_more m ds l few (is (omega arith))) n (omega arith) small

@@ -24,6 +24,7 @@ use Rattle.printed_texts.proofs.Sums.{FillsRow, signed_size, IsPlain, size_plain
 
 -- ---- expressions
 
+-- what follows an expression has a word
 some_words : (bits : List Bit) → IsFollowed IsEnd bits → 1 ≤ words bits
 some_words [] h = absurd h
 some_words (space ∷ bits) h = some_words bits h
@@ -32,6 +33,7 @@ some_words (passed bytes ∷ bits) h = some_words bits h
 some_words (word kind bytes ∷ bits) h = omega arith
 some_words (end kind ∷ bits) h = omega arith
 
+-- an expression, from its parts
 affine_is : (brackets : ℕ) (j first : Input) (a : Affine) (o : Outcome Affine) → term (bracketed brackets) (place j) None j ≡ Ok (a, first) → sums (bracketed brackets) (place j) None (left first) a first ≡ o → affine brackets None j ≡ o
 unfolding affine affine_by
 affine_is brackets j first a o e f = rw e f
@@ -55,6 +57,7 @@ module _ (brackets : ℕ) (i : Input) (more : List Bit) (follows : IsFollowed Is
         left = sum.left;
       }
 
+  -- printed terms are read as their row
   pub read_terms : (terms : List (ℤ × List ℕ)) (last : List ℤ) (tokens : List Token) → AreTokens i.text (terms_bits terms more) tokens → AreTerms terms → FillsRow i zeros terms last → Reading (affine brackets None (at tokens i)) i more (HasNumbers last)
   read_terms [] last tokens h are fills =
       let zero_is : decimal 0 ≡ codes "0" = decimal_digit 0 (omega arith) in
@@ -82,10 +85,12 @@ abbrev pub HaveSlots : Input → List (List ℕ) → ℕ → Type 0
 HaveSlots i [] s = ⊤
 HaveSlots i (name ∷ names) s = (kind_slot (kind_of name i) ≡ Some s) × HaveSlots i names (suc s)
 
+-- a name's place
 has_slot : (i : Input) (name : List ℕ) (s : ℕ) → IsName name → kind_slot (kind_of name i) ≡ Some s → HasSlot i name s
 has_slot i [] s is e = absurd (let b = is.begins in cc)
 has_slot i (b ∷ name) s is e = e
 
+-- a term fills its place, unless it is 0
 fills_kept : (i : Input) (row last : List ℤ) (t : ℤ × List ℕ) (terms : List (ℤ × List ℕ)) (s : ℕ) → s < 11 → HasSlot i t.1 s → get_or row s (pos 0) ≡ pos 0 → FillsRow i (set row s t.0) (nonzero terms) last → FillsRow i row (nonzero (t ∷ terms)) last
 fills_kept i row last t terms s within has none rest =
     elim (int_eq t.0 (pos 0)) as (λ v. int_eq t.0 (pos 0) ≡ v → FillsRow i row (nonzero (t ∷ terms)) last) [
@@ -96,19 +101,23 @@ fills_kept i row last t terms s within has none rest =
       | false ↦ λ e. rw e (s, within, has, none, rest)
     ] refl
 
+-- so many numbers
 pub length-padded : (k : ℕ) (ns : List ℤ) → length (padded k ns) ≡ k
 length-padded zero ns = refl
 length-padded (suc k) [] = ap suc (length-padded k [])
 length-padded (suc k) (n ∷ ns) = ap suc (length-padded k ns)
 
-padded_none : (k : ℕ) → padded k [] ≡ replicate k (pos 0)
+-- only zeros
+pub padded_none : (k : ℕ) → padded k [] ≡ replicate k (pos 0)
 padded_none zero = refl
 padded_none (suc k) = ap (λ ns. pos 0 ∷ ns) (padded_none k)
 
+-- the number behind others
 get_behind : (front : List ℤ) (n : ℤ) (rest : List ℤ) → get_or (front ++ n ∷ rest) (length front) (pos 0) ≡ n
 get_behind [] n rest = refl
 get_behind (x ∷ front) n rest = get_behind front n rest
 
+-- the number behind others is set
 set_behind : (front : List ℤ) (n m : ℤ) (rest : List ℤ) → set (front ++ n ∷ rest) (length front) m ≡ front ++ m ∷ rest
 set_behind [] n m rest = refl
 set_behind (x ∷ front) n m rest = ap (λ ns. x ∷ ns) (set_behind front n m rest)
@@ -138,6 +147,7 @@ pub record KnowsVariables (i : Input) (parameters around : List (List ℕ)) : Ty
   pub parameter_slots : HaveSlots i parameters 1
   pub loop_slots : HaveSlots i around 7
 
+-- a form's terms fill its row
 fills_form : (i : Input) (parameters around : List (List ℕ)) (form : AffineForm) → KnowsVariables i parameters around → FillsRow i zeros (form_terms (parameters ++ around) form) (widened (length parameters) (length around) form)
 fills_form i parameters around form knows =
     let first : List ℤ = take (length parameters) form.coefficients in

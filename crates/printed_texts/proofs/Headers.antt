@@ -31,6 +31,7 @@ use Rattle.printed_texts.proofs.Accesses.{Step, Extends, extends_none, short_nam
 
 -- ---- rows of bounds
 
+-- a row is added to zeros
 plus_zeros : (xs : List ℤ) → AllByRecursion IsSmall xs → plus_times (pos 1) (replicate (length xs) (pos 0)) xs ≡ Some xs
 plus_zeros [] small = refl
 plus_zeros (x ∷ xs) small =
@@ -38,40 +39,48 @@ plus_zeros (x ∷ xs) small =
       one_time : (z : ℤ) → (pos 0 +ℤ (pos 1 *ℤ z)) -ℤ pos 0 ≡ z
       one_time z = omega (arith, ints)
 
+-- a row has eleven numbers
 pub length-widened : (parameters depth : ℕ) (form : AffineForm) → length (widened parameters depth form) ≡ 11
 length-widened parameters depth form =
     let first : List ℤ = padded 6 (take parameters form.coefficients) in
     let second : List ℤ = padded 4 (take depth (drop parameters form.coefficients)) in
     omega (arith, length-append first second, length-padded 6 (take parameters form.coefficients), length-padded 4 (take depth (drop parameters form.coefficients)))
 
+-- a bound's row is kept
 bound_is : (start : ℕ) (row : List ℤ) → length row ≡ 11 → AllByRecursion IsSmall row → bound start (pos 0) row ≡ Ok row
 unfolding bound
 bound_is start row long small = ap (bound_of start) (combined-plus (pos 1) zeros row ∙ ap (λ n. plus_times (pos 1) (replicate n (pos 0)) row) (sym long) ∙ plus_zeros row small)
 
 -- ---- the parts of a header
 
+-- a lower bound, from its parts
 lower_is : (brackets : ℕ) (j first last after : Input) (a : Affine) → sees (codes "=") j ≡ true → next j ≡ first → affine brackets None first ≡ Ok (a, last) → sees (codes ";") last ≡ true → next last ≡ after → lower_bound brackets j ≡ Ok (a.numbers, after)
 unfolding lower_bound expect closed_by
 lower_is brackets j first last after a e f g h k = rw (e, f, g, h, k) refl
 
+-- an upper bound behind its comparison, from its parts
 upper_from-is : (brackets start : ℕ) (row : List ℤ) (j last after : Input) (a : Affine) → affine brackets None j ≡ Ok (a, last) → bound start (pos 0) a.numbers ≡ Ok row → sees (codes ";") last ≡ true → next last ≡ after → upper_from brackets start (pos 0) j ≡ Ok (row, after)
 unfolding upper_from closed_by
 upper_from-is brackets start row j last after a e f g h = rw (e, f, g, h) refl
 
+-- an upper bound, from its parts
 upper_is : (brackets : ℕ) (name : List ℕ) (row : List ℤ) (j first second last : Input) → sees name j ≡ true → next j ≡ first → sees (codes "<") first ≡ false → sees (codes "<=") first ≡ true → next first ≡ second → upper_from brackets (place second) (pos 0) second ≡ Ok (row, last)
     → upper_bound brackets name j ≡ Ok (row, last)
 unfolding upper_bound expect comparison
 upper_is brackets name row j first second last e f below at_most g h = rw (e, f, below, at_most, g, h) refl
 
+-- a step, from its parts
 step_is : (name : List ℕ) (j first last : Input) → sees name j ≡ true → next j ≡ first → sees (codes "++") first ≡ true → next first ≡ last → step name j ≡ Ok (tt, last)
 unfolding step step_behind_name
 step_is name j first last e f g h = rw (e, f, g, h) refl
 
+-- a header behind its bracket, from its parts
 header_of-is : (brackets : ℕ) (name : List ℕ) (number : ℕ) (lower upper : List ℤ) (j first second third fourth last : Input) → loop_name j ≡ Ok (number, first) → lower_bound brackets first ≡ Ok (lower, second) → upper_bound brackets name second ≡ Ok (upper, third) → step name third ≡ Ok (tt, fourth)
     → sees (codes ")") fourth ≡ true → next fourth ≡ last → header_of brackets name j ≡ Ok (record { name = number; lower = lower; upper = upper }, last)
 unfolding header_of expect
 header_of-is brackets name number lower upper j first second third fourth last e f g h closes k = rw (e, f, g, h, closes, k) refl
 
+-- a header, from its parts
 header_is : (brackets : ℕ) (name : List ℕ) (l : Loop) (j first second last : Input) → 1 ≤ brackets → next j ≡ first → sees (codes "(") first ≡ true → next first ≡ second → sees (codes "int") second ≡ false → spelling second ≡ name → header_of (brackets - 1) name second ≡ Ok (l, last) → header brackets j ≡ Ok (l, last)
 unfolding header for_bracket open_bracket skip_int
 header_is brackets name l j first second last some e opens f no_int spelled h =
@@ -80,10 +89,12 @@ header_is brackets name l j first second last some e opens f no_int spelled h =
 
 -- ---- the loop's name
 
+-- a new loop's name
 new_loop-is : (i : Input) (tokens : List Token) (name : List ℕ) → spelling (at tokens i) ≡ name → is_short name ≡ true → new_loop (at tokens i) ≡ Ok (length i.names, at (drop 1 tokens) (named name ClosedLoop i))
 unfolding new_loop with_name next
 new_loop-is i tokens name spelled short = rw (spelled, short) refl
 
+-- a loop's name, by its kind
 loop_name-is : (j : Input) (name : List ℕ) (number : Option ℕ) (k : Option Kind) (o : Outcome ℕ) → kind j ≡ token.Name → spelling j ≡ name → number_of name j ≡ number → kind_of name j ≡ k → loop_name_by number k j ≡ o → loop_name j ≡ o
 unfolding loop_name
 loop_name-is j name number k o is spelled e f g = rw (is, spelled) (ap (λ n. loop_name_by n (kind_of name j) j) e ∙ ap (λ m. loop_name_by number m j) f ∙ g)
@@ -96,6 +107,7 @@ pub record IsLoopNamed (p : AffineProgram) (around : List (List ℕ)) (seen coun
   pub there : place_of name j.names ≡ Some number
   pub closed : lookup name j.names j.kinds ≡ Some ClosedLoop
 
+-- a name that has a kind has a place
 lookup-place : (name : List ℕ) (names : List (List ℕ)) (kinds : List Kind) (k : Kind) → length kinds ≡ length names → lookup name names kinds ≡ Some k → (number : ℕ) × (place_of name names ≡ Some number)
 lookup-place name [] kinds k same e = absurd cc
 lookup-place name (n ∷ names) [] k same e = absurd (omega arith)
@@ -108,6 +120,7 @@ lookup-place name (n ∷ names) (l ∷ kinds) k same e =
           (suc found.0, rw other (ap (option_map suc) found.1))
     ] refl
 
+-- a name is none of C's words
 pub keyword_apart : (name : List ℕ) → is_keyword name ≡ false → (bytes_eq name (codes "for") ≡ false) × (bytes_eq name (codes "if") ≡ false) × (bytes_eq name (codes "int") ≡ false)
 keyword_apart name h =
     let first = or_false (bytes_eq name (codes "for")) _ h in
@@ -117,6 +130,7 @@ keyword_apart name h =
     (first.0, second.0, fourth.0)
 
 module _ (p : AffineProgram) (around : List (List ℕ)) (is : IsPrintable p) (loops : AreLoops p around) where
+  -- a printed loop's name is read as one
   read_loop_name : (seen count : ℕ) (i : Input) (name : List ℕ) (bits : List Bit) (tokens : List Token) → Knows p around seen count i → IsName name → role p name ≡ other → list_any (bytes_eq name) around ≡ false → Next i.text token.Name name bits tokens
       → Step (loop_name (at tokens i)) i.text bits (IsLoopNamed p around seen count i name)
   read_loop_name seen count i name bits tokens knows is_name is_other apart first =
@@ -157,6 +171,7 @@ module _ (p : AffineProgram) (around : List (List ℕ)) (is : IsPrintable p) (lo
     pub lower_is : l.lower ≡ widened (length p.parameters) (length around) lower
     pub upper_is : l.upper ≡ widened (length p.parameters) (length around) upper
 
+  -- a printed header is read as it is
   pub read_header : (brackets seen count : ℕ) (i : Input) (name : List ℕ) (lower upper : AffineForm) (more : List Bit) (tokens : List Token) → 1 ≤ brackets → Knows p around seen count i → IsPrintableHeader p around name lower upper
       → AreTokens i.text (header_bits (p.parameters ++ around) name lower upper (more)) tokens → Step (header brackets (at tokens i)) i.text (symbol (codes "{") ∷ newline ∷ more) (IsHeaderRead seen count i name lower upper)
   read_header brackets seen count i name lower upper more tokens some knows fits h =

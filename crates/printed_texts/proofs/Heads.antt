@@ -43,16 +43,19 @@ pub record KnowsFirst (p : AffineProgram) (n : ℕ) (i : Input) : Type 0 where
   pub array_names : arrays_among i.names i.kinds ≡ []
   pub lines : i.lines ≡ []
 
+-- the first members with one more
 take_more : {X : Type 0} (xs : List X) (k : ℕ) (x : X) → slice_get xs k ≡ Some x → take k xs ++ x ∷ [] ≡ take (suc k) xs
 take_more [] k x e = cc
 take_more (y ∷ xs) zero x e = let same : y ≡ x = cc in ap (λ z. z ∷ []) (sym same)
 take_more (y ∷ xs) (suc k) x e = ap (λ zs. y ∷ zs) (take_more xs k x e)
 
+-- all members
 pub take_whole : {X : Type 0} (xs : List X) → take (length xs) xs ≡ xs
 take_whole [] = refl
 take_whole (x ∷ xs) = ap (λ ys. x ∷ ys) (take_whole xs)
 
 module _ (p : AffineProgram) (is : IsPrintable p) where
+  -- one parameter more
   knows_one_more : (n : ℕ) (i : Input) (name : List ℕ) (tokens : List Token) → KnowsFirst p n i → slice_get p.parameters n ≡ Some name → KnowsFirst p (suc n) (at tokens (record (named name (Parameter i.parameters) i) { parameters = i.parameters + 1 }))
   knows_one_more n i name tokens knows there =
       let k : Kind = Parameter i.parameters in
@@ -95,6 +98,7 @@ module _ (p : AffineProgram) (is : IsPrintable p) where
     array_names = ap (map array_of) knows.array_names;
   }
 
+  -- a new parameter gets the next number
   new_parameter_is : (i : Input) (tokens : List Token) (name : List ℕ) → spelling (at tokens i) ≡ name → is_short name ≡ true → i.parameters < 6
       → new_parameter (at tokens i) ≡ Ok (parameter_slot i.parameters, at (drop 1 tokens) (record (named name (Parameter i.parameters) i) { parameters = i.parameters + 1 }))
   unfolding new_parameter with_name next
@@ -102,6 +106,7 @@ module _ (p : AffineProgram) (is : IsPrintable p) where
       let below : nat_lt i.parameters 6 ≡ true = grind (arith, nat_tests) in
       rw (spelled, short, below) refl
 
+  -- a new name becomes a parameter
   slot_new : (i : Input) (tokens : List Token) (name : List ℕ) (bits : List Bit) → Next i.text token.Name name bits tokens → kind_of name i ≡ None → is_short name ≡ true → i.parameters < 6
       → slot (at tokens i) ≡ Ok (parameter_slot i.parameters, at (drop 1 tokens) (record (named name (Parameter i.parameters) i) { parameters = i.parameters + 1 }))
   unfolding slot
@@ -110,14 +115,17 @@ module _ (p : AffineProgram) (is : IsPrintable p) where
       ∙ ap (λ o. slot_by o (at tokens i)) (kind_of-at name tokens i ∙ none)
       ∙ new_parameter_is i tokens name (spelling-at i tokens token.Name name bits first) short few
 
+  -- a line of names ends
   names_end : (turns : ℕ) (j last : Input) → kind j ≡ token.LineEnd → next j ≡ last → parameter_names (suc turns) j ≡ Ok (tt, last)
   unfolding parameter_names
   names_end turns j last e f = rw (e, f) refl
 
+  -- one name more
   names_more : (turns s : ℕ) (j first : Input) (o : Outcome (Unit {0})) → kind j ≡ token.Name → slot j ≡ Ok (s, first) → parameter_names turns first ≡ o → parameter_names (suc turns) j ≡ o
   unfolding parameter_names
   names_more turns s j first o e f g = rw (e, f) g
 
+  -- the printed parameters are read in order
   pub read_names : (names : List (List ℕ)) (n turns : ℕ) (i : Input) (more : List Bit) (tokens : List Token) → ((k : ℕ) (name : List ℕ) → slice_get names k ≡ Some name → slice_get p.parameters (n + k) ≡ Some name) → AllByRecursion IsName names → n + length names ≡ length p.parameters
       → length names < turns → KnowsFirst p n i → AreTokens i.text (names_bits names (end token.LineEnd ∷ newline ∷ more)) tokens → Step (parameter_names turns (at tokens i)) i.text more (λ _ j. KnowsFirst p (length p.parameters) j)
   read_names names n zero i more tokens among all counts enough knows h = absurd (omega arith)
@@ -165,6 +173,7 @@ module _ (p : AffineProgram) (is : IsPrintable p) where
 
 -- ---- assumptions
 
+-- a compare with `>=`, from its parts
 compare_is : (rows : Rows) (row : List ℤ) (j first second last : Input) (a b : Affine) → affine 64 None j ≡ Ok (a, first) → sees (codes ">=") first ≡ true → length rows < 32 → next first ≡ second → affine 64 None second ≡ Ok (b, last)
     → combined (negsuc 0) (pos 0) a.numbers b.numbers ≡ Some row → compare rows j ≡ Ok (record { rows = rows ++ row ∷ []; last = b }, last)
 unfolding compare compare_from comparison comparison_by with_compare with_row
@@ -172,6 +181,7 @@ compare_is rows row j first second last a b e at_least few f g h =
     let below : nat_le (length rows + 1) 32 ≡ true = grind (arith, nat_tests) in
     rw (e, at_least, below, f, g, h) refl
 
+-- a line of one compare
 line_is : (rows : Rows) (c : Compared) (j first last : Input) → 1 ≤ left j → compare rows j ≡ Ok (c, first) → sees (codes "&&") first ≡ false → kind first ≡ token.LineEnd → next first ≡ last → all_compares rows j ≡ Ok (c.rows, last)
 unfolding all_compares compares closed_line
 line_is rows c j first last some e no_more is f = turn (left j) some where
@@ -183,18 +193,22 @@ line_is rows c j first last some e no_more is f = turn (left j) some where
 less_zeros : (row : List ℤ) → length row ≡ 11 → AllByRecursion IsSmall row → combined (negsuc 0) (pos 0) row zeros ≡ Some row
 less_zeros row long small = combined-plus (negsuc 0) row zeros ∙ ap (λ n. plus_times (negsuc 0) row (replicate n (pos 0))) (sym long) ∙ plus_none (negsuc 0) row small
 
+-- a line that assumes, with those behind it
 directives_assume : (turns : ℕ) (h : Head) (rows : Rows) (j first second : Input) (o : Outcome Head) → kind j ≡ token.Assumptions → next j ≡ first → all_compares h.rows first ≡ Ok (rows, second) → directives turns (record { assumed = true; rows = rows }) second ≡ o → directives (suc turns) h j ≡ o
 unfolding directives
 directives_assume turns h rows j first second o is e f g = rw (is, e, f) g
 
+-- a line of names, with those behind it
 pub directives_parameters : (turns : ℕ) (h : Head) (j first second : Input) (o : Outcome Head) → kind j ≡ token.Parameters → next j ≡ first → all_parameter_names first ≡ Ok (tt, second) → directives turns h second ≡ o → directives (suc turns) h j ≡ o
 unfolding directives
 directives_parameters turns h j first second o is e f g = rw (is, e, f) g
 
+-- no directive follows
 directives_none : (turns : ℕ) (h : Head) (j : Input) → is_parameters (kind j) ≡ false → is_assumptions (kind j) ≡ false → directives (suc turns) h j ≡ Ok (h, j)
 unfolding directives
 directives_none turns h j a b = rw (a, b) refl
 
+-- all names of a line, with their fuel
 pub all_parameter_names-is : (tokens : List Token) (i : Input) → all_parameter_names (at tokens i) ≡ parameter_names (length tokens) (at tokens i)
 unfolding all_parameter_names
 all_parameter_names-is tokens i = refl
@@ -209,9 +223,11 @@ abbrev pub IsBody : Input → List Bit → Type 0
 IsBody i bits = (tokens : List Token) → AreTokens i.text bits tokens → (is_parameters (kind (at tokens i)) ≡ false) × (is_assumptions (kind (at tokens i)) ≡ false)
 
 module _ (p : AffineProgram) (is : IsPrintable p) where
+  -- no loop is around
   pub no_loops : AreLoops p []
   no_loops = record { names = tt; others = tt; deep = omega arith }
 
+  -- a printed assumption is read as its row
   read_assumption : (form : AffineForm) (rows : Rows) (i : Input) (more : List Bit) (tokens : List Token) → Knows p [] 0 0 i → IsSmallForm (length p.parameters) 0 form → length rows < 32
       → AreTokens i.text (form_bits p.parameters form (space ∷ symbol (codes ">=") ∷ space ∷ word token.Number (codes "0") ∷ end token.LineEnd ∷ newline ∷ more)) tokens → Reading (all_compares rows (at tokens i)) i more (λ r. r ≡ rows ++ widened (length p.parameters) 0 form ∷ [])
   read_assumption form rows i more tokens knows small few h =
@@ -244,6 +260,7 @@ module _ (p : AffineProgram) (is : IsPrintable p) where
         left = last.rest;
       }
 
+  -- the printed assumptions are read in order
   pub read_assumptions : (forms : List AffineForm) (rows : Rows) (turns : ℕ) (i : Input) (more : List Bit) (tokens : List Token) → Knows p [] 0 0 i → AllByRecursion (IsSmallForm (length p.parameters) 0) forms → length rows + length forms ≤ 32 → length forms < turns → IsBody i more
       → AreTokens i.text (assumptions_bits p.parameters forms more) tokens → Reading (directives turns (head_of rows) (at tokens i)) i more (λ h. h ≡ head_of (rows ++ map (widened (length p.parameters) 0) forms))
   read_assumptions forms rows zero i more tokens knows small few enough body h = absurd (omega arith)

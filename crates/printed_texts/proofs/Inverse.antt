@@ -26,6 +26,7 @@ use Rattle.printed_texts.proofs.Adds.{line_numbers, Nests, IsLoopAt, IsLoopLine}
 use Rattle.printed_texts.proofs.Ends.{IsSound, some_rows, readings_are_sound}
 use Rattle.printed_texts.proofs.Among.{among, is_parameter, is_array, parameters-among, names_of, arrays-among, Differ, distinct-differ, among_differs, among_all, place_there, among_absent, Found, among_found, array_position, names_get, all_arrays, array_get}
 
+-- forms with small rows
 small_map : (parameters depth : ℕ) (forms : List AffineForm) → AllByRecursion (IsRowOver parameters depth) (map (widened parameters depth) forms) → AllByRecursion (IsSmallForm parameters depth) forms
 small_map parameters depth [] h = tt
 small_map parameters depth (form ∷ forms) h = (h.0.small, small_map parameters depth forms h.1)
@@ -37,6 +38,7 @@ loop_no_parameter (OpenLoop depth) is = (refl, refl)
 loop_no_parameter ClosedLoop is = (refl, refl)
 loop_no_parameter (Array k rank) is = absurd is
 
+-- an array is no parameter
 array_no_parameter : (k : Kind) → is_array k ≡ true → is_parameter k ≡ false
 array_no_parameter (Parameter k) e = cc
 array_no_parameter (OpenLoop depth) e = refl
@@ -44,21 +46,27 @@ array_no_parameter ClosedLoop e = refl
 array_no_parameter (Array k rank) e = refl
 
 module _ (r : Reading) (p : AffineProgram) (well : IsWellRead r) (sound : IsSound r) (is : IsReadingOf r p) where
+  -- each name is a C name
   names_are : AllByRecursion IsName r.names
   names_are = subst (AllByRecursion IsName) (sym sound.names) sound.ends.sound.names
 
+  -- no name stands twice
   distinct : AreDistinct r.names
   distinct = subst AreDistinct (sym sound.names) sound.ends.sound.distinct
 
+  -- the names differ
   differ : Differ r.names
   differ = distinct-differ r.names distinct
 
+  -- the parameters are the names of their kind
   parameters_are : p.parameters ≡ among is_parameter r.names r.kinds
   parameters_are = is.parameters ∙ parameters-among r.names r.kinds
 
+  -- the arrays' names are those of their kind
   arrays_are : names_of p.arrays ≡ among is_array r.names r.kinds
   arrays_are = ap names_of is.arrays ∙ arrays-among r.names r.kinds
 
+  -- as many parameters are read as the program has
   count_is : length (parameters_among r.names r.kinds) ≡ length p.parameters
   count_is = ap length (sym is.parameters)
 
@@ -68,11 +76,13 @@ module _ (r : Reading) (p : AffineProgram) (well : IsWellRead r) (sound : IsSoun
       ap (λ o. role_by o (position (λ (a : program.Array). bytes_eq name a.name) p.arrays)) (position-place name p.parameters ∙ ap (place_of name) parameters_are)
       ∙ ap (role_by (place_of name (among is_parameter r.names r.kinds))) (array_position name p.arrays ∙ ap (place_of name) arrays_are)
 
+  -- a parameter's name stands for it
   parameter_role : (k : ℕ) (name : List ℕ) → slice_get p.parameters k ≡ Some name → role p name ≡ parameter k
   parameter_role k name e =
       role_is name ∙ ap (λ o. role_by o (place_of name (among is_array r.names r.kinds)))
       (place_there (among is_parameter r.names r.kinds) k name (among_differs is_parameter r.names r.kinds differ) (ap (λ ns. slice_get ns k) (sym parameters_are) ∙ e))
 
+  -- an array's name stands for it
   array_is : (k : ℕ) (a : program.Array) → slice_get p.arrays k ≡ Some a → role p a.name ≡ array k
   array_is k a e =
       let there : slice_get (among is_array r.names r.kinds) k ≡ Some a.name = ap (λ ns. slice_get ns k) (sym arrays_are) ∙ names_get p.arrays k a e in
@@ -81,6 +91,7 @@ module _ (r : Reading) (p : AffineProgram) (well : IsWellRead r) (sound : IsSoun
       ∙ ap (λ o. role_by o (place_of a.name (among is_array r.names r.kinds))) (among_absent is_parameter r.names r.kinds f.at a.name f.kind differ f.name_is f.kind_is (array_no_parameter f.kind f.so))
       ∙ ap array_role (place_there (among is_array r.names r.kinds) k a.name (among_differs is_array r.names r.kinds differ) there)
 
+  -- a loop's name stands for nothing else
   loop_role : (at : ℕ) (name : List ℕ) → slice_get r.names at ≡ Some name → IsLoopAt r.kinds at → role p name ≡ other
   loop_role at name e l =
       let neither = loop_no_parameter l.0 l.2 in
@@ -90,6 +101,7 @@ module _ (r : Reading) (p : AffineProgram) (well : IsWellRead r) (sound : IsSoun
 
   -- ---- references
 
+  -- a reference that is read is printable
   access_fits : (depth seen : ℕ) (a : program.Access) → IsAccessIn r depth (widened_access (length p.parameters) depth a) → a.array ≤ seen → IsPrintableAccess p depth seen a
   access_fits depth seen a h le = record {
     seen_first = le;
@@ -106,6 +118,7 @@ module _ (r : Reading) (p : AffineProgram) (well : IsWellRead r) (sound : IsSoun
       let later = accesses_fit depth accesses (access_seen seen a) last rest h.1 o.1 in
       ((access_fits depth seen a h.0 o.0, later.0), later.1)
 
+  -- a statement that is read is printable
   statement_fits : (depth : ℕ) (s : program.Statement) (seen last : ℕ) (rest : List ℕ) → IsStatementIn r depth (widened_statement (length p.parameters) depth s)
       → IsOrdered seen ((widened_statement (length p.parameters) depth s).writes.array ∷ (numbers_of (widened_statement (length p.parameters) depth s).reads ++ rest)) last
       → IsPrintableStatement p depth seen s × IsOrdered (statement_seen seen s) rest last
@@ -119,10 +132,12 @@ module _ (r : Reading) (p : AffineProgram) (well : IsWellRead r) (sound : IsSoun
   abbrev IsAround : List ℕ → List ℕ → Type 0
   IsAround stack name = (at : ℕ) × (k : ℕ) × (slice_get r.names at ≡ Some name) × (slice_get stack k ≡ Some at)
 
+  -- one loop more is open
   deeper : (stack : List ℕ) (at : ℕ) (around : List (List ℕ)) → AllByRecursion (IsAround stack) around → AllByRecursion (IsAround (at ∷ stack)) around
   deeper stack at [] h = tt
   deeper stack at (name ∷ around) h = ((h.0.0, suc h.0.1, h.0.2, h.0.3), deeper stack at around h.1)
 
+  -- no loop around has the name of one that begins
   none_around : (stack : List ℕ) (at : ℕ) (name : List ℕ) (around : List (List ℕ)) → AllByRecursion (IsAround stack) around → AllByRecursion (λ n. n ≡ at → ⊥) stack → slice_get r.names at ≡ Some name → list_any (bytes_eq name) around ≡ false
   none_around stack at name [] h apart e = refl
   none_around stack at name (n ∷ around) h apart e = elim (bytes_eq name n) as (λ v. bytes_eq name n ≡ v → list_any (bytes_eq name) (n ∷ around) ≡ false) [
@@ -163,6 +178,7 @@ module _ (r : Reading) (p : AffineProgram) (well : IsWellRead r) (sound : IsSoun
   }
 
   mutual
+    -- an item that is read is printable
     item_fits : (item : Item) (around : List (List ℕ)) (stack : List ℕ) (depth seen last : ℕ) (more : List TreeLine) (lines : List Line) → length around ≡ depth → AllByRecursion (IsAround stack) around → AllZip (IsLine r.names) lines (item_lines p depth item more) → AreLinesIn r depth lines
         → Nests stack lines [] → AllByRecursion (IsLoopLine r.kinds) lines → IsOrdered seen (line_numbers lines) last → IsPrintableItem p around seen item × Left stack depth (item_seen p seen item) last (length (item_statements item)) more lines
     item_fits (assign number) around stack depth seen last more [] e names zip lines_in nests loop_lines order = absurd zip
@@ -183,6 +199,7 @@ module _ (r : Reading) (p : AffineProgram) (well : IsWellRead r) (sound : IsSoun
           end_left l.name stack depth (row_seen p seen body) last (length (row_statements body)) more (Begin l ∷ lines) rows.1.rest rows.1.zip rows.1.lines_in rows.1.nests rows.1.loop_lines rows.1.order rows.1.counts,
         )
 
+    -- a row that is read is printable
     row_fits : (row : Row) (around : List (List ℕ)) (stack : List ℕ) (depth seen last : ℕ) (more : List TreeLine) (lines : List Line) → length around ≡ depth → AllByRecursion (IsAround stack) around → AllZip (IsLine r.names) lines (row_lines p depth row more) → AreLinesIn r depth lines
         → Nests stack lines [] → AllByRecursion (IsLoopLine r.kinds) lines → IsOrdered seen (line_numbers lines) last → IsPrintableRow p around seen row × Left stack depth (row_seen p seen row) last (length (row_statements row)) more lines
     row_fits done around stack depth seen last more lines e names zip lines_in nests loop_lines order = (tt, record { rest = lines; zip = zip; lines_in = lines_in; nests = nests; loop_lines = loop_lines; order = order; counts = omega arith })
@@ -203,6 +220,7 @@ module _ (r : Reading) (p : AffineProgram) (well : IsWellRead r) (sound : IsSoun
 
   -- ---- the program
 
+  -- the tree is printable
   whole : IsPrintableRow p [] 0 p.tree × Left [] 0 (row_seen p 0 p.tree) sound.input.arrays (length (row_statements p.tree)) [] r.lines
   whole =
       row_fits p.tree [] [] 0 0 sound.input.arrays [] r.lines refl tt is.lines well.lines (subst (λ ls. Nests [] ls []) (sym sound.lines) sound.ends.nests)
@@ -214,6 +232,7 @@ module _ (r : Reading) (p : AffineProgram) (well : IsWellRead r) (sound : IsSoun
   none_left [] seen last count zip order counts = (order, omega arith)
   none_left (l ∷ rest) seen last count zip order counts = absurd zip
 
+  -- the program is printable
   printable : IsPrintable p
   printable =
       let end = none_left whole.1.rest (row_seen p 0 p.tree) sound.input.arrays (length (row_statements p.tree)) whole.1.zip whole.1.order whole.1.counts in

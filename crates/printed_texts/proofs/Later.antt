@@ -65,26 +65,33 @@ pub record Quiet (i j : Input) : Type 0 where
   pub later : Later i j
   pub arrays : j.arrays ≡ i.arrays
 
+-- one rule behind another
 pub later_both : {i j k : Input} → Later i j → Later j k → Later i k
 later_both a b = record { sound = λ s. b.sound (a.sound s); kinds = λ s at k e. b.kinds (a.sound s) at k (a.kinds s at k e); lines = b.lines ∙ a.lines }
 
+-- one rule behind another sees no array
 pub quiet_both : {i j k : Input} → Quiet i j → Quiet j k → Quiet i k
 quiet_both a b = record { later = later_both a.later b.later; arrays = b.arrays ∙ a.arrays }
 
+-- no rule
 pub later_self : (i : Input) → Later i i
 later_self i = record { sound = λ s. s; kinds = λ s at k e. e; lines = refl }
 
+-- no rule sees no array
 pub quiet_self : (i : Input) → Quiet i i
 quiet_self i = record { later = later_self i; arrays = refl }
 
+-- what holds of each member holds behind the first
 All_drop : {X : Type 0} (P : X → Type 0) (xs : List X) → AllByRecursion P xs → AllByRecursion P (drop 1 xs)
 All_drop P [] h = tt
 All_drop P (x ∷ xs) h = h.1
 
+-- names behind the next token
 pub sound_next : (i : Input) → Sound i → Sound (next i)
 unfolding next
 sound_next i s = record { same = s.same; names = s.names; distinct = s.distinct; parameters = s.parameters; arrays = s.arrays; numbers = s.numbers; spelled = All_drop (IsSpelled i.text) i.tokens s.spelled }
 
+-- the next token changes no name
 pub quiet_next : (i : Input) → Quiet i (next i)
 unfolding next
 quiet_next i = record { later = record { sound = λ s. record { same = s.same; names = s.names; distinct = s.distinct; parameters = s.parameters; arrays = s.arrays; numbers = s.numbers; spelled = All_drop (IsSpelled i.text) i.tokens s.spelled }; kinds = λ s at k e. e; lines = refl }; arrays = refl }
@@ -95,27 +102,34 @@ quiet_next i = record { later = record { sound = λ s. record { same = s.same; n
 abbrev pub Quietly : {A : Type 0} → Input → Outcome A → Type 0
 Quietly i o = Gives o (λ _ j. Quiet i j)
 
+-- one rule behind another
 pub quiet_bind : {A B : Type 0} {i : Input} {o : Outcome A} {f : A → Rule B} → Quietly i o → ((a : A) (j : Input) → Quietly j (f a j)) → Quietly i (and_then o f)
 quiet_bind {o = o} {f = f} g h = chained o g (λ a j q. weaken (f a j) (h a j) (λ b k r. quiet_both q r))
 
+-- a rule behind a state that came from this one
 pub quiet_behind : {A : Type 0} {i j : Input} {o : Outcome A} → Quiet i j → Quietly j o → Quietly i o
 quiet_behind {o = o} q g = weaken o g (λ a k r. quiet_both q r)
 
+-- no token is taken
 pub stays : {A : Type 0} {i : Input} {a : A} → Quietly i (Ok (a, i))
 stays {i = i} = ok (quiet_self i)
 
+-- the next token is taken
 pub passes : {A : Type 0} {i : Input} {a : A} → Quietly i (Ok (a, next i))
 passes {i = i} = ok (quiet_next i)
 
+-- a rule behind the next token
 pub behind : {A : Type 0} {i : Input} {o : Outcome A} → Quietly (next i) o → Quietly i o
 behind {i = i} g = quiet_behind (quiet_next i) g
 
+-- what was given already
 pub gives : {A : Type 0} {i : Input} (r : Result A ReadFault) → Quietly i (given r i)
 gives (Ok a) = stays
 gives (Err e) = err
 
 -- ---- one name more
 
+-- the first token is spelled as a name
 first_spelled : (text : List ℕ) (tokens : List Token) → AllByRecursion (IsSpelled text) tokens → (first_of tokens).kind ≡ token.Name → IsWord (take (first_of tokens).length (drop (first_of tokens).place text))
 first_spelled text [] h e = cc
 first_spelled text (t ∷ tokens) h e = h.0 e
@@ -125,11 +139,13 @@ pub word_there : (i : Input) → Sound i → kind i ≡ token.Name → IsWord (s
 unfolding spelling
 word_there i s e = first_spelled i.text i.tokens s.spelled e
 
+-- the next token is a C name, where it is short
 pub name_there : (i : Input) → Sound i → kind i ≡ token.Name → is_short (spelling i) ≡ true → IsName (spelling i)
 name_there i s e short =
     let w : IsWord (spelling i) = word_there i s e in
     record { begins = w.begins; bytes = w.bytes; few = leb-true (length (spelling i)) 64 (and_parts (nat_le 1 (length (spelling i))) (nat_le (length (spelling i)) 64) short).1; no_word = w.no_word }
 
+-- a name without a kind stands nowhere
 not_there : (name : List ℕ) (names : List (List ℕ)) (kinds : List Kind) (at : ℕ) → length kinds ≡ length names → lookup name names kinds ≡ None → slice_get names at ≡ Some name → ⊥
 not_there name [] kinds at same none e = cc
 not_there name (n ∷ names) [] at same none e = absurd (omega arith)
@@ -142,6 +158,7 @@ not_there name (n ∷ names) (k ∷ kinds) (suc at) same none e = not_there name
   other_none true f = cc
   other_none false f = f
 
+-- a new name stands once
 pub distinct_more : (name : List ℕ) (names : List (List ℕ)) (kinds : List Kind) → length kinds ≡ length names → lookup name names kinds ≡ None → AreDistinct names → AreDistinct (names ++ name ∷ [])
 distinct_more name names kinds same none distinct a b m e f = ⊎_elim
     (λ left. ⊎_elim
@@ -154,11 +171,13 @@ distinct_more name names kinds same none distinct a b m e f = ⊎_elim
     (at_end names name m b f))
     (at_end names name m a e)
 
+-- a member stays with more behind it
 pub get_more : {X : Type 0} (xs ys : List X) (at : ℕ) (x : X) → slice_get xs at ≡ Some x → slice_get (xs ++ ys) at ≡ Some x
 get_more [] ys at x e = cc
 get_more (y ∷ xs) ys zero x e = e
 get_more (y ∷ xs) ys (suc at) x e = get_more xs ys at x e
 
+-- arrays are below a greater count
 pub below_more : (n m : ℕ) (kinds : List Kind) → n ≤ m → AllByRecursion (IsBelow n) kinds → AllByRecursion (IsBelow m) kinds
 below_more n m [] le h = tt
 below_more n m (Parameter k ∷ kinds) le h = (tt, below_more n m kinds le h.1)
@@ -168,9 +187,11 @@ below_more n m (Array k rank ∷ kinds) le h = (omega (arith, h.0), below_more n
 
 -- a name of this kind is added
 module _ (i : Input) (name : List ℕ) (k : Kind) where
+  -- the state with the name
   abbrev more : ℕ → ℕ → Input
   more parameters arrays = record (with_name name k i) { parameters = parameters; arrays = arrays }
 
+  -- names with a new one are sound
   pub sound_more : (parameters arrays : ℕ) → Sound i → IsName name → kind_of name i ≡ None → i.arrays ≤ arrays → IsBelow arrays k → i.parameters + length (if_parameter k name []) ≡ parameters → i.arrays + length (if_array k name []) ≡ arrays
       → Sound (more parameters arrays)
   unfolding with_name
@@ -186,14 +207,17 @@ module _ (i : Input) (name : List ℕ) (k : Kind) where
         spelled = s.spelled;
       }
 
+  -- kinds stay where a name is added
   pub kinds_more : (parameters arrays at : ℕ) (l : Kind) → slice_get i.kinds at ≡ Some l → slice_get (more parameters arrays).kinds at ≡ Some l
   unfolding with_name
   kinds_more parameters arrays at l e = get_more i.kinds (k ∷ []) at l e
 
+  -- lines stay where a name is added
   pub lines_more : (parameters arrays : ℕ) → (more parameters arrays).lines ≡ i.lines
   unfolding with_name
   lines_more parameters arrays = refl
 
+-- a new parameter
 new_parameter_quiet : (i : Input) → kind i ≡ token.Name → kind_of (spelling i) i ≡ None → Quietly i (new_parameter i)
 unfolding new_parameter with_name
 new_parameter_quiet i named none = either (is_short (spelling i) && nat_lt i.parameters 6)
@@ -210,6 +234,7 @@ new_parameter_quiet i named none = either (is_short (spelling i) && nat_lt i.par
     }) (quiet_next _)))
     (λ _. err)
 
+-- a name, by its kind
 slot_by_quiet : (i : Input) (o : Option Kind) → kind i ≡ token.Name → kind_of (spelling i) i ≡ o → Quietly i (slot_by o i)
 slot_by_quiet i None named e = new_parameter_quiet i named e
 slot_by_quiet i (Some (Parameter k)) named e = passes
@@ -217,6 +242,7 @@ slot_by_quiet i (Some (OpenLoop depth)) named e = passes
 slot_by_quiet i (Some ClosedLoop) named e = err
 slot_by_quiet i (Some (Array n rank)) named e = err
 
+-- a name in an expression
 pub slot_quiet : (i : Input) → kind i ≡ token.Name → Quietly i (slot i)
 unfolding slot
 slot_quiet i named = slot_by_quiet i (kind_of (spelling i) i) named refl
@@ -236,31 +262,38 @@ name_kind_is token.Bad h = cc
 
 -- ---- expressions
 
+-- a name alone
 name_quiet : (star : Option ℕ) (i : Input) → kind i ≡ token.Name → Quietly i (name_by star i)
 name_quiet None i named = quiet_bind (slot_quiet i named) (λ there j. stays)
 name_quiet (Some star) i named = err
 
+-- a number alone
 number_quiet : (i : Input) → Quietly i (number i)
 number_quiet i = either (is_integer (spelling i)) (λ _. either (nat_lt (value_from 0 (spelling i)) 1048576) (λ _. passes) (λ _. err)) (λ _. err)
 
+-- signs
 signs_quiet : (turns : ℕ) (negative : Bool) (i : Input) → Quietly i (signs turns negative i)
 unfolding signs
 signs_quiet zero negative i = err
 signs_quiet (suc turns) negative i = either (sees (codes "-") i) (λ _. behind (signs_quiet turns (not negative) (next i))) (λ _. either (sees (codes "+") i) (λ _. behind (signs_quiet turns negative (next i))) (λ _. stays))
 
+-- all signs
 pub all_signs_quiet : (i : Input) → Quietly i (all_signs i)
 unfolding all_signs
 all_signs_quiet i = signs_quiet (left i) false i
 
 module _ (inner : Option ℕ → Rule Affine) (inner_quiet : (star : Option ℕ) (i : Input) → Quietly i (inner star i)) where
+  -- a factor without its signs
   atom_quiet : (star : Option ℕ) (i : Input) → Quietly i (atom inner star i)
   unfolding atom
   atom_quiet star i = either (is_name_kind (kind i)) (λ h. name_quiet star i (name_kind_is (kind i) h)) (λ _. either (is_number_kind (kind i)) (λ _. number_quiet i) (λ _. either (sees (codes "(") i) (λ _. inner_quiet star i) (λ _. err)))
 
+  -- a factor
   factor_quiet : (start : ℕ) (star : Option ℕ) (i : Input) → Quietly i (factor inner start star i)
   unfolding factor
   factor_quiet start star i = quiet_bind (all_signs_quiet i) (λ negative j. quiet_bind (atom_quiet star j) (λ a k. gives (signed start negative a)))
 
+  -- factors behind one
   products_quiet : (start : ℕ) (star : Option ℕ) (turns : ℕ) (a : Affine) (i : Input) → Quietly i (products inner start star turns a i)
   unfolding products
   products_quiet start star zero a i = err
@@ -268,10 +301,12 @@ module _ (inner : Option ℕ → Rule Affine) (inner_quiet : (star : Option ℕ)
       (λ _. behind (quiet_bind (factor_quiet start (star_of star a.has_name (place i)) (next i)) (λ b j. quiet_bind (gives (product start a b)) (λ c k. products_quiet start star turns c k))))
       (λ _. stays)
 
+  -- a product
   term_quiet : (start : ℕ) (star : Option ℕ) (i : Input) → Quietly i (term inner start star i)
   unfolding term
   term_quiet start star i = quiet_bind (factor_quiet start star i) (λ a j. products_quiet start star (left j) a j)
 
+  -- terms behind one
   sums_quiet : (start : ℕ) (star : Option ℕ) (turns : ℕ) (a : Affine) (i : Input) → Quietly i (sums inner start star turns a i)
   unfolding sums
   sums_quiet start star zero a i = err
@@ -279,19 +314,23 @@ module _ (inner : Option ℕ → Rule Affine) (inner_quiet : (star : Option ℕ)
       (λ _. stays)
       (λ _. behind (quiet_bind (term_quiet start star (next i)) (λ b j. quiet_bind (gives (sum start (sees (codes "-") i) a b)) (λ c k. sums_quiet start star turns c k))))
 
+  -- a sum
   affine_by_quiet : (star : Option ℕ) (i : Input) → Quietly i (affine_by inner star i)
   unfolding affine_by
   affine_by_quiet star i = quiet_bind (term_quiet (place i) star i) (λ a j. sums_quiet (place i) star (left j) a j)
 
+-- a symbol that closes an expression
 pub closed_quiet : (word : List ℕ) (a : Affine) (i : Input) → Quietly i (closed_by word a i)
 unfolding closed_by
 closed_quiet word a i = either (sees word i) (λ _. passes) (λ _. err)
 
+-- an expression in brackets
 bracketed_quiet : (brackets : ℕ) (star : Option ℕ) (i : Input) → Quietly i (bracketed brackets star i)
 unfolding bracketed
 bracketed_quiet zero star i = err
 bracketed_quiet (suc brackets) star i = behind (quiet_bind (affine_by_quiet (bracketed brackets) (bracketed_quiet brackets) star (next i)) (λ a j. closed_quiet (codes ")") a j))
 
+-- an expression
 pub affine_quiet : (brackets : ℕ) (star : Option ℕ) (i : Input) → Quietly i (affine brackets star i)
 unfolding affine
 affine_quiet brackets star i = affine_by_quiet (bracketed brackets) (bracketed_quiet brackets) star i

@@ -18,6 +18,7 @@ use Rattle.printed_texts.proofs.Bytes.{is_safe, begins_so}
 
 -- ---- what lexes as it is written
 
+-- what a function is over
 abbrev pub domain : {A B : Type 0} → (A → B) → Type 0
 domain {A} f = A
 
@@ -44,18 +45,23 @@ AreLexed last inside (end kind ∷ bits) = (kind ≡ last) × (bits ≡ []) × (
 
 -- ---- their tokens
 
+-- a byte that begins a word is no space
 pub safe-not_space : (b : ℕ) → is_safe b ≡ true → is_space b ≡ false
 safe-not_space b h = grind (arith, nat_tests)
 
+-- a byte that begins a word is no newline
 safe-in_line : (b : ℕ) → is_safe b ≡ true → (b == 10) ≡ false
 safe-in_line b h = grind (arith, nat_tests)
 
+-- a byte that begins a word is no `#`
 pub safe-not_hash : (b : ℕ) → is_safe b ≡ true → (b == 35) ≡ false
 safe-not_hash b h = grind (arith, nat_tests)
 
+-- the first line behind a byte of it
 first_line-byte : (b : ℕ) (bytes : List ℕ) → (b == 10) ≡ false → first_line (b ∷ bytes) ≡ b ∷ first_line bytes
 first_line-byte b bytes other = rw other (rw one-add refl)
 
+-- a line that begins with a word is no directive
 safe-no_hash : (b : ℕ) (bytes : List ℕ) → is_safe b ≡ true → begins_with (codes "#") (first_line (b ∷ bytes)) ≡ false
 safe-no_hash b bytes h =
     let in_line : (b == 10) ≡ false = safe-in_line b h in
@@ -63,6 +69,7 @@ safe-no_hash b bytes h =
     let no_hash : (b == 35) ≡ false = safe-not_hash b h in
     ap (begins_with (codes "#")) (first_line-byte b bytes in_line) ∙ rw (no_space, no_hash) refl
 
+-- a word is no directive
 word-no_hash : (bytes rest : List ℕ) → begins_so is_safe bytes ≡ true → begins_with (codes "#") (first_line (bytes ++ rest)) ≡ false
 word-no_hash [] rest h = absurd cc
 word-no_hash (b ∷ bytes) rest h = safe-no_hash b (bytes ++ rest) h
@@ -76,16 +83,19 @@ line-no_hash last (passed bytes ∷ bits) h = absurd h
 line-no_hash last (word kind bytes ∷ bits) h = word-no_hash bytes (bits_text bits) h.0.begins
 line-no_hash last (end kind ∷ bits) h = ap (λ bits. begins_with (codes "#") (first_line (bits_text bits))) h.1
 
+-- a word has a byte
 some_bytes : (bytes : List ℕ) → begins_so is_safe bytes ≡ true → 1 ≤ length bytes
 some_bytes [] h = absurd cc
 some_bytes (b ∷ bytes) h = omega arith
 
+-- a word gives its token
 word-tokens : (region : Region) (kind : TokenKind) (bytes rest : List ℕ) (place : ℕ) → IsWordAt kind bytes rest → tokens_in region 0 place (bytes ++ rest) ≡ token_at kind place (length bytes) ∷ tokens_in region 0 (place + length bytes) rest
 word-tokens region kind bytes rest place h =
     tokens_in-more region place (length bytes) (bytes ++ rest) (some_bytes bytes h.begins) (omega (arith, length-append bytes rest)) (h.long region)
     ∙ ap (λ ts. ts ++ tokens_in region 0 (place + length bytes) (drop (length bytes) (bytes ++ rest))) (h.token region place)
     ∙ ap (λ r. token_at kind place (length bytes) ∷ tokens_in region 0 (place + length bytes) r) (drop-append_seam bytes rest)
 
+-- a newline gives none
 newline-tokens : (region : Region) (rest : List ℕ) (place : ℕ) → begins_with (codes "#") (first_line rest) ≡ false → tokens_in region 0 place (10 ∷ rest) ≡ tokens_in region 0 (place + 1) rest
 newline-tokens region rest place h = rw h refl
 

@@ -27,3 +27,4 @@ pub mod Ends
 pub mod Spelled
 pub mod Among
 pub mod Inverse
+pub mod Exists

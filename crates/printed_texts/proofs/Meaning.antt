@@ -27,28 +27,34 @@ use Rattle.printed_texts.proofs.Tokens.{tokens_of_program, program_spelled}
 
 -- ---- the items of a program
 
+-- the items end
 items_end : (turns : ℕ) (j : Input) → kind j ≡ token.End → items (suc turns) j ≡ Ok (tt, j)
 unfolding items
 items_end turns j e = rw e refl
 
+-- one item more
 items_more : (turns : ℕ) (j first : Input) (o : Outcome (Unit {0})) → is_end (kind j) ≡ false → item_over (loops 4) 64 j ≡ Ok (tt, first) → items turns first ≡ o → items (suc turns) j ≡ o
 unfolding items item
 items_more turns j first o e f g = rw (e, f) g
 
+-- each name has a word
 words_names : (names : List (List ℕ)) (more : List Bit) → length names + words more ≤ words (names_bits names more)
 words_names [] more = omega arith
 words_names (name ∷ names) more = omega (arith, words_names names more)
 
+-- each assumption has a word
 words_assumptions : (names : List (List ℕ)) (forms : List AffineForm) (more : List Bit) → length forms + words more ≤ words (assumptions_bits names forms more)
 words_assumptions names [] more = omega arith
 words_assumptions names (form ∷ forms) more =
     omega (arith, words_terms (form_terms names form) (space ∷ symbol (codes ">=") ∷ space ∷ word token.Number (codes "0") ∷ end token.LineEnd ∷ newline ∷ assumptions_bits names forms more), words_assumptions names forms more)
 
+-- no parameter, where nothing is assumed
 none_of : (n m : ℕ) → (0 < n → 0 < 0) → m ≡ n → m ≡ 0
 none_of zero m some counts = counts
 none_of (suc n) m some counts = absurd (omega (arith, some (omega arith)))
 
 module _ (p : AffineProgram) (is : IsPrintable p) where
+  -- the items of a program are read as they are
   read_items : (row : Row) (seen count turns : ℕ) (i : Input) (tokens : List Token) → row_length row < turns → Knows p [] seen count i → count + length (row_statements row) ≤ 32 → IsPrintableRow p [] seen row
       → AreTokens i.text (row_bits p (p.parameters ++ []) row (end token.End ∷ [])) tokens → Step (items turns (at tokens i)) i.text (end token.End ∷ []) (λ _ j. IsItemRead p [] (row_seen p seen row) (count + length (row_statements row)) (at tokens i) (row_lines p 0 row) j)
   read_items row seen count zero i tokens enough knows few fits h = absurd (omega arith)
@@ -106,14 +112,17 @@ module _ (p : AffineProgram) (is : IsPrintable p) where
       let begin : Begins p is i tokens = item_begins p is [] (no_loops p is) 0 item i (row_bits p (p.parameters ++ []) row (end token.End ∷ [])) tokens fits.0 h in
       (begin.no_parameters, begin.no_assumptions)
 
+  -- no directive follows the printed assumptions
   scop_begins : (i : Input) → IsBody i (scop_bits p)
   scop_begins i tokens h = body_begins p.tree i tokens is.tree (subst (λ ns. AreTokens i.text (row_bits p ns p.tree (end token.End ∷ [])) tokens) (sym (append-nil p.parameters)) h)
 
   -- ---- the lines before it
 
+  -- what is known behind the lines before the program
   abbrev IsHeadRead : Head → Input → Type 0
   IsHeadRead h j = (h ≡ head_of (map (widened (length p.parameters) 0) p.assumptions)) × Knows p [] 0 0 j × (j.lines ≡ [])
 
+  -- nothing was seen at first
   starts : (bytes : List ℕ) (tokens : List Token) → KnowsFirst p 0 (start_of bytes tokens)
   starts bytes tokens = record {
     same = refl;
@@ -128,10 +137,12 @@ module _ (p : AffineProgram) (is : IsPrintable p) where
     lines = refl;
   }
 
+  -- the directives, with their fuel
   head_is : (bytes : List ℕ) (tokens : List Token) → head (start_of bytes tokens) ≡ directives (length tokens) (head_of []) (start_of bytes tokens)
   unfolding head
   head_is bytes tokens = refl
 
+  -- the lines before the program are read as they are
   read_head : (bytes : List ℕ) (names : List (List ℕ)) (tokens : List Token) → p.parameters ≡ names → AreTokens bytes (parameters_bits names (assumptions_bits p.parameters p.assumptions (scop_bits p))) tokens → Step (head (start_of bytes tokens)) bytes (scop_bits p) IsHeadRead
   read_head bytes [] tokens none h =
       let start : Input = start_of bytes tokens in
@@ -175,14 +186,17 @@ module _ (p : AffineProgram) (is : IsPrintable p) where
 
   -- ---- the whole text
 
+  -- a text, from its parts
   text_is : (j first last : Input) (h : Head) → head j ≡ Ok (h, first) → all_items first ≡ Ok (tt, last) → text_rule j ≡ Ok (h, last)
   unfolding text_rule
   text_is j first last h e f = rw (e, f) refl
 
+  -- all items, with their fuel
   all_items_is : (j : Input) → all_items j ≡ items (left j) j
   unfolding all_items
   all_items_is j = refl
 
+  -- what the printed lines assume
   assumed : (j : Input) (forms : List AffineForm) → (0 < length p.parameters → 0 < length forms) → j.parameters ≡ length p.parameters → assumptions_of (head_of (map (widened (length p.parameters) 0) forms)) j ≡ map (widened (length p.parameters) 0) forms
   unfolding assumptions_of
   assumed j [] some counts = ap all_at_least_one (none_of (length p.parameters) j.parameters some counts)

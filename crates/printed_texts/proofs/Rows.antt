@@ -31,70 +31,86 @@ use Rattle.printed_texts.proofs.Headers.{IsLoopNamed, IsHeaderRead, read_header,
 
 -- ---- how many words there are
 
+-- how many items a row has
 abbrev pub row_length : Row → ℕ
 row_length done = 0
 row_length (next item row) = suc (row_length row)
 
+-- reads have no fewer words than what follows them
 words_reads : (p : AffineProgram) (names : List (List ℕ)) (reads : List program.Access) (more : List Bit) → words more ≤ words (reads_bits p names reads more)
 words_reads p names [] more = omega arith
 words_reads p names (read ∷ reads) more = omega (arith, words_references names read.subscripts (others_bits p names reads (symbol (codes ")") ∷ more)), words_others p names reads (symbol (codes ")") ∷ more))
 
+-- a statement has a word
 words_statement : (p : AffineProgram) (names : List (List ℕ)) (s : program.Statement) (more : List Bit) → suc (words more) ≤ words (statement_bits p names s more)
 words_statement p names s more =
     omega (arith, words_references names s.writes.subscripts (space ∷ symbol (codes "=") ∷ space ∷ reads_bits p names s.reads (symbol (codes ";") ∷ newline ∷ more)), words_reads p names s.reads (symbol (codes ";") ∷ newline ∷ more))
 
+-- a header has a word
 words_header : (names : List (List ℕ)) (name : List ℕ) (lower upper : AffineForm) (more : List Bit) → suc (words more) ≤ words (header_bits names name lower upper more)
 words_header names name lower upper more =
     omega (arith, words_terms (form_terms names lower) (symbol (codes ";") ∷ space ∷ word token.Name name ∷ space ∷ symbol (codes "<=") ∷ space ∷ form_bits names upper (step_bits name more)), words_terms (form_terms names upper) (step_bits name more))
 
 mutual
+  -- an item has a word
   words_item : (p : AffineProgram) (names : List (List ℕ)) (item : Item) (more : List Bit) → suc (words more) ≤ words (item_bits p names item more)
   words_item p names (assign number) more = words_statement p names (statement_at p number) more
   words_item p names (loop name lower upper body) more =
       omega (arith, words_header names name lower upper (row_bits p (names ++ name ∷ []) body (symbol (codes "}") ∷ newline ∷ more)), words_row p (names ++ name ∷ []) body (symbol (codes "}") ∷ newline ∷ more))
 
+  -- each item of a row has a word
   pub words_row : (p : AffineProgram) (names : List (List ℕ)) (row : Row) (more : List Bit) → row_length row + words more ≤ words (row_bits p names row more)
   words_row p names done more = omega arith
   words_row p names (next item row) more = omega (arith, words_item p names item (row_bits p names row more), words_row p names row more)
 
 -- ---- rules
 
+-- an item that is a statement
 statement_item : (block loops : Rule (Unit {0})) (brackets : ℕ) (j : Input) (o : Outcome (Unit {0})) → sees (codes ";") j ≡ false → sees (codes "{") j ≡ false → sees (codes "for") j ≡ false → sees (codes "if") j ≡ false → kind j ≡ token.Name → statement brackets j ≡ o → item_by block loops brackets j ≡ o
 unfolding item_by
 statement_item block loops brackets j o a b c d is e = rw (a, b, c, d, is) e
 
+-- an item that is a loop
 loop_item : (block loops : Rule (Unit {0})) (brackets : ℕ) (j : Input) (o : Outcome (Unit {0})) → sees (codes ";") j ≡ false → sees (codes "{") j ≡ false → sees (codes "for") j ≡ true → loops j ≡ o → item_by block loops brackets j ≡ o
 unfolding item_by
 loop_item block loops brackets j o a b c e = rw (a, b, c) e
 
+-- an item that is a block
 block_item : (block loops : Rule (Unit {0})) (brackets : ℕ) (j : Input) (o : Outcome (Unit {0})) → sees (codes ";") j ≡ false → sees (codes "{") j ≡ true → block j ≡ o → item_by block loops brackets j ≡ o
 unfolding item_by
 block_item block loops brackets j o a b e = rw (a, b) e
 
+-- an item, over what loops are
 item_over_is : (inner : ℕ → Rule (Unit {0})) (brackets : ℕ) (j : Input) (o : Outcome (Unit {0})) → item_by (block inner brackets) (inner brackets) brackets j ≡ o → item_over inner brackets j ≡ o
 unfolding item_over
 item_over_is inner brackets j o e = e
 
+-- a block, with its fuel
 block_is : (inner : ℕ → Rule (Unit {0})) (brackets : ℕ) (j first : Input) (o : Outcome (Unit {0})) → input.next j ≡ first → block_items (item_over inner brackets) (left first) first ≡ o → block inner (suc brackets) j ≡ o
 unfolding block item_over all_block_items
 block_is inner brackets j first o e f = rw e f
 
+-- a block ends
 rows_end : (rule : Rule (Unit {0})) (turns : ℕ) (j last : Input) → sees (codes "}") j ≡ true → input.next j ≡ last → block_items rule (suc turns) j ≡ Ok (tt, last)
 unfolding block_items
 rows_end rule turns j last e f = rw (e, f) refl
 
+-- one item more in a block
 rows_more : (rule : Rule (Unit {0})) (turns : ℕ) (j first : Input) (o : Outcome (Unit {0})) → sees (codes "}") j ≡ false → rule j ≡ Ok (tt, first) → block_items rule turns first ≡ o → block_items rule (suc turns) j ≡ o
 unfolding block_items
 rows_more rule turns j first o e f g = rw (e, f) g
 
+-- a loop, from its parts
 loops_is : (more brackets : ℕ) (l : Loop) (j first second last : Input) → header brackets j ≡ Ok (l, first) → opened (4 - 1 - more) l first ≡ Ok (tt, second) → item_over (loops more) brackets second ≡ Ok (tt, last) → loops (suc more) brackets j ≡ closed l.name last
 unfolding loops for_loop
 loops_is more brackets l j first second last e f g = rw (e, f, g) refl
 
+-- the state where a loop is open
 opened_is : (depth : ℕ) (l : Loop) (j : Input) → opened depth l j ≡ Ok (tt, changed l.name (OpenLoop depth) (record j { lines = j.lines ++ Begin l ∷ [] }))
 unfolding opened with_kind with_line
 opened_is depth l j = refl
 
+-- the state where a loop ended
 closed_is : (place : ℕ) (j : Input) → closed place j ≡ Ok (tt, changed place ClosedLoop (record j { lines = j.lines ++ End ∷ [] }))
 unfolding closed with_kind with_line
 closed_is place j = refl
@@ -105,6 +121,7 @@ closed_is place j = refl
 abbrev statement_tail : AffineProgram → List (List ℕ) → program.Statement → List Bit → List Bit
 statement_tail p names s more = subscripts_bits names s.writes.subscripts (space ∷ symbol (codes "=") ∷ space ∷ reads_bits p names s.reads (symbol (codes ";") ∷ newline ∷ more))
 
+-- what follows a loop's first word
 abbrev header_tail : List (List ℕ) → List ℕ → AffineForm → AffineForm → List Bit → List Bit
 header_tail names name lower upper more =
     space ∷ symbol (codes "(") ∷ word token.Name name ∷ space ∷ symbol (codes "=") ∷ space
@@ -118,6 +135,7 @@ module _ (p : AffineProgram) (is : IsPrintable p) where
     pub no_parameters : is_parameters (kind (at tokens i)) ≡ false
     pub no_assumptions : is_assumptions (kind (at tokens i)) ≡ false
 
+  -- no item begins as something else
   pub item_begins : (around : List (List ℕ)) (open_loops : AreLoops p around) (seen : ℕ) (item : Item) (i : Input) (more : List Bit) (tokens : List Token) → IsPrintableItem p around seen item → AreTokens i.text (item_bits p (p.parameters ++ around) item more) tokens → Begins i tokens
   item_begins around open_loops seen (assign number) i more tokens fits h =
       let s : program.Statement = statement_at p number in
@@ -149,6 +167,7 @@ module _ (p : AffineProgram) (is : IsPrintable p) where
   length_more around name = omega (arith, length-append around (name ∷ []))
 
   mutual
+    -- a printed item is read as it is
     pub read_item : (item : Item) (around : List (List ℕ)) (open_loops : AreLoops p around) (left_loops brackets seen count : ℕ) (i : Input) (more : List Bit) (tokens : List Token) → length around + left_loops ≡ 4 → brackets + length around ≡ 64 → Knows p around seen count i
         → count + length (item_statements item) ≤ 32 → IsPrintableItem p around seen item → AreTokens i.text (item_bits p (p.parameters ++ around) item more) tokens
         → Step (item_over (loops left_loops) brackets (at tokens i)) i.text more (λ _ j. IsItemRead p around (item_seen p seen item) (count + length (item_statements item)) i (item_lines p (length around) item) j)
@@ -232,6 +251,7 @@ module _ (p : AffineProgram) (is : IsPrintable p) where
           };
         }
 
+    -- a printed row in brackets is read as it is
     pub read_row : (row : Row) (around : List (List ℕ)) (open_loops : AreLoops p around) (left_loops brackets seen count turns : ℕ) (i : Input) (more : List Bit) (tokens : List Token) → length around + left_loops ≡ 4 → brackets + length around ≡ 64 → row_length row < turns → Knows p around seen count i
         → count + length (row_statements row) ≤ 32 → IsPrintableRow p around seen row → AreTokens i.text (row_bits p (p.parameters ++ around) row (symbol (codes "}") ∷ newline ∷ more)) tokens
         → Step (block_items (item_over (loops left_loops) brackets) turns (at tokens i)) i.text more (λ _ j. IsItemRead p around (row_seen p seen row) (count + length (row_statements row)) (at tokens i) (row_lines p (length around) row) j)

@@ -26,9 +26,11 @@ abbrev pub is_word : List ℕ → Bool
 is_word [] = false
 is_word (b ∷ bytes) = is_name_start b && list_all is_name_byte (b ∷ bytes) && not (is_keyword (b ∷ bytes))
 
+-- whether a token, if it is a name, is spelled as one
 abbrev pub token_fits : List ℕ → Token → Bool
 token_fits text t = not (is_name_kind t.kind) || is_word (take t.length (drop t.place text))
 
+-- bytes that pass the test are a word
 word_is : (bytes : List ℕ) → is_word bytes ≡ true → IsWord bytes
 word_is [] h = cc
 word_is (b ∷ bytes) h =
@@ -36,15 +38,18 @@ word_is (b ∷ bytes) h =
     let first = and_parts (is_name_start b) (list_all is_name_byte (b ∷ bytes)) both.0 in
     record { begins = first.0; bytes = first.1; no_word = not_true (is_keyword (b ∷ bytes)) both.1 }
 
+-- a token that passes the test is spelled so
 fits_spelled : (text : List ℕ) (t : Token) → token_fits text t ≡ true → IsSpelled text t
 fits_spelled text t h e = word_is (take t.length (drop t.place text)) (ap (λ k. not (is_name_kind k) || is_word (take t.length (drop t.place text))) (sym e) ∙ h)
 
+-- tokens that pass the test are spelled so
 all_spelled : (text : List ℕ) (tokens : List Token) → list_all (token_fits text) tokens ≡ true → AllByRecursion (IsSpelled text) tokens
 all_spelled text [] h = tt
 all_spelled text (t ∷ tokens) h = let both = and_parts (token_fits text t) (list_all (token_fits text) tokens) h in (fits_spelled text t both.0, all_spelled text tokens both.1)
 
 -- ---- pieces
 
+-- each byte in front passes
 prefix_all : (p : ℕ → Bool) (bytes : List ℕ) → list_all p (take (prefix_len p bytes) bytes) ≡ true
 prefix_all p [] = refl
 prefix_all p (b ∷ bytes) = elim (p b) as (λ v. p b ≡ v → list_all p (take (prefix_len p (b ∷ bytes)) (b ∷ bytes)) ≡ true) [
@@ -52,10 +57,12 @@ prefix_all p (b ∷ bytes) = elim (p b) as (λ v. p b ≡ v → list_all p (take
   | false ↦ λ e. rw e refl
 ] refl
 
+-- the bytes in front that pass are there
 prefix_within : (p : ℕ → Bool) (bytes : List ℕ) → prefix_len p bytes ≤ length bytes
 prefix_within p [] = omega arith
 prefix_within p (b ∷ bytes) = elim (p b) as (λ v. p b ≡ v → prefix_len p (b ∷ bytes) ≤ length (b ∷ bytes)) [ true ↦ λ e. rw e (omega (arith, prefix_within p bytes)) | false ↦ λ e. rw e (omega arith) ] refl
 
+-- a byte that begins a name is one of its bytes
 name_start_byte : (b : ℕ) → is_name_start b ≡ true → is_name_byte b ≡ true
 name_start_byte b h = rw h refl
 
@@ -69,10 +76,12 @@ name_word b bytes start no_word =
     (and_true (is_name_start b) (list_all is_name_byte (b ∷ take (prefix_len is_name_byte bytes) bytes)) start (and_true (is_name_byte b) (list_all is_name_byte (take (prefix_len is_name_byte bytes) bytes)) here (prefix_all is_name_byte bytes)))
     (ap not (ap is_keyword (sym word) ∙ no_word))
 
+-- a name stands there
 name_piece : (region : Region) (b : ℕ) (rest : List ℕ) → is_space b ≡ false → (b == 10) ≡ false → is_name_start b ≡ true → piece_of region (b ∷ rest) ≡ name_at (b ∷ rest)
 name_piece region b rest no_space in_line start = rw (no_space, in_line, start) refl
 
 module _ (text : List ℕ) (place : ℕ) where
+  -- a symbol is no name
   symbol_fits : (b : ℕ) (rest : List ℕ) → list_all (token_fits text) (piece_tokens place (symbol_at b rest)) ≡ true
   symbol_fits b rest = elim (begins_pair b rest) as (λ v. begins_pair b rest ≡ v → list_all (token_fits text) (piece_tokens place (symbol_at b rest)) ≡ true) [
     | true ↦ λ e. rw e refl
@@ -82,10 +91,12 @@ module _ (text : List ℕ) (place : ℕ) where
     ] refl
   ] refl
 
+  -- a comment is no name
   comment_fits : (o : Option ℕ) → list_all (token_fits text) (piece_tokens place (block_comment o)) ≡ true
   comment_fits None = refl
   comment_fits (Some n) = refl
 
+  -- what a `/` begins is no name
   slash_fits : (rest : List ℕ) → list_all (token_fits text) (piece_tokens place (slash_at rest)) ≡ true
   slash_fits [] = refl
   slash_fits (b ∷ bytes) = elim (b == 47) as (λ v. (b == 47) ≡ v → list_all (token_fits text) (piece_tokens place (slash_at (b ∷ bytes))) ≡ true) [
@@ -96,6 +107,7 @@ module _ (text : List ℕ) (place : ℕ) where
     ] refl
   ] refl
 
+  -- a newline is no name
   newline_fits : (rest : List ℕ) → list_all (token_fits text) (piece_tokens place (newline_at rest)) ≡ true
   newline_fits rest = elim (begins_with (codes "#") (first_line rest)) as (λ v. begins_with (codes "#") (first_line rest) ≡ v → list_all (token_fits text) (piece_tokens place (newline_at rest)) ≡ true) [
     | true ↦ λ e. elim (begins_with directive_words (first_line rest)) as (λ v. begins_with directive_words (first_line rest) ≡ v → list_all (token_fits text) (piece_tokens place (newline_at rest)) ≡ true) [
@@ -108,6 +120,7 @@ module _ (text : List ℕ) (place : ℕ) where
     | false ↦ λ e. rw e refl
   ] refl
 
+  -- a name is spelled as one
   name_fits : (b : ℕ) (rest more : List ℕ) → drop place text ≡ (b ∷ rest) ++ more → is_name_start b ≡ true → list_all (token_fits text) (piece_tokens place (name_at (b ∷ rest))) ≡ true
   name_fits b rest more here start =
       let n : ℕ = prefix_len is_name_byte (b ∷ rest) in
@@ -118,18 +131,21 @@ module _ (text : List ℕ) (place : ℕ) where
         | false ↦ λ e. ap (λ v. list_all (token_fits text) (token_at (if v then token.Word else token.Name) place n ∷ [])) e ∙ and_true (is_word (take n (drop place text))) true (ap is_word spelled ∙ name_word b rest start e) refl
       ] refl
 
+  -- a comment or a symbol
   slash_or_symbol : (region : Region) (b : ℕ) (rest : List ℕ) → list_all (token_fits text) (piece_tokens place (if b == 47 && has_comments region then slash_at rest else symbol_at b rest)) ≡ true
   slash_or_symbol region b rest = which (b == 47 && has_comments region) where
     which : (v : Bool) → list_all (token_fits text) (piece_tokens place (if v then slash_at rest else symbol_at b rest)) ≡ true
     which true = slash_fits rest
     which false = symbol_fits b rest
 
+  -- a number, a comment or a symbol
   number_or_other : (region : Region) (b : ℕ) (rest : List ℕ) → is_space b ≡ false → (b == 10) ≡ false → is_name_start b ≡ false → list_all (token_fits text) (piece_tokens place (piece_of region (b ∷ rest))) ≡ true
   number_or_other region b rest e f g = elim (begins_number b rest) as (λ v. begins_number b rest ≡ v → list_all (token_fits text) (piece_tokens place (piece_of region (b ∷ rest))) ≡ true) [
     | true ↦ λ h. rw (e, f, g, h) refl
     | false ↦ λ h. rw (e, f, g, h) (slash_or_symbol region b rest)
   ] refl
 
+  -- any piece
   piece_fits : (region : Region) (b : ℕ) (rest more : List ℕ) → drop place text ≡ (b ∷ rest) ++ more → list_all (token_fits text) (piece_tokens place (piece_of region (b ∷ rest))) ≡ true
   piece_fits region b rest more here = elim (is_space b) as (λ v. is_space b ≡ v → list_all (token_fits text) (piece_tokens place (piece_of region (b ∷ rest))) ≡ true) [
     | true ↦ λ e. rw e refl
@@ -144,6 +160,7 @@ module _ (text : List ℕ) (place : ℕ) where
 
 -- ---- parts and lines
 
+-- the tokens behind a piece
 rest_fits : (text : List ℕ) (o : Option ℕ) (f : ℕ → List Token) → ((n : ℕ) → list_all (token_fits text) (f n) ≡ true) → list_all (token_fits text) (elim o [ None ↦ [] | Some n ↦ f n ]) ≡ true
 rest_fits text None f h = refl
 rest_fits text (Some n) f h = h n
@@ -166,16 +183,19 @@ abbrev AllStand : List ℕ → ℕ → List Line → Type 0
 AllStand text place [] = ⊥
 AllStand text place (l ∷ ls) = (l.place ≡ place) × Stands text l × AllByRecursion (Stands text) ls
 
+-- a byte in front of the first line
 front_stands : (text : List ℕ) (place b : ℕ) (rest : List ℕ) (ls : List Line) → drop place text ≡ b ∷ rest → AllStand text (place + 1) ls → AllStand text place (in_front place b ls)
 front_stands text place b rest [] here h = h
 front_stands text place b rest (l ∷ ls) here h =
     let after : drop (place + 1) text ≡ rest = drop_next place text (b ∷ []) rest here in
     (refl, (h.1.0, here ∙ ap (λ bytes. b ∷ bytes) (sym after ∙ ap (λ n. drop n text) (sym h.0) ∙ h.1.1)), h.2)
 
+-- each line stands where it says
 all_of : (text : List ℕ) (place : ℕ) (ls : List Line) → AllStand text place ls → AllByRecursion (Stands text) ls
 all_of text place [] h = tt
 all_of text place (l ∷ ls) h = (h.1, h.2)
 
+-- the lines of a text stand where they say
 lines_stand : (text : List ℕ) (place : ℕ) (bytes : List ℕ) → drop place text ≡ bytes → AllStand text place (lines place bytes)
 lines_stand text place [] here = (refl, ([], here), tt)
 lines_stand text place (b ∷ bytes) here =
@@ -191,12 +211,15 @@ lines_stand text place (b ∷ bytes) here =
 abbrev Ends : List ℕ → List ℕ → Type 0
 Ends rest bytes = (front : List ℕ) × (bytes ≡ front ++ rest)
 
+-- bytes that end the end of others
 ends_both : (a b c : List ℕ) → Ends a b → Ends b c → Ends a c
 ends_both a b c f g = (g.0 ++ f.0, g.1 ∙ ap (λ bytes. g.0 ++ bytes) f.1 ∙ sym (append_assoc g.0 f.0 a))
 
+-- what is left ends the bytes
 drop_ends : (k : ℕ) (bytes : List ℕ) → Ends (drop k bytes) bytes
 drop_ends k bytes = (take k bytes, sym (take-append-drop k bytes))
 
+-- what follows a byte ends the bytes
 byte_ends : (w : ℕ) (bytes rest : List ℕ) → past_byte w bytes ≡ Some rest → Ends rest bytes
 byte_ends w [] rest e = cc
 byte_ends w (b ∷ bytes) rest e = elim (is_blank w) as (λ v. is_blank w ≡ v → Ends rest (b ∷ bytes)) [
@@ -216,6 +239,7 @@ byte_ends w (b ∷ bytes) rest e = elim (is_blank w) as (λ v. is_blank w ≡ v 
   ] refl
 ] refl
 
+-- what follows words ends the bytes
 words_end : (words bytes rest : List ℕ) → past_words words bytes ≡ Some rest → Ends rest bytes
 words_end [] bytes rest e = let same : bytes ≡ rest = cc in ([], same)
 words_end (w ∷ words) bytes rest e = found (past_byte w bytes) refl e (λ middle g. words_end words middle rest g) where
@@ -223,9 +247,11 @@ words_end (w ∷ words) bytes rest e = found (past_byte w bytes) refl e (λ midd
   found None f g h = cc
   found (Some middle) f g h = ends_both rest middle bytes (h middle g) (byte_ends w bytes middle f)
 
+-- what follows words at the head of a line ends it
 head_ends : (words line rest : List ℕ) → past_head words line ≡ Some rest → Ends rest line
 head_ends words line rest e = ends_both rest (past_spaces line) line (words_end words (past_spaces line) rest e) (drop_ends (prefix_len is_space line) line)
 
+-- the tokens of a part from its begin
 part_fits-all : (text : List ℕ) (region : Region) (place : ℕ) (bytes : List ℕ) → is_name_kind (end_kind region) ≡ false → (more : List ℕ) × (drop place text ≡ bytes ++ more) → list_all (token_fits text) (tokens_in region 0 place bytes) ≡ true
 part_fits-all text region place bytes last here = part_fits text region 0 place bytes here.0 last here.1
 
@@ -238,18 +264,21 @@ directive_fits text k l rest other stands e =
     (stands.0, ap (λ n. drop (l.place + n) text) (sym count) ∙ drop_next l.place text e.0 (rest ++ stands.0) (stands.1 ∙ ap (λ bytes. bytes ++ stands.0) e.1 ∙ append_assoc e.0 rest stands.0)) in
     rw other (rw (part_fits-all text) refl)
 
+-- the tokens of a line that assumes, or of another
 assumption_fits : (text : List ℕ) (l : Line) → Stands text l → list_all (token_fits text) (assumption_tokens l) ≡ true
 assumption_fits text l stands = which (past_head assumptions_words l.bytes) refl where
   which : (o : Option (List ℕ)) → past_head assumptions_words l.bytes ≡ o → list_all (token_fits text) (elim o [ None ↦ [] | Some rest ↦ directive_of token.Assumptions l rest ]) ≡ true
   which None e = refl
   which (Some rest) e = directive_fits text token.Assumptions l rest refl stands (head_ends assumptions_words l.bytes rest e)
 
+-- the tokens of a line
 line_fits : (text : List ℕ) (l : Line) → Stands text l → list_all (token_fits text) (line_tokens l) ≡ true
 line_fits text l stands = which (past_head parameters_words l.bytes) refl where
   which : (o : Option (List ℕ)) → past_head parameters_words l.bytes ≡ o → list_all (token_fits text) (elim o [ None ↦ assumption_tokens l | Some rest ↦ directive_of token.Parameters l rest ]) ≡ true
   which None e = assumption_fits text l stands
   which (Some rest) e = directive_fits text token.Parameters l rest refl stands (head_ends parameters_words l.bytes rest e)
 
+-- the tokens of the lines before the program
 head_fits : (text : List ℕ) (ls : List Line) → AllByRecursion (Stands text) ls → list_all (token_fits text) (head_tokens ls) ≡ true
 head_fits text [] h = refl
 head_fits text (l ∷ ls) h = which (opens l) (head_fits text ls h.1) where
@@ -257,12 +286,14 @@ head_fits text (l ∷ ls) h = which (opens l) (head_fits text ls h.1) where
   which true e = refl
   which false e = list_all-append (token_fits text) (line_tokens l) (head_tokens ls) ∙ and_true (list_all (token_fits text) (line_tokens l)) (list_all (token_fits text) (head_tokens ls)) (line_fits text l h.0) e
 
+-- the tokens of the program
 scop_fits : (text : List ℕ) (from : ℕ) (closing : Line) → list_all (token_fits text) (scop_tokens text from closing) ≡ true
 scop_fits text from closing =
     let last : ◌≡◌ {A = Bool} false false = refl in
     let here : (more : List ℕ) × (drop from text ≡ part from closing.place text ++ more) = (drop (closing.place - from) (drop from text), sym (take-append-drop (closing.place - from) (drop from text))) in
     rw (part_fits-all text) refl
 
+-- the tokens of a text from where it opens
 behind_fits : (text : List ℕ) (from : ℕ) (found : Option Line) (tokens : List Token) → option_map (λ closing. head_tokens (lines_from text 0) ++ scop_tokens text from closing) found ≡ Some tokens → list_all (token_fits text) tokens ≡ true
 behind_fits text from None tokens e = cc
 behind_fits text from (Some closing) tokens e =

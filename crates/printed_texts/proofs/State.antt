@@ -69,6 +69,7 @@ among_differ name (n ∷ names) (suc k) m none e = among_differ name names k m (
 
 -- ---- places of coefficients
 
+-- kinds give places
 have_slots : (i : Input) (names : List (List ℕ)) (s : ℕ) → ((k : ℕ) (name : List ℕ) → slice_get names k ≡ Some name → kind_slot (kind_of name i) ≡ Some (s + k)) → HaveSlots i names s
 have_slots i [] s f = tt
 have_slots i (name ∷ names) s f =
@@ -87,21 +88,25 @@ knows_variables p around i is loops same parameters open_loops = record {
   loop_slots = have_slots i around 7 (λ k name e. ap kind_slot (kind_of-lookup name i same ∙ open_loops k name e));
 }
 
+-- what is known of a state gives places
 pub knows-variables : (p : AffineProgram) (around : List (List ℕ)) (seen count : ℕ) (i : Input) → IsPrintable p → AreLoops p around → Knows p around seen count i → KnowsVariables i p.parameters around
 knows-variables p around seen count i is loops knows = knows_variables p around i is loops knows.same knows.parameter_kinds knows.loop_kinds
 
 -- ---- one array more
 
+-- the name of a loop around stands for nothing else
 other_at : (p : AffineProgram) (names : List (List ℕ)) (k : ℕ) (name : List ℕ) → AllByRecursion (λ n. role p n ≡ other) names → slice_get names k ≡ Some name → role p name ≡ other
 other_at p [] k name all e = cc
 other_at p (n ∷ names) zero name all e = let same : n ≡ name = cc in subst (λ m. role p m ≡ other) same all.0
 other_at p (n ∷ names) (suc k) name all e = other_at p names k name all.1 e
 
+-- the first arrays with one more
 take_one_more : (arrays : List program.Array) (k : ℕ) (a : program.Array) → slice_get arrays k ≡ Some a → take k arrays ++ a ∷ [] ≡ take (suc k) arrays
 take_one_more [] k a e = cc
 take_one_more (x ∷ arrays) zero a e = let same : x ≡ a = cc in ap (λ y. y ∷ []) (sym same)
 take_one_more (x ∷ arrays) (suc k) a e = ap (λ ys. x ∷ ys) (take_one_more arrays k a e)
 
+-- arrays with one more
 map_one_more : (arrays : List (List ℕ × ℕ)) (a : List ℕ × ℕ) → map array_of (arrays ++ a ∷ []) ≡ map array_of arrays ++ array_of a ∷ []
 map_one_more [] a = refl
 map_one_more (x ∷ arrays) a = ap (λ ys. array_of x ∷ ys) (map_one_more arrays a)
@@ -110,6 +115,7 @@ map_one_more (x ∷ arrays) a = ap (λ ys. array_of x ∷ ys) (map_one_more arra
 abbrev pub named : List ℕ → Kind → Input → Input
 named name k i = record i { names = i.names ++ name ∷ []; kinds = i.kinds ++ k ∷ [] }
 
+-- as many kinds as names with one more
 pub length-named : (name : List ℕ) (k : Kind) (i : Input) → length i.kinds ≡ length i.names → length (i.kinds ++ k ∷ []) ≡ length (i.names ++ name ∷ [])
 length-named name k i same = omega (arith, length-append i.kinds (k ∷ []), length-append i.names (name ∷ []))
 
@@ -122,6 +128,7 @@ module _ (p : AffineProgram) (around : List (List ℕ)) (seen count : ℕ) (i : 
       (λ n name e. lookup-other name a.name k i.names i.kinds knows.same (names_differ p name a.name (parameter n) (array seen) (is.parameter_roles n name e) is_array (λ no. cc)) ∙ knows.parameter_kinds n name e)
       (λ n name e. lookup-other name a.name k i.names i.kinds knows.same (names_differ p name a.name other (array seen) (other_at p around n name loops.others e) is_array (λ no. cc)) ∙ knows.loop_kinds n name e)
 
+  -- one array more
   pub knows_array : (a : program.Array) → slice_get p.arrays seen ≡ Some a → Knows p around (suc seen) count (record (named a.name (Array seen a.rank) i) { arrays = i.arrays + 1 })
   knows_array a there =
       let k : Kind = Array seen a.rank in
@@ -188,6 +195,7 @@ module _ (p : AffineProgram) (around : List (List ℕ)) (seen count : ℕ) (i : 
     array_names = knows.array_names;
   }
 
+  -- another count of statements
   pub counted : (n : ℕ) → Knows p around seen n (record i { statements = n })
   counted n = record {
     same = knows.same;
@@ -203,6 +211,7 @@ module _ (p : AffineProgram) (around : List (List ℕ)) (seen count : ℕ) (i : 
     array_names = knows.array_names;
   }
 
+-- a name that is neither among these nor the last
 any_append : (t : List ℕ → Bool) (names : List (List ℕ)) (name : List ℕ) → list_any t (names ++ name ∷ []) ≡ false → (list_any t names ≡ false) × (t name ≡ false)
 any_append t [] name e = (refl, (or_false (t name) false e).0)
 any_append t (n ∷ names) name e =
@@ -211,6 +220,7 @@ any_append t (n ∷ names) name e =
     let here : t n ≡ false = both.0 in
     (rw here rest.0, rest.1)
 
+-- a name that is not among these with one more
 any_more : (t : List ℕ → Bool) (names : List (List ℕ)) (name : List ℕ) → list_any t names ≡ false → t name ≡ false → list_any t (names ++ name ∷ []) ≡ false
 any_more t [] name e f = rw f refl
 any_more t (n ∷ names) name e f =
@@ -225,6 +235,7 @@ at_end [] name m (suc k) e = cc
 at_end (n ∷ names) name m zero e = inl e
 at_end (n ∷ names) name m (suc k) e = ⊎_elim (λ l. inl l) (λ r. inr (ap suc r.0, r.1)) (at_end names name m k e)
 
+-- a member in front of one more
 at_front : (names : List (List ℕ)) (name other : List ℕ) (k : ℕ) → slice_get names k ≡ Some other → slice_get (names ++ name ∷ []) k ≡ Some other
 at_front [] name m k e = cc
 at_front (n ∷ names) name m zero e = e
@@ -236,6 +247,7 @@ changed place k i = record i { kinds = slice_set i.kinds place k }
 
 -- a loop's begin, and its end
 module _ (p : AffineProgram) (is : IsPrintable p) (around : List (List ℕ)) (name : List ℕ) (is_other : role p name ≡ other) (apart : list_any (bytes_eq name) around ≡ false) (place : ℕ) where
+  -- a loop begins
   pub knows_opened : (seen count : ℕ) (i : Input) → Knows p around seen count i → place_of name i.names ≡ Some place → lookup name i.names i.kinds ≡ Some ClosedLoop → Knows p (around ++ name ∷ []) seen count (changed place (OpenLoop (length around)) i)
   knows_opened seen count i knows there closed =
       let k : Kind = OpenLoop (length around) in
@@ -260,6 +272,7 @@ module _ (p : AffineProgram) (is : IsPrintable p) (around : List (List ℕ)) (na
         array_names = ap (map array_of) (arrays-set k ClosedLoop i.names i.kinds place tt tt still) ∙ knows.array_names;
       }
 
+  -- a loop ends
   pub knows_closed : (seen count : ℕ) (i : Input) → Knows p (around ++ name ∷ []) seen count i → place_of name i.names ≡ Some place → Knows p around seen count (changed place ClosedLoop i)
   knows_closed seen count i knows there =
       let k : Kind = ClosedLoop in

@@ -28,15 +28,18 @@ use Rattle.printed_texts.proofs.State.{AreLoops, Knows, moved, counted}
 use Rattle.printed_texts.proofs.Accesses.{Step, Extends, extends_none, some_and, get_index, get_all, IsAccessRead, read_access}
 use Rattle.printed_texts.proofs.Arguments.{IsBehind, semicolon_behind, no_operator, value_is, primary_number, primary_call, IsReadable, AreRead, readable, words_others, words_references, read_arguments, extends_both}
 
+-- all arguments, with their fuel
 all_arguments_is : (within : Accesses → Rule Accesses) (tokens : List Token) (i : Input) (o : Outcome Accesses) → arguments within (length tokens) [] (at tokens i) ≡ o → all_arguments within [] (at tokens i) ≡ o
 unfolding all_arguments
 all_arguments_is within tokens i o e = e
 
+-- a value, over what brackets hold
 value_by_is : (brackets : ℕ) (j : Input) (o : Outcome Accesses) → value_by (inside brackets) brackets [] j ≡ o → value brackets [] j ≡ o
 unfolding value
 value_by_is brackets j o e = e
 
 module _ (p : AffineProgram) (around : List (List ℕ)) (is : IsPrintable p) (loops : AreLoops p around) where
+  -- the array of a reference, and its name
   pub array_named : (printed : program.Access) (depth seen : ℕ) → IsPrintableAccess p depth seen printed → (a : program.Array) × (slice_get p.arrays printed.array ≡ Some a) × (array_name p printed.array ≡ a.name) × IsName a.name
   array_named printed depth seen fits =
       let found = some_and _ (slice_get p.arrays printed.array) fits.rank in
@@ -93,11 +96,13 @@ module _ (p : AffineProgram) (around : List (List ℕ)) (is : IsPrintable p) (lo
 
 -- ---- statements
 
+-- an assignment, from its parts
 assign_is : (brackets : ℕ) (j first second last : Input) (writes : Access) (reads : Accesses) → access brackets j ≡ Ok (writes, first) → sees (codes "=") first ≡ true → next first ≡ second → value brackets [] second ≡ Ok (reads, last)
     → assign brackets j ≡ Ok (tt, record last { lines = last.lines ++ Does (record { writes = writes; reads = reads }) ∷ [] })
 unfolding assign operator add_statement with_line
 assign_is brackets j first second last writes reads e equals skipped f = rw (e, equals, skipped, f) refl
 
+-- a statement, from its parts
 statement_is : (brackets : ℕ) (j last after : Input) → is_array (kind_of (spelling j) j) ≡ true → j.statements < 32 → assign brackets j ≡ Ok (tt, last) → sees (codes ";") (record last { statements = j.statements + 1 }) ≡ true
     → next (record last { statements = j.statements + 1 }) ≡ after → statement brackets j ≡ Ok (tt, after)
 unfolding statement count_statements expect
@@ -105,6 +110,7 @@ statement_is brackets j last after written few e ends skipped =
     let below : nat_le 32 j.statements ≡ false = grind (arith, nat_tests) in
     rw (written, below, e, ends, skipped) refl
 
+-- a name that may be read may be written
 array_written : (k : Option Kind) → IsReadable k → is_array k ≡ true
 array_written None h = refl
 array_written (Some (Parameter k)) h = absurd h
@@ -121,6 +127,7 @@ pub record IsItemRead (p : AffineProgram) (around : List (List ℕ)) (seen count
   pub same : (longer : List (List ℕ)) (later : List Line) (more : List tree.TreeLine) → Extends j.names longer → AllZip (IsLine longer) later more → AllZip (IsLine longer) (added ++ later) (printed more)
 
 module _ (p : AffineProgram) (around : List (List ℕ)) (is : IsPrintable p) (loops : AreLoops p around) where
+  -- a printed statement is read as it is
   pub read_statement : (brackets seen count : ℕ) (i : Input) (printed : program.Statement) (more : List Bit) (tokens : List Token) → 2 ≤ brackets → count < 32 → Knows p around seen count i → IsPrintableStatement p (length around) seen printed
       → AreTokens i.text (statement_bits p (p.parameters ++ around) printed more) tokens
       → Step (statement brackets (at tokens i)) i.text more (λ _ j. IsItemRead p around (statement_seen seen printed) (suc count) i (λ ls. tree.does (widened_statement (length p.parameters) (length around) printed) ∷ ls) j)

@@ -18,35 +18,43 @@ pub record Next (text : List ℕ) (k : TokenKind) (bytes : List ℕ) (bits : Lis
   pub more : length tokens ≡ suc (length (drop 1 tokens))
   pub rest : AreTokens text bits (drop 1 tokens)
 
+-- the first of some tokens
 begins_next : (text : List ℕ) (kind : TokenKind) (bytes : List ℕ) (bits : List Bit) (tokens : List Token) → BeginsWith text kind bytes (AreTokens text bits) tokens → Next text kind bytes bits tokens
 begins_next text kind bytes bits [] h = absurd h
 begins_next text kind bytes bits (t ∷ tokens) h = record { kind_is = h.0.kind_is; spelled = h.0.spelled; more = refl; rest = h.1 }
 
+-- the next token is this word
 pub word_next : (text : List ℕ) (kind : TokenKind) (bytes : List ℕ) (bits : List Bit) (tokens : List Token) → AreTokens text (word kind bytes ∷ bits) tokens → Next text kind bytes bits tokens
 word_next text kind bytes bits tokens h = begins_next text kind bytes bits tokens h
 
+-- the next token is an end
 pub end_next : (text : List ℕ) (kind : TokenKind) (bits : List Bit) (tokens : List Token) → AreTokens text (end kind ∷ bits) tokens → Next text kind [] bits tokens
 end_next text kind bits tokens h = begins_next text kind [] bits tokens h
 
 module _ (i : Input) (tokens : List Token) where
+  -- the state behind the next token
   pub next-at : next (at tokens i) ≡ at (drop 1 tokens) i
   unfolding next
   next-at = refl
 
   module _ (k : TokenKind) (bytes : List ℕ) (bits : List Bit) (is : Next i.text k bytes bits tokens) where
+    -- the kind of the next token
     pub kind-at : kind (at tokens i) ≡ k
     kind-at = is.kind_is
 
+    -- the bytes of the next token
     pub spelling-at : spelling (at tokens i) ≡ bytes
     unfolding spelling
     spelling-at = is.spelled
 
+    -- whether the next token is a word
     pub sees-at : (other : List ℕ) → sees other (at tokens i) ≡ bytes_eq bytes other
     unfolding sees spelling
     sees-at other = ap (λ b. bytes_eq b other) is.spelled
 
 -- ---- how many tokens words are
 
+-- how many tokens words are
 abbrev pub words : List Bit → ℕ
 words [] = 0
 words (space ∷ bits) = words bits
@@ -55,6 +63,7 @@ words (passed bytes ∷ bits) = words bits
 words (word kind bytes ∷ bits) = suc (words bits)
 words (end kind ∷ bits) = suc (words bits)
 
+-- there are as many tokens as words
 pub length-words : (text : List ℕ) (bits : List Bit) (tokens : List Token) → AreTokens text bits tokens → length tokens ≡ words bits
 length-words text [] tokens h = ap length h
 length-words text (space ∷ bits) tokens h = length-words text bits tokens h

@@ -24,10 +24,12 @@ abbrev pub FillsRow : Input → List ℤ → List (ℤ × List ℕ) → List ℤ
 FillsRow i row [] last = row ≡ last
 FillsRow i row (t ∷ terms) last = (s : ℕ) × (s < 11) × HasSlot i t.1 s × (get_or row s (pos 0) ≡ pos 0) × FillsRow i (set row s t.0) terms last
 
+-- a number from its size and its sign
 pub signed_size : (c : ℤ) → (pos 0 +ℤ (sign_of (is_below_zero c) *ℤ pos (unsigned_abs c))) -ℤ pos 0 ≡ c
 signed_size (pos n) = omega (arith, ints)
 signed_size (negsuc n) = omega (arith, ints)
 
+-- a size without a sign
 positive_size : (n : ℕ) → (pos 0 +ℤ (sign_of false *ℤ pos n)) -ℤ pos 0 ≡ pos n
 positive_size n = omega (arith, ints)
 
@@ -37,11 +39,13 @@ positive_size n = omega (arith, ints)
 abbrev pub IsPlain : List ℕ → Type 0
 IsPlain bytes = (bytes_eq bytes (codes "-") ≡ false) × (bytes_eq bytes (codes "+") ≡ false)
 
+-- a decimal text is no sign
 decimal_plain : (n : ℕ) → n < 2 ^ 20 → IsPlain (decimal n)
 decimal_plain n small_n =
     let w : Writes n (decimal n) = writes_decimal n small_n in
     (digits_end (decimal n) (codes "-") w.some w.digits refl (omega arith), digits_end (decimal n) (codes "+") w.some w.digits refl (omega arith))
 
+-- a term begins with no sign
 pub size_plain : (t : ℤ × List ℕ) (more : List Bit) → IsTerm t → IsFollowed IsPlain (size_bits t.0 t.1 more)
 size_plain (c, []) more is = decimal_plain (unsigned_abs c) is.0
 size_plain (c, b ∷ name) more is =
@@ -56,16 +60,19 @@ later_goes_on [] more follows = followed IsEnd GoesOn (λ bytes e. e.no_star) mo
 later_goes_on (t ∷ terms) more follows =
     elim (is_below_zero t.0) as (λ v. is_below_zero t.0 ≡ v → IsFollowed GoesOn (later_bits (t ∷ terms) more)) [ true ↦ λ e. rw e refl | false ↦ λ e. rw e refl ] refl
 
+-- a term has no fewer words than what follows it
 pub words_size : (t : ℤ × List ℕ) (more : List Bit) → words more ≤ words (size_bits t.0 t.1 more)
 words_size (c, []) more = omega arith
 words_size (c, b ∷ name) more =
     elim (unsigned_abs c == 1) as (λ v. (unsigned_abs c == 1) ≡ v → words more ≤ words (size_bits c (b ∷ name) more)) [ true ↦ λ e. rw e (omega arith) | false ↦ λ e. rw e (omega arith) ] refl
 
+-- each term has a word
 pub words_later : (terms : List (ℤ × List ℕ)) (more : List Bit) → length terms + words more ≤ words (later_bits terms more)
 words_later [] more = omega arith
 words_later (t ∷ terms) more = omega (arith, words_size t (later_bits terms more), words_later terms more)
 
 module _ (bracketed : Option ℕ → Rule Affine) (start : ℕ) where
+  -- a sum changes one place
   sum_is : (negative : Bool) (a b : Affine) (row : List ℤ) (s : ℕ) (n v : ℤ) → a.numbers ≡ row → b.numbers ≡ single s n → length row ≡ 11 → AllByRecursion IsSmall row → s < 11
       → (get_or row s (pos 0) +ℤ (sign_of negative *ℤ n)) -ℤ pos 0 ≡ v → IsSmall v → sum start negative a b ≡ Ok (record { numbers = set row s v; has_name = a.has_name || b.has_name; ends_in_name = b.ends_in_name })
   unfolding sum
@@ -74,16 +81,19 @@ module _ (bracketed : Option ℕ → Rule Affine) (start : ℕ) where
       ∙ ap (λ ns. small start (combined (sign_of negative) (pos 0) row ns) (a.has_name || b.has_name) b.ends_in_name) second
       ∙ ap (λ o. small start o (a.has_name || b.has_name) b.ends_in_name) (combined_single (sign_of negative) row s n v long small_row within e fits)
 
+  -- no term follows
   sums_none : (turns : ℕ) (a : Affine) (j : Input) → 1 ≤ turns → sees (codes "-") j ≡ false → sees (codes "+") j ≡ false → sums bracketed start None turns a j ≡ Ok (a, j)
   unfolding sums
   sums_none zero a j some no_minus no_plus = absurd (omega arith)
   sums_none (suc turns) a j some no_minus no_plus = rw (no_minus, no_plus) refl
 
+  -- one term more
   sums_more : (turns : ℕ) (negative : Bool) (a b c : Affine) (j after last : Input) (o : Outcome Affine) → sees (codes "-") j ≡ negative → (not negative && not (sees (codes "+") j)) ≡ false → next j ≡ after → term bracketed start None after ≡ Ok (b, last)
       → sum start negative a b ≡ Ok c → sums bracketed start None turns c last ≡ o → sums bracketed start None (suc turns) a j ≡ o
   unfolding sums
   sums_more turns negative a b c j after last o minus test skipped read added rest = rw (minus, test, skipped, read, added) rest
 
+  -- the printed terms after the first are read
   pub read_sums : (i : Input) (more : List Bit) → IsFollowed IsEnd more → (terms : List (ℤ × List ℕ)) (row last : List ℤ) (a : Affine) (turns : ℕ) (tokens : List Token) → AreTokens i.text (later_bits terms more) tokens → a.numbers ≡ row → length row ≡ 11
       → AllByRecursion IsSmall row → AreTerms terms → FillsRow i row terms last → length terms < turns → Reading (sums bracketed start None turns a (at tokens i)) i more (HasNumbers last)
   read_sums i more follows [] row last a turns tokens h numbers long small_row are fills enough =

@@ -18,6 +18,7 @@ use Rattle.printed_texts.proofs.Whole.{Passes, passes_none, passes_both, passes_
 
 -- ---- pieces behind a form
 
+-- pieces behind a term
 size_bits-append : (c : ℤ) (name : List ℕ) (bits more : List Bit) → size_bits c name bits ++ more ≡ size_bits c name (bits ++ more)
 size_bits-append c [] bits more = refl
 size_bits-append c (b ∷ name) bits more =
@@ -26,11 +27,13 @@ size_bits-append c (b ∷ name) bits more =
       | false ↦ λ e. rw e refl
     ] refl
 
+-- pieces behind the later terms
 later_bits-append : (terms : List (ℤ × List ℕ)) (bits more : List Bit) → later_bits terms bits ++ more ≡ later_bits terms (bits ++ more)
 later_bits-append [] bits more = refl
 later_bits-append (t ∷ terms) bits more =
     ap (λ b. space ∷ symbol (sign_bytes t.0) ∷ space ∷ b) (size_bits-append t.0 t.1 (later_bits terms bits) more ∙ ap (size_bits t.0 t.1) (later_bits-append terms bits more))
 
+-- pieces behind a sign
 minus_bits-append : (c : ℤ) (bits more : List Bit) → minus_bits c bits ++ more ≡ minus_bits c (bits ++ more)
 minus_bits-append c bits more =
     elim (is_below_zero c) as (λ v. is_below_zero c ≡ v → minus_bits c bits ++ more ≡ minus_bits c (bits ++ more)) [
@@ -38,25 +41,30 @@ minus_bits-append c bits more =
       | false ↦ λ e. rw e refl
     ] refl
 
+-- pieces behind all terms
 terms_bits-append : (terms : List (ℤ × List ℕ)) (bits more : List Bit) → terms_bits terms bits ++ more ≡ terms_bits terms (bits ++ more)
 terms_bits-append [] bits more = refl
 terms_bits-append (t ∷ terms) bits more =
     minus_bits-append t.0 (size_bits t.0 t.1 (later_bits terms bits)) more
     ∙ ap (minus_bits t.0) (size_bits-append t.0 t.1 (later_bits terms bits) more ∙ ap (size_bits t.0 t.1) (later_bits-append terms bits more))
 
+-- pieces behind names
 names_bits-append : (names : List (List ℕ)) (bits more : List Bit) → names_bits names bits ++ more ≡ names_bits names (bits ++ more)
 names_bits-append [] bits more = refl
 names_bits-append (name ∷ names) bits more = ap (λ b. space ∷ word Name name ∷ b) (names_bits-append names bits more)
 
 -- ---- the lines before the program
 
+-- the end of a directive
 ends_line : Follows LineEnd (end LineEnd ∷ [])
 ends_line = record { ends = refl; lexed = (refl, refl, λ e. cc) }
 
+-- the names of a directive
 names_follow : (names : List (List ℕ)) → AllByRecursion IsName names → Follows LineEnd (names_bits names (end LineEnd ∷ []))
 names_follow [] all = ends_line
 names_follow (name ∷ names) all = space_then LineEnd (word Name name ∷ names_bits names (end LineEnd ∷ [])) (name_lexed LineEnd name (names_bits names (end LineEnd ∷ [])) all.0 (names_follow names all.1))
 
+-- the line of parameters
 passes_parameters : (place : ℕ) (names : List (List ℕ)) (more : List Bit) → AllByRecursion IsName names → Passes place (parameters_bits names more) more
 passes_parameters place [] more all = passes_none place more
 passes_parameters place (name ∷ names) more all =
@@ -67,18 +75,21 @@ passes_parameters place (name ∷ names) more all =
 abbrev at_least : List Bit
 at_least = space ∷ symbol (codes ">=") ∷ space ∷ word Number (codes "0") ∷ end LineEnd ∷ []
 
+-- what follows an assumption's form
 at_least-follows : Follows LineEnd at_least
 at_least-follows = record {
   ends = refl;
   lexed = (refl, (record { begins = refl; in_line = refl; long = λ region. refl; token = λ region place. refl }, (refl, (number_fits (codes "0") [] (omega arith) refl refl, (refl, refl, λ e. cc)))));
 }
 
+-- an assumption's line
 passes_assumption : (place : ℕ) (names : List (List ℕ)) (row : AffineForm) (more : List Bit) → AreVariables names [] → IsSmallForm (length names) 0 row → Passes place (assumption_bits names row more) more
 passes_assumption place names row more are small =
     subst (λ bits. Passes place (word Assumptions (codes "#pragma iolb assume") ∷ space ∷ bits) more) (terms_bits-append (form_terms names row) at_least (newline ∷ more))
     (passes_line Assumptions (codes "#pragma iolb assume") (space ∷ form_bits names row at_least) more place assumptions_directive
     (refl, subst (λ ns. AreLexed LineEnd true (form_bits ns row at_least)) (append-nil names) (form_lexed LineEnd names [] row at_least are small at_least-follows)))
 
+-- the lines of the assumptions
 passes_assumptions : (place : ℕ) (names : List (List ℕ)) (rows : List AffineForm) (more : List Bit) → AreVariables names [] → AllByRecursion (IsSmallForm (length names) 0) rows → Passes place (assumptions_bits names rows more) more
 passes_assumptions place names [] more are small = passes_none place more
 passes_assumptions place names (row ∷ rows) more are small =

@@ -30,10 +30,12 @@ line_front place (b ∷ line) rest all =
 
 -- ---- texts of pieces
 
+-- the text of pieces behind others
 bits_text-append : (bits more : List Bit) → bits_text (bits ++ more) ≡ bits_text bits ++ bits_text more
 bits_text-append [] more = refl
 bits_text-append (b ∷ bits) more = ap (λ bytes. bit_text b ++ bytes) (bits_text-append bits more) ∙ sym (append_assoc (bit_text b) (bits_text bits) (bits_text more))
 
+-- tokens behind a piece's
 with_token-append : (place : ℕ) (b : Bit) (tokens more : List Token) → with_token place b (tokens ++ more) ≡ with_token place b tokens ++ more
 with_token-append place space tokens more = refl
 with_token-append place newline tokens more = refl
@@ -41,6 +43,7 @@ with_token-append place (passed bytes) tokens more = refl
 with_token-append place (word kind bytes) tokens more = refl
 with_token-append place (end kind) tokens more = refl
 
+-- the tokens of pieces behind others
 bits_tokens-append : (place : ℕ) (bits more : List Bit) → bits_tokens place (bits ++ more) ≡ bits_tokens place bits ++ bits_tokens (place + length (bits_text bits)) more
 bits_tokens-append place [] more = ap (λ n. bits_tokens n more) (omega arith)
 bits_tokens-append place (b ∷ bits) more =
@@ -72,6 +75,7 @@ pub record Passes (place : ℕ) (bits more : List Bit) : Type 0 where
   pub head : head_tokens (lines place (bits_text bits ++ tail)) ≡ front ++ head_tokens (lines (place + count) (bits_text more ++ tail))
   pub words : bits_tokens place bits ≡ front ++ bits_tokens (place + count) more
 
+-- no line
 pub passes_none : (place : ℕ) (bits : List Bit) → Passes place bits bits
 passes_none place bits =
     let same : place ≡ place + 0 = omega arith in
@@ -84,6 +88,7 @@ passes_none place bits =
       words = ap (λ n. bits_tokens n bits) same;
     }
 
+-- lines, and then others
 pub passes_both : (place : ℕ) (bits more last : List Bit) (first : Passes place bits more) → Passes (place + first.count) more last → Passes place bits last
 passes_both place bits more last first second =
     let same : place + first.count + second.count ≡ place + (first.count + second.count) = omega arith in
@@ -103,9 +108,11 @@ pub record IsDirective (kind : TokenKind) (head : List ℕ) : Type 0 where
   pub no_opening : (place : ℕ) (rest : List ℕ) → opens (record { place = place; bytes = head ++ rest }) ≡ false
   pub tokens : (place : ℕ) (bits : List Bit) → AreLexed LineEnd true bits → line_tokens (record { place = place; bytes = head ++ bits_text bits }) ≡ bits_tokens place (word kind head ∷ bits)
 
+-- the tokens of pieces inside a line
 lexed-inside : (region : Region) (bits : List Bit) (place : ℕ) → AreLexed (end_kind region) true bits → tokens_in region 0 place (bits_text bits) ≡ bits_tokens place bits
 lexed-inside region bits place h = lexed region true bits place h
 
+-- the head of a line of parameters
 pub parameters_directive : IsDirective Parameters (codes "#pragma iolb param")
 parameters_directive = record {
   in_line = refl;
@@ -115,6 +122,7 @@ parameters_directive = record {
       rw (count, lexed-inside) refl;
 }
 
+-- the head of a line that assumes
 pub assumptions_directive : IsDirective Assumptions (codes "#pragma iolb assume")
 assumptions_directive = record {
   in_line = refl;
@@ -126,6 +134,7 @@ assumptions_directive = record {
 
 -- ---- a directive's line
 
+-- a directive's line in front of others
 pub passes_line : (kind : TokenKind) (head : List ℕ) (segment more : List Bit) (place : ℕ) → IsDirective kind head → AreLexed LineEnd true segment → Passes place ((word kind head ∷ segment) ++ newline ∷ more) more
 passes_line kind head segment more place is h =
     let line : List ℕ = head ++ bits_text segment in
@@ -151,6 +160,7 @@ passes_line kind head segment more place is h =
 
 -- ---- the lines of the program
 
+-- a line that begins with a word doesn't close the program
 safe_line : (b : ℕ) (bytes : List ℕ) → is_safe b ≡ true → reads_as closing_words (b ∷ bytes) ≡ false
 safe_line b bytes h =
     let no_space : is_space b ≡ false = safe-not_space b h in
@@ -162,17 +172,20 @@ abbrev pub IsBegun : Bool → List ℕ → Type 0
 IsBegun true line = begins_so is_safe line ≡ true
 IsBegun false line = line ≡ []
 
+-- no line of the program closes it
 line_closes : (inside : Bool) (line : List ℕ) → IsBegun inside line → reads_as closing_words line ≡ false
 line_closes true [] begun = absurd cc
 line_closes true (b ∷ line) begun = safe_line b line begun
 line_closes false line begun = ap (reads_as closing_words) begun
 
+-- a line goes on with a word
 begun_more : (inside : Bool) (line bytes : List ℕ) → IsBegun inside line → begins_so is_safe bytes ≡ true → begins_so is_safe (line ++ bytes) ≡ true
 begun_more true [] bytes begun h = absurd cc
 begun_more true (b ∷ line) bytes begun h = begun
 begun_more false [] bytes begun h = h
 begun_more false (b ∷ line) bytes begun h = cc
 
+-- a line goes on with a space
 begun_space : (line : List ℕ) → begins_so is_safe line ≡ true → begins_so is_safe (line ++ 32 ∷ []) ≡ true
 begun_space [] h = absurd cc
 begun_space (b ∷ line) h = h
@@ -208,6 +221,7 @@ none_closes inside line (end kind ∷ bits) rest place begun all h =
 
 -- ---- a whole text
 
+-- the tokens of pieces from a line's begin
 lexed-begin : (region : Region) (bits : List Bit) (place : ℕ) → AreLexed (end_kind region) false bits → tokens_in region 0 place (bits_text bits) ≡ bits_tokens place bits
 lexed-begin region bits place h = lexed region false bits place h
 
@@ -219,12 +233,15 @@ scop_tokens-are text from to bits rest here there h =
     let piece : part from to text ≡ bits_text bits = ap (λ n. take n (drop from text)) long ∙ ap (take (length (bits_text bits))) here ∙ take-append_seam (bits_text bits) rest in
     rw (piece, lexed-begin) refl
 
+-- the line that closes the program is found
 closing_line : (place : ℕ) → find closes (lines place tail) ≡ Some (record { place = place; bytes = codes "#pragma endscop" })
 closing_line place = ap (find closes) (line_front place (codes "#pragma endscop") [] refl)
 
+-- the line that opens the program is found
 opening_line : (place : ℕ) (rest : List ℕ) → find opens (lines place (codes "#pragma scop" ++ 10 ∷ rest)) ≡ Some (record { place = place; bytes = codes "#pragma scop" })
 opening_line place rest = ap (find opens) (line_front place (codes "#pragma scop") rest refl)
 
+-- no directive stands behind the opening line
 no_head : (place : ℕ) (rest : List ℕ) → head_tokens (lines place (codes "#pragma scop" ++ 10 ∷ rest)) ≡ []
 no_head place rest = ap head_tokens (line_front place (codes "#pragma scop") rest refl)
 

@@ -17,6 +17,10 @@ TokensArePrinted = (p : AffineProgram) → IsPrintable p → (tokens : List Toke
 abbrev pub PrintedTextsAreRead : Type 0
 PrintedTextsAreRead = (p : AffineProgram) → IsPrintable p → (s : Reading) × (reading_of (program_text p) ≡ Ok s) × IsReadingOf s p
 
+-- Each text that is read says a program.
+abbrev pub TextsSayPrograms : Type 0
+TextsSayPrograms = (bytes : List ℕ) (r : Reading) → reading_of bytes ≡ Ok r → (p : AffineProgram) × IsReadingOf r p
+
 -- Each program that a text says is printable.
 abbrev pub ReadProgramsArePrintable : Type 0
 ReadProgramsArePrintable = (bytes : List ℕ) (r : Reading) (p : AffineProgram) → reading_of bytes ≡ Ok r → IsReadingOf r p → IsPrintable p

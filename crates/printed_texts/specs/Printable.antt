@@ -27,14 +27,17 @@ pub data Role : Type 0 where
   array : ℕ → Role
   other : Role
 
+-- an array, or something else
 abbrev pub array_role : Option ℕ → Role
 array_role None = other
 array_role (Some number) = array number
 
+-- a parameter, or what it is otherwise
 abbrev pub role_by : Option ℕ → Option ℕ → Role
 role_by (Some number) found = parameter number
 role_by None found = array_role found
 
+-- what this name stands for
 abbrev pub role : AffineProgram → List ℕ → Role
 role p name = role_by (position (bytes_eq name) p.parameters) (position (λ (a : Array). bytes_eq name a.name) p.arrays)
 
@@ -52,6 +55,7 @@ IsSmallForm parameters depth form = AllByRecursion IsSmall (widened parameters d
 abbrev pub access_seen : ℕ → Access → ℕ
 access_seen seen access = if nat_lt access.array seen then seen else suc seen
 
+-- how many arrays were seen behind references
 abbrev pub accesses_seen : ℕ → List Access → ℕ
 accesses_seen seen [] = seen
 accesses_seen seen (access ∷ accesses) = accesses_seen (access_seen seen access) accesses
@@ -63,6 +67,7 @@ pub record IsPrintableAccess (p : AffineProgram) (depth seen : ℕ) (access : Ac
   pub rank : IsSomeAnd (slice_get p.arrays access.array) (λ (a : Array). length access.subscripts ≡ a.rank)
   pub subscripts : AllByRecursion (IsSmallForm (length p.parameters) depth) access.subscripts
 
+-- references in order
 abbrev pub ArePrintableAccesses : AffineProgram → ℕ → ℕ → List Access → Type 0
 ArePrintableAccesses p depth seen [] = ⊤
 ArePrintableAccesses p depth seen (access ∷ accesses) = IsPrintableAccess p depth seen access × ArePrintableAccesses p depth (access_seen seen access) accesses
@@ -72,6 +77,7 @@ pub record IsPrintableStatement (p : AffineProgram) (depth seen : ℕ) (statemen
   pub accesses : ArePrintableAccesses p depth seen (statement.writes ∷ statement.reads)
   pub few : length statement.reads ≤ 32
 
+-- how many arrays were seen behind a statement
 abbrev pub statement_seen : ℕ → Statement → ℕ
 statement_seen seen statement = accesses_seen seen (statement.writes ∷ statement.reads)
 
@@ -79,10 +85,12 @@ statement_seen seen statement = accesses_seen seen (statement.writes ∷ stateme
 
 -- how many arrays were seen behind an item, and behind a row
 abbrev mutual
+  -- behind an item
   pub item_seen : AffineProgram → ℕ → Item → ℕ
   item_seen p seen (assign number) = statement_seen seen (statement_at p number)
   item_seen p seen (loop name lower upper body) = row_seen p seen body
 
+  -- behind a row
   pub row_seen : AffineProgram → ℕ → Row → ℕ
   row_seen p seen done = seen
   row_seen p seen (next item row) = row_seen p (item_seen p seen item) row
@@ -98,11 +106,13 @@ pub record IsPrintableHeader (p : AffineProgram) (around : List (List ℕ)) (nam
 
 -- an item and a row inside loops of these names, where so many arrays were seen
 abbrev mutual
+  -- an item
   pub IsPrintableItem : AffineProgram → List (List ℕ) → ℕ → Item → Type 0
   IsPrintableItem p around seen (assign number) = IsPrintableStatement p (length around) seen (statement_at p number)
   IsPrintableItem p around seen (loop name lower upper body) =
       IsPrintableHeader p around name lower upper × IsPrintableRow p (around ++ name ∷ []) seen body
 
+  -- a row
   pub IsPrintableRow : AffineProgram → List (List ℕ) → ℕ → Row → Type 0
   IsPrintableRow p around seen done = ⊤
   IsPrintableRow p around seen (next item row) = IsPrintableItem p around seen item × IsPrintableRow p around (item_seen p seen item) row

@@ -26,6 +26,7 @@ widened parameters depth form =
 abbrev pub widened_access : ℕ → ℕ → program.Access → Access
 widened_access parameters depth access = record { array = access.array; subscripts = map (widened parameters depth) access.subscripts }
 
+-- a statement with the rows of its references
 abbrev pub widened_statement : ℕ → ℕ → program.Statement → Statement
 widened_statement parameters depth statement =
     record { writes = widened_access parameters depth statement.writes; reads = map (widened_access parameters depth) statement.reads }
@@ -38,11 +39,13 @@ pub data TreeLine : Type 0 where
 
 -- the lines of an item and of a row inside so many loops, in front of these
 abbrev mutual
+  -- an item's lines
   pub item_lines : AffineProgram → ℕ → Item → List TreeLine → List TreeLine
   item_lines p depth (assign number) more = does (widened_statement (length p.parameters) depth (statement_at p number)) ∷ more
   item_lines p depth (loop name lower upper body) more =
       begins name (widened (length p.parameters) depth lower) (widened (length p.parameters) depth upper) ∷ row_lines p (suc depth) body (ends ∷ more)
 
+  -- a row's lines
   pub row_lines : AffineProgram → ℕ → Row → List TreeLine → List TreeLine
   row_lines p depth done more = more
   row_lines p depth (next item row) more = item_lines p depth item (row_lines p depth row more)
@@ -59,6 +62,7 @@ IsLine names End (begins name lower upper) = ⊥
 IsLine names End (does statement) = ⊥
 IsLine names End ends = Unit {0}
 
+-- an array with its name and its number of subscripts
 abbrev pub array_of : List ℕ × ℕ → Array
 array_of a = record { name = a.0; rank = a.1 }
 

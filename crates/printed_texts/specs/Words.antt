@@ -18,6 +18,7 @@ pub data Bit : Type 0 where
   word : TokenKind → List ℕ → Bit
   end : TokenKind → Bit
 
+-- a piece's bytes
 abbrev pub bit_text : Bit → List ℕ
 bit_text space = 32 ∷ []
 bit_text newline = 10 ∷ []
@@ -64,6 +65,7 @@ AreTokens text (end kind ∷ bits) tokens = BeginsWith text kind [] (AreTokens t
 
 -- ---- forms. Each of the functions below puts the words of what it prints in front of others.
 
+-- a symbol
 abbrev pub symbol : List ℕ → Bit
 symbol bytes = word Symbol bytes
 
@@ -74,6 +76,7 @@ size_bits coefficient (b ∷ bytes) more =
     if unsigned_abs coefficient == 1 then word Name (b ∷ bytes) ∷ more
     else word Number (decimal (unsigned_abs coefficient)) ∷ symbol (codes "*") ∷ word Name (b ∷ bytes) ∷ more
 
+-- a sign between terms
 abbrev pub sign_bytes : ℤ → List ℕ
 sign_bytes coefficient = if is_below_zero coefficient then codes "-" else codes "+"
 
@@ -86,6 +89,7 @@ later_bits (term ∷ terms) more = space ∷ symbol (sign_bytes term.0) ∷ spac
 abbrev pub minus_bits : ℤ → List Bit → List Bit
 minus_bits coefficient more = if is_below_zero coefficient then symbol (codes "-") ∷ more else more
 
+-- all terms, or 0
 abbrev pub terms_bits : List (ℤ × List ℕ) → List Bit → List Bit
 terms_bits [] more = word Number (codes "0") ∷ more
 terms_bits (term ∷ terms) more = minus_bits term.0 (size_bits term.0 term.1 (later_bits terms more))
@@ -94,15 +98,18 @@ terms_bits (term ∷ terms) more = minus_bits term.0 (size_bits term.0 term.1 (l
 abbrev pub form_terms : List (List ℕ) → AffineForm → List (ℤ × List ℕ)
 form_terms names form = nonzero (zip form.coefficients names ++ (form.constant, []) ∷ [])
 
+-- a form
 abbrev pub form_bits : List (List ℕ) → AffineForm → List Bit → List Bit
 form_bits names form more = terms_bits (form_terms names form) more
 
 -- ---- statements and loops
 
+-- subscripts in brackets
 abbrev pub subscripts_bits : List (List ℕ) → List AffineForm → List Bit → List Bit
 subscripts_bits names [] more = more
 subscripts_bits names (form ∷ forms) more = symbol (codes "[") ∷ form_bits names form (symbol (codes "]") ∷ subscripts_bits names forms more)
 
+-- a reference
 abbrev pub access_bits : AffineProgram → List (List ℕ) → Access → List Bit → List Bit
 access_bits program names access more = word Name (array_name program access.array) ∷ subscripts_bits names access.subscripts more
 
@@ -111,35 +118,42 @@ abbrev pub others_bits : AffineProgram → List (List ℕ) → List Access → L
 others_bits program names [] more = more
 others_bits program names (read ∷ reads) more = symbol (codes ",") ∷ space ∷ access_bits program names read (others_bits program names reads more)
 
+-- what a statement reads
 abbrev pub reads_bits : AffineProgram → List (List ℕ) → List Access → List Bit → List Bit
 reads_bits program names [] more = word Number (codes "0") ∷ more
 reads_bits program names (read ∷ reads) more =
     word Name (codes "f") ∷ symbol (codes "(") ∷ access_bits program names read (others_bits program names reads (symbol (codes ")") ∷ more))
 
+-- a statement, on a line
 abbrev pub statement_bits : AffineProgram → List (List ℕ) → Statement → List Bit → List Bit
 statement_bits program names statement more =
     access_bits program names statement.writes (space ∷ symbol (codes "=") ∷ space ∷ reads_bits program names statement.reads (symbol (codes ";") ∷ newline ∷ more))
 
+-- the end of a header
 abbrev pub step_bits : List ℕ → List Bit → List Bit
 step_bits name more = symbol (codes ";") ∷ space ∷ word Name name ∷ symbol (codes "++") ∷ symbol (codes ")") ∷ space ∷ symbol (codes "{") ∷ newline ∷ more
 
+-- a header, on a line
 abbrev pub header_bits : List (List ℕ) → List ℕ → AffineForm → AffineForm → List Bit → List Bit
 header_bits names name lower upper more =
     word Word (codes "for") ∷ space ∷ symbol (codes "(") ∷ word Name name ∷ space ∷ symbol (codes "=") ∷ space
     ∷ form_bits names lower (symbol (codes ";") ∷ space ∷ word Name name ∷ space ∷ symbol (codes "<=") ∷ space ∷ form_bits names upper (step_bits name more))
 
 abbrev mutual
+  -- an item
   pub item_bits : AffineProgram → List (List ℕ) → Item → List Bit → List Bit
   item_bits program names (assign number) more = statement_bits program names (statement_at program number) more
   item_bits program names (loop name lower upper body) more =
       header_bits names name lower upper (row_bits program (names ++ name ∷ []) body (symbol (codes "}") ∷ newline ∷ more))
 
+  -- a row
   pub row_bits : AffineProgram → List (List ℕ) → Row → List Bit → List Bit
   row_bits program names done more = more
   row_bits program names (next item row) more = item_bits program names item (row_bits program names row more)
 
 -- ---- whole texts
 
+-- names with a space in front of each
 abbrev pub names_bits : List (List ℕ) → List Bit → List Bit
 names_bits [] more = more
 names_bits (name ∷ names) more = space ∷ word Name name ∷ names_bits names more
@@ -155,6 +169,7 @@ assumption_bits names row more =
     word Assumptions (codes "#pragma iolb assume") ∷ space
     ∷ form_bits names row (space ∷ symbol (codes ">=") ∷ space ∷ word Number (codes "0") ∷ end LineEnd ∷ newline ∷ more)
 
+-- the lines that assume
 abbrev pub assumptions_bits : List (List ℕ) → List AffineForm → List Bit → List Bit
 assumptions_bits names [] more = more
 assumptions_bits names (row ∷ rows) more = assumption_bits names row (assumptions_bits names rows more)
@@ -163,5 +178,6 @@ assumptions_bits names (row ∷ rows) more = assumption_bits names row (assumpti
 abbrev pub scop_bits : AffineProgram → List Bit
 scop_bits program = passed (codes "#pragma scop") ∷ newline ∷ row_bits program program.parameters program.tree (end End ∷ [])
 
+-- a whole program, up to the line that closes it
 abbrev pub program_bits : AffineProgram → List Bit
 program_bits program = parameters_bits program.parameters (assumptions_bits program.parameters program.assumptions (scop_bits program))

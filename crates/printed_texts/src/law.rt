@@ -1,6 +1,6 @@
 //! The texts that print programs.
 
-ghost use Rattle.printed_texts.specs.Laws.{PrintedTextsAreRead, ProgramsAreReadBack, ReadProgramsArePrintable, TokensArePrinted};
+ghost use Rattle.printed_texts.specs.Laws.{PrintedTextsAreRead, ProgramsAreReadBack, ReadProgramsArePrintable, TextsSayPrograms, TokensArePrinted};
 
 /// The tokens of the text that prints a program are the words of its parameters, assumptions, loops and statements, in
 /// order, where the program's names, numbers and limits are those of texts.
@@ -12,6 +12,11 @@ pub fn tokens_are_printed()
 /// texts.
 pub fn printed_texts_are_read()
     ensures { PrintedTextsAreRead }
+{}
+
+/// Each text that is read says a program: its parameters, assumptions and arrays, and the tree of its lines.
+pub fn texts_say_programs()
+    ensures { TextsSayPrograms }
 {}
 
 /// The names, numbers, arrays and limits of each program that a text says are those of texts.

@@ -4,5 +4,6 @@
 mod law;
 
 pub use law::{
-    printed_texts_are_read, programs_are_read_back, read_programs_are_printable, tokens_are_printed,
+    printed_texts_are_read, programs_are_read_back, read_programs_are_printable,
+    texts_say_programs, tokens_are_printed,
 };

@@ -95,11 +95,14 @@ module _ (r : Reading) (p : AffineProgram) (params : length (parameters_of r) �
       let up : IsRowOver q depth l.upper = subst (λ (n : ℕ). IsRowOver n depth l.upper) params well.3 in
       record {
         left = record { lines = lines; well = well.4; inner = omega (arith, well.1); same = cc; statements = table };
-        agrees = λ more zipped. ((
-          name_there r.names l.name name well.0 name_is,
-          sym (ap (widened q depth) (sym lower_is) ∙ row_back q depth l.lower few deep low),
-          sym (ap (widened q depth) (sym upper_is) ∙ row_back q depth l.upper few deep up),
-        ), zipped);
+        agrees = λ more zipped. (
+          (
+            name_there r.names l.name name well.0 name_is,
+            sym (ap (widened q depth) (sym lower_is) ∙ row_back q depth l.lower few deep low),
+            sym (ap (widened q depth) (sym upper_is) ∙ row_back q depth l.upper few deep up),
+          ),
+          zipped,
+        );
       }
 
   record Closed (depth number : ℕ) (lines : List Line) (rest : List text.TreeLine) : Type 0 where
