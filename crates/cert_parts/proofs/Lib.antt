@@ -1,0 +1,10 @@
+pub mod Lists
+pub mod Keys
+pub mod Loop
+pub mod FormNumbers
+pub mod Weights
+pub mod MatrixRows
+pub mod TermLoop
+pub mod LoopBy
+pub mod Members
+pub mod Nested

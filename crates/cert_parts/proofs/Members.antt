@@ -1,0 +1,34 @@
+-- Members of objects, and what follows where reading them fails.
+use Rattle.std.proofs.Common.{◌≡◌, ℕ, List, [], Option, None, Some, Result, Ok, Err, refl, sym, ap, subst, ◌∙◌}
+use Rattle.affine_form.specs.declared.place.Step.{Step}
+use Rattle.affine_form.specs.declared.place.Step.TheVariants.{Key}
+use Rattle.serde_json.specs.Data.{Data}
+use Rattle.serde_json.specs.Find.{get}
+use Rattle.cert_parts.specs.declared.error.CertFault.{CertFault}
+use Rattle.cert_parts.specs.declared.error.CertError.{CertError}
+use Rattle.cert_parts.specs.declared.error.CertError.TheVariants.{Fault, Memory}
+use Rattle.cert_parts.specs.Outcome.{Outcome, ◌>>=◌, fault, behind, under, Fails, IsFault, IsUnder}
+use Rattle.cert_parts.specs.Json.{part, read_member}
+
+pub part_there : {A : Type 0} (name : List ℕ) (number : ℕ) (reader : Data → Outcome A) (d v : Data) → Some v ≡ get name d → part name number reader d ≡ under (Key number) (reader v)
+part_there name number reader d v is = ap (read_member (Key number) reader) (sym is)
+
+pub part_absent : {A : Type 0} (name : List ℕ) (number : ℕ) (reader : Data → Outcome A) (d : Data) → None ≡ get name d → part name number reader d ≡ fault 2
+part_absent name number reader d is = ap (read_member (Key number) reader) (sym is)
+
+pub fails_fault : {A : Type 0} (number : ℕ) (e : CertError) (read : Outcome A) → IsFault number e → read ≡ fault number → Fails e read
+fails_fault number Memory read is same = tt
+fails_fault number (Fault f) read is same =
+    same ∙ ap Err (sym (made f is.0 is.1)) where
+      made : (g : CertFault) → g.number ≡ number → g.place ≡ [] → g ≡ record { number = number; place = [] }
+      made g n p = ap (λ (k : ℕ). record { number = k; place = g.place }) n ∙ ap (λ (l : List Step). record { number = number; place = l }) p
+
+pub fails_under : {A : Type 0} (step : Step) (e e' : CertError) (read : Outcome A) → IsUnder step e e' → Fails e read → Fails e' (under step read)
+fails_under step e Memory read seen fails = tt
+fails_under step Memory (Fault g) read seen fails = absurd seen
+fails_under step (Fault f) (Fault g) read seen fails = ap (under step) fails ∙ ap Err (sym seen)
+
+-- a failure goes on through the steps behind it
+pub fails_then : {A B : Type 0} (e : CertError) (read : Outcome A) (f : A → Outcome B) → Fails e read → Fails e (read >>= f)
+fails_then Memory read f fails = tt
+fails_then (Fault g) read f fails = ap (λ r. r >>= f) fails

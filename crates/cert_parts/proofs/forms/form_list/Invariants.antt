@@ -1,0 +1,15 @@
+use Rattle.std.proofs.Common.{◌≡◌, ◌+◌, List, ℕ, map, drop, length}
+use Rattle.std.specs.Prelude.{◌^◌}
+use Rattle.std.specs.List.{AllByRecursion}
+use Rattle.affine_form.specs.Form.{IsSmallForm}
+use Rattle.cert_parts.specs.Parts.{reads_form, reads_forms}
+use Rattle.serde_json.specs.View.{view}
+use Rattle.cert_parts.specs.Json.{each}
+use Rattle.cert_parts.proofs.Loop.{with_front}
+use Rattle.cert_parts.proofs.forms.form_list.Given as goal
+
+abbrev pub invariant-loop-i : goal.invariant-loop-i
+invariant-loop-i l = record {
+  read : with_front l.forms.items (each reads_form l.i (map view (drop l.i l.values))) ≡ reads_forms (view l.value);
+  small : AllByRecursion (IsSmallForm (2 ^ 20)) l.forms.items;
+}

@@ -1,0 +1,10 @@
+use Rattle.std.proofs.Common.{◌≡◌, ◌+◌, List, ℕ, map, drop, length}
+use Rattle.std.specs.Prelude.{◌^◌}
+use Rattle.cert_parts.specs.Leaves.{claim_of, reads_leaf, reads_leaves}
+use Rattle.serde_json.specs.View.{view}
+use Rattle.cert_parts.specs.Json.{each}
+use Rattle.cert_parts.proofs.Loop.{with_front}
+use Rattle.cert_parts.proofs.leaves.leaf_list.Given as goal
+
+abbrev pub invariant-loop-i : goal.invariant-loop-i
+invariant-loop-i l = with_front (map claim_of l.leaves.items) (each reads_leaf l.i (map view (drop l.i l.values))) ≡ reads_leaves (view l.value)

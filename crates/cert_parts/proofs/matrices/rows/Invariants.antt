@@ -1,0 +1,15 @@
+use Rattle.std.proofs.Common.{◌≡◌, ◌+◌, List, ℕ, map, drop, length}
+use Rattle.std.specs.Prelude.{◌^◌}
+use Rattle.std.specs.List.{AllByRecursion}
+use Rattle.cert_parts.specs.Parts.{reads_row}
+use Rattle.cert_parts.specs.Rows.{row_items, IsRow}
+use Rattle.serde_json.specs.View.{view}
+use Rattle.cert_parts.specs.Json.{each}
+use Rattle.cert_parts.proofs.Loop.{with_front}
+use Rattle.cert_parts.proofs.matrices.rows.Given as goal
+
+abbrev pub invariant-loop-i : goal.invariant-loop-i
+invariant-loop-i l = record {
+  read : with_front (map row_items l.rows.items) (each (reads_row l.columns) l.i (map view (drop l.i l.values))) ≡ each (reads_row l.columns) 0 (map view l.values);
+  shape : AllByRecursion (IsRow l.columns) l.rows.items;
+}

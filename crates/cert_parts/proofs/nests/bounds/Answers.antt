@@ -1,0 +1,21 @@
+use Rattle.std.proofs.Common.{◌≡◌, ◌+◌, ◌^◌, List, [], ◌∷◌, ◌++◌, map}
+use Rattle.std.proofs.lemmas.List.{map_push}
+use Rattle.cert_parts.specs.Nests.{reads_pair, reads_nest}
+use Rattle.affine_form.proofs.Lists.{All-push}
+use Rattle.serde_json.specs.View.{view}
+use Rattle.cert_parts.proofs.Loop.{goes_on, ends, is_done}
+use Rattle.cert_parts.proofs.nests.bounds.Goals as goal
+
+pub returns-in-Err-pair : goal.returns-in-Err-pair
+returns-in-Err-pair c =
+    ends reads_pair c.loop-i.bounds.items c.in-Ok.values.now c.loop-i.i c.loop-i.i c.index-values-i.result c.in-Err-pair.error c.under.result (reads_nest (view c.args.value.now))
+    c.loop-i-test.true c.index-values-i.is c.in-Err-pair.ensures c.under.ensures c.loop-i.invariant
+
+pub loop-i-preserved : goal.loop-i-preserved
+loop-i-preserved c =
+    rw c.in_ok-push-in-Ok-pair.ensures.items (goes_on reads_pair c.loop-i.bounds.items c.in-Ok.values.now c.loop-i.i c.loop-i.i c.index-values-i.result c.in-Ok-pair.pair (reads_nest (view c.args.value.now))
+    c.loop-i-test.true c.index-values-i.is c.in-Ok-pair.ensures c.loop-i.invariant)
+
+pub returns : goal.returns
+returns c =
+    is_done reads_pair c.loop-i.bounds.items c.in-Ok.values.now c.loop-i.i c.loop-i.i (reads_nest (view c.args.value.now)) c.loop-i-test.false c.loop-i.invariant

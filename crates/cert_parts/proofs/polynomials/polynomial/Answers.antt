@@ -1,0 +1,26 @@
+use Rattle.std.proofs.Common.{◌≡◌, ◌<◌, ◌^◌, ℕ, List, true, ltb, refl, subst, sym, ap, ◌∙◌, arith, to_z, of_z}
+use mir.Syntax.{w128}
+use Rattle.std.proofs.lemmas.Int.{to_z-of_z, fits_signed_from_abs}
+use Rattle.std.specs.Prelude.{ℤ, pos, unsigned_abs}
+use Rattle.std.proofs.lemmas.Bool.{lt-ltb}
+use Rattle.poly_tree.specs.Terms.{terms_of, terms_size, IsTermsOver}
+use Rattle.serde_json.specs.View.{view}
+use Rattle.cert_parts.specs.Polynomials.{reads_polynomial}
+use Rattle.cert_parts.proofs.polynomials.polynomial.Goals as goal
+
+pub returns-in-Ok-from_terms : goal.returns-in-Ok-from_terms
+unfolding reads_polynomial
+returns-in-Ok-from_terms c =
+    let terms = c.in-Ok.quotient.1.items in
+    let den : ℕ = c.in-Ok.quotient.0 in
+    let z : ℤ = to_z w128 (of_z w128 c.from.result) in
+    let small : unsigned_abs c.from.result < 2 ^ 62 = rw c.from.ensures (omega (arith, c.in-Ok.ensures.small)) in
+    let bits : z ≡ c.from.result = to_z-of_z w128 c.from.result (fits_signed_from_abs w128 c.from.result (omega (arith, small))) in
+    let over : unsigned_abs z ≡ den = ap unsigned_abs (bits ∙ c.from.ensures) in
+    let narrow : terms_size (terms_of terms) den < 2 ^ 126 =
+    subst (λ (n : ℕ). terms_size (terms_of terms) n < 2 ^ 126) over
+    (subst (λ ts. terms_size (terms_of ts) (unsigned_abs z) < 2 ^ 126) c.as_slice.ensures.value (c.in-Ok-from_terms.ensures.narrow refl)) in
+    let value : IsTermsOver (terms_of terms) den c.in-Ok-from_terms.poly =
+    subst (λ (n : ℕ). IsTermsOver (terms_of terms) n c.in-Ok-from_terms.poly) over
+    (subst (λ ts. IsTermsOver (terms_of ts) (unsigned_abs z) c.in-Ok-from_terms.poly) c.as_slice.ensures.value c.in-Ok-from_terms.ensures.value) in
+    (record { terms = terms_of terms; denominator = den }, rw (c.in-Ok.ensures.read, lt-ltb _ _ narrow) refl, value)

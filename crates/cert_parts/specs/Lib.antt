@@ -1,0 +1,9 @@
+pub mod Outcome
+pub mod Json
+pub mod Parts
+pub mod Rows
+pub mod Polynomials
+pub mod Nests
+pub mod Trees
+pub mod Leaves
+pub mod Read

@@ -1,0 +1,128 @@
+//! The texts of claims at the leaves of source trees.
+
+ghost use Rattle.std.specs.Prelude.{◌≡◌, map};
+ghost use Rattle.serde_json.specs.View.{view};
+ghost use Rattle.cert_parts.specs.Outcome.{Gives};
+ghost use Rattle.cert_parts.specs.Leaves.{claim_of, reads_no_point, reads_stop, reads_credit, reads_go, reads_arrive, reads_leaf, reads_leaves};
+
+use crate::error::{CertError, fault, under};
+use crate::json::{has_keys, list};
+use crate::parts::{all_shown_part, natural_part, shown_part};
+use affine_form::{Step, key};
+use reuse_paths::Leaf;
+use serde_json::Value;
+use std::alloc::Global;
+
+/// That no point comes there.
+#[tactic(auto, unfolding(crate::specs::Leaves::reads_no_point))]
+fn no_point(alloc: Global, value: &Value) -> Result<Leaf, CertError>
+    ensures { Gives claim_of result (reads_no_point (view value.now)) }
+{
+    match shown_part(alloc, value, "empty", key::EMPTY) {
+        Ok(shown) => Ok(Leaf::Empty(shown)),
+        Err(error) => Err(error),
+    }
+}
+
+/// That a walk stops there at an input.
+#[tactic(auto, unfolding(crate::specs::Leaves::reads_stop))]
+fn stop(alloc: Global, value: &Value) -> Result<Leaf, CertError>
+    ensures { Gives claim_of result (reads_stop (view value.now)) }
+{
+    match all_shown_part(alloc, value, "stop", key::STOP) {
+        Ok(label) => Ok(Leaf::Stop { label }),
+        Err(error) => Err(error),
+    }
+}
+
+/// That a walk stops there in a credited nest.
+#[tactic(auto, unfolding(crate::specs::Leaves::reads_credit))]
+fn credit(alloc: Global, value: &Value) -> Result<Leaf, CertError>
+    ensures { Gives claim_of result (reads_credit (view value.now)) }
+{
+    let credit = match natural_part(alloc, value, "credit", key::CREDIT, 0, 255) {
+        Ok(credit) => credit as u8,
+        Err(error) => return Err(error),
+    };
+    let label = match all_shown_part(alloc, value, "label", key::LABEL) {
+        Ok(label) => label,
+        Err(error) => return Err(error),
+    };
+    match all_shown_part(alloc, value, "rows", key::ROWS) {
+        Ok(rows) => Ok(Leaf::Credit {
+            credit,
+            rows,
+            label,
+        }),
+        Err(error) => Err(error),
+    }
+}
+
+/// That a walk goes on there.
+#[tactic(auto, unfolding(crate::specs::Leaves::reads_go))]
+fn go(alloc: Global, value: &Value) -> Result<Leaf, CertError>
+    ensures { Gives claim_of result (reads_go (view value.now)) }
+{
+    let label = match all_shown_part(alloc, value, "label", key::LABEL) {
+        Ok(label) => label,
+        Err(error) => return Err(error),
+    };
+    match all_shown_part(alloc, value, "rows", key::ROWS) {
+        Ok(rows) => Ok(Leaf::Go { rows, label }),
+        Err(error) => Err(error),
+    }
+}
+
+/// That a walk arrives there.
+#[tactic(auto, unfolding(crate::specs::Leaves::reads_arrive))]
+fn arrive(alloc: Global, value: &Value) -> Result<Leaf, CertError>
+    ensures { Gives claim_of result (reads_arrive (view value.now)) }
+{
+    match all_shown_part(alloc, value, "arrive", key::ARRIVE) {
+        Ok(equal) => Ok(Leaf::Arrive { equal }),
+        Err(error) => Err(error),
+    }
+}
+
+/// A claim, told by its keys.
+#[tactic(auto, unfolding(crate::specs::Leaves::reads_leaf))]
+fn leaf(alloc: Global, value: &Value) -> Result<Leaf, CertError>
+    ensures { Gives claim_of result (reads_leaf (view value.now)) }
+{
+    if has_keys(value, &["empty"]) {
+        no_point(alloc, value)
+    } else if has_keys(value, &["stop"]) {
+        stop(alloc, value)
+    } else if has_keys(value, &["credit", "label", "rows"]) {
+        credit(alloc, value)
+    } else if has_keys(value, &["label", "rows"]) {
+        go(alloc, value)
+    } else if has_keys(value, &["arrive"]) {
+        arrive(alloc, value)
+    } else {
+        Err(fault(alloc, 2))
+    }
+}
+
+/// An array of claims.
+///
+/// # Errors
+///
+/// The first fault of the text, 2 or 3, with its place in the value; want of memory.
+#[tactic(auto, unfolding(crate::specs::Leaves::reads_leaves))]
+pub fn leaf_list(alloc: Global, value: &Value) -> Result<Vec<Leaf>, CertError>
+    ensures { Gives (λ leaves. map claim_of leaves.items) result (reads_leaves (view value.now)) }
+{
+    let values = match list(alloc, value) {
+        Ok(values) => values,
+        Err(error) => return Err(error),
+    };
+    let mut leaves = Vec::new(alloc);
+    for (i, value) in values.iter().enumerate() {
+        match leaf(alloc, value) {
+            Ok(found) => leaves.push(found)?,
+            Err(error) => return Err(under(alloc, Step::Index(i as u64), error)),
+        }
+    }
+    Ok(leaves)
+}

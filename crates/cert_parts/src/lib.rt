@@ -1,0 +1,30 @@
+//! The texts of the parts of certificates: forms, multipliers, matrices, polynomials, nests, source trees, and claims at
+//! their leaves.
+//!
+//! Each reader takes a JSON value (RFC 8259) and answers what it says, or the first fault of one walk over it: of an object
+//! the keys first, then the values by the byte order of their keys; of a list its length, where that has a limit, then its
+//! members. Fault 2 is a value of another shape, fault 3 a number or a length past a limit. A fault's place is the way to
+//! the value at fault from the value that is read.
+#![tactic(auto)]
+
+mod error;
+mod forms;
+mod json;
+mod leaves;
+mod matrices;
+mod multipliers;
+mod nests;
+mod parts;
+mod polynomials;
+mod trees;
+
+pub use error::{CertError, CertFault, fault, under};
+pub use forms::form_list;
+pub use json::{has_keys, list, natural, short_list};
+pub use leaves::leaf_list;
+pub use matrices::matrix;
+pub use multipliers::all_multipliers;
+pub use nests::nest;
+pub use parts::{all_shown_part, forms_part, natural_part};
+pub use polynomials::polynomial_list;
+pub use trees::all_trees;

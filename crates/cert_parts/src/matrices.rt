@@ -1,0 +1,108 @@
+//! The texts of matrices.
+
+ghost use Rattle.std.specs.Prelude.{◌≡◌, ◌<◌, ◌≤◌, ◌^◌, length, map, IfOk};
+ghost use Rattle.std.specs.List.{AllByRecursion};
+ghost use Rattle.affine_form.specs.Form.{IsSmall};
+ghost use Rattle.serde_json.specs.View.{view};
+ghost use Rattle.cert_parts.specs.Outcome.{Gives};
+ghost use Rattle.cert_parts.specs.Json.{each, reads_integer};
+ghost use Rattle.cert_parts.specs.Parts.{reads_row, columns_of as first_count, reads_matrix, all_entries};
+ghost use Rattle.cert_parts.specs.Rows.{IsRow, row_items};
+
+use crate::error::{CertError, fault, under};
+use crate::json::{elements, integer, short_list};
+use affine_form::{Matrix, Memory, Step};
+use serde_json::Value;
+use std::alloc::Global;
+
+/// The entries of a row.
+fn entries(alloc: Global, values: &[Value]) -> Result<Vec<i32>, CertError>
+    ensures read { Gives (λ entries. entries.items) result (each (reads_integer (2 ^ 20)) 0 (map view values.now)) }
+    ensures small { IfOk result (λ entries. AllByRecursion (IsSmall (2 ^ 20)) entries.items) }
+    ensures all { IfOk result (λ entries. length entries.items ≡ length values.now) }
+{
+    let mut entries = Vec::new(alloc);
+    for (i, value) in values.iter().enumerate() {
+        match integer(alloc, value, 1 << 20) {
+            Ok(entry) => entries.push(entry as i32)?,
+            Err(error) => return Err(under(alloc, Step::Index(i as u64), error)),
+        }
+    }
+    Ok(entries)
+}
+
+/// A row of so many columns.
+#[tactic(auto, unfolding(crate::specs::Parts::reads_row))]
+fn row(alloc: Global, value: &Value, columns: usize) -> Result<Vec<i32>, CertError>
+    ensures read { Gives row_items result (reads_row columns (view value.now)) }
+    ensures shape { IfOk result (IsRow columns) }
+{
+    let values = match short_list(alloc, value, 6) {
+        Ok(values) => values,
+        Err(error) => return Err(error),
+    };
+    match entries(alloc, values) {
+        Ok(entries) if entries.len() == columns => Ok(entries),
+        Ok(_) => Err(fault(alloc, 2)),
+        Err(error) => Err(error),
+    }
+}
+
+/// The rows of a matrix of so many columns.
+fn rows(alloc: Global, values: &[Value], columns: usize) -> Result<Vec<Vec<i32>>, CertError>
+    ensures read { Gives (λ rows. map row_items rows.items) result (each (reads_row columns) 0 (map view values.now)) }
+    ensures shape { IfOk result (λ rows. AllByRecursion (IsRow columns) rows.items) }
+{
+    let mut rows = Vec::new(alloc);
+    for (i, value) in values.iter().enumerate() {
+        match row(alloc, value, columns) {
+            Ok(row) => rows.push(row)?,
+            Err(error) => return Err(under(alloc, Step::Index(i as u64), error)),
+        }
+    }
+    Ok(rows)
+}
+
+/// The entries of rows, one after the other.
+fn joined(alloc: Global, rows: &[Vec<i32>]) -> Result<Vec<i32>, Memory>
+    ensures { IfOk result (λ cells. cells.items ≡ all_entries (map row_items rows.now)) }
+{
+    let mut cells = Vec::new(alloc);
+    for row in rows {
+        cells.extend_from_slice(row.as_slice())?;
+    }
+    Ok(cells)
+}
+
+/// How many members the first array has.
+fn columns_of(values: &[Value]) -> usize
+    ensures { result ≡ first_count (map view values.now) }
+{
+    if values.is_empty() {
+        return 0;
+    }
+    match elements(&values[0]) {
+        Some(members) => members.len(),
+        None => 0,
+    }
+}
+
+/// A matrix: at most six rows of as many columns.
+#[tactic(auto, unfolding(crate::specs::Parts::reads_matrix))]
+pub fn matrix(alloc: Global, value: &Value) -> Result<Matrix, CertError>
+    ensures { Gives (λ matrix. matrix) result (reads_matrix (view value.now)) }
+{
+    let values = match short_list(alloc, value, 6) {
+        Ok(values) => values,
+        Err(error) => return Err(error),
+    };
+    let columns = columns_of(values);
+    let rows = match rows(alloc, values, columns) {
+        Ok(rows) => rows,
+        Err(error) => return Err(error),
+    };
+    match joined(alloc, rows.as_slice()) {
+        Ok(cells) => Ok(Matrix::new(rows.len(), columns, cells)),
+        Err(_) => Err(CertError::Memory),
+    }
+}

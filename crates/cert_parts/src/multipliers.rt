@@ -1,0 +1,132 @@
+//! The texts of multipliers.
+
+ghost use Rattle.std.specs.Prelude.{◌≡◌, ◌<◌, ◌≤◌, ◌^◌, ◌%◌, length, map, IfOk, IsTrue};
+ghost use Rattle.std.specs.List.{AllByRecursion};
+ghost use Rattle.affine_form.specs.declared.place.Step.TheVariants.{Index};
+ghost use Rattle.affine_form.specs.Multipliers.{IsWeight, RowsRise};
+ghost use Rattle.serde_json.specs.View.{view};
+ghost use Rattle.cert_parts.specs.Outcome.{Gives, under as seen_under};
+ghost use Rattle.cert_parts.specs.Json.{reads_natural};
+ghost use Rattle.cert_parts.specs.Parts.{rise_from, reads_weights, multipliers_of as multipliers_from, reads_multipliers, reads_all_multipliers};
+
+use crate::error::{CertError, fault, under};
+use crate::json::{list, natural};
+use affine_form::{Multipliers, Step};
+use serde_json::Value;
+use std::alloc::Global;
+
+/// A whole number in a range, the member of an array at this index.
+fn member(alloc: Global, value: &Value, index: u64, least: u64, most: u64) -> Result<u64, CertError>
+    ensures read { Gives (λ n. n) result (seen_under (Index index) (reads_natural least most (view value.now))) }
+    ensures least { IfOk result (λ n. least ≤ n) }
+    ensures most { IfOk result (λ n. n ≤ most) }
+{
+    match natural(alloc, value, least, most) {
+        Ok(number) => Ok(number),
+        Err(error) => Err(under(alloc, Step::Index(index), error)),
+    }
+}
+
+/// The rows that are named, each with its multiplier.
+fn weights(alloc: Global, values: &[Value]) -> Result<Vec<(u8, u64)>, CertError>
+    requires { length values.now % 2 ≡ 0 }
+    ensures read { Gives (λ weights. weights.items) result (reads_weights 2 (map view values.now)) }
+    ensures small { IfOk result (λ weights. AllByRecursion IsWeight weights.items) }
+{
+    let mut weights = Vec::new(alloc);
+    let mut i = 0;
+    while i + 1 < values.len() {
+        let row = match member(alloc, &values[i], i as u64 + 2, 0, 127) {
+            Ok(row) => row,
+            Err(error) => return Err(error),
+        };
+        let most = (1 << 48) - 1;
+        let multiplier = match member(alloc, &values[i + 1], i as u64 + 3, 1, most) {
+            Ok(multiplier) => multiplier,
+            Err(error) => return Err(error),
+        };
+        weights.push((row as u8, multiplier))?;
+        i += 2;
+    }
+    Ok(weights)
+}
+
+/// Whether each row is behind the one before it.
+fn rows_rise(weights: &[(u8, u64)]) -> bool
+    ensures rise { result ≡ rise_from 0 weights.now }
+    ensures legal { IsTrue result → RowsRise weights.now }
+{
+    let mut least: u16 = 0;
+    for (row, _) in weights {
+        if u16::from(*row) < least {
+            return false;
+        }
+        least = u16::from(*row) + 1;
+    }
+    true
+}
+
+/// Multipliers of some members.
+#[tactic(auto, unfolding(crate::specs::Parts::multipliers_of))]
+fn multipliers_of(
+    alloc: Global,
+    scale: &Value,
+    rest: &Value,
+    values: &[Value],
+) -> Result<Multipliers, CertError>
+    requires { length values.now % 2 ≡ 0 }
+    ensures { Gives (λ shown. shown) result (multipliers_from (view scale.now) (view rest.now) (map view values.now)) }
+{
+    let most = (1 << 48) - 1;
+    let scale = match member(alloc, scale, 0, 1, most) {
+        Ok(scale) => scale,
+        Err(error) => return Err(error),
+    };
+    let rest = match member(alloc, rest, 1, 0, most) {
+        Ok(rest) => rest,
+        Err(error) => return Err(error),
+    };
+    let weights = match weights(alloc, values) {
+        Ok(weights) => weights,
+        Err(error) => return Err(error),
+    };
+    if rows_rise(weights.as_slice()) {
+        Ok(Multipliers::new(scale, rest, weights))
+    } else {
+        Err(fault(alloc, 2))
+    }
+}
+
+/// Multipliers: the scale, the number beside the rows, then the rows, each with its multiplier.
+#[tactic(auto, unfolding(crate::specs::Parts::reads_multipliers, crate::specs::Parts::multipliers_in))]
+pub fn multipliers(alloc: Global, value: &Value) -> Result<Multipliers, CertError>
+    ensures { Gives (λ shown. shown) result (reads_multipliers (view value.now)) }
+{
+    let values = match list(alloc, value) {
+        Ok(values) => values,
+        Err(error) => return Err(error),
+    };
+    if values.len() < 2 || values.len() % 2 != 0 {
+        return Err(fault(alloc, 2));
+    }
+    multipliers_of(alloc, &values[0], &values[1], &values[2..])
+}
+
+/// An array of multipliers.
+#[tactic(auto, unfolding(crate::specs::Parts::reads_all_multipliers))]
+pub fn all_multipliers(alloc: Global, value: &Value) -> Result<Vec<Multipliers>, CertError>
+    ensures { Gives (λ all. all.items) result (reads_all_multipliers (view value.now)) }
+{
+    let values = match list(alloc, value) {
+        Ok(values) => values,
+        Err(error) => return Err(error),
+    };
+    let mut all = Vec::new(alloc);
+    for (i, value) in values.iter().enumerate() {
+        match multipliers(alloc, value) {
+            Ok(shown) => all.push(shown)?,
+            Err(error) => return Err(under(alloc, Step::Index(i as u64), error)),
+        }
+    }
+    Ok(all)
+}

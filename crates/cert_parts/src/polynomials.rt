@@ -1,0 +1,186 @@
+//! The texts of polynomials.
+
+ghost use Rattle.std.specs.Prelude.{◌≡◌, ◌<◌, ◌≤◌, ◌^◌, length, map, true, IfOk};
+ghost use Rattle.std.specs.List.{AllByRecursion};
+ghost use Rattle.poly_tree.specs.Terms.{term_of, terms_of, HasExponents, AreApart};
+ghost use Rattle.serde_json.specs.View.{view};
+ghost use Rattle.cert_parts.specs.Outcome.{Gives, GivesBy};
+ghost use Rattle.cert_parts.specs.Json.{each, reads_natural};
+ghost use Rattle.cert_parts.specs.Polynomials.{reads_coefficient, reads_term, stands_apart as do_stand_apart, reads_term_behind, reads_terms, reads_quotient, reads_polynomial, reads_polynomials};
+ghost use Rattle.cert_parts.specs.Read.{IsPolynomial, ArePolynomials};
+
+use crate::error::{CertError, fault, under};
+use crate::json::{has_keys, integer, list, natural, short_list};
+use affine_form::{Step, key};
+use poly_tree::{Poly, PolyFault};
+use serde_json::Value;
+use std::alloc::Global;
+
+/// A coefficient.
+#[tactic(auto, unfolding(crate::specs::Polynomials::reads_coefficient))]
+fn coefficient(alloc: Global, value: &Value) -> Result<i128, CertError>
+    ensures { Gives (λ z. z) result (reads_coefficient (view value.now)) }
+{
+    match integer(alloc, value, 1 << 62) {
+        Ok(0) => Err(fault(alloc, 2)),
+        Ok(coefficient) => Ok(coefficient),
+        Err(error) => Err(error),
+    }
+}
+
+/// The exponents behind a coefficient.
+fn exponents(alloc: Global, values: &[Value]) -> Result<Vec<u8>, CertError>
+    ensures read { Gives (λ exponents. exponents.items) result (each (reads_natural 0 8) 1 (map view values.now)) }
+    ensures low { IfOk result (λ exponents. AllByRecursion (λ e. e ≤ 8) exponents.items) }
+    ensures all { IfOk result (λ exponents. length exponents.items ≡ length values.now) }
+{
+    let mut exponents = Vec::new(alloc);
+    for (i, value) in values.iter().enumerate() {
+        match natural(alloc, value, 0, 8) {
+            Ok(exponent) => exponents.push(exponent as u8)?,
+            Err(error) => return Err(under(alloc, Step::Index(i as u64 + 1), error)),
+        }
+    }
+    Ok(exponents)
+}
+
+/// A term: its coefficient, then its exponents.
+#[tactic(auto, unfolding(crate::specs::Polynomials::reads_term, crate::specs::Polynomials::term_in))]
+fn term(alloc: Global, value: &Value) -> Result<(i128, Vec<u8>), CertError>
+    ensures read { Gives term_of result (reads_term (view value.now)) }
+    ensures fit { IfOk result (λ term. HasExponents (term_of term)) }
+{
+    let values = match short_list(alloc, value, 25) {
+        Ok(values) => values,
+        Err(error) => return Err(error),
+    };
+    if values.is_empty() {
+        return Err(fault(alloc, 2));
+    }
+    let coefficient = match coefficient(alloc, &values[0]) {
+        Ok(coefficient) => coefficient,
+        Err(error) => return Err(under(alloc, Step::Index(0), error)),
+    };
+    match exponents(alloc, &values[1..]) {
+        Ok(exponents) => Ok((coefficient, exponents)),
+        Err(error) => Err(error),
+    }
+}
+
+/// Whether exponents are as many as those of each earlier term, and others.
+fn stands_apart(earlier: &[(i128, Vec<u8>)], exponents: &[u8]) -> bool
+    ensures { result ≡ do_stand_apart (terms_of earlier.now) exponents.now }
+{
+    for (_, others) in earlier {
+        if others.len() != exponents.len() || others.as_slice() == exponents {
+            return false;
+        }
+    }
+    true
+}
+
+/// A term behind earlier ones.
+#[tactic(auto, unfolding(crate::specs::Polynomials::reads_term_behind))]
+fn term_behind(
+    alloc: Global,
+    earlier: &[(i128, Vec<u8>)],
+    value: &Value,
+) -> Result<(i128, Vec<u8>), CertError>
+    ensures read { Gives term_of result (reads_term_behind (terms_of earlier.now) (view value.now)) }
+    ensures fit { IfOk result (λ term. HasExponents (term_of term)) }
+    ensures apart { IfOk result (λ term. do_stand_apart (terms_of earlier.now) term.1.items ≡ true) }
+{
+    let (coefficient, exponents) = match term(alloc, value) {
+        Ok(term) => term,
+        Err(error) => return Err(error),
+    };
+    if stands_apart(earlier, exponents.as_slice()) {
+        Ok((coefficient, exponents))
+    } else {
+        Err(fault(alloc, 2))
+    }
+}
+
+/// The terms of a polynomial.
+#[tactic(auto, unfolding(crate::specs::Polynomials::reads_terms))]
+fn terms(alloc: Global, value: &Value) -> Result<Vec<(i128, Vec<u8>)>, CertError>
+    ensures read { Gives (λ terms. terms_of terms.items) result (reads_terms (view value.now)) }
+    ensures fit { IfOk result (λ terms. AllByRecursion HasExponents (terms_of terms.items)) }
+    ensures apart { IfOk result (λ terms. AreApart (terms_of terms.items)) }
+{
+    let values = match list(alloc, value) {
+        Ok(values) => values,
+        Err(error) => return Err(error),
+    };
+    let mut terms = Vec::new(alloc);
+    for (i, value) in values.iter().enumerate() {
+        match term_behind(alloc, terms.as_slice(), value) {
+            Ok(term) => terms.push(term)?,
+            Err(error) => return Err(under(alloc, Step::Index(i as u64), error)),
+        }
+    }
+    Ok(terms)
+}
+
+/// The denominator of a polynomial, and its terms.
+#[tactic(auto, unfolding(crate::specs::Polynomials::reads_quotient, crate::specs::Json::with_keys))]
+fn quotient(alloc: Global, value: &Value) -> Result<(u64, Vec<(i128, Vec<u8>)>), CertError>
+    ensures read { Gives (λ quotient. record { terms = terms_of quotient.1.items; denominator = quotient.0 }) result (reads_quotient (view value.now)) }
+    ensures fit { IfOk result (λ quotient. AllByRecursion HasExponents (terms_of quotient.1.items)) }
+    ensures apart { IfOk result (λ quotient. AreApart (terms_of quotient.1.items)) }
+    ensures some { IfOk result (λ quotient. 1 ≤ quotient.0) }
+    ensures small { IfOk result (λ quotient. quotient.0 < 2 ^ 62) }
+{
+    if !has_keys(value, &["den", "terms"]) {
+        return Err(fault(alloc, 2));
+    }
+    let den = match value.get("den") {
+        Some(part) => match natural(alloc, part, 1, (1 << 62) - 1) {
+            Ok(den) => den,
+            Err(error) => return Err(under(alloc, Step::Key(key::DEN), error)),
+        },
+        None => return Err(fault(alloc, 2)),
+    };
+    match value.get("terms") {
+        Some(part) => match terms(alloc, part) {
+            Ok(terms) => Ok((den, terms)),
+            Err(error) => Err(under(alloc, Step::Key(key::TERMS), error)),
+        },
+        None => Err(fault(alloc, 2)),
+    }
+}
+
+/// A polynomial.
+#[tactic(auto, unfolding(crate::specs::Polynomials::reads_polynomial))]
+fn polynomial(alloc: Global, value: &Value) -> Result<Poly, CertError>
+    ensures { GivesBy IsPolynomial result (reads_polynomial (view value.now)) }
+{
+    let (den, terms) = match quotient(alloc, value) {
+        Ok(quotient) => quotient,
+        Err(error) => return Err(error),
+    };
+    match Poly::from_terms(alloc, terms.as_slice(), i128::from(den)) {
+        Ok(poly) => Ok(poly),
+        Err(PolyFault::Wide) => Err(fault(alloc, 3)),
+        Err(PolyFault::Memory) => Err(CertError::Memory),
+    }
+}
+
+/// An array of polynomials.
+#[tactic(auto, unfolding(crate::specs::Polynomials::reads_polynomials))]
+pub fn polynomial_list(alloc: Global, value: &Value) -> Result<Vec<Poly>, CertError>
+    ensures { GivesBy (λ said found. ArePolynomials said found.items) result (reads_polynomials (view value.now)) }
+{
+    let values = match list(alloc, value) {
+        Ok(values) => values,
+        Err(error) => return Err(error),
+    };
+    let mut found = Vec::new(alloc);
+    for (i, value) in values.iter().enumerate() {
+        match polynomial(alloc, value) {
+            Ok(poly) => found.push(poly)?,
+            Err(error) => return Err(under(alloc, Step::Index(i as u64), error)),
+        }
+    }
+    Ok(found)
+}

@@ -1,0 +1,222 @@
+//! The texts of source trees.
+
+ghost use Rattle.std.specs.Prelude.{◌≡◌, ◌≤◌, min, map, codes};
+ghost use Rattle.affine_form.specs.declared.key.TheConstants.{BLANK};
+ghost use Rattle.dep_quast.specs.Tree.{tree_of};
+ghost use Rattle.serde_json.specs.View.{view};
+ghost use Rattle.cert_parts.specs.Outcome.{Gives};
+ghost use Rattle.cert_parts.specs.Json.{part};
+ghost use Rattle.cert_parts.specs.Trees.{reads_source, reads_input, reads_empty, reads_true, reads_tree_leaf, reads_nested, leaf_count, reads_tree, reads_trees, reads_all_trees};
+ghost use Rattle.cert_parts.specs.Read.{row_trees};
+
+use crate::error::{CertError, fault, under};
+use crate::json::{has_keys, list};
+use crate::parts::{all_shown_part, form_part, forms_part, natural_part, shown_part};
+use affine_form::{Step, key};
+use dep_quast::Quast;
+use serde_json::Value;
+use std::alloc::Global;
+
+/// A leaf that names a source.
+#[tactic(auto, unfolding(crate::specs::Trees::reads_source))]
+fn source(alloc: Global, value: &Value) -> Result<Quast, CertError>
+    ensures { Gives tree_of result (reads_source (view value.now)) }
+{
+    let before = match all_shown_part(alloc, value, "before", key::BEFORE) {
+        Ok(before) => before,
+        Err(error) => return Err(error),
+    };
+    let between = match all_shown_part(alloc, value, "between", key::BETWEEN) {
+        Ok(between) => between,
+        Err(error) => return Err(error),
+    };
+    let cell = match all_shown_part(alloc, value, "cell", key::CELL) {
+        Ok(cell) => cell,
+        Err(error) => return Err(error),
+    };
+    let domain = match all_shown_part(alloc, value, "domain", key::DOMAIN) {
+        Ok(domain) => domain,
+        Err(error) => return Err(error),
+    };
+    let level = match natural_part(alloc, value, "level", key::LEVEL, 0, 255) {
+        Ok(level) => level as u8,
+        Err(error) => return Err(error),
+    };
+    let point = match forms_part(alloc, value, "point", key::POINT) {
+        Ok(point) => point,
+        Err(error) => return Err(error),
+    };
+    match natural_part(alloc, value, "statement", key::STATEMENT, 0, 65535) {
+        Ok(statement) => Ok(Quast::Source {
+            statement: statement as u16,
+            level,
+            point,
+            domain,
+            cell,
+            before,
+            between,
+        }),
+        Err(error) => Err(error),
+    }
+}
+
+/// A leaf that says that no earlier instance writes the cell.
+#[tactic(auto, unfolding(crate::specs::Trees::reads_input))]
+fn input(alloc: Global, value: &Value) -> Result<Quast, CertError>
+    ensures { Gives tree_of result (reads_input (view value.now)) }
+{
+    match all_shown_part(alloc, value, "input", key::INPUT) {
+        Ok(earlier) => Ok(Quast::Input { earlier }),
+        Err(error) => Err(error),
+    }
+}
+
+/// A leaf that says that no point comes there.
+#[tactic(auto, unfolding(crate::specs::Trees::reads_empty))]
+fn empty(alloc: Global, value: &Value) -> Result<Quast, CertError>
+    ensures { Gives tree_of result (reads_empty (view value.now)) }
+{
+    match shown_part(alloc, value, "empty", key::EMPTY) {
+        Ok(shown) => Ok(Quast::Empty { shown }),
+        Err(error) => Err(error),
+    }
+}
+
+/// A leaf that claims nothing, behind its key.
+#[tactic(auto, unfolding(crate::specs::Trees::reads_true))]
+fn blank(alloc: Global, value: &Value) -> Result<Quast, CertError>
+    ensures { Gives tree_of result (part (codes "blank") BLANK reads_true (view value.now)) }
+{
+    let Some(member) = value.get("blank") else {
+        return Err(fault(alloc, 2));
+    };
+    match member.as_bool() {
+        Some(true) => Ok(Quast::Blank),
+        _ => Err(under(alloc, Step::Key(key::BLANK), fault(alloc, 2))),
+    }
+}
+
+/// A leaf, told by its keys.
+#[tactic(auto, unfolding(crate::specs::Trees::reads_tree_leaf))]
+fn leaf(alloc: Global, value: &Value) -> Result<Quast, CertError>
+    ensures { Gives tree_of result (reads_tree_leaf (view value.now)) }
+{
+    let source_keys = [
+        "before",
+        "between",
+        "cell",
+        "domain",
+        "level",
+        "point",
+        "statement",
+    ];
+    if has_keys(value, &source_keys) {
+        source(alloc, value)
+    } else if has_keys(value, &["input"]) {
+        input(alloc, value)
+    } else if has_keys(value, &["empty"]) {
+        empty(alloc, value)
+    } else if has_keys(value, &["blank"]) {
+        blank(alloc, value)
+    } else {
+        Err(fault(alloc, 2))
+    }
+}
+
+/// A tree in which so many tests may be nested.
+fn nested(alloc: Global, value: &Value, left: u8) -> Result<Quast, CertError>
+    ensures { Gives tree_of result (reads_nested left (view value.now)) }
+{
+    if !has_keys(value, &["form", "no", "yes"]) {
+        return leaf(alloc, value);
+    }
+    if left == 0 {
+        return Err(fault(alloc, 3));
+    }
+    let form = match form_part(alloc, value, "form", key::FORM) {
+        Ok(form) => form,
+        Err(error) => return Err(error),
+    };
+    let Some(below) = value.get("no") else {
+        return Err(fault(alloc, 2));
+    };
+    let no = match nested(alloc, below, left - 1) {
+        Ok(tree) => Box::new(alloc, tree)?,
+        Err(error) => return Err(under(alloc, Step::Key(key::NO), error)),
+    };
+    let Some(above) = value.get("yes") else {
+        return Err(fault(alloc, 2));
+    };
+    match nested(alloc, above, left - 1) {
+        Ok(tree) => Ok(Quast::Test {
+            form,
+            yes: Box::new(alloc, tree)?,
+            no,
+        }),
+        Err(error) => Err(under(alloc, Step::Key(key::YES), error)),
+    }
+}
+
+/// How many leaves a tree has, or 65 if they are more.
+fn leaves(tree: &Quast) -> u8
+    ensures { result ≡ min (leaf_count (tree_of tree.now)) 65 }
+{
+    match tree {
+        Quast::Test { yes, no, .. } => (leaves(yes) + leaves(no)).min(65),
+        _ => 1,
+    }
+}
+
+/// A source tree.
+#[tactic(auto, unfolding(crate::specs::Trees::reads_tree))]
+fn tree(alloc: Global, value: &Value) -> Result<Quast, CertError>
+    ensures { Gives tree_of result (reads_tree (view value.now)) }
+{
+    let tree = match nested(alloc, value, 16) {
+        Ok(tree) => tree,
+        Err(error) => return Err(error),
+    };
+    if leaves(&tree) <= 64 {
+        Ok(tree)
+    } else {
+        Err(fault(alloc, 3))
+    }
+}
+
+/// The source trees of a statement's reads.
+#[tactic(auto, unfolding(crate::specs::Trees::reads_trees))]
+fn trees(alloc: Global, value: &Value) -> Result<Vec<Quast>, CertError>
+    ensures { Gives (λ row. map tree_of row.items) result (reads_trees (view value.now)) }
+{
+    let values = match list(alloc, value) {
+        Ok(values) => values,
+        Err(error) => return Err(error),
+    };
+    let mut row = Vec::new(alloc);
+    for (i, value) in values.iter().enumerate() {
+        match tree(alloc, value) {
+            Ok(found) => row.push(found)?,
+            Err(error) => return Err(under(alloc, Step::Index(i as u64), error)),
+        }
+    }
+    Ok(row)
+}
+
+/// The source trees of all statements' reads.
+#[tactic(auto, unfolding(crate::specs::Trees::reads_all_trees))]
+pub fn all_trees(alloc: Global, value: &Value) -> Result<Vec<Vec<Quast>>, CertError>
+    ensures { Gives (λ rows. map row_trees rows.items) result (reads_all_trees (view value.now)) }
+{
+    let values = match list(alloc, value) {
+        Ok(values) => values,
+        Err(error) => return Err(error),
+    };
+    let mut rows = Vec::new(alloc);
+    for (i, value) in values.iter().enumerate() {
+        match trees(alloc, value) {
+            Ok(row) => rows.push(row)?,
+            Err(error) => return Err(under(alloc, Step::Index(i as u64), error)),
+        }
+    }
+    Ok(rows)
+}
