@@ -2,20 +2,21 @@
 use Rattle.std.proofs.Common.{ℕ, ◌+◌, ◌<◌, ◌≤◌, ◌^◌, List, [], ◌∷◌, ◌++◌, map, take, drop, arith, ℤ}
 use Rattle.std.specs.Prelude.{unsigned_abs}
 use Rattle.std.specs.List.{AllByRecursion}
-use Rattle.std.proofs.lemmas.List.{length-append}
+use Rattle.std.proofs.lemmas.List.{length-append, length-take-le, length-drop}
 use Rattle.iolb_model.specs.Program.{IsOver}
 use Rattle.affine_form.specs.Form.{IsSmall, IsSmallForm}
 use Rattle.c_reading.specs.Numbers.{constant_of}
 use Rattle.reading_laws.specs.Well.{IsRowOver}
 use Rattle.affine_text.specs.Meaning.{narrowed}
-use Rattle.affine_text.proofs.Lists.{All-mono, All-take, All-drop, All-append, All-mapped, length-take, length-drop}
+use Rattle.reading_laws.proofs.Rows.{All-append, All-weaken}
+use Rattle.affine_text.proofs.Lists.{All-take, All-drop, All-mapped}
 
 -- a number below 2^20 is below 2^62
 smaller : (n : ℤ) → unsigned_abs n < 2 ^ 20 → unsigned_abs n < 2 ^ 62
 smaller n h = omega (arith, h)
 
 pub smaller_all : (ns : List ℤ) → AllByRecursion (λ n. unsigned_abs n < 2 ^ 20) ns → AllByRecursion (IsSmall (2 ^ 62)) ns
-smaller_all ns h = All-mono (λ n. unsigned_abs n < 2 ^ 20) (IsSmall (2 ^ 62)) smaller ns h
+smaller_all ns h = All-weaken (λ n. unsigned_abs n < 2 ^ 20) (IsSmall (2 ^ 62)) ns smaller h
 
 -- the coefficients of a row's form are small
 pub parts_small : (P : ℤ → Type 0) (p d : ℕ) (row : List ℤ) → AllByRecursion P row → AllByRecursion P (take p (drop 1 row) ++ take d (drop 7 row))
@@ -30,10 +31,10 @@ narrowed_small p d row over = (parts_small (IsSmall (2 ^ 20)) p d row over.small
 
 pub narrowed_over : (p d : ℕ) (row : List ℤ) → p ≤ 6 → d ≤ 4 → IsRowOver p d row → IsOver (p + d) (narrowed p d row)
 narrowed_over p d row few inner over =
-    let first = length-drop 1 row (omega (arith, over.width)) in
-    let last = length-drop 7 row (omega (arith, over.width)) in
-    let left = length-take p (drop 1 row) (omega (arith, first, over.width, few)) in
-    let right = length-take d (drop 7 row) (omega (arith, last, over.width, inner)) in
+    let first = length-drop 1 row in
+    let last = length-drop 7 row in
+    let left = length-take-le p (drop 1 row) (omega (arith, first, over.width, few)) in
+    let right = length-take-le d (drop 7 row) (omega (arith, last, over.width, inner)) in
     omega (arith, left, right, length-append (take p (drop 1 row)) (take d (drop 7 row)))
 
 pub narrowed_all_small : (p d : ℕ) (rows : List (List ℤ)) → AllByRecursion (IsRowOver p d) rows → AllByRecursion (IsSmallForm (2 ^ 20)) (map (narrowed p d) rows)

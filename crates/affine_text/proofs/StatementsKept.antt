@@ -11,13 +11,14 @@ use Rattle.c_reading.specs.declared.lines.Line.TheVariants.{Begin, Does, End}
 use Rattle.c_reading.specs.declared.lines.Loop.{Loop}
 use Rattle.c_reading.specs.Text.{Reading}
 use Rattle.affine_form.proofs.Lists.{All-push}
+use Rattle.reading_laws.proofs.Rows.{All-weaken}
 use Rattle.reading_laws.specs.Well.{AreLinesIn, IsAccessIn, parameters_of, statement_count}
 use Rattle.affine_c.specs.Limits.{IsStatementWithinLimits}
 use Rattle.affine_c.specs.Parts.{statement_of, step_of}
 use Rattle.affine_c.specs.declared.statement.Statement.{Statement}
 use Rattle.affine_text.specs.Meaning.{narrowed_statement, statements_among}
 use Rattle.affine_text.specs.Built.{AreRowsOver}
-use Rattle.affine_text.proofs.Lists.{All-mono, dropped}
+use Rattle.affine_text.proofs.Lists.{dropped}
 
 -- a statement's bounds are those on the way to it in the tree
 abbrev pub StandsIn : Row → ℕ × Statement → Type 0
@@ -44,7 +45,7 @@ at_line reading p tree made depth items k x line h below e is =
 
 -- what a statement's line says
 pub rows_there : (reading : Reading) (depth : ℕ) (accesses : List Access) → AllByRecursion (IsAccessIn reading depth) accesses → AllByRecursion (AreRowsOver (length (parameters_of reading)) depth) accesses
-rows_there reading depth accesses h = All-mono (IsAccessIn reading depth) (AreRowsOver (length (parameters_of reading)) depth) (λ a is. is.rows) accesses h
+rows_there reading depth accesses h = All-weaken (IsAccessIn reading depth) (AreRowsOver (length (parameters_of reading)) depth) accesses (λ a is. is.rows) h
 
 pub kept_begin : (reading : Reading) (p : ℕ) (tree : Row) (made : List Statement) (depth : ℕ) (l : Loop) (rest : List Line) → Kept reading p tree made depth (Begin l ∷ rest)
     → Kept reading p tree made (depth + 1) rest

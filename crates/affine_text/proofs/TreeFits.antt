@@ -88,7 +88,7 @@ access_fits r program depth a says few inner is =
     }
 
 -- what stands at a place
-at_front : {X : Type 0} (xs rest : List X) (k : ℕ) (x d : X) → drop k xs ≡ x ∷ rest → (k < length xs) × (slice_index_or xs k d ≡ x)
+pub at_front : {X : Type 0} (xs rest : List X) (k : ℕ) (x d : X) → drop k xs ≡ x ∷ rest → (k < length xs) × (slice_index_or xs k d ≡ x)
 at_front [] rest zero x d e = absurd cc
 at_front [] rest (suc k) x d e = absurd cc
 at_front (y ∷ xs) rest zero x d e = (omega arith, cc)
@@ -108,7 +108,7 @@ statement_fits r program depth number s rest says few inner is e =
 
 -- ---- items and rows
 
-drop_next : {X : Type 0} (xs rest : List X) (k : ℕ) (x : X) → drop k xs ≡ x ∷ rest → drop (k + 1) xs ≡ rest
+pub drop_next : {X : Type 0} (xs rest : List X) (k : ℕ) (x : X) → drop k xs ≡ x ∷ rest → drop (k + 1) xs ≡ rest
 drop_next [] rest zero x e = absurd cc
 drop_next [] rest (suc k) x e = absurd cc
 drop_next (y ∷ xs) rest zero x e = cc

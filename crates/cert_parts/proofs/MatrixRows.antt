@@ -1,13 +1,12 @@
 -- Matrices by their rows.
-use Rattle.std.proofs.Common.{◌≡◌, ℕ, suc, ◌+◌, ◌*◌, ◌≤◌, ◌^◌, List, [], ◌∷◌, ◌++◌, length, map, Result, Ok, Err, Vec, Global, refl, sym, ap, subst, ◌∙◌, arith}
+use Rattle.std.proofs.Common.{◌≡◌, ℕ, suc, ◌+◌, ◌*◌, ◌≤◌, ◌^◌, List, [], ◌∷◌, ◌++◌, length, map, Ok, Err, Vec, Global, refl, sym, ap, ◌∙◌, arith}
 use Rattle.std.specs.Prelude.{ℤ}
 use Rattle.std.specs.List.{AllByRecursion}
-use Rattle.std.proofs.lemmas.List.{length-append, length-map, nil_from_length}
+use Rattle.std.proofs.lemmas.List.{length-append, nil_from_length}
 use Rattle.affine_form.specs.Form.{IsSmall}
 use Rattle.affine_form.specs.Matrix.{HasShape}
 use Rattle.affine_form.specs.declared.place.Step.TheVariants.{Index}
 use Rattle.serde_json.specs.Data.{Data}
-use Rattle.cert_parts.specs.declared.error.CertFault.{CertFault}
 use Rattle.cert_parts.specs.Outcome.{Outcome, ◌>>=◌, under}
 use Rattle.cert_parts.specs.Json.{each}
 use Rattle.cert_parts.specs.Parts.{all_entries, columns_of}

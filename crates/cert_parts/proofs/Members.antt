@@ -1,5 +1,5 @@
 -- Members of objects, and what follows where reading them fails.
-use Rattle.std.proofs.Common.{◌≡◌, ℕ, List, [], Option, None, Some, Result, Ok, Err, refl, sym, ap, subst, ◌∙◌}
+use Rattle.std.proofs.Common.{◌≡◌, ℕ, List, [], None, Some, Err, sym, ap, ◌∙◌}
 use Rattle.affine_form.specs.declared.place.Step.{Step}
 use Rattle.affine_form.specs.declared.place.Step.TheVariants.{Key}
 use Rattle.serde_json.specs.Data.{Data}
@@ -7,7 +7,7 @@ use Rattle.serde_json.specs.Find.{get}
 use Rattle.cert_parts.specs.declared.error.CertFault.{CertFault}
 use Rattle.cert_parts.specs.declared.error.CertError.{CertError}
 use Rattle.cert_parts.specs.declared.error.CertError.TheVariants.{Fault, Memory}
-use Rattle.cert_parts.specs.Outcome.{Outcome, ◌>>=◌, fault, behind, under, Fails, IsFault, IsUnder}
+use Rattle.cert_parts.specs.Outcome.{Outcome, ◌>>=◌, fault, under, Fails, IsFault, IsUnder}
 use Rattle.cert_parts.specs.Json.{part, read_member}
 
 pub part_there : {A : Type 0} (name : List ℕ) (number : ℕ) (reader : Data → Outcome A) (d v : Data) → Some v ≡ get name d → part name number reader d ≡ under (Key number) (reader v)

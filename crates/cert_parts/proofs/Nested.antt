@@ -1,5 +1,5 @@
 -- Source trees by how many tests may be nested in them.
-use Rattle.std.proofs.Common.{◌≡◌, ℕ, zero, suc, ◌-◌, ◌≤◌, Bool, true, false, refl, ap, ◌∙◌, arith}
+use Rattle.std.proofs.Common.{◌≡◌, ℕ, zero, suc, ◌-◌, true, false, refl, arith}
 use Rattle.serde_json.specs.Data.{Data}
 use Rattle.cert_parts.specs.Outcome.{fault}
 use Rattle.cert_parts.specs.Json.{has_keys}

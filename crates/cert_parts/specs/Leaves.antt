@@ -1,12 +1,11 @@
 -- The texts of claims at the leaves of source trees.
-use Rattle.std.specs.Prelude.{ℕ, List, [], ◌∷◌, map, if◌then◌else◌, codes, Result, Ok, Err}
+use Rattle.std.specs.Prelude.{ℕ, List, [], ◌∷◌, if◌then◌else◌, codes, Ok}
 use Rattle.affine_form.specs.Multipliers.{FarkasMultipliers}
 use Rattle.affine_form.specs.declared.key.TheConstants.{ARRIVE, CREDIT, EMPTY, LABEL, ROWS, STOP}
 use Rattle.reuse_paths.specs.declared.leaf.Leaf.{Leaf}
 use Rattle.reuse_paths.specs.declared.leaf.Leaf.TheVariants.{Empty, Stop, Credit, Go, Arrive}
 use Rattle.serde_json.specs.Data.{Data}
-use Rattle.cert_parts.specs.declared.error.CertFault.{CertFault}
-use Rattle.cert_parts.specs.Outcome.{Outcome, ◌>>=◌, fault, under}
+use Rattle.cert_parts.specs.Outcome.{Outcome, ◌>>=◌, fault}
 use Rattle.cert_parts.specs.Json.{has_keys, part, reads_list, each, reads_natural}
 use Rattle.cert_parts.specs.Parts.{reads_multipliers, reads_all_multipliers}
 

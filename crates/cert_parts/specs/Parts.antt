@@ -1,13 +1,10 @@
 -- The texts of forms, multipliers and matrices.
-use Rattle.std.specs.Prelude.{ℕ, suc, ◌+◌, ◌-◌, ◌*◌, ◌^◌, ◌%◌, ◌==◌, ◌&&◌, ℤ, List, [], ◌∷◌, ◌++◌, length, Bool, true, false, nat_le, if◌then◌else◌, Option, None, Some, Result, Ok, Err}
-use Rattle.std.specs.List.{list_all}
+use Rattle.std.specs.Prelude.{ℕ, ◌+◌, ◌-◌, ◌^◌, ◌%◌, ◌==◌, ◌&&◌, ℤ, List, [], ◌∷◌, ◌++◌, length, Bool, true, nat_le, if◌then◌else◌, Option, None, Some, Ok}
 use Rattle.iolb_model.specs.Form.{AffineForm}
 use Rattle.affine_form.specs.Matrix.{IntegerMatrix}
 use Rattle.affine_form.specs.Multipliers.{FarkasMultipliers}
-use Rattle.affine_form.specs.declared.place.Step.{Step}
 use Rattle.affine_form.specs.declared.place.Step.TheVariants.{Index}
 use Rattle.serde_json.specs.Data.{Data}
-use Rattle.cert_parts.specs.declared.error.CertFault.{CertFault}
 use Rattle.cert_parts.specs.Outcome.{Outcome, ◌>>=◌, fault, under}
 use Rattle.cert_parts.specs.Json.{reads_list, reads_short_list, each, reads_integer, reads_natural, elements_of}
 

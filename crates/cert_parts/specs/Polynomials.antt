@@ -1,12 +1,10 @@
 -- The texts of polynomials.
-use Rattle.std.specs.Prelude.{◌≡◌, ⊤, ℕ, suc, ◌-◌, ◌^◌, ◌==◌, ◌&&◌, ℤ, pos, List, [], ◌∷◌, ◌++◌, length, Bool, true, not, bytes_eq, unsigned_abs, nat_lt, if◌then◌else◌, codes, Result, Ok, Err}
+use Rattle.std.specs.Prelude.{ℕ, suc, ◌-◌, ◌^◌, ◌==◌, ◌&&◌, ℤ, List, [], ◌∷◌, ◌++◌, length, Bool, true, not, bytes_eq, unsigned_abs, nat_lt, if◌then◌else◌, codes, Ok}
 use Rattle.iolb_model.specs.Polynomial.{Term, Polynomial}
-use Rattle.affine_form.specs.declared.place.Step.{Step}
 use Rattle.affine_form.specs.declared.place.Step.TheVariants.{Index}
 use Rattle.affine_form.specs.declared.key.TheConstants.{DEN, TERMS}
 use Rattle.poly_tree.specs.Terms.{terms_size}
 use Rattle.serde_json.specs.Data.{Data}
-use Rattle.cert_parts.specs.declared.error.CertFault.{CertFault}
 use Rattle.cert_parts.specs.Outcome.{Outcome, ◌>>=◌, fault, under}
 use Rattle.cert_parts.specs.Json.{with_keys, part, reads_list, reads_short_list, each, reads_integer, reads_natural}
 

@@ -1,5 +1,5 @@
 -- What was read, beside what the text says.
-use Rattle.std.specs.Prelude.{◌≡◌, ⊤, List, [], ◌∷◌, map, Vec}
+use Rattle.std.specs.Prelude.{⊤, List, [], ◌∷◌, map, Vec}
 use Rattle.std.specs.Global.{Global}
 use Rattle.iolb_model.specs.Polynomial.{Polynomial}
 use Rattle.dep_quast.specs.declared.quast.Quast.{Quast}

@@ -1,5 +1,5 @@
 -- Three steps of reading, one after the other.
-use Rattle.std.proofs.Common.{◌≡◌, Result, Ok, Err, refl, subst, sym, ap, ◌∙◌}
+use Rattle.std.proofs.Common.{◌≡◌, Ok, ap, ◌∙◌}
 use Rattle.cert_parts.specs.declared.error.CertError.{CertError}
 use Rattle.cert_parts.specs.declared.error.CertError.TheVariants.{Fault, Memory}
 use Rattle.cert_parts.specs.Outcome.{Outcome, ◌>>=◌, Fails}

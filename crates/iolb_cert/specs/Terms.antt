@@ -1,12 +1,11 @@
 -- The texts of terms.
-use Rattle.std.specs.Prelude.{ℕ, ◌^◌, List, [], ◌∷◌, length, nat_le, if◌then◌else◌, codes, Result, Ok, Err}
+use Rattle.std.specs.Prelude.{ℕ, ◌^◌, List, [], ◌∷◌, length, nat_le, if◌then◌else◌, codes, Ok}
 use Rattle.iolb_model.specs.Form.{AffineForm}
 use Rattle.affine_form.specs.Matrix.{IntegerMatrix}
 use Rattle.affine_form.specs.Multipliers.{FarkasMultipliers}
 use Rattle.affine_form.specs.declared.key.TheConstants.{COLD, INSIDE, INVERSE, LEAVES, MATRIX, NEST, POINT, READ, SCALE, SHOWN, STATEMENT, SUMS}
 use Rattle.serde_json.specs.Data.{Data}
-use Rattle.cert_parts.specs.declared.error.CertFault.{CertFault}
-use Rattle.cert_parts.specs.Outcome.{Outcome, ◌>>=◌, fault, under}
+use Rattle.cert_parts.specs.Outcome.{Outcome, ◌>>=◌, fault}
 use Rattle.cert_parts.specs.Json.{has_keys, with_keys, part, reads_short_list, each, reads_natural}
 use Rattle.cert_parts.specs.Leaves.{LeafClaim, reads_leaves}
 use Rattle.cert_parts.specs.Nests.{reads_nest}

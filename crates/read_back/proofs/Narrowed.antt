@@ -1,5 +1,6 @@
 -- What a printed text says of a program is the program's own form.
 use Rattle.std.proofs.Common.{◌≡◌, refl, sym, ◌∙◌, ap, subst, ℕ, zero, suc, ◌+◌, ◌-◌, ◌<◌, ◌≤◌, List, [], ◌∷◌, ◌++◌, map, length, append_assoc, append-nil, length-append, arith, ℤ}
+use Rattle.std.proofs.lemmas.List.{map-append}
 use Rattle.std.proofs.lemmas.List.FromFn.{length-range_with_len}
 use Rattle.std.specs.Prelude.{slice_get, slice_index_or, Some}
 use Rattle.std.specs.List.{AllByRecursion, AllZip, range_with_len}
@@ -11,7 +12,7 @@ use Rattle.c_reading.specs.Text.{Reading}
 use Rattle.reading_laws.specs.Well.{parameters_of}
 use Rattle.affine_text.specs.Meaning.{narrowed, narrowed_statement, statements_among, tree_lines}
 use Rattle.affine_text.specs.Meaning as text
-use Rattle.affine_text.proofs.Lists.{All-mono}
+use Rattle.reading_laws.proofs.Rows.{All-weaken}
 use Rattle.affine_text.proofs.TreeFits.{ItemIsSmall, RowIsSmall}
 use Rattle.printed_texts.specs.Same.{widened, widened_statement, IsLine, IsReadingOf}
 use Rattle.printed_texts.specs.Same as printed
@@ -59,16 +60,12 @@ name_there [] at name e = absurd cc
 name_there (n ∷ names) zero name e = cc
 name_there (n ∷ names) (suc at) name e = name_there names at name e
 
-map-append : {X Y : Type 0} (f : X → Y) (xs ys : List X) → map f (xs ++ ys) ≡ map f xs ++ map f ys
-map-append f [] ys = refl
-map-append f (x ∷ xs) ys = ap (λ zs. f x ∷ zs) (map-append f xs ys)
-
 module _ (p : AffineProgram) (names : List (List ℕ)) (few : length p.parameters ≤ 6) where
   -- a statement's line says the statement
   said : (depth n : ℕ) → depth ≤ 4 → StatementFits p (length p.parameters + depth) n → narrowed_statement (length p.parameters) depth (widened_statement (length p.parameters) depth (statement_at p n)) ≡ statement_at p n
   said depth n inner fits =
       form_statement_back (length p.parameters) depth (statement_at p n) few inner fits.writes.subscripts
-      (All-mono (AccessFits p (length p.parameters + depth)) (HasForms (length p.parameters) depth) (λ a is. is.subscripts) (statement_at p n).reads fits.reads)
+      (All-weaken (AccessFits p (length p.parameters + depth)) (HasForms (length p.parameters) depth) (statement_at p n).reads (λ a is. is.subscripts) fits.reads)
 
   assign_back : (depth number n : ℕ) (lines : List Line) (more : List printed.TreeLine) → depth ≤ 4 → StatementFits p (length p.parameters + depth) n → n ≡ number
       → AllZip (IsLine names) lines (printed.does (widened_statement (length p.parameters) depth (statement_at p n)) ∷ more)

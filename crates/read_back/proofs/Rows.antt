@@ -1,7 +1,7 @@
 -- Rows of numbers and forms, there and back.
 use Rattle.std.proofs.Common.{◌≡◌, refl, sym, ◌∙◌, ap, subst, ℕ, zero, suc, ◌+◌, ◌-◌, ◌<◌, ◌≤◌, List, [], ◌∷◌, ◌++◌, map, length, take, drop, replicate, arith, ℤ, pos}
 use Rattle.std.specs.List.{AllByRecursion}
-use Rattle.std.proofs.lemmas.List.{append-nil}
+use Rattle.std.proofs.lemmas.List.{take-append-le, take-append-drop, take_all, drop_at, drop_all, drop-take, length-take-le, length-drop}
 use Rattle.iolb_model.specs.Form.{AffineForm}
 use Rattle.iolb_model.specs.Program.{Access as ModelAccess, Statement as ModelStatement, IsOver}
 use Rattle.c_reading.specs.Access.{Access, Statement}
@@ -12,67 +12,17 @@ use Rattle.affine_text.specs.Meaning.{narrowed, narrowed_access, narrowed_statem
 
 -- ---- parts of lists
 
-take-none : {X : Type 0} (n : ℕ) → ◌≡◌ {A = List X} (take n []) []
-take-none zero = refl
-take-none (suc n) = refl
-
-drop-none : {X : Type 0} (n : ℕ) → ◌≡◌ {A = List X} (drop n []) []
-drop-none zero = refl
-drop-none (suc n) = refl
-
 take-take : {X : Type 0} (m n : ℕ) (xs : List X) → m ≤ n → take m (take n xs) ≡ take m xs
 take-take zero n xs h = refl
 take-take (suc m) zero xs h = absurd (omega (arith, h))
 take-take (suc m) (suc n) [] h = refl
 take-take (suc m) (suc n) (x ∷ xs) h = ap (λ zs. x ∷ zs) (take-take m n xs (omega (arith, h)))
 
-drop-take : {X : Type 0} (m n : ℕ) (xs : List X) → m ≤ n → drop m (take n xs) ≡ take (n - m) (drop m xs)
-drop-take zero n xs h = ap (λ (k : ℕ). take k xs) (same n) where
-  same : (n : ℕ) → n ≡ n - 0
-  same n = omega arith
-drop-take (suc m) zero xs h = absurd (omega (arith, h))
-drop-take (suc m) (suc n) [] h = sym (take-none (suc n - suc m))
-drop-take (suc m) (suc n) (x ∷ xs) h = drop-take m n xs (omega (arith, h)) ∙ ap (λ (k : ℕ). take k (drop m xs)) less where
-  less : n - m ≡ suc n - suc m
-  less = omega arith
-
-take-drop : {X : Type 0} (n : ℕ) (xs : List X) → take n xs ++ drop n xs ≡ xs
-take-drop zero xs = refl
-take-drop (suc n) [] = refl
-take-drop (suc n) (x ∷ xs) = ap (λ zs. x ∷ zs) (take-drop n xs)
-
-take-all : {X : Type 0} (n : ℕ) (xs : List X) → length xs ≤ n → take n xs ≡ xs
-take-all zero [] h = refl
-take-all zero (x ∷ xs) h = absurd (omega (arith, h))
-take-all (suc n) [] h = refl
-take-all (suc n) (x ∷ xs) h = ap (λ zs. x ∷ zs) (take-all n xs (omega (arith, h)))
-
-take-front : {X : Type 0} (n : ℕ) (xs ys : List X) → n ≤ length xs → take n (xs ++ ys) ≡ take n xs
-take-front zero xs ys h = refl
-take-front (suc n) [] ys h = absurd (omega (arith, h))
-take-front (suc n) (x ∷ xs) ys h = ap (λ zs. x ∷ zs) (take-front n xs ys (omega (arith, h)))
-
-drop-front : {X : Type 0} (xs ys : List X) (n : ℕ) → length xs ≡ n → drop n (xs ++ ys) ≡ ys
-drop-front [] ys zero e = refl
-drop-front [] ys (suc n) e = absurd (omega (arith, e))
-drop-front (x ∷ xs) ys zero e = absurd (omega (arith, e))
-drop-front (x ∷ xs) ys (suc n) e = drop-front xs ys n (omega (arith, e))
-
-many-taken : {X : Type 0} (n : ℕ) (xs : List X) → n ≤ length xs → length (take n xs) ≡ n
-many-taken zero xs h = refl
-many-taken (suc n) [] h = absurd (omega (arith, h))
-many-taken (suc n) (x ∷ xs) h = let inner = many-taken n xs (omega (arith, h)) in omega (arith, inner)
-
-many-left : {X : Type 0} (n : ℕ) (xs : List X) → n ≤ length xs → length (drop n xs) + n ≡ length xs
-many-left zero xs h = omega arith
-many-left (suc n) [] h = absurd (omega (arith, h))
-many-left (suc n) (x ∷ xs) h = let inner = many-left n xs (omega (arith, h)) in omega (arith, inner)
-
 drop-drops : {X : Type 0} (m n : ℕ) (xs : List X) → drop m (drop n xs) ≡ drop (n + m) xs
 drop-drops m zero xs = ap (λ (k : ℕ). drop k xs) (same m) where
   same : (m : ℕ) → m ≡ 0 + m
   same m = omega arith
-drop-drops m (suc n) [] = drop-none m ∙ sym (drop-none (suc n + m))
+drop-drops m (suc n) [] = drop_all m [] (omega arith) ∙ sym (drop_all (suc n + m) [] (omega arith))
 drop-drops m (suc n) (x ∷ xs) = drop-drops m n xs ∙ ap (λ (k : ℕ). drop k (x ∷ xs)) (more m n) where
   more : (m n : ℕ) → suc (n + m) ≡ suc n + m
   more m n = omega arith
@@ -113,19 +63,22 @@ pub row_back : (p d : ℕ) (row : List ℤ) → p ≤ 6 → d ≤ 4 → IsRowOve
 row_back p d [] few inner over = absurd (omega (arith, over.width))
 row_back p d (c ∷ row) few inner over =
     let ten : length row ≡ 10 = omega (arith, over.width) in
-    let left : length (take 6 row) ≡ 6 = many-taken 6 row (omega (arith, ten)) in
-    let right : length (drop 6 row) ≡ 4 = omega (arith, many-left 6 row (omega (arith, ten)), ten) in
-    let first : length (take p row) ≡ p = many-taken p row (omega (arith, ten, few)) in
+    let left : length (take 6 row) ≡ 6 = length-take-le 6 row (omega (arith, ten)) in
+    let right : length (drop 6 row) ≡ 4 = omega (arith, length-drop 6 row, ten) in
+    let first : length (take p row) ≡ p = length-take-le p row (omega (arith, ten, few)) in
     let parameters : padded 6 (take p (take p row ++ take d (drop 6 row))) ≡ take 6 row =
-    ap (padded 6) (take-front p (take p row) (take d (drop 6 row)) (omega (arith, first)) ∙ take-all p (take p row) (omega (arith, first)) ∙ sym (take-take p 6 row few))
-    ∙ padded-again 6 p (take 6 row) left few (drop-take p 6 row few ∙ ap (take (6 - p)) (ap (λ (k : ℕ). drop k (c ∷ row)) (next p)) ∙ over.absent_parameters) in
+    ap (padded 6) (take-append-le p (take p row) (take d (drop 6 row)) (omega (arith, first)) ∙ take_all p (take p row) (omega (arith, first)) ∙ sym (take-take p 6 row few))
+    ∙ padded-again 6 p (take 6 row) left few (ap (λ (k : ℕ). drop p (take k row)) (six p few) ∙ drop-take p (6 - p) row ∙ ap (take (6 - p)) (ap (λ (k : ℕ). drop k (c ∷ row)) (next p)) ∙ over.absent_parameters) in
     let loops : padded 4 (take d (drop p (take p row ++ take d (drop 6 row)))) ≡ drop 6 row =
-    ap (λ (ns : List ℤ). padded 4 (take d ns)) (drop-front (take p row) (take d (drop 6 row)) p first)
+    ap (λ (ns : List ℤ). padded 4 (take d ns)) (drop_at (take p row) (take d (drop 6 row)) p first)
     ∙ ap (padded 4) (take-take d d (drop 6 row) (omega arith))
     ∙ padded-again 4 d (drop 6 row) right inner (drop-drop d row ∙ over.absent_loops) in
     ap (λ (ns : List ℤ). c ∷ (ns ++ padded 4 (take d (drop p (take p row ++ take d (drop 6 row)))))) parameters
     ∙ ap (λ (ns : List ℤ). c ∷ (take 6 row ++ ns)) loops
-    ∙ ap (λ (ns : List ℤ). c ∷ ns) (take-drop 6 row) where
+    ∙ ap (λ (ns : List ℤ). c ∷ ns) (take-append-drop 6 row) where
+      six : (p : ℕ) → p ≤ 6 → 6 ≡ p + (6 - p)
+      six p few = omega (arith, few)
+
       next : (p : ℕ) → suc p ≡ 1 + p
       next p = omega arith
 
@@ -140,15 +93,15 @@ form_back p d form few inner over =
     let cs = form.coefficients in
     let front = padded 6 (take p cs) in
     let back = padded 4 (take d (drop p cs)) in
-    let first : length (take p cs) ≡ p = many-taken p cs (omega (arith, over)) in
-    let last : length (drop p cs) ≡ d = omega (arith, over, many-left p cs (omega (arith, over))) in
-    let cut : take d (drop p cs) ≡ drop p cs = take-all d (drop p cs) (omega (arith, last)) in
+    let first : length (take p cs) ≡ p = length-take-le p cs (omega (arith, over)) in
+    let last : length (drop p cs) ≡ d = omega (arith, over, length-drop p cs) in
+    let cut : take d (drop p cs) ≡ drop p cs = take_all d (drop p cs) (omega (arith, last)) in
     let parameters : take p (front ++ back) ≡ take p cs =
-    take-front p front back (omega (arith, few, many-padded 6 (take p cs))) ∙ take-padded p 6 (take p cs) first few in
+    take-append-le p front back (omega (arith, few, many-padded 6 (take p cs))) ∙ take-padded p 6 (take p cs) first few in
     let loops : take d (drop 6 (front ++ back)) ≡ drop p cs =
-    ap (take d) (drop-front front back 6 (many-padded 6 (take p cs)) ∙ ap (padded 4) cut) ∙ take-padded d 4 (drop p cs) last inner in
+    ap (take d) (drop_at front back 6 (many-padded 6 (take p cs)) ∙ ap (padded 4) cut) ∙ take-padded d 4 (drop p cs) last inner in
     let whole : take p (front ++ back) ++ take d (drop 6 (front ++ back)) ≡ cs =
-    ap (λ (ns : List ℤ). ns ++ take d (drop 6 (front ++ back))) parameters ∙ ap (λ (ns : List ℤ). take p cs ++ ns) loops ∙ take-drop p cs in
+    ap (λ (ns : List ℤ). ns ++ take d (drop 6 (front ++ back))) parameters ∙ ap (λ (ns : List ℤ). take p cs ++ ns) loops ∙ take-append-drop p cs in
     λ i. record { coefficients = whole i; constant = form.constant }
 
 -- ---- references and statements

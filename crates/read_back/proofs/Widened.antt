@@ -11,7 +11,8 @@ use Rattle.c_reading.specs.Text.{Reading}
 use Rattle.reading_laws.specs.Well.{IsRowOver, IsAccessIn, IsStatementIn, AreLinesIn, IsWellRead, parameters_of}
 use Rattle.affine_text.specs.Meaning.{narrowed, narrowed_statement, statements_among, tree_lines}
 use Rattle.affine_text.specs.Meaning as text
-use Rattle.affine_text.proofs.Lists.{All-mono}
+use Rattle.reading_laws.proofs.Rows.{All-weaken}
+use Rattle.affine_text.proofs.TreeFits.{at_front, drop_next}
 use Rattle.printed_texts.specs.Same.{widened, widened_statement, IsLine, IsReadingOf}
 use Rattle.printed_texts.specs.Same as printed
 use Rattle.read_back.proofs.Rows.{HasRows, row_back, rows_back, statement_back}
@@ -30,25 +31,13 @@ pub record Taken (r : Reading) (p : AffineProgram) (depth : ℕ) (lines : List L
   pub left : Left r p depth number rest
   pub agrees : (more : List printed.TreeLine) → AllZip (IsLine r.names) left.lines more → AllZip (IsLine r.names) lines (printed_lines more)
 
-at_front : {X : Type 0} (xs rest : List X) (k : ℕ) (x d : X) → drop k xs ≡ x ∷ rest → slice_index_or xs k d ≡ x
-at_front [] rest zero x d e = absurd cc
-at_front [] rest (suc k) x d e = absurd cc
-at_front (y ∷ xs) rest zero x d e = cc
-at_front (y ∷ xs) rest (suc k) x d e = at_front xs rest k x d e
-
-drop_next : {X : Type 0} (xs rest : List X) (k : ℕ) (x : X) → drop k xs ≡ x ∷ rest → drop (suc k) xs ≡ rest
-drop_next [] rest zero x e = absurd cc
-drop_next [] rest (suc k) x e = absurd cc
-drop_next (y ∷ xs) rest zero x e = cc
-drop_next (y ∷ xs) rest (suc k) x e = drop_next xs rest k x e
-
 name_there : (names : List (List ℕ)) (at : ℕ) (name : List ℕ) → at < length names → slice_index_or names at [] ≡ name → slice_get names at ≡ Some name
 name_there [] at name below e = absurd (omega (arith, below))
 name_there (n ∷ names) zero name below e = ap (λ (x : List ℕ). Some x) e
 name_there (n ∷ names) (suc at) name below e = name_there names at name (omega (arith, below)) e
 
 has_rows : (r : Reading) (p : AffineProgram) (depth : ℕ) (accesses : List ReadAccess) → length (parameters_of r) ≡ length p.parameters → AllByRecursion (IsAccessIn r depth) accesses → AllByRecursion (HasRows (length p.parameters) depth) accesses
-has_rows r p depth accesses e h = All-mono (IsAccessIn r depth) (HasRows (length p.parameters) depth) (λ a is. subst (λ (n : ℕ). AllByRecursion (IsRowOver n depth) a.subscripts) e is.rows) accesses h
+has_rows r p depth accesses e h = All-weaken (IsAccessIn r depth) (HasRows (length p.parameters) depth) accesses (λ a is. subst (λ (n : ℕ). AllByRecursion (IsRowOver n depth) a.subscripts) e is.rows) h
 
 module _ (r : Reading) (p : AffineProgram) (params : length (parameters_of r) ≡ length p.parameters) (few : length p.parameters ≤ 6) where
   assign_taken : (depth number n : ℕ) (lines : List Line) (rest : List text.TreeLine) → AreLinesIn r depth lines → depth ≤ 4
@@ -62,14 +51,15 @@ module _ (r : Reading) (p : AffineProgram) (params : length (parameters_of r) �
       let q = length p.parameters in
       let number_is : number ≡ n = cc in
       let rest_is : tree_lines r.names q depth (suc number) lines ≡ rest = cc in
+      let one : suc number ≡ number + 1 = omega arith in
       let writes : HasRows q depth s.writes = subst (λ (k : ℕ). AllByRecursion (IsRowOver k depth) s.writes.subscripts) params well.0.writes.rows in
       let there : statement_at p n ≡ narrowed_statement q depth s =
-      ap (statement_at p) (sym number_is) ∙ at_front p.statements (statements_among q depth lines) number (narrowed_statement q depth s) no_statement table in
+      ap (statement_at p) (sym number_is) ∙ (at_front p.statements (statements_among q depth lines) number (narrowed_statement q depth s) no_statement table).1 in
       let says : s ≡ widened_statement q depth (statement_at p n) =
       sym (ap (widened_statement q depth) there ∙ statement_back q depth s few inner writes (has_rows r p depth s.reads params well.0.reads)) in
       record {
         number = suc number;
-        left = record { lines = lines; well = well.1; inner = inner; same = rest_is; statements = drop_next p.statements (statements_among q depth lines) number (narrowed_statement q depth s) table };
+        left = record { lines = lines; well = well.1; inner = inner; same = rest_is; statements = ap (λ (k : ℕ). drop k p.statements) one ∙ drop_next p.statements (statements_among q depth lines) number (narrowed_statement q depth s) table };
         agrees = λ more zipped. (says, zipped);
       }
 

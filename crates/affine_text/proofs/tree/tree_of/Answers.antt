@@ -1,10 +1,11 @@
 use Rattle.std.proofs.Common.{◌≡◌, sym, ◌∙◌, ap, subst, ◌+◌, ◌-◌, [], ◌∷◌, ℕ, List, length, drop, get_or}
+use Rattle.std.proofs.lemmas.List.{get_or_default}
 use Rattle.c_reading.specs.declared.lines.Line.{Line}
 use Rattle.c_reading.specs.declared.lines.Line.TheVariants.{Begin, Does, End}
 use Rattle.affine_text.specs.Meaning.{narrowed}
 use Rattle.affine_text.specs.Built.{lines_so_far}
 use Rattle.affine_text.specs.declared.growing.GrowingTree.{GrowingTree}
-use Rattle.affine_text.proofs.Lists.{dropped, read_or}
+use Rattle.affine_text.proofs.Lists.{dropped}
 use Rattle.affine_text.proofs.TreeKept.{Kept, kept_begin, kept_does, kept_end}
 use Rattle.affine_text.proofs.tree.tree_of.Goals.{in-Begin+in_ok-name-in-Begin+in_ok-lower-in-Begin+in_ok-upper-in-Begin+in_ok-begin-in-Begin, in-Does+in_ok-assign-in-Does, in-End+in_ok-end-in-End}
 use Rattle.affine_text.proofs.tree.tree_of.Goals as goal
@@ -38,8 +39,8 @@ loop-line-preserved c =
           moved c w.begin.new.self (depth + 1) c.loop-line.number w.tree-is w.in_ok-begin-in-Begin.ensures.open w.number-is
           (kept_begin r p so (lines_so_far w.begin.new.self) depth c.loop-line.number w.in-Begin.header rest w.in_ok-name-in-Begin.name w.in_ok-lower-in-Begin.lower w.in_ok-upper-in-Begin.upper
           (at_line c (Begin w.in-Begin.header) w.in-Begin.is) w.in_ok-begin-in-Begin.ensures.lines
-          (w.in_ok-name-in-Begin.ensures ∙ read_or r.names w.in-Begin.header.name w.index-names-header.result [] (at_line c (Begin w.in-Begin.header) w.in-Begin.is).well.0
-          (w.index-names-header.is ∙ ap (λ (ns : List (List ℕ)). get_or ns w.in-Begin.header.name w.index-names-header.result) c.names-names.ensures))
+          (w.in_ok-name-in-Begin.ensures ∙ w.index-names-header.is ∙ ap (λ (ns : List (List ℕ)). get_or ns w.in-Begin.header.name w.index-names-header.result) c.names-names.ensures
+          ∙ get_or_default r.names w.in-Begin.header.name w.index-names-header.result [] (at_line c (Begin w.in-Begin.header) w.in-Begin.is).well.0)
           (w.in_ok-lower-in-Begin.ensures ∙ ap (λ (n : ℕ). narrowed p n w.in-Begin.header.lower) w.depth-depth.ensures)
           (w.in_ok-upper-in-Begin.ensures ∙ ap (λ (n : ℕ). narrowed p n w.in-Begin.header.upper) w.depth-depth.ensures))
       | in-Does+in_ok-assign-in-Does w ↦

@@ -1,10 +1,9 @@
-use Rattle.std.proofs.Common.{◌≡◌, ◌^◌, ◌≤◌, ◌+◌, List, length, Ok, ◌++◌, ◌∷◌, [], sym, ap, ◌∙◌, subst, arith, to_z, of_z}
-use Rattle.std.specs.Prelude.{ℤ, unsigned_abs, ◌<◌}
+use Rattle.std.proofs.Common.{◌≡◌, ◌^◌, List, length, Ok, ◌++◌, ◌∷◌, [], sym, ap, ◌∙◌, subst, arith, to_z, of_z}
+use Rattle.std.specs.Prelude.{ℤ}
 use Rattle.std.specs.List.{AllByRecursion}
 use Rattle.std.proofs.lemmas.Int.{to_z-of_z, fits_signed_from_abs}
 use Rattle.std.proofs.lemmas.List.{length-append}
 use mir.Syntax.{w128}
-use Rattle.iolb_model.specs.Form.{AffineForm}
 use Rattle.affine_form.specs.Form.{IsSmall, IsSmallForm}
 use Rattle.cert_parts.specs.Parts.{reads_form, form_in}
 use Rattle.cert_parts.proofs.FormNumbers.{form_in-last, all_last, small_more}

@@ -1,6 +1,4 @@
-use Rattle.std.proofs.Common.{◌≡◌, ◌+◌, ◌^◌, List, [], ◌∷◌, ◌++◌, map}
-use Rattle.std.proofs.lemmas.List.{map_push}
-use Rattle.std.specs.List.{AllByRecursion}
+use Rattle.std.proofs.Common.{◌^◌}
 use Rattle.affine_form.specs.Form.{IsSmallForm}
 use Rattle.cert_parts.specs.Parts.{reads_form, reads_forms}
 use Rattle.affine_form.proofs.Lists.{All-push}

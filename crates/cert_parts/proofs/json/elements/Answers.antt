@@ -1,4 +1,4 @@
-use Rattle.std.proofs.Common.{◌≡◌, map, option_map, List, Some, sym, ap, ◌∙◌}
+use Rattle.std.proofs.Common.{map, option_map, Some, sym, ap, ◌∙◌}
 use Rattle.serde_json.specs.View.{view}
 use Rattle.cert_parts.specs.Json.{list_of}
 use Rattle.cert_parts.proofs.Lists.{list_of-items_of}

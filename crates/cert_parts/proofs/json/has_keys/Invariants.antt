@@ -1,4 +1,4 @@
-use Rattle.std.proofs.Common.{◌≡◌, ℕ, true, Bor, map, drop, length, List, sym, ap, ◌∙◌, refl}
+use Rattle.std.proofs.Common.{◌≡◌, ℕ, Bor, map, drop, List}
 use Rattle.serde_json.specs.View.{view}
 use Rattle.cert_parts.specs.Json.{has_all}
 use Rattle.cert_parts.proofs.json.has_keys.Given as goal

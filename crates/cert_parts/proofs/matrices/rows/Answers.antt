@@ -1,6 +1,5 @@
-use Rattle.std.proofs.Common.{◌≡◌, ◌+◌, ◌^◌, List, [], ◌∷◌, ◌++◌, map}
+use Rattle.std.proofs.Common.{◌≡◌, [], ◌∷◌, ◌++◌, map}
 use Rattle.std.proofs.lemmas.List.{map_push}
-use Rattle.std.specs.List.{AllByRecursion}
 use Rattle.cert_parts.specs.Json.{each}
 use Rattle.cert_parts.specs.Parts.{reads_row}
 use Rattle.cert_parts.specs.Rows.{row_items, IsRow}

@@ -1,5 +1,4 @@
-use Rattle.std.proofs.Common.{◌≡◌, ◌+◌, List, ℕ, map, drop, length}
-use Rattle.std.specs.Prelude.{◌^◌}
+use Rattle.std.proofs.Common.{◌≡◌, map, drop}
 use Rattle.std.specs.List.{AllByRecursion}
 use Rattle.cert_parts.specs.Parts.{reads_row}
 use Rattle.cert_parts.specs.Rows.{row_items, IsRow}

@@ -1,5 +1,4 @@
-use Rattle.std.proofs.Common.{◌≡◌, ◌+◌, List, ℕ, map, drop, length}
-use Rattle.std.specs.Prelude.{◌^◌}
+use Rattle.std.proofs.Common.{◌≡◌, map, drop}
 use Rattle.cert_parts.specs.Parts.{reads_multipliers, reads_all_multipliers}
 use Rattle.serde_json.specs.View.{view}
 use Rattle.cert_parts.specs.Json.{each}

@@ -1,5 +1,4 @@
-use Rattle.std.proofs.Common.{◌≡◌, ◌+◌, ◌^◌, ◌≤◌, ◌<◌, List, ◌++◌, ◌∷◌, [], length, map, get_or, sym, ◌∙◌, arith}
-use Rattle.std.specs.List.{AllByRecursion}
+use Rattle.std.proofs.Common.{map, arith}
 use Rattle.affine_form.specs.Multipliers.{IsWeight}
 use Rattle.affine_form.proofs.Lists.{All-push}
 use Rattle.serde_json.specs.View.{view}

@@ -1,4 +1,4 @@
-use Rattle.std.proofs.Common.{◌≡◌, ◌≤◌, ◌-◌, ◌%◌, ℕ, map, length}
+use Rattle.std.proofs.Common.{◌≡◌, ◌≤◌, ◌-◌, ◌%◌, map, length}
 use Rattle.std.specs.List.{AllByRecursion}
 use Rattle.affine_form.specs.Multipliers.{IsWeight}
 use Rattle.serde_json.specs.View.{view}

@@ -1,7 +1,4 @@
-use Rattle.std.proofs.Common.{◌≡◌, ◌+◌, ◌^◌, List, [], ◌∷◌, ◌++◌, map}
-use Rattle.std.proofs.lemmas.List.{map_push}
 use Rattle.cert_parts.specs.Nests.{reads_pair, reads_nest}
-use Rattle.affine_form.proofs.Lists.{All-push}
 use Rattle.serde_json.specs.View.{view}
 use Rattle.cert_parts.proofs.Loop.{goes_on, ends, is_done}
 use Rattle.cert_parts.proofs.nests.bounds.Goals as goal

@@ -1,5 +1,4 @@
-use Rattle.std.proofs.Common.{◌≡◌, ◌+◌, List, ℕ, map, drop, length}
-use Rattle.std.specs.Prelude.{◌^◌}
+use Rattle.std.proofs.Common.{◌≡◌, map, drop}
 use Rattle.cert_parts.specs.Nests.{reads_pair, reads_nest}
 use Rattle.serde_json.specs.View.{view}
 use Rattle.cert_parts.specs.Json.{each}

@@ -1,5 +1,4 @@
-use Rattle.std.proofs.Common.{◌≡◌, ◌+◌, ◌≤◌, ℕ, length, map, List, ◌∷◌, [], ◌++◌, ap, ◌∙◌, arith}
-use Rattle.std.specs.List.{AllByRecursion}
+use Rattle.std.proofs.Common.{◌+◌, ◌≤◌, ℕ, map, ◌∷◌, [], ap, ◌∙◌}
 use Rattle.std.proofs.lemmas.List.{length-append}
 use Rattle.affine_form.proofs.Lists.{All-push}
 use Rattle.serde_json.specs.View.{view}

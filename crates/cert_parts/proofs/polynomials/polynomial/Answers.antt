@@ -1,10 +1,9 @@
-use Rattle.std.proofs.Common.{◌≡◌, ◌<◌, ◌^◌, ℕ, List, true, ltb, refl, subst, sym, ap, ◌∙◌, arith, to_z, of_z}
+use Rattle.std.proofs.Common.{◌≡◌, ◌<◌, ◌^◌, ℕ, refl, subst, ap, ◌∙◌, arith, to_z, of_z}
 use mir.Syntax.{w128}
 use Rattle.std.proofs.lemmas.Int.{to_z-of_z, fits_signed_from_abs}
-use Rattle.std.specs.Prelude.{ℤ, pos, unsigned_abs}
+use Rattle.std.specs.Prelude.{ℤ, unsigned_abs}
 use Rattle.std.proofs.lemmas.Bool.{lt-ltb}
 use Rattle.poly_tree.specs.Terms.{terms_of, terms_size, IsTermsOver}
-use Rattle.serde_json.specs.View.{view}
 use Rattle.cert_parts.specs.Polynomials.{reads_polynomial}
 use Rattle.cert_parts.proofs.polynomials.polynomial.Goals as goal
 

@@ -1,13 +1,12 @@
-use Rattle.std.proofs.Common.{◌≡◌, ◌+◌, List, [], ◌∷◌, ◌++◌, map, Ok, subst, sym, ap, ◌∙◌, true}
-use Rattle.std.specs.List.{AllByRecursion}
+use Rattle.std.proofs.Common.{◌≡◌, List, [], ◌∷◌, ◌++◌, Ok, subst, true}
 use Rattle.std.proofs.lemmas.List.{map_push}
 use Rattle.iolb_model.specs.Polynomial.{Term}
 use Rattle.affine_form.proofs.Lists.{All-push}
-use Rattle.poly_tree.specs.Terms.{term_of, terms_of, HasExponents, AreApart}
+use Rattle.poly_tree.specs.Terms.{term_of, terms_of, HasExponents}
 use Rattle.serde_json.specs.View.{view}
 use Rattle.cert_parts.specs.Outcome.{Fails}
 use Rattle.cert_parts.specs.Polynomials.{reads_term_behind, reads_terms, stands_apart}
-use Rattle.cert_parts.proofs.TermLoop.{left, goes_on, ends, is_done, AreApart-push}
+use Rattle.cert_parts.proofs.TermLoop.{goes_on, ends, is_done, AreApart-push}
 use Rattle.cert_parts.proofs.polynomials.terms.Goals as goal
 
 pub returns-in-Err-term_behind-clause-read : goal.returns-in-Err-term_behind-clause-read

@@ -1,4 +1,4 @@
-use Rattle.std.proofs.Common.{◌≡◌, map, drop}
+use Rattle.std.proofs.Common.{◌≡◌}
 use Rattle.std.specs.List.{AllByRecursion}
 use Rattle.poly_tree.specs.Terms.{terms_of, HasExponents, AreApart}
 use Rattle.serde_json.specs.View.{view}

@@ -1,14 +1,14 @@
-use Rattle.std.proofs.Common.{◌≡◌, ◌-◌, ◌<◌, ℕ, List, Some, Ok, Err, true, false, codes, refl, sym, ap, subst, ◌∙◌, arith}
+use Rattle.std.proofs.Common.{◌≡◌, ◌-◌, ℕ, Some, Ok, codes, refl, sym, ap, subst, ◌∙◌, arith}
 use Rattle.affine_form.specs.declared.place.Step.TheVariants.{Key}
 use Rattle.affine_form.specs.declared.key.TheConstants.{FORM, NO, YES}
-use Rattle.dep_quast.specs.Tree.{SelectionTree, tree_of, test}
+use Rattle.dep_quast.specs.Tree.{SelectionTree, tree_of}
 use Rattle.serde_json.specs.Data.{Data}
 use Rattle.serde_json.specs.Find.{get}
 use Rattle.serde_json.specs.View.{view}
-use Rattle.cert_parts.specs.Outcome.{Outcome, ◌>>=◌, Gives, Fails, fault, under}
-use Rattle.cert_parts.specs.Json.{part, has_keys}
+use Rattle.cert_parts.specs.Outcome.{Outcome, Gives, Fails, fault, under}
+use Rattle.cert_parts.specs.Json.{part}
 use Rattle.cert_parts.specs.Parts.{reads_form}
-use Rattle.cert_parts.specs.Trees.{test_keys, reads_test, reads_nested}
+use Rattle.cert_parts.specs.Trees.{reads_test, reads_nested}
 use Rattle.cert_parts.proofs.Members.{part_there, part_absent, fails_fault, fails_under, fails_then}
 use Rattle.cert_parts.proofs.Nested.{nested_leaf, nested_past, nested_test}
 use Rattle.cert_parts.proofs.trees.+nested.Goals as goal

@@ -1,8 +1,7 @@
-use Rattle.std.proofs.Common.{◌≡◌, ◌+◌, ◌^◌, List, [], ◌∷◌, ◌++◌, map}
+use Rattle.std.proofs.Common.{◌≡◌, [], ◌∷◌, ◌++◌, map}
 use Rattle.std.proofs.lemmas.List.{map_push}
 use Rattle.cert_parts.specs.Read.{row_trees}
 use Rattle.cert_parts.specs.Trees.{reads_trees, reads_all_trees}
-use Rattle.affine_form.proofs.Lists.{All-push}
 use Rattle.serde_json.specs.View.{view}
 use Rattle.cert_parts.proofs.Loop.{goes_on, ends, is_done}
 use Rattle.cert_parts.proofs.trees.all_trees.Goals as goal

@@ -1,5 +1,4 @@
-use Rattle.std.proofs.Common.{◌≡◌, ◌+◌, List, ℕ, map, drop, length}
-use Rattle.std.specs.Prelude.{◌^◌}
+use Rattle.std.proofs.Common.{◌≡◌, map, drop}
 use Rattle.cert_parts.specs.Read.{row_trees}
 use Rattle.cert_parts.specs.Trees.{reads_trees, reads_all_trees}
 use Rattle.serde_json.specs.View.{view}

@@ -1,5 +1,4 @@
-use Rattle.std.proofs.Common.{◌≡◌, ◌+◌, List, ℕ, map, drop, length}
-use Rattle.std.specs.Prelude.{◌^◌}
+use Rattle.std.proofs.Common.{◌≡◌, map, drop}
 use Rattle.dep_quast.specs.Tree.{tree_of}
 use Rattle.cert_parts.specs.Trees.{reads_tree, reads_trees}
 use Rattle.serde_json.specs.View.{view}

@@ -1,4 +1,4 @@
-use Rattle.std.proofs.Common.{◌≡◌, List, Ok, codes, refl, sym, subst}
+use Rattle.std.proofs.Common.{List, Ok, codes, sym, subst}
 use Rattle.iolb_model.specs.Polynomial.{Polynomial}
 use Rattle.affine_form.specs.declared.key.TheConstants.{SUMS}
 use Rattle.poly_tree.specs.Poly.{Quotient}

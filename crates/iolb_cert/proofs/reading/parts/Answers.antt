@@ -1,6 +1,5 @@
-use Rattle.std.proofs.Common.{◌≡◌, Vec, Global, List, map, ap, sym}
+use Rattle.std.proofs.Common.{◌≡◌, Vec, Global, map, ap, sym}
 use Rattle.dep_quast.specs.declared.quast.Quast.{Quast}
-use Rattle.reuse_paths.specs.declared.quasts.Quasts.{Quasts}
 use Rattle.serde_json.specs.View.{view}
 use Rattle.cert_parts.specs.Read.{row_trees}
 use Rattle.iolb_cert.proofs.Opened.{certificate_read}
