@@ -5,7 +5,7 @@ use Rattle.iolb_model.specs.Polynomial.{Polynomial}
 use Rattle.dep_quast.specs.declared.quast.Quast.{Quast}
 use Rattle.dep_quast.specs.Tree.{SelectionTree, tree_of}
 use Rattle.poly_tree.specs.Poly.{Quotient}
-use Rattle.poly_tree.specs.Terms.{IsTermsOver}
+use Rattle.poly_tree.specs.Terms.{IsNoGreater, IsTermsOver}
 
 -- each of the second list stands in a relation to that of the first in its place, and there are as many
 abbrev pub AreAll : {A X : Type 0} → (A → X → Type 0) → List A → List X → Type 0
@@ -14,9 +14,10 @@ AreAll R [] (x ∷ xs) = ⊥
 AreAll R (a ∷ more) [] = ⊥
 AreAll R (a ∷ more) (x ∷ xs) = R a x × AreAll R more xs
 
--- a polynomial that was read has the value of the terms over the denominator
-abbrev pub IsPolynomial : Polynomial → Quotient → Type 0
-IsPolynomial polynomial q = IsTermsOver polynomial.terms polynomial.denominator q
+-- a polynomial that was read has the value of the terms over the denominator, and numbers no greater than theirs
+pub record IsPolynomial (polynomial : Polynomial) (q : Quotient) : Type 0 where
+  pub value : IsTermsOver polynomial.terms polynomial.denominator q
+  pub within : IsNoGreater polynomial.terms polynomial.denominator q
 
 abbrev pub ArePolynomials : List Polynomial → List Quotient → Type 0
 ArePolynomials = AreAll IsPolynomial

@@ -4,12 +4,12 @@ use affine_form::{Form, Multipliers};
 
 /// A leaf that names a source, by its parts.
 #[derive(Clone, Copy)]
-pub(crate) struct Claimed<'a> {
-    pub(crate) statement: u16,
-    pub(crate) level: u8,
-    pub(crate) point: &'a [Form],
-    pub(crate) domain: &'a [Multipliers],
-    pub(crate) cell: &'a [Multipliers],
-    pub(crate) before: &'a [Multipliers],
-    pub(crate) between: &'a [Multipliers],
+pub struct Claimed<'a> {
+    pub statement: u16,
+    pub level: u8,
+    pub point: &'a [Form],
+    pub domain: &'a [Multipliers],
+    pub cell: &'a [Multipliers],
+    pub before: &'a [Multipliers],
+    pub between: &'a [Multipliers],
 }

@@ -61,7 +61,7 @@ fn is_level(program: &Program, t: u16, s: u16, level: usize) -> bool
 }
 
 /// How many rows say that one instance comes before another at a level.
-fn rows_of_level(program: &Program, t: u16, s: u16, level: u8) -> usize
+pub fn rows_of_level(program: &Program, t: u16, s: u16, level: u8) -> usize
     requires t_there { t < length program.now.statements }
     requires s_there { s < length program.now.statements }
     ensures { result ≡ order_count (length (common_loops (meaning program.now) t s)) level }
@@ -105,7 +105,7 @@ fn pairs_of(program: &Program, reader: Reader, source: u16, writer: u16) -> usiz
 }
 
 /// At how many levels writers of the array may come before the reader.
-fn earlier_count(program: &Program, reader: Reader) -> usize
+pub fn earlier_count(program: &Program, reader: Reader) -> usize
     requires read { ReadFits (meaning program.now) (read_of reader) }
     ensures { result ≡ length (levels_before (meaning program.now) (writers (meaning program.now) (reference_of (meaning program.now) (read_of reader)).array) reader.statement) }
 {
@@ -117,7 +117,7 @@ fn earlier_count(program: &Program, reader: Reader) -> usize
 }
 
 /// At how many pairs of levels writers of the array may come after the source and before the reader.
-fn between_count(program: &Program, reader: Reader, source: u16) -> usize
+pub fn between_count(program: &Program, reader: Reader, source: u16) -> usize
     requires read { ReadFits (meaning program.now) (read_of reader) }
     requires source { source < length program.now.statements }
     ensures { result ≡ length (levels_between (meaning program.now) source (writers (meaning program.now) (reference_of (meaning program.now) (read_of reader)).array) reader.statement) }

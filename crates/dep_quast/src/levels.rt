@@ -11,7 +11,7 @@ use std::alloc::Global;
 
 /// How many levels there are at which an instance of t may come before one of s: one for each loop around both, and one
 /// more where t stands before s in the text.
-pub(crate) fn level_count(program: &Program, t: u16, s: u16) -> usize
+pub fn level_count(program: &Program, t: u16, s: u16) -> usize
     requires t_there { t < length program.now.statements }
     requires s_there { s < length program.now.statements }
     ensures count { result ≡ level_count (meaning program.now) t s }

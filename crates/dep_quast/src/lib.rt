@@ -3,12 +3,12 @@
 #![tactic(auto)]
 
 mod check;
-mod claimed;
+pub mod claimed;
 pub mod claims_shown;
 mod context;
-mod fitting;
+pub mod fitting;
 mod leaves;
-mod levels;
+pub mod levels;
 pub mod lists;
 pub mod point_rows;
 mod quast;

@@ -1,13 +1,9 @@
-//! The text of certificates.
+//! The texts of certificates and of the bounds that they give.
 #![tactic(auto)]
 
-mod branches;
-mod cold;
-mod members;
-mod reading;
-mod terms;
-#[cfg(test)]
-mod tests;
+mod bound_lines;
 
+pub use bound_lines::bound_text;
 pub use cert_parts::{CertError, CertFault};
-pub use reading::read_parts;
+pub use cert_reading::read_certificate;
+pub use cert_writing::certificate_text;

@@ -1,4 +1,3 @@
-pub mod Entries
-pub mod UsesLemmas
-pub mod Positive
-pub mod NestParts
+pub mod Lists
+pub mod Terms
+pub mod Exactness

@@ -1,5 +1,3 @@
-pub mod Columns
-pub mod Uses
-pub mod Values
-pub mod Certificate
-pub mod Refusal
+pub mod Bounds
+pub mod Conditions
+pub mod Exact

@@ -1,7 +1,8 @@
 //! Bounds on loads.
 
 ghost use Rattle.std.specs.Prelude.{◌≡◌, ◌<◌, length, map, Some, slice_get};
-ghost use Rattle.affine_form.specs.System.{AllOver};
+ghost use Rattle.std.specs.List.{AllByRecursion};
+ghost use Rattle.iolb_check.specs.Bounds.{IsBound, IsTermValue, lists};
 
 use affine_form::System;
 use poly_tree::Poly;
@@ -15,7 +16,9 @@ pub enum Value {
 }
 
 /// A bound on the loads of a program: the assumptions about its parameters, and branches, each with its terms' values.
-/// The value of a branch is the sum of its terms' values, and that of a bound the greatest of its branches.
+/// The value of a branch is the sum of its terms' values, and that of a bound the greatest of its branches. The checker
+/// alone makes bounds; their polynomials use only the program's parameters, and at all parameter values that meet the
+/// assumptions their values are whole numbers of at least 0.
 #[derive(Debug, Drop)]
 pub struct Bound {
     assumed: System,
@@ -24,28 +27,41 @@ pub struct Bound {
 
 impl Model for Bound {
     ghost use Rattle.std.specs.Prelude.{List, map};
-    ghost use Rattle.iolb_model.specs.Bound.{Bound};
-    ghost use Rattle.iolb_check.specs.Values.{term_of};
+    ghost use Rattle.std.specs.Coded.{codes};
+    ghost use Rattle.poly_tree.specs.contracts.tree.Tree as tree;
+    ghost use Rattle.iolb_check.specs.Bounds.{BoundParts, IsBound};
 
-    ghost Value = { Bound };
+    ghost Value = { BoundParts };
 
-    ghost view = { λ bound. record { assumptions = bound.assumed.rows; branches = map (λ terms. map term_of terms.items) bound.branches.items } };
+    ghost coded = { Prim.hlevel (codes, tree.the_row.coded) };
+
+    ghost view = { λ bound. record { assumed = bound.assumed; branches = map (λ terms. terms.items) bound.branches.items } };
+
+    ghost invariant = { λ bound. IsBound (record { assumed = bound.assumed; branches = map (λ terms. terms.items) bound.branches.items }) };
 }
 
 impl Bound {
-    ghost use Rattle.iolb_check.specs.Values.{term_of};
-
     pub(crate) fn new(assumed: System, branches: Vec<Vec<Value>>) -> Bound
-        ensures { result ≡ record { assumptions = assumed.rows; branches = map (λ terms. map term_of terms.items) branches.items } }
+        requires { IsBound (record { assumed = assumed; branches = map (λ terms. terms.items) branches.items }) }
+        ensures { result ≡ record { assumed = assumed; branches = map (λ terms. terms.items) branches.items } }
     {
         Bound { assumed, branches }
     }
 
     /// The assumptions, each a form of the parameters that is at least 0.
     pub fn assumed(&self) -> &System
-        ensures { result.now.rows ≡ self.now.assumptions }
+        ensures assumed { result.now ≡ self.now.assumed }
+        ensures legal { IsBound self.now }
     {
         &self.assumed
+    }
+
+    /// The values of each branch's terms.
+    pub(crate) fn branch_lists(&self) -> &[Vec<Value>]
+        ensures branches { lists result.now ≡ self.now.branches }
+        ensures legal { IsBound self.now }
+    {
+        self.branches.as_slice()
     }
 
     /// How many branches there are.
@@ -58,7 +74,8 @@ impl Bound {
     /// The values of a branch's terms, in order.
     pub fn terms(&self, branch: usize) -> &[Value]
         requires { branch < length self.now.branches }
-        ensures { slice_get self.now.branches branch ≡ Some (map term_of result.now) }
+        ensures terms { slice_get self.now.branches branch ≡ Some result.now }
+        ensures legal { AllByRecursion (IsTermValue self.now.assumed) result.now }
     {
         self.branches[branch].as_slice()
     }

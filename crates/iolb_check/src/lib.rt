@@ -2,12 +2,13 @@
 #![tactic(auto)]
 
 mod bound;
-mod certificate;
+mod branches;
 mod checker;
-mod inverse;
-mod product;
-mod uses;
+mod evaluation;
+pub mod law;
+mod value_fault;
 
 pub use bound::{Bound, Value};
-pub use certificate::Certificate;
+pub use certificates::{Branch, Certificate, Term};
 pub use checker::check;
+pub use value_fault::ValueFault;

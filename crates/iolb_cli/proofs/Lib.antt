@@ -1,10 +1,5 @@
-pub mod Loops
 pub mod Sinks
-pub mod Branches
-pub mod Ranges
-pub mod Growing
 pub mod Keys
-pub mod Entries
-pub mod Shapes
-pub mod Assumptions
+pub mod Words
 pub mod Stops
+pub mod Values

@@ -1,12 +1,12 @@
 pub mod Status
-pub mod Words
 pub mod Reading
-pub mod PlainCertificate
-pub mod CertificateText
 pub mod PointerText
 pub mod Lines
-pub mod Stop
+pub mod Values
+pub mod Task
+pub mod Answers
 pub mod Judged
+pub mod Stop
 pub mod Outcome
 pub mod Written
 pub mod Headline

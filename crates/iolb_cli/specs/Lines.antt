@@ -4,7 +4,7 @@ use Rattle.iolb_host.specs.declared.files.FileFault.{FileFault}
 use Rattle.iolb_host.specs.declared.files.FileFault.TheVariants.{Missing, TooLong, Failed, Memory}
 use Rattle.affine_text.specs.declared.fault.ProgramFault.{ProgramFault}
 use Rattle.affine_form.specs.declared.place.Step.{Step}
-use Rattle.iolb_cli.specs.declared.cert_error.CertFault.{CertFault}
+use Rattle.cert_parts.specs.declared.error.CertFault.{CertFault}
 use Rattle.iolb_cli.specs.PointerText.{pointer_text}
 
 -- the usage text
@@ -33,3 +33,11 @@ certificate_line fault = codes "certificate text refused: fault " ++ decimal fau
 
 abbrev pub condition_line : ℕ → List Step → List ℕ
 condition_line condition place = codes "certificate refused: condition " ++ decimal condition ++ codes " at " ++ pointer_text place ++ codes "\n"
+
+-- the assumption of this number is false at the sizes
+abbrev pub assumption_line : ℕ → List ℕ
+assumption_line number = codes "assumption " ++ decimal number ++ codes " is false\n"
+
+-- a value is beyond 128 bits
+abbrev pub wide_line : List ℕ
+wide_line = codes "value beyond 128 bits\n"

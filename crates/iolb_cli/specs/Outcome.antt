@@ -1,11 +1,11 @@
 -- What a call of the program leaves, by its status.
-use Rattle.std.specs.Prelude.{◌≡◌, ℕ, ◌⊎◌, List, Option}
+use Rattle.std.specs.Prelude.{◌≡◌, ℕ, ◌⊎◌, List, Option, Some}
 use Rattle.iolb_host.specs.Count.{Rose}
 use Rattle.iolb_host.specs.Sink.{AppendsPiece, AppendsPart}
 use Rattle.iolb_cli.specs.declared.status.Status.{Status}
 use Rattle.iolb_cli.specs.declared.status.Status.TheVariants.{Done, Refused, Words, ProgramText, OtherText, FileAbsent, ReadFault, WriteFault, Wide, NoMemory}
 use Rattle.iolb_cli.specs.declared.stop.Stop.{Stop}
-use Rattle.iolb_cli.specs.Words.{IsCheck}
+use Rattle.command_words.specs.Requests.{Request, request_of}
 use Rattle.iolb_cli.specs.Lines.{out_of_memory}
 use Rattle.iolb_cli.specs.Stop.{IsAccepted, stop_status, Call, Stops}
 
@@ -29,12 +29,11 @@ Stays sink = sink.after ≡ sink.before
 abbrev pub Fails : SinkUse → Type 0
 Fails sink = Rose sink.faults sink.faults_after
 
--- the words ask for a check, its certificate is accepted, and this is the bound's text
+-- the words make a request, its certificate is accepted, and this text answers it
 pub record IsDone (call : Call) (text : List ℕ) : Type 0 where
-  pub program : List ℕ
-  pub certificate : List ℕ
-  pub asked : IsCheck call.words program certificate
-  pub accepted : IsAccepted call.files program certificate text
+  pub request : Request
+  pub asked : request_of call.words ≡ Some request
+  pub accepted : IsAccepted call.files request text
 
 -- the call stops with this status: its line is written to the standard error, and nothing to the output
 pub record IsStopped (status : Status) (call : Call) (output error : SinkUse) : Type 0 where
@@ -49,7 +48,7 @@ pub record IsStopped (status : Status) (call : Call) (output error : SinkUse) : 
 abbrev pub IsDue : Call → List ℕ → Type 0
 IsDue call line = (line ≡ out_of_memory) ⊎ ((stop : Stop) × Stops call stop line)
 
--- What is left where a write failed or memory ran out: the output has gained the first bytes of the bound's text at
+-- What is left where a write failed or memory ran out: the output has gained the first bytes of the answer at
 -- most, and the standard error those of a line that was due.
 pub record IsCutShort (call : Call) (output error : SinkUse) : Type 0 where
   pub output_part : Stays output ⊎ ((text : List ℕ) × IsDone call text × GainsPart output text)
@@ -65,5 +64,5 @@ Outcome OtherText call output error = IsStopped OtherText call output error
 Outcome FileAbsent call output error = IsStopped FileAbsent call output error
 Outcome ReadFault call output error = IsStopped ReadFault call output error
 Outcome WriteFault call output error = (Fails output ⊎ Fails error) × IsCutShort call output error
-Outcome Wide call output error = ⊥
+Outcome Wide call output error = IsStopped Wide call output error
 Outcome NoMemory call output error = IsCutShort call output error

@@ -6,16 +6,16 @@ ghost use Rattle.iolb_cli.specs.Written.{LineWritten};
 ghost use Rattle.iolb_cli.specs.Outcome.{Outcome};
 ghost use Rattle.iolb_cli.specs.Headline.{IsLowerBoundPrinted};
 
-use crate::checking::check_files;
+use crate::checking::run_command;
 use crate::lines::stop_line;
 use crate::status::Status;
 use crate::stop::Stop;
-use crate::words::check_names;
 use crate::writing::{no_memory, write_line, write_output};
+use command_words::command_of;
 use iolb_host::{Files, Sink};
 use std::alloc::Global;
 
-/// Writes why the check of these two files stops.
+/// Writes why a request about these two files stops.
 fn stopped<E: Sink>(
     alloc: Global,
     program: &str,
@@ -31,7 +31,9 @@ fn stopped<E: Sink>(
     }
 }
 
-/// Does what the words after the program's name ask for.
+/// Does what the words after the program's name ask for: `check PROGRAM CERTIFICATE` checks a certificate and prints its
+/// bound, and `eval PROGRAM CERTIFICATE S NAME=NUMBER...` checks it and prints the values of the bound's branches, and its
+/// own, with S red pebbles at these sizes of the program's parameters.
 pub fn run<F: Files, O: Sink, E: Sink>(
     alloc: Global,
     words: &Vec<String>,
@@ -64,11 +66,13 @@ pub fn run<F: Files, O: Sink, E: Sink>(
       };
     }) (record { before = O.written out.old; after = O.written out.new; faults = O.faults out.old; faults_after = O.faults out.new }) (record { before = E.written err.old; after = E.written err.new; faults = E.faults err.old; faults_after = E.faults err.new }) }
 {
-    let Some((program, certificate)) = check_names(words) else {
-        return stopped(alloc, "", "", &Stop::Words, err);
+    let command = match command_of(alloc, words.as_slice()) {
+        Ok(Some(command)) => command,
+        Ok(None) => return stopped(alloc, "", "", &Stop::Words, err),
+        Err(_) => return stopped(alloc, "", "", &Stop::Memory, err),
     };
-    match check_files(alloc, program, certificate, files) {
+    match run_command(alloc, &command, files) {
         Ok(text) => write_output(out, err, text.as_slice()),
-        Err(stop) => stopped(alloc, program, certificate, &stop, err),
+        Err(stop) => stopped(alloc, command.program, command.certificate, &stop, err),
     }
 }

@@ -1,19 +1,22 @@
 //! The lines that are written to the standard error.
 
 ghost use Rattle.std.specs.Prelude.{◌≡◌, ◌++◌, ℕ, codes, decimal, IfOk};
-ghost use Rattle.iolb_cli.specs.Lines.{usage, out_of_memory, file_line as line_of_file, program_line as line_of_program, place_part as part_of_place, certificate_line as line_of_certificate, condition_line as line_of_condition};
+ghost use Rattle.iolb_cli.specs.Lines.{usage, out_of_memory, file_line as line_of_file, program_line as line_of_program, place_part as part_of_place, certificate_line as line_of_certificate, condition_line as line_of_condition, assumption_line as line_of_assumption};
 ghost use Rattle.iolb_cli.specs.Stop.{stop_line as line_of_stop};
 
-use crate::cert_error::CertFault;
 use crate::pointer_text::pointer_text;
 use crate::stop::Stop;
 use affine_form::{Memory, No};
 use affine_text::ProgramFault;
+use iolb_cert::CertFault;
 use iolb_host::FileFault;
 use std::alloc::Global;
 
 const USAGE: &[u8] =
     b"usage: iolb check PROGRAM CERTIFICATE\n       iolb bound PROGRAM\n       iolb eval PROGRAM CERTIFICATE S NAME=NUMBER...\n       iolb replay PROGRAM SCHEDULE S NAME=NUMBER...\n       iolb sample N\n";
+
+/// The line for a value beyond 128 bits.
+const WIDE: &[u8] = b"value beyond 128 bits\n";
 
 /// The line for want of memory.
 pub(crate) const OUT_OF_MEMORY: &[u8] = b"out of memory\n";
@@ -80,7 +83,15 @@ fn condition_line(alloc: Global, failed: &No) -> Result<Vec<u8>, Memory>
     Ok(line)
 }
 
-/// The line that says why the check of these two files stops.
+/// The first assumption that is false.
+fn assumption_line(alloc: Global, number: u16) -> Result<Vec<u8>, Memory>
+    ensures { IfOk result (λ line. line.items ≡ line_of_assumption number) }
+{
+    let line = format!(in alloc; "assumption {number} is false\n")?;
+    Ok(Vec::from_slice(alloc, line.as_bytes())?)
+}
+
+/// The line that says why a request about these two files stops.
 pub(crate) fn stop_line(
     alloc: Global,
     program: &str,
@@ -96,6 +107,8 @@ pub(crate) fn stop_line(
         Stop::CertificateFile(fault) => file_line(alloc, certificate, *fault),
         Stop::CertificateText(fault) => certificate_line(alloc, fault),
         Stop::Condition(failed) => condition_line(alloc, failed),
+        Stop::Assumption(number) => assumption_line(alloc, *number),
+        Stop::Wide => Ok(Vec::from_slice(alloc, WIDE)?),
         Stop::Memory => Ok(Vec::from_slice(alloc, OUT_OF_MEMORY)?),
     }
 }

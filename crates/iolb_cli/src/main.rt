@@ -1,23 +1,15 @@
-//! The program `iolb`: checks certificates of lower bounds on the loads of affine loop nests.
+//! The program `iolb`: checks certificates of lower bounds on the loads of affine loop nests, and evaluates them.
 #![tactic(auto)]
 
-mod bound_lines;
+mod answer;
 mod call;
-mod cert_error;
-mod certificate_text;
 mod checking;
-mod json_numbers;
 mod lines;
-mod loop_parts;
-mod matrix_entries;
-mod plain_certificate;
 mod pointer_text;
 mod status;
 mod stop;
-mod sums;
 #[cfg(test)]
 mod tests;
-mod words;
 mod writing;
 
 use crate::status::Status;

@@ -3,16 +3,16 @@
 ghost use Rattle.std.specs.Prelude.{◌≡◌};
 ghost use Rattle.iolb_cli.specs.Stop.{file_status, stop_status};
 
-use crate::cert_error::CertFault;
 use crate::status::Status;
 use affine_form::No;
 use affine_text::ProgramFault;
+use iolb_cert::CertFault;
 use iolb_host::FileFault;
 
 /// Why a call of the program stops before it is done.
 #[derive(Debug, Drop)]
 pub enum Stop {
-    /// The words of the command line ask for nothing that the program does.
+    /// The words of the command line ask for nothing that the program does, or don't name the program's parameters.
     Words,
     /// The program's file wasn't read.
     ProgramFile(FileFault),
@@ -24,6 +24,10 @@ pub enum Stop {
     CertificateText(CertFault),
     /// The certificate fails a condition.
     Condition(No),
+    /// The assumption of this number is false at the sizes.
+    Assumption(u16),
+    /// A value is beyond 128 bits.
+    Wide,
     /// There was no memory.
     Memory,
 }
@@ -50,7 +54,8 @@ impl Stop {
             Stop::ProgramText(_) => Status::ProgramText,
             Stop::CertificateFile(fault) => status_of_file(*fault),
             Stop::CertificateText(_) => Status::OtherText,
-            Stop::Condition(_) => Status::Refused,
+            Stop::Condition(_) | Stop::Assumption(_) => Status::Refused,
+            Stop::Wide => Status::Wide,
             Stop::Memory => Status::NoMemory,
         }
     }

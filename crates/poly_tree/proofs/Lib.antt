@@ -14,5 +14,7 @@ pub mod Reduced
 pub mod SameLemmas
 pub mod Sums
 pub mod TermLemmas
+pub mod TermNumbers
 pub mod Trees
 pub mod Unique
+pub mod WrittenTerms

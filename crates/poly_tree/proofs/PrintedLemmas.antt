@@ -65,7 +65,7 @@ power-monomial v (suc e) es point le =
       place : (m n : ℕ) → n ≤ m → 0 + n + (m - n) ≡ m
       place m n p = omega arith
 
-Short : ℕ → List Term → Type 0
+unfoldable pub Short : ℕ → List Term → Type 0
 Short v ts = AllByRecursion (λ (t : Term). length t.exponents ≤ v) ts
 
 mapped-value : (v e : ℕ) (ts : List Term) (point : List ℤ) → Short v ts → terms_value (map (with_power v e) ts) point ≡ int_power (at point v) e *ℤ terms_value ts point
@@ -102,7 +102,7 @@ short-mapped v e (t ∷ ts) h = (length-exponent v e t.exponents h.0, short-mapp
 mutual
   unfolding Short
 
-  short : (bound : ℕ) (t : Expansion) → IsCanonical bound t → Short bound (expansion_terms t)
+  pub short : (bound : ℕ) (t : Expansion) → IsCanonical bound t → Short bound (expansion_terms t)
   short bound (number (pos zero)) c = tt
   short bound (number (pos (suc n))) c = (omega arith, tt)
   short bound (number (negsuc n)) c = (omega arith, tt)
@@ -135,10 +135,13 @@ mutual
       ∙ ap (λ (z : ℤ). (int_power x e *ℤ value t (at point)) +ℤ z) (parts-value v (suc e) ps point c.1 ∙ ap (λ (z : ℤ). z *ℤ parts_value ps x (at point)) (mul_comm x (int_power x e)) ∙ mul_assoc_ℤ (int_power x e) x (parts_value ps x (at point)))
       ∙ sym (mul-add (int_power x e) (value t (at point)) (x *ℤ parts_value ps x (at point)))
 
+-- of a canonical tree
+pub printed-value : (bound : ℕ) (t : Expansion) (point : List ℤ) → IsCanonical bound t → terms_value (in_print_order (expansion_terms t)) point ≡ value t (at point)
+printed-value bound t point c = order-value (expansion_terms t) point ∙ terms-value bound t point c
+
 -- the law
 pub terms_have_the_value : TermsHaveTheValue
-terms_have_the_value q legal point =
-    order-value (expansion_terms (expansion q.tree)) point ∙ terms-value (2 ^ 16) (expansion q.tree) point legal.canonical
+terms_have_the_value q legal point = printed-value (2 ^ 16) (expansion q.tree) point legal.canonical
 
 -- terms put into a row that is in order, the last first
 abbrev pub insert_all : List Term → List Term → List Term
@@ -180,7 +183,7 @@ nonzero-insert t (s ∷ ts) h = by (is_printed_before t s) (nonzero-insert t ts 
   by true k = h
   by false k = (h.1.0, k)
 
-nonzero-order : (ts : List Term) → AreNonzero ts → AreNonzero (in_print_order ts)
+pub nonzero-order : (ts : List Term) → AreNonzero ts → AreNonzero (in_print_order ts)
 nonzero-order [] h = tt
 nonzero-order (t ∷ ts) h = nonzero-insert t (in_print_order ts) (h.0, nonzero-order ts h.1)
 

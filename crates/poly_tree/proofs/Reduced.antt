@@ -15,7 +15,7 @@ use Rattle.poly_tree.specs.Poly.{IsLegal, IsReduced}
 
 -- what is canonical as a multiple is so itself
 mutual
-  unscaled : (bound : ℕ) (k : ℤ) (t : Expansion) → IsCanonical bound (scaled k t) → IsCanonical bound t
+  pub unscaled : (bound : ℕ) (k : ℤ) (t : Expansion) → IsCanonical bound (scaled k t) → IsCanonical bound t
   unscaled bound k (number n) h = tt
   unscaled bound k (over v ps) h = (h.0, unscaled-parts v k ps h.1, unscaled-top k ps h.2)
 

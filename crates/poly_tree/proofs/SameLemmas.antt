@@ -17,7 +17,7 @@ use Rattle.poly_tree.proofs.Products.{value-scaled, canonical-scaled}
 use Rattle.poly_tree.proofs.Unique.{agree, unique}
 
 -- the first values of a point as a list
-listed : (ℕ → ℤ) → ℕ → List ℤ
+unfoldable pub listed : (ℕ → ℤ) → ℕ → List ℤ
 listed point zero = []
 listed point (suc n) = listed point n ++ point n ∷ []
 
@@ -26,7 +26,7 @@ unfolding listed
 length-listed point zero = refl
 length-listed point (suc n) = omega (arith, length-listed point n, length-append (listed point n) (point n ∷ []))
 
-at-listed : (point : ℕ → ℤ) (n w : ℕ) → w < n → at (listed point n) w ≡ point w
+pub at-listed : (point : ℕ → ℤ) (n w : ℕ) → w < n → at (listed point n) w ≡ point w
 unfolding listed
 at-listed point zero w p = absurd (omega arith)
 at-listed point (suc n) w p = by (λ less. at-listed point n w less) (cases w n p) where

@@ -43,7 +43,7 @@ root a f e = from (unsigned_abs a) (unsigned_abs f) (sizes a (pos (suc (unsigned
   from m (suc n) p q = absurd (omega arith)
 
 -- two sums that agree with a large factor have the same first part
-roots : (a b f g : ℤ) → (a +ℤ (pos (suc (unsigned_abs (a -ℤ b))) *ℤ f)) ≡ (b +ℤ (pos (suc (unsigned_abs (a -ℤ b))) *ℤ g)) → a ≡ b
+pub roots : (a b f g : ℤ) → (a +ℤ (pos (suc (unsigned_abs (a -ℤ b))) *ℤ f)) ≡ (b +ℤ (pos (suc (unsigned_abs (a -ℤ b))) *ℤ g)) → a ≡ b
 roots a b f g e = same (root (a -ℤ b) (f -ℤ g) (apart (pos (suc (unsigned_abs (a -ℤ b))) *ℤ f) (pos (suc (unsigned_abs (a -ℤ b))) *ℤ g) (pos (suc (unsigned_abs (a -ℤ b))) *ℤ (f -ℤ g)) (mul-sub (pos (suc (unsigned_abs (a -ℤ b)))) f g) e)) where
   same : (a -ℤ b) ≡ pos 0 → a ≡ b
   same p = omega (arith, ints)
@@ -52,7 +52,7 @@ roots a b f g e = same (root (a -ℤ b) (f -ℤ g) (apart (pos (suc (unsigned_ab
   apart x y z p q = omega (arith, ints)
 
 -- and then the same second part
-tails : (n : ℕ) (a b f g : ℤ) → a ≡ b → (a +ℤ (pos (suc n) *ℤ f)) ≡ (b +ℤ (pos (suc n) *ℤ g)) → f ≡ g
+pub tails : (n : ℕ) (a b f g : ℤ) → a ≡ b → (a +ℤ (pos (suc n) *ℤ f)) ≡ (b +ℤ (pos (suc n) *ℤ g)) → f ≡ g
 tails n a b f g p e = mul-cancel n f g (left (pos (suc n) *ℤ f) (pos (suc n) *ℤ g) e) where
   left : (x y : ℤ) → (a +ℤ x) ≡ (b +ℤ y) → x ≡ y
   left x y q = omega (arith, ints)
@@ -77,7 +77,7 @@ zero-top (part t none) z h = h
 zero-top (part t (part u ps)) z h = zero-last u ps z.1.0 z.1.1 h
 
 -- the parts' value at a point that may have any value of the variable
-at-put : (v : ℕ) (ps : Parts) (point : ℕ → ℤ) (x : ℤ) → AreCanonical v ps → value (over v ps) (put point v x) ≡ parts_value ps x point
+pub at-put : (v : ℕ) (ps : Parts) (point : ℕ → ℤ) (x : ℤ) → AreCanonical v ps → value (over v ps) (put point v x) ≡ parts_value ps x point
 at-put v ps point x c =
     ap (λ (y : ℤ). parts_value ps y (put point v x)) (put-same point v x) ∙ parts-agree v ps x (put point v x) point c (put-below point v x)
 

@@ -1,10 +1,12 @@
 -- A polynomial's terms in the order in which they are printed.
-use Rattle.std.specs.Prelude.{◌≡◌, ◌≢◌, ℕ, zero, suc, ◌-◌, ◌≤◌, ◌==◌, nat_lt, if◌then◌else◌, ◌||◌, ◌&&◌, Bool, false, ℤ, pos, negsuc, ◌*ℤ◌, List, [], ◌∷◌, ◌++◌, map, replicate, length, sum}
-use Rattle.iolb_model.specs.Polynomial.{Term, Polynomial, numerator, monomial}
+use Rattle.std.specs.Prelude.{◌≡◌, ◌≢◌, ℕ, zero, suc, ◌-◌, ◌≤◌, ◌==◌, max, nat_lt, if◌then◌else◌, ◌||◌, ◌&&◌, Bool, false, ℤ, pos, negsuc, ◌*ℤ◌, List, [], ◌∷◌, ◌++◌, map, replicate, length, sum}
+use Rattle.iolb_model.specs.Polynomial.{Term, Polynomial, numerator, monomial, terms_value}
 use Rattle.std.specs.List.{AllByRecursion}
 use Rattle.iolb_model.specs.Printed.{product_text}
-use Rattle.poly_tree.specs.Expansion.{Expansion, Parts, number, over, none, part}
-use Rattle.poly_tree.specs.Poly.{Quotient, IsLegal, numerator_at}
+use Rattle.affine_form.specs.Form.{IsSmall}
+use Rattle.poly_tree.specs.Expansion.{Expansion, Parts, number, over, none, part, coefficients, IsCanonical}
+use Rattle.poly_tree.specs.Poly.{Quotient, IsLegal, numerator_at, size}
+use Rattle.poly_tree.specs.Terms.{HasExponents, AreApart, terms_size}
 use Rattle.poly_tree.specs.Tree.{expansion}
 
 -- exponents of variables below one, and then its own
@@ -77,6 +79,34 @@ power_product exponents = record { terms = record { coefficient = pos 1; exponen
 abbrev pub ProductsArePrinted : Type 0
 ProductsArePrinted = (q : Quotient) (exponents : List ℕ) → IsLegal q → length exponents ≤ 24 → AllByRecursion (λ e. 1 ≤ e) exponents
     → ((point : List ℤ) → numerator_at q point ≡ (monomial exponents point *ℤ pos q.denominator)) → polynomial_of q ≡ power_product exponents
+
+-- the length of the longest exponent list
+abbrev pub width : List Term → ℕ
+width [] = 0
+width (term ∷ terms) = max (length term.exponents) (width terms)
+
+-- a term's exponents for so many variables; those of variables past the end are 0
+abbrev pub widened : ℕ → List ℕ → List ℕ
+widened n exponents = exponents ++ replicate (n - length exponents) 0
+
+abbrev pub widened_term : ℕ → Term → Term
+widened_term n term = record { coefficient = term.coefficient; exponents = widened n term.exponents }
+
+-- A polynomial's terms in the order in which they are printed, each with an exponent for each variable up to the
+-- greatest that the polynomial uses.
+abbrev pub written_terms : Quotient → List Term
+written_terms q = map (widened_term (width (polynomial_of q).terms)) (polynomial_of q).terms
+
+-- What is known of them, where the polynomial has at most 24 variables: they are terms of which polynomials are made,
+-- none is 0, their coefficients are numbers of the tree, and they have the polynomial's size.
+pub record AreWritten (q : Quotient) : Type 0 where
+  pub fit : IsCanonical 24 (expansion q.tree) → AllByRecursion HasExponents (written_terms q)
+  pub apart : AreApart (written_terms q)
+  pub nonzero : AreNonzero (written_terms q)
+  pub small : (limit : ℕ) → AllByRecursion (IsSmall limit) (coefficients (expansion q.tree))
+      → AllByRecursion (λ (term : Term). IsSmall limit term.coefficient) (written_terms q)
+  pub light : terms_size (written_terms q) q.denominator ≡ size q
+  pub value : (point : List ℤ) → terms_value (written_terms q) point ≡ numerator_at q point
 
 -- no term is printed before one that stands earlier
 abbrev pub AreInOrder : List Term → Type 0

@@ -3,8 +3,10 @@ use Rattle.std.specs.Prelude.{◌≡◌, ◌≢◌, ℕ, ◌+◌, ◌*◌, ◌�
 use Rattle.std.specs.Global.{Global}
 use Rattle.std.specs.List.{AllByRecursion}
 use Rattle.iolb_model.specs.Polynomial.{Term, terms_value}
-use Rattle.poly_tree.specs.Expansion.{Expansion, IsCanonical, DegreesAtMost, at, value, weight}
-use Rattle.poly_tree.specs.Poly.{Quotient, numerator_at}
+use Rattle.affine_form.specs.Form.{IsSmall}
+use Rattle.poly_tree.specs.Expansion.{Expansion, IsCanonical, DegreesAtMost, at, value, weight, coefficients}
+use Rattle.poly_tree.specs.Poly.{Quotient, numerator_at, size}
+use Rattle.poly_tree.specs.Tree.{expansion}
 
 -- a coefficient and the exponents of the variables
 abbrev pub term_of : ℤ × Vec ℕ Global → Term
@@ -43,3 +45,11 @@ pub record IsTermsSum (terms : List Term) (bound : ℕ) (t : Expansion) : Type 0
   pub light : weight t ≤ terms_weight terms
   pub canonical : IsCanonical bound t
   pub degrees : DegreesAtMost 8 t
+
+-- What terms over a denominator become: numbers no greater than theirs, over at most 24 variables.
+pub record IsNoGreater (terms : List Term) (denominator : ℕ) (r : Quotient) : Type 0 where
+  pub numbers : (limit : ℕ) → 1 ≤ limit → AllByRecursion (λ (term : Term). IsSmall limit term.coefficient) terms
+      → AllByRecursion (IsSmall limit) (coefficients (expansion r.tree))
+  pub over : r.denominator ≤ denominator
+  pub light : size r ≤ terms_size terms denominator
+  pub variables : IsCanonical 24 (expansion r.tree)

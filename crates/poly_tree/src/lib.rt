@@ -12,6 +12,7 @@ mod flatten;
 mod join;
 mod linear;
 mod mul;
+mod numbers;
 mod poly;
 mod poly_text;
 mod print_order;
@@ -28,6 +29,7 @@ mod top;
 mod tree;
 mod weight;
 mod wide;
+mod written;
 
 pub use fault::PolyFault;
 pub use poly::Poly;

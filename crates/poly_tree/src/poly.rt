@@ -271,7 +271,7 @@ fn size_product(a: &Poly, b: &Poly) -> u128
 }
 
 /// The size of a polynomial, or 2^126 if that is less.
-fn size_of(poly: &Poly) -> u128
+pub(crate) fn size_of(poly: &Poly) -> u128
     ensures size { result ≡ min (size poly.now) (2 ^ 126) }
     ensures legal { IsLegal poly.now }
 {

@@ -3,7 +3,7 @@
 ghost use Rattle.std.specs.Prelude.{◌≡◌, ◌*◌, ◌<◌, ◌≤◌, ◌^◌, ◌+◌, [], ◌∷◌, ◌++◌, length, min, pos, ◌≤ℤ◌, replicate, unsigned_abs, IfOk, IsOk};
 ghost use Rattle.std.specs.List.{AllByRecursion};
 ghost use Rattle.poly_tree.specs.Expansion.{IsJoined, IsMonomial, parts_from, zero_expansion};
-ghost use Rattle.poly_tree.specs.Terms.{AreApart, HasExponents, IsTermsOver, IsTermsSum, terms_of, terms_size, terms_weight};
+ghost use Rattle.poly_tree.specs.Terms.{AreApart, HasExponents, IsNoGreater, IsTermsOver, IsTermsSum, terms_of, terms_size, terms_weight};
 ghost use Rattle.poly_tree.specs.Tree.{expansion, expansions};
 
 use crate::fault::PolyFault;
@@ -32,6 +32,7 @@ impl Poly {
         requires exponents { AllByRecursion HasExponents (terms_of terms.now) }
         requires apart { AreApart (terms_of terms.now) }
         ensures value { IfOk result (λ r. IsTermsOver (terms_of terms.now) (unsigned_abs den) r) }
+        ensures within { IfOk result (λ r. IsNoGreater (terms_of terms.now) (unsigned_abs den) r) }
         ensures narrow { IsOk result → terms_size (terms_of terms.now) (unsigned_abs den) < 2 ^ 126 }
         ensures wide { result ≡ Err PolyFault.Wide → 2 ^ 126 ≤ terms_size (terms_of terms.now) (unsigned_abs den) }
     {

@@ -3,7 +3,7 @@ use mir.Syntax.{w128}
 use Rattle.std.proofs.lemmas.Int.{to_z-of_z, fits_signed_from_abs}
 use Rattle.std.specs.Prelude.{ℤ, unsigned_abs}
 use Rattle.std.proofs.lemmas.Bool.{lt-ltb}
-use Rattle.poly_tree.specs.Terms.{terms_of, terms_size, IsTermsOver}
+use Rattle.poly_tree.specs.Terms.{terms_of, terms_size, IsNoGreater, IsTermsOver}
 use Rattle.cert_parts.specs.Polynomials.{reads_polynomial}
 use Rattle.cert_parts.proofs.polynomials.polynomial.Goals as goal
 
@@ -22,4 +22,7 @@ returns-in-Ok-from_terms c =
     let value : IsTermsOver (terms_of terms) den c.in-Ok-from_terms.poly =
     subst (λ (n : ℕ). IsTermsOver (terms_of terms) n c.in-Ok-from_terms.poly) over
     (subst (λ ts. IsTermsOver (terms_of ts) (unsigned_abs z) c.in-Ok-from_terms.poly) c.as_slice.ensures.value c.in-Ok-from_terms.ensures.value) in
-    (record { terms = terms_of terms; denominator = den }, rw (c.in-Ok.ensures.read, lt-ltb _ _ narrow) refl, value)
+    let within : IsNoGreater (terms_of terms) den c.in-Ok-from_terms.poly =
+    subst (λ (n : ℕ). IsNoGreater (terms_of terms) n c.in-Ok-from_terms.poly) over
+    (subst (λ ts. IsNoGreater (terms_of ts) (unsigned_abs z) c.in-Ok-from_terms.poly) c.as_slice.ensures.value c.in-Ok-from_terms.ensures.within) in
+    (record { terms = terms_of terms; denominator = den }, rw (c.in-Ok.ensures.read, lt-ltb _ _ narrow) refl, record { value = value; within = within })

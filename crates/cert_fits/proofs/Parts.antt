@@ -1,0 +1,236 @@
+-- Where a certificate fits a program, so do its source trees and its terms.
+use Rattle.std.proofs.Common.{Bool, true, false, ◌≡◌, refl, sym, ◌∙◌, ap, subst, ℕ, zero, suc, ◌+◌, ◌<◌, ◌≤◌, ◌^◌, List, [], ◌∷◌, ◌++◌, length, arith, Vec, Global}
+use Rattle.std.specs.Prelude.{Option, Some, option_map, option_and_then, slice_get, ◌==◌, if◌then◌else◌}
+use Rattle.std.specs.List.{AllByRecursion}
+use Rattle.std.proofs.lemmas.Bool.{eqb-true, lt-ltb}
+use Rattle.std.proofs.lemmas.List.{length-append}
+use Rattle.iolb_model.specs.Form.{AffineForm}
+use Rattle.iolb_model.specs.Program.{AffineProgram, statement_at}
+use Rattle.affine_form.specs.declared.place.Step.{Step}
+use Rattle.affine_form.specs.declared.place.Step.TheVariants.{Key, Index}
+use Rattle.affine_form.specs.declared.key.TheConstants.{BRANCHES, COLD, NEST, POINT, QUASTS, SUMS, TERMS}
+use Rattle.affine_form.specs.Form.{IsSmallForm}
+use Rattle.affine_rows.specs.Rows.{BoundsFit}
+use Rattle.affine_c.specs.Parts.{ProgramParts, IsProgram, meaning}
+use Rattle.dep_quast.specs.declared.quast.Quast.{Quast}
+use Rattle.dep_quast.specs.Context.{ReadOf, reference_of, variables_at, no_row}
+use Rattle.dep_quast.specs.Tree.{source, input, empty, blank, SelectionTree, leaf, test, tree_of}
+use Rattle.dep_quast.specs.Truth.{ReadFits, FitsUnder, TreeFits}
+use Rattle.domain_count.specs.Claims.{SumsFit}
+use Rattle.poly_tree.specs.Poly.{Quotient}
+use Rattle.quasts_check.specs.Trees.{RowFits, RowsFit, read_of}
+use Rattle.reuse_paths.specs.declared.quasts.Quasts.{Quasts}
+use Rattle.reuse_paths.specs.Quasts.{tree_at as tree_of_read}
+use Rattle.wavefront.specs.declared.cold.Cold.{Cold}
+use Rattle.wavefront.specs.Leaves.{open_leaves, yes_at, no_at}
+use Rattle.wavefront.specs.Loads.{TestsFit}
+use Rattle.wavefront.specs.Term.{nest_variables, instance_point}
+use Rattle.wavefront.specs.View.{term_of}
+use Rattle.certificates.specs.declared.term.Term.{Term}
+use Rattle.certificates.specs.declared.term.Term.TheVariants as terms
+use Rattle.certificates.specs.declared.term.Branch.{Branch}
+use Rattle.certificates.specs.Limits.{CertificateParts, IsWithinLimits, IsSmallCold, IsSmallTerm, IsSmallBranch}
+use Rattle.cert_fits.specs.Fit.{PartsFit, TreeOfTermFits, TermFits, BranchesFit}
+use Rattle.cert_fits.specs.FitClaims.{PlacedFit, AllFit, numbered}
+use Rattle.cert_fits.specs.TreeFit.{row_at, quasts_fit}
+use Rattle.cert_fits.specs.TermFit.{open_count, open_count_if, leaves_of, bounds_at, bounds_fit, sum_at, sums_fit, cold_front_fit, point_fit, cold_back_fit, cold_fit, term_at, branch_at, certificate_fit}
+use Rattle.cert_fits.proofs.TreeParts.{AllFit-left, AllFit-right, forms-over, rows-fit}
+
+-- the leaves that aren't empty are as many, whatever the point
+open-many : (vars : ℕ) (point tests : List AffineForm) (tree : SelectionTree) → length (open_leaves vars point tests tree) ≡ open_count tree
+open-many vars point tests (leaf (source claim)) = refl
+open-many vars point tests (leaf (input shown)) = refl
+open-many vars point tests (leaf (empty shown)) = refl
+open-many vars point tests (leaf blank) = refl
+open-many vars point tests (test form above below) =
+    let above_tests : List AffineForm = tests ++ yes_at vars point form ∷ [] in
+    let below_tests : List AffineForm = tests ++ no_at vars point form ∷ [] in
+    omega (
+      arith,
+      length-append (open_leaves vars point above_tests above) (open_leaves vars point below_tests below),
+      open-many vars point above_tests above,
+      open-many vars point below_tests below,
+    )
+
+-- the tests of a tree that fits
+tests-fit : (program : AffineProgram) (reader : ReadOf) (tests : List AffineForm) (tree : SelectionTree) → FitsUnder program reader tests tree → TestsFit (variables_at program reader) tree
+tests-fit program reader tests (leaf chosen) h = tt
+tests-fit program reader tests (test form above below) h =
+    (h.0, tests-fit program reader (tests ++ form ∷ []) above h.1, tests-fit program reader (tests ++ no_row (variables_at program reader) form ∷ []) below h.2)
+
+next : (m n : ℕ) → suc (m + n) ≡ m + suc n
+next m n = omega arith
+
+none : (n : ℕ) → n + 0 ≡ n
+none n = omega arith
+
+shift : (m n : ℕ) → suc m + n ≡ m + suc n
+shift m n = omega arith
+
+from-none : (n : ℕ) → 0 + n ≡ n
+from-none n = omega arith
+
+bounds-fit : (vars index : ℕ) (place : List Step) (nest : List (AffineForm × AffineForm))
+    → AllByRecursion (λ (bounds : AffineForm × AffineForm). IsSmallForm (2 ^ 20) bounds.0 × IsSmallForm (2 ^ 20) bounds.1) nest → AllFit (numbered (bounds_at vars place) index nest) → BoundsFit (vars + index) nest
+bounds-fit vars index place [] small h = tt
+bounds-fit vars index place (bounds ∷ nest) small h = (
+  (record { over = h.0; small = small.0.0 }, record { over = h.1.0; small = small.0.1 }),
+  subst (λ (n : ℕ). BoundsFit n nest) (sym (next vars index)) (bounds-fit vars (suc index) place nest small.1 h.1.1),
+)
+
+sums-fit : (vars index : ℕ) (place : List Step) (sums : List Quotient) → AllFit (numbered (sum_at vars place) index sums) → SumsFit (vars + index) sums
+sums-fit vars index place [] h = tt
+sums-fit vars index place (sum ∷ sums) h = (h.0, subst (λ (n : ℕ). SumsFit n sums) (sym (next vars index)) (sums-fit vars (suc index) place sums h.1))
+
+columns-many : (rows columns called : ℕ) → columns ≡ (if rows == 0 then 0 else called) → 1 ≤ rows → columns ≡ called
+columns-many rows columns called e some = by (rows == 0) refl e where
+  by : (b : Bool) → (rows == 0) ≡ b → columns ≡ (if b then 0 else called) → columns ≡ called
+  by true none d = absurd (let no_rows : rows ≡ 0 = eqb-true rows 0 none in omega arith)
+  by false some d = d
+
+-- ---- trees of reads
+
+record TreeOfRead (program : AffineProgram) (quasts : Quasts) (reader : ReadOf) (tree : SelectionTree) : Type 0 where
+  there : tree_of_read quasts reader.statement reader.read ≡ Some tree
+  fits : TreeFits program reader tree
+
+-- the row of a statement
+record RowOf (program : AffineProgram) (rows : List (Vec Quast Global)) (place statement : ℕ) (row : Vec Quast Global) : Type 0 where
+  there : slice_get rows place ≡ Some row
+  many : length row.items ≡ length (statement_at program statement).reads
+  fits : RowFits program statement 0 row.items
+
+-- the tree of a read
+record TreeIn (program : AffineProgram) (row : List Quast) (place statement read : ℕ) (quast : Quast) : Type 0 where
+  there : slice_get row place ≡ Some quast
+  fits : TreeFits program (read_of statement read) (tree_of quast)
+
+module _ (program : AffineProgram) where
+  row-of : (place : List Step) (first k : ℕ) (rows : List (Vec Quast Global)) → k < length rows → AllFit (numbered (row_at program place) first rows) → RowsFit program first rows
+      → (row : Vec Quast Global) × RowOf program rows k (first + k) row
+  row-of place first k [] below h fits = absurd (omega arith)
+  row-of place first zero (row ∷ rows) below h fits =
+      let here : AllFit (row_at program place first row) = AllFit-left (row_at program place first row) (numbered (row_at program place) (suc first) rows) h in (
+        row,
+        record {
+          there = refl;
+          many = subst (λ (n : ℕ). length row.items ≡ length (statement_at program n).reads) (sym (none first)) here.0;
+          fits = subst (λ (n : ℕ). RowFits program n 0 row.items) (sym (none first)) fits.0;
+        },
+      )
+  row-of place first (suc k) (row ∷ rows) below h fits =
+      let later = row-of place (suc first) k rows (omega arith) (AllFit-right (row_at program place first row) (numbered (row_at program place) (suc first) rows) h) fits.1 in (
+        later.0,
+        record {
+          there = later.1.there;
+          many = subst (λ (n : ℕ). length later.0.items ≡ length (statement_at program n).reads) (shift first k) later.1.many;
+          fits = subst (λ (n : ℕ). RowFits program n 0 later.0.items) (shift first k) later.1.fits;
+        },
+      )
+
+  tree-in : (statement first k : ℕ) (row : List Quast) → k < length row → RowFits program statement first row → (quast : Quast) × TreeIn program row k statement (first + k) quast
+  tree-in statement first k [] below fits = absurd (omega arith)
+  tree-in statement first zero (quast ∷ row) below fits =
+      (quast, record { there = refl; fits = subst (λ (n : ℕ). TreeFits program (read_of statement n) (tree_of quast)) (sym (none first)) fits.0.1 })
+  tree-in statement first (suc k) (quast ∷ row) below fits =
+      let later = tree-in statement (suc first) k row (omega arith) fits.1 in
+      (later.0, record { there = later.1.there; fits = subst (λ (n : ℕ). TreeFits program (read_of statement n) (tree_of later.0)) (shift first k) later.1.fits })
+
+  -- the tree of a read that is there
+  tree-of : (quasts : Quasts) (reader : ReadOf) → ReadFits program reader → AllFit (quasts_fit program quasts) → RowsFit program 0 quasts.rows.items
+      → (tree : SelectionTree) × TreeOfRead program quasts reader tree
+  tree-of quasts reader read h fits =
+      let row = row-of (Key QUASTS ∷ []) 0 reader.statement quasts.rows.items (omega (arith, h.0, read.statement)) h.1 fits in
+      let row_fits : RowFits program reader.statement 0 row.0.items = subst (λ (n : ℕ). RowFits program n 0 row.0.items) (from-none reader.statement) row.1.fits in
+      let many : length row.0.items ≡ length (statement_at program reader.statement).reads =
+      subst (λ (n : ℕ). length row.0.items ≡ length (statement_at program n).reads) (from-none reader.statement) row.1.many in
+      let quast = tree-in reader.statement 0 reader.read row.0.items (omega (arith, read.read, many)) row_fits in (
+        tree_of quast.0,
+        record {
+          there = ap (λ (o : Option (Vec Quast Global)). option_map tree_of (option_and_then (λ (r : Vec Quast Global). slice_get r.items reader.read) o)) row.1.there
+              ∙ ap (λ (o : Option Quast). option_map tree_of o) quast.1.there;
+          fits = subst (λ (n : ℕ). TreeFits program (read_of reader.statement n) (tree_of quast.0)) (from-none reader.read) quast.1.fits;
+        },
+      )
+
+-- ---- terms
+
+module _ (program : ProgramParts) (quasts : Quasts) (trees : AllFit (quasts_fit (meaning program) quasts)) (rows : RowsFit (meaning program) 0 quasts.rows.items) where
+  -- a read that is there has as many leaves as its tree
+  leaves-many : (reader : ReadOf) (tree : SelectionTree) → reader.read < length (statement_at (meaning program) reader.statement).reads
+      → tree_of_read quasts reader.statement reader.read ≡ Some tree → leaves_of (meaning program) quasts reader ≡ open_count tree
+  leaves-many reader tree below there =
+      ap (λ (b : Bool). if b then open_count_if (tree_of_read quasts reader.statement reader.read) else 0) (lt-ltb reader.read (length (statement_at (meaning program) reader.statement).reads) below)
+      ∙ ap open_count_if there
+
+  cold-fits : (place : List Step) (cold : Cold) → IsSmallCold cold → AllFit (cold_fit (meaning program) quasts place cold) → (tree : SelectionTree) × TreeOfTermFits program quasts cold tree
+  cold-fits place cold small h =
+      let P : AffineProgram = meaning program in
+      let reader : ReadOf = record { statement = cold.statement; read = cold.read } in
+      let params : ℕ = length program.params in
+      let front : List PlacedFit = cold_front_fit P quasts place cold in
+      let bounds : List PlacedFit = bounds_fit params (place ++ Key NEST ∷ []) cold.nest in
+      let point : List PlacedFit = point_fit P place cold in
+      let back : List PlacedFit = cold_back_fit P cold place in
+      let sums : List PlacedFit = sums_fit (suc params) (place ++ Key SUMS ∷ []) cold.sums.sums in
+      let most : AllFit (front ++ bounds ++ point ++ back) = AllFit-left (front ++ bounds ++ point ++ back) sums h in
+      let some : AllFit (front ++ bounds ++ point) = AllFit-left (front ++ bounds ++ point) back most in
+      let few : AllFit (front ++ bounds) = AllFit-left (front ++ bounds) point some in
+      let in_front : AllFit front = AllFit-left front bounds few in
+      let in_point : AllFit point = AllFit-right (front ++ bounds) point some in
+      let in_back : AllFit back = AllFit-right (front ++ bounds ++ point) back most in
+      let read : ReadFits P reader = record { statement = in_back.1.1.0; read = in_back.0 } in
+      let chosen = tree-of P quasts reader read trees rows in
+      let vars : ℕ = nest_variables P (term_of cold) in
+      let bounds_over : BoundsFit params cold.nest = subst (λ (n : ℕ). BoundsFit n cold.nest) (none params) (bounds-fit params 0 (place ++ Key NEST ∷ []) cold.nest small.bounds (AllFit-right front bounds few)) in (
+        chosen.0,
+        record {
+          there = chosen.1.there;
+          fits = record {
+            parts = record {
+              read = read;
+              few = small.variables;
+              bounds = bounds_over;
+              point = in_point.0;
+              forms = forms-over vars (place ++ Key POINT ∷ []) 0 cold.point.items small.point in_point.1;
+              inside = in_front.0;
+              rows = in_front.1.0;
+              columns = columns-many cold.inverse.matrix.rows cold.inverse.matrix.columns (length (reference_of P reader).subscripts) in_front.1.1.0;
+              scale = small.some_scale;
+            };
+            tests = tests-fit P reader [] chosen.0 chosen.1.fits;
+            leaves = in_front.1.1.1.0 ∙ leaves-many reader chosen.0 in_back.0 chosen.1.there ∙ sym (open-many vars (instance_point P (term_of cold)) [] chosen.0);
+          };
+          count = record {
+            few = small.variables;
+            bounds = bounds_over;
+            shown = in_back.1.0;
+            sums = in_back.1.1.1.0;
+            variables = subst (λ (n : ℕ). SumsFit n cold.sums.sums) (none (suc params)) (sums-fit (suc params) 0 (place ++ Key SUMS ∷ []) cold.sums.sums (AllFit-right (front ++ bounds ++ point ++ back) sums h));
+          };
+        },
+      )
+
+  terms-fit : (place : List Step) (index : ℕ) (ts : List Term) → AllByRecursion IsSmallTerm ts → AllFit (numbered (term_at (meaning program) quasts place) index ts) → AllByRecursion (TermFits program quasts) ts
+  terms-fit place index [] small h = tt
+  terms-fit place index (terms.Cold cold ∷ ts) small h =
+      let here : List PlacedFit = term_at (meaning program) quasts place index (terms.Cold cold) in
+      let rest : List PlacedFit = numbered (term_at (meaning program) quasts place) (suc index) ts in
+      (cold-fits (place ++ Index index ∷ [] ++ Key COLD ∷ []) cold small.0 (AllFit-left here rest h), terms-fit place (suc index) ts small.1 (AllFit-right here rest h))
+
+  branches-fit : (index : ℕ) (branches : List Branch) → AllByRecursion IsSmallBranch branches → AllFit (numbered (branch_at (meaning program) quasts) index branches) → BranchesFit program quasts branches
+  branches-fit index [] small h = tt
+  branches-fit index (branch ∷ branches) small h =
+      let here : List PlacedFit = branch_at (meaning program) quasts index branch in
+      let rest : List PlacedFit = numbered (branch_at (meaning program) quasts) (suc index) branches in
+      let fits : AllFit here = AllFit-left here rest h in
+      (terms-fit (Key BRANCHES ∷ Index index ∷ Key TERMS ∷ []) 0 branch.terms.items small.0.terms fits.1, branches-fit (suc index) branches small.1 (AllFit-right here rest h))
+
+pub parts-fit : (program : ProgramParts) (parts : CertificateParts) → IsProgram program → IsWithinLimits parts → AllFit (certificate_fit (meaning program) parts) → PartsFit program parts
+parts-fit program parts is limits h =
+    let P : AffineProgram = meaning program in
+    let branches : List PlacedFit = numbered (branch_at P parts.quasts) 0 parts.branches in
+    let quasts : List PlacedFit = quasts_fit P parts.quasts in
+    let trees : AllFit quasts = AllFit-right branches quasts h in
+    let rows : RowsFit P 0 parts.quasts.rows.items = rows-fit P is.well_formed (Key QUASTS ∷ []) 0 parts.quasts.rows.items (omega (arith, trees.0)) limits.trees trees.1 in
+    record { trees = rows; branches = branches-fit program parts.quasts trees rows 0 parts.branches limits.branches (AllFit-left branches quasts h) }

@@ -1,0 +1,28 @@
+use Rattle.std.proofs.Common.{◌≡◌, sym, ◌∙◌, ap, subst, ℕ, ◌+◌, List, [], ◌∷◌, ◌++◌, length, arith}
+use Rattle.affine_form.specs.declared.place.Step.{Step}
+use Rattle.affine_form.specs.declared.place.Step.TheVariants.{Key}
+use Rattle.affine_form.specs.declared.key.TheConstants.{POINT}
+use Rattle.affine_c.specs.Domain.{depth_of}
+use Rattle.affine_c.specs.Parts.{meaning}
+use Rattle.cert_fits.specs.FitClaims.{PlacedFit, FindsMisfit}
+use Rattle.cert_fits.specs.Parts.{forms_fit, so_many}
+use Rattle.cert_fits.specs.TermFit.{point_fit}
+use Rattle.cert_fits.proofs.Found.{Finds-go, IfOk-then}
+use Rattle.cert_fits.proofs.colds.point_misfit.Goals as goal
+
+pub returns : goal.returns
+returns c =
+    let program = meaning c.args.program.now in
+    let cold = c.args.cold.now in
+    let place = c.args.place.now in
+    let list : List Step = place ++ Key POINT ∷ [] in
+    let found_vars : ℕ = length c.params.result.now + length c.bounds.result.now in
+    let vars : ℕ = length c.args.program.now.params + length cold.nest in
+    let many : found_vars ≡ vars = omega (arith, ap length c.params.ensures.params, ap length c.bounds.ensures) in
+    let same : forms_fit found_vars list c.as_slice-point.result.now ≡ forms_fit vars list cold.point.items =
+    ap (λ (n : ℕ). forms_fit n list c.as_slice-point.result.now) many ∙ ap (forms_fit vars list) c.as_slice-point.ensures.value in
+    let fits : length cold.point.items ≡ depth_of program cold.statement =
+    sym (ap length c.as_slice-point.ensures.value) ∙ c.if-point-loops_around.false ∙ c.loops_around.ensures.depth in
+    IfOk-then c.forms_misfit.result (FindsMisfit (forms_fit found_vars list c.as_slice-point.result.now)) (FindsMisfit (point_fit program place cold)) c.forms_misfit.ensures
+    (λ found h. Finds-go (so_many list (length cold.point.items) (depth_of program cold.statement) ∷ []) (forms_fit vars list cold.point.items) found (fits, tt)
+    (subst (λ (claims : List PlacedFit). FindsMisfit claims found) same h))

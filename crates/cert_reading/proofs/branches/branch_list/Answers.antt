@@ -1,0 +1,19 @@
+use Rattle.serde_json.specs.View.{view}
+use Rattle.cert_parts.proofs.LoopBy.{goes_on_by, ends_by, is_done_by}
+use Rattle.cert_reading.specs.Certificates.{reads_branch, reads_branches}
+use Rattle.cert_reading.specs.Written.{IsBranch}
+use Rattle.cert_reading.proofs.branches.branch_list.Goals as goal
+
+pub returns-in-Err-one_branch : goal.returns-in-Err-one_branch
+returns-in-Err-one_branch c =
+    ends_by IsBranch reads_branch c.in-Ok.values.now c.loop-i.i c.loop-i.found.items (reads_branches (view c.args.value.now)) c.index-values-i.result c.in-Err-one_branch.error c.under.result
+    c.loop-i-test.true c.index-values-i.is c.in-Err-one_branch.ensures c.under.ensures c.loop-i.invariant
+
+pub loop-i-preserved : goal.loop-i-preserved
+loop-i-preserved c =
+    rw c.in_ok-push-in-Ok-one_branch.ensures.items
+    (goes_on_by IsBranch reads_branch c.in-Ok.values.now c.loop-i.i c.loop-i.found.items (reads_branches (view c.args.value.now)) c.index-values-i.result c.in-Ok-one_branch.item
+    c.loop-i-test.true c.index-values-i.is c.in-Ok-one_branch.ensures c.loop-i.invariant)
+
+pub returns : goal.returns
+returns c = is_done_by IsBranch reads_branch c.in-Ok.values.now c.loop-i.i c.loop-i.found.items (reads_branches (view c.args.value.now)) c.loop-i-test.false c.loop-i.invariant

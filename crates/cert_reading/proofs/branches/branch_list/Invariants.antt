@@ -1,0 +1,8 @@
+use Rattle.serde_json.specs.View.{view}
+use Rattle.cert_parts.proofs.LoopBy.{SoFar}
+use Rattle.cert_reading.specs.Certificates.{reads_branch, reads_branches}
+use Rattle.cert_reading.specs.Written.{IsBranch}
+use Rattle.cert_reading.proofs.branches.branch_list.Given as goal
+
+abbrev pub invariant-loop-i : goal.invariant-loop-i
+invariant-loop-i l = SoFar IsBranch reads_branch l.values l.i l.found.items (reads_branches (view l.value))

@@ -1,0 +1,68 @@
+//! The texts of branches.
+
+ghost use Rattle.std.specs.Prelude.{◌≡◌, codes};
+ghost use Rattle.affine_form.specs.declared.key.TheConstants.{TERMS};
+ghost use Rattle.serde_json.specs.View.{view};
+ghost use Rattle.cert_parts.specs.Outcome.{GivesBy};
+ghost use Rattle.cert_parts.specs.Json.{part};
+ghost use Rattle.cert_parts.specs.Read.{AreAll};
+ghost use Rattle.cert_reading.specs.Certificates.{reads_branch, reads_branches};
+ghost use Rattle.cert_reading.specs.Terms.{reads_terms};
+ghost use Rattle.cert_reading.specs.Written.{IsTerm, IsBranch};
+
+use crate::terms::term_list;
+use affine_form::{Step, key};
+use cert_parts::{CertError, all_shown_part, fault, has_keys, short_list, under};
+use certificates::{Branch, Term};
+use serde_json::Value;
+use std::alloc::Global;
+
+/// The member `terms`.
+fn terms_part(alloc: Global, value: &Value) -> Result<Vec<Term>, CertError>
+    ensures { GivesBy (λ said found. AreAll IsTerm said found.items) result (part (codes "terms") TERMS reads_terms (view value.now)) }
+{
+    match value.get("terms") {
+        Some(member) => match term_list(alloc, member) {
+            Ok(found) => Ok(found),
+            Err(error) => Err(under(alloc, Step::Key(key::TERMS), error)),
+        },
+        None => Err(fault(alloc, 2)),
+    }
+}
+
+/// A branch.
+#[tactic(auto, unfolding(crate::specs::Certificates::reads_branch, cert_parts::specs::Json::with_keys))]
+fn one_branch(alloc: Global, value: &Value) -> Result<Branch, CertError>
+    ensures { GivesBy IsBranch result (reads_branch (view value.now)) }
+{
+    if !has_keys(value, &["disjoint", "terms"]) {
+        return Err(fault(alloc, 2));
+    }
+    let disjoint = match all_shown_part(alloc, value, "disjoint", key::DISJOINT) {
+        Ok(disjoint) => disjoint,
+        Err(error) => return Err(error),
+    };
+    match terms_part(alloc, value) {
+        Ok(terms) => Ok(Branch { terms, disjoint }),
+        Err(error) => Err(error),
+    }
+}
+
+/// The branches of a certificate.
+#[tactic(auto, unfolding(crate::specs::Certificates::reads_branches))]
+pub(crate) fn branch_list(alloc: Global, value: &Value) -> Result<Vec<Branch>, CertError>
+    ensures { GivesBy (λ said found. AreAll IsBranch said found.items) result (reads_branches (view value.now)) }
+{
+    let values = match short_list(alloc, value, 8) {
+        Ok(values) => values,
+        Err(error) => return Err(error),
+    };
+    let mut found = Vec::new(alloc);
+    for (i, value) in values.iter().enumerate() {
+        match one_branch(alloc, value) {
+            Ok(item) => found.push(item)?,
+            Err(error) => return Err(under(alloc, Step::Index(i as u64), error)),
+        }
+    }
+    Ok(found)
+}

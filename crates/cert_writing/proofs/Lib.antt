@@ -1,0 +1,11 @@
+pub mod Rest
+pub mod Plain
+pub mod Newline
+pub mod Texts
+pub mod ReadLists
+pub mod ReadParts
+pub mod ReadPolynomials
+pub mod ReadLeaves
+pub mod ReadTrees
+pub mod ReadCertificates
+pub mod Same

@@ -1,0 +1,67 @@
+-- What is written is read as what was meant.
+use Rattle.std.specs.Prelude.{◌≡◌, ℕ, ◌^◌, Ok, Vec}
+use Rattle.std.specs.Global.{Global}
+use Rattle.std.specs.List.{AllByRecursion}
+use Rattle.iolb_model.specs.Form.{AffineForm}
+use Rattle.affine_form.specs.Form.{IsSmallForm}
+use Rattle.affine_form.specs.Matrix.{IntegerMatrix}
+use Rattle.affine_form.specs.Multipliers.{FarkasMultipliers}
+use Rattle.poly_tree.specs.Poly.{Quotient}
+use Rattle.dep_quast.specs.declared.quast.Quast.{Quast}
+use Rattle.dep_quast.specs.Tree.{tree_of}
+use Rattle.reuse_paths.specs.declared.leaf.Leaf.{Leaf}
+use Rattle.wavefront.specs.declared.cold.Cold.{Cold}
+use Rattle.certificates.specs.Limits.{NamesRows, IsNestedTree, IsSmallLeaf}
+use Rattle.certificates.specs.declared.term.Term.{Term}
+use Rattle.certificates.specs.declared.term.Branch.{Branch}
+use Rattle.cert_parts.specs.Leaves.{claim_of, reads_leaf}
+use Rattle.cert_parts.specs.Nests.{reads_pair}
+use Rattle.cert_parts.specs.Parts.{reads_form, reads_multipliers, reads_matrix}
+use Rattle.cert_parts.specs.Polynomials.{reads_polynomial}
+use Rattle.cert_parts.specs.Trees.{reads_nested}
+use Rattle.cert_reading.specs.Terms.{reads_cold, reads_term}
+use Rattle.cert_reading.specs.Certificates.{reads_branch}
+use Rattle.cert_writing.specs.Parts.{form_data, multipliers_data, matrix_data, pair_data}
+use Rattle.cert_writing.specs.Polynomials.{polynomial_data}
+use Rattle.cert_writing.specs.Leaves.{leaf_data}
+use Rattle.cert_writing.specs.Trees.{tree_data}
+use Rattle.cert_writing.specs.Certificates.{cold_data, cold_term_data, branch_data}
+use Rattle.cert_writing.specs.Written.{written_polynomial, written_cold, written_term, written_branch}
+
+-- ---- parts within the limits of certificates
+
+abbrev pub FormIsRead : AffineForm → Type 0
+FormIsRead form = IsSmallForm (2 ^ 20) form → reads_form (form_data form) ≡ Ok form
+
+abbrev pub AreMultipliersRead : FarkasMultipliers → Type 0
+AreMultipliersRead shown = NamesRows shown → reads_multipliers (multipliers_data shown) ≡ Ok shown
+
+abbrev pub MatrixIsRead : IntegerMatrix → Type 0
+MatrixIsRead matrix = reads_matrix (matrix_data matrix) ≡ Ok matrix
+
+abbrev pub PairIsRead : AffineForm × AffineForm → Type 0
+PairIsRead bounds = IsSmallForm (2 ^ 20) bounds.0 → IsSmallForm (2 ^ 20) bounds.1 → reads_pair (pair_data bounds) ≡ Ok bounds
+
+abbrev pub PolynomialIsRead : Quotient → Type 0
+PolynomialIsRead q = reads_polynomial (polynomial_data (written_polynomial q)) ≡ Ok (written_polynomial q)
+
+abbrev pub LeafIsRead : Leaf → Type 0
+LeafIsRead leaf = IsSmallLeaf leaf → reads_leaf (leaf_data (claim_of leaf)) ≡ Ok (claim_of leaf)
+
+-- a tree that has so many nested tests at most
+abbrev pub TreeIsRead : Quast → Type 0
+TreeIsRead quast = (nested : ℕ) → IsNestedTree nested (tree_of quast) → reads_nested nested (tree_data (tree_of quast)) ≡ Ok (tree_of quast)
+
+abbrev pub TreesAreRead : Vec Quast Global → Type 0
+TreesAreRead row = AllByRecursion TreeIsRead row.items
+
+-- ---- terms and branches
+
+abbrev pub ColdIsRead : Cold → Type 0
+ColdIsRead cold = reads_cold (cold_data (written_cold cold)) ≡ Ok (written_cold cold)
+
+abbrev pub TermIsRead : Term → Type 0
+TermIsRead term = reads_term (cold_term_data (written_term term)) ≡ Ok (written_term term)
+
+abbrev pub BranchIsRead : Branch → Type 0
+BranchIsRead branch = reads_branch (branch_data (written_branch branch)) ≡ Ok (written_branch branch)

@@ -1,0 +1,35 @@
+//! The text of a certificate.
+
+ghost use Rattle.std.specs.Prelude.{◌≡◌, ◌++◌, codes, IfOk};
+ghost use Rattle.cert_reading.specs.Texts.{IsTextOf};
+ghost use Rattle.serde_json.specs.View.{view};
+ghost use Rattle.serde_json.specs.Written.{compact_text};
+ghost use Rattle.cert_writing.specs.Certificates.{certificate_data};
+ghost use Rattle.cert_writing.specs.Written.{written_of};
+
+use crate::branches::certificate as certificate_value;
+use affine_form::Memory;
+use certificates::Certificate;
+use std::alloc::Global;
+
+/// The text of a certificate: JSON without spaces, the keys of each object in byte order, a newline at the end.
+/// Polynomials stand by their terms in the order in which they are printed, each with an exponent for each variable up
+/// to the greatest that the polynomial uses. Want of memory is its only error.
+pub fn certificate_text(alloc: Global, certificate: &Certificate) -> Result<Vec<u8>, Memory>
+    ensures text { IfOk result (λ text. text.items ≡ compact_text (certificate_data (written_of certificate.now)) ++ codes "\n") }
+    ensures reads { IfOk result (λ text. IsTextOf text.items (written_of certificate.now)) }
+{
+    let value = certificate_value(alloc, certificate)?;
+    let text = value.to_vec(alloc)?;
+    let all = with_newline(text)?;
+    Ok(all)
+}
+
+/// A text with a newline at its end.
+fn with_newline(text: Vec<u8>) -> Result<Vec<u8>, Memory>
+    ensures { IfOk result (λ all. all.items ≡ text.items ++ codes "\n") }
+{
+    let mut all = text;
+    all.push(b'\n')?;
+    Ok(all)
+}

@@ -1,0 +1,18 @@
+//! Branches of certificates, and their terms.
+
+use affine_form::Multipliers;
+use wavefront::Cold;
+
+/// A term of a branch: what some words are claimed to be loaded for.
+#[derive(Debug, Drop)]
+pub enum Term {
+    /// Words that are read before any instance wrote them.
+    Cold(Cold),
+}
+
+/// A branch of a certificate: terms, and multipliers which show that no two of them count a word that the other counts.
+#[derive(Debug, Drop)]
+pub struct Branch {
+    pub terms: Vec<Term>,
+    pub disjoint: Vec<Multipliers>,
+}

@@ -1,0 +1,120 @@
+//! What the words ask for.
+
+ghost use Rattle.std.specs.Prelude.{◌≡◌, ◌≤◌, ◌<◌, ◌^◌, map, option_map, unsigned_abs, string_bytes, IfOk, IfSome};
+ghost use Rattle.std.specs.List.{AllByRecursion, list_any};
+ghost use Rattle.command_words.specs.Requests.{asked, begins_with_dash, check_in, eval_in, eval_task, request_of, task_of, IsSmallJob};
+
+use crate::number::memory_of;
+use crate::size::{Size, sizes_of};
+use affine_form::Memory;
+use std::alloc::Global;
+
+/// What is to be done with a program and a certificate.
+#[derive(Debug, Drop)]
+pub enum Job {
+    /// Check the certificate.
+    Check,
+    /// Check it, and value its bound with this many red pebbles at these sizes.
+    Eval { memory: u64, sizes: Vec<Size> },
+}
+
+/// A job on the program and the certificate in two files, by their names.
+#[derive(Debug, Drop)]
+pub struct Command<'a> {
+    pub program: &'a str,
+    pub certificate: &'a str,
+    pub job: Job,
+}
+
+/// Whether a word begins with `-`.
+fn is_option(word: &[u8]) -> bool
+    ensures { result ≡ begins_with_dash word.now }
+{
+    if let Some(byte) = word.first() {
+        *byte == b'-'
+    } else {
+        false
+    }
+}
+
+/// Whether one of the words begins with `-`.
+fn has_option(words: &[String]) -> bool
+    ensures { result ≡ list_any begins_with_dash (map (λ word. string_bytes word) words.now) }
+{
+    for word in words {
+        if is_option(word.as_bytes()) {
+            return true;
+        }
+    }
+    false
+}
+
+/// The evaluation that words S NAME=NUMBER... ask for. Want of memory is its only error.
+fn eval_job(alloc: Global, memory: &str, words: &[String]) -> Result<Option<Job>, Memory>
+    ensures job { IfOk result (λ job. option_map task_of job ≡ eval_task memory.now (map (λ word. string_bytes word) words.now)) }
+    ensures small { IfOk result (λ found. IfSome found IsSmallJob) }
+{
+    let Some(memory) = memory_of(memory.as_bytes()) else {
+        return Ok(None);
+    };
+    match sizes_of(alloc, words)? {
+        Some(sizes) => Ok(Some(Job::Eval { memory, sizes })),
+        None => Ok(None),
+    }
+}
+
+/// What the words behind the program's name ask for: `check PROGRAM CERTIFICATE`, or
+/// `eval PROGRAM CERTIFICATE S NAME=NUMBER...`, where S is 1 to 19 digits, from 1 to 2^63 - 1, a NUMBER an optional `-` and
+/// 1 to 13 digits, of size below 2^40, and a NAME the bytes before the first `=`. `None` where they ask for nothing of
+/// this, or a word begins with `-`. Want of memory is its only error.
+pub fn command_of(alloc: Global, words: &[String]) -> Result<Option<Command<'_>>, Memory>
+    ensures command { IfOk result (λ command. option_map asked command ≡ request_of (map (λ word. string_bytes word) words.now)) }
+    ensures small { IfOk result (λ found. IfSome found (λ command. IsSmallJob command.job)) }
+{
+    if has_option(words) {
+        return Ok(None);
+    }
+    let Some((command, arguments)) = words.split_first() else {
+        return Ok(None);
+    };
+    if command.as_str() == "check" {
+        return Ok(check_command(arguments));
+    }
+    if command.as_str() == "eval" {
+        return eval_command(alloc, arguments);
+    }
+    Ok(None)
+}
+
+/// The check that words PROGRAM CERTIFICATE ask for.
+fn check_command(words: &[String]) -> Option<Command<'_>>
+    ensures command { option_map asked result ≡ check_in (map (λ word. string_bytes word) words.now) }
+    ensures small { IfSome result (λ command. IsSmallJob command.job) }
+{
+    match words {
+        [program, certificate] => Some(Command {
+            program: program.as_str(),
+            certificate: certificate.as_str(),
+            job: Job::Check,
+        }),
+        _ => None,
+    }
+}
+
+/// The evaluation that words PROGRAM CERTIFICATE S NAME=NUMBER... ask for. Want of memory is its only error.
+fn eval_command(alloc: Global, words: &[String]) -> Result<Option<Command<'_>>, Memory>
+    ensures command { IfOk result (λ command. option_map asked command ≡ eval_in (map (λ word. string_bytes word) words.now)) }
+    ensures small { IfOk result (λ found. IfSome found (λ command. IsSmallJob command.job)) }
+{
+    let [program, certificate, memory, sizes @ ..] = words else {
+        return Ok(None);
+    };
+    match eval_job(alloc, memory.as_str(), sizes)? {
+        Some(job) => Ok(Some(Command {
+            program: program.as_str(),
+            certificate: certificate.as_str(),
+            job,
+        })),
+        None => Ok(None),
+    }
+}

@@ -1,0 +1,11 @@
+//! The words of the command line: what they ask for, and the sizes that they give to a program's parameters.
+#![tactic(auto)]
+
+mod command;
+mod number;
+mod size;
+mod values;
+
+pub use command::{Command, Job, command_of};
+pub use size::Size;
+pub use values::values_for;

@@ -1,8 +1,0 @@
-use Rattle.serde_json.specs.View.{view}
-use Rattle.cert_parts.proofs.LoopBy.{SoFar}
-use Rattle.iolb_cert.specs.Certificates.{reads_branch, reads_branches}
-use Rattle.iolb_cert.specs.Written.{IsBranch}
-use Rattle.iolb_cert.proofs.branches.branch_list.Given as goal
-
-abbrev pub invariant-loop-i : goal.invariant-loop-i
-invariant-loop-i l = SoFar IsBranch reads_branch l.values l.i l.found.items (reads_branches (view l.value))

@@ -1,0 +1,106 @@
+//! The text of a bound.
+
+ghost use Rattle.std.specs.Prelude.{◌≡◌, ◌∷◌, [], ◌++◌, ℕ, length, map, flat_map, codes, decimal, IfOk, OnOk};
+ghost use Rattle.std.specs.List.{AllByRecursion};
+ghost use Rattle.iolb_model.specs.Program.{IsOver};
+ghost use Rattle.iolb_model.specs.Printed.{assumption_text, bound_term_text, branches_text, bound_text as text_of_bound};
+ghost use Rattle.iolb_check.specs.Bounds.{bound_of, term_of};
+
+use affine_c::Program;
+use affine_form::{Form, Memory, Name};
+use iolb_check::{Bound, Value};
+use std::alloc::Global;
+
+/// An assumption, written on a line at the end.
+fn push_assumption(
+    alloc: Global,
+    text: &mut Vec<u8>,
+    names: &[Name],
+    row: &Form,
+) -> Result<(), Memory>
+    requires { IsOver (length names.now) row.now }
+    ensures { OnOk result (text.new.items ≡ text.old.items ++ assumption_text names.now row.now) }
+{
+    text.extend_from_slice(b"assume ")?;
+    text.extend_from_slice(row.text(alloc, names)?.as_slice())?;
+    text.extend_from_slice(b" >= 0\n")?;
+    Ok(())
+}
+
+/// The assumptions, each on a line.
+fn assumption_lines(alloc: Global, names: &[Name], rows: &[Form]) -> Result<Vec<u8>, Memory>
+    requires { AllByRecursion (IsOver (length names.now)) rows.now }
+    ensures { IfOk result (λ text. text.items ≡ flat_map (assumption_text names.now) rows.now) }
+{
+    let mut text = Vec::new(alloc);
+    for row in rows {
+        push_assumption(alloc, &mut text, names, row)?;
+    }
+    Ok(text)
+}
+
+/// A term, written on a line at the end.
+fn push_term(alloc: Global, text: &mut Vec<u8>, names: &[Name], term: &Value) -> Result<(), Memory>
+    ensures { OnOk result (text.new.items ≡ text.old.items ++ bound_term_text names.now (term_of term.now)) }
+{
+    match term {
+        Value::Cold(count) => {
+            text.extend_from_slice(b"  cold ")?;
+            text.extend_from_slice(count.text(alloc, names)?.as_slice())?;
+            text.push(b'\n')?;
+        }
+    }
+    Ok(())
+}
+
+/// The terms of a branch, each on a line.
+fn term_lines(alloc: Global, names: &[Name], terms: &[Value]) -> Result<Vec<u8>, Memory>
+    ensures { IfOk result (λ text. text.items ≡ flat_map (bound_term_text names.now) (map term_of terms.now)) }
+{
+    let mut text = Vec::new(alloc);
+    for term in terms {
+        push_term(alloc, &mut text, names, term)?;
+    }
+    Ok(text)
+}
+
+/// A word, a number and the end of the line, written at the end.
+fn push_number_line(
+    alloc: Global,
+    text: &mut Vec<u8>,
+    word: &[u8],
+    number: usize,
+) -> Result<(), Memory>
+    ensures { OnOk result (text.new.items ≡ text.old.items ++ word.now ++ decimal number ++ codes "\n") }
+{
+    text.extend_from_slice(word)?;
+    text.extend_from_slice(format!(in alloc; "{number}")?.as_bytes())?;
+    text.push(b'\n')?;
+    Ok(())
+}
+
+/// The branches, each a line with its number and then its terms.
+fn branch_lines(alloc: Global, names: &[Name], bound: &Bound) -> Result<Vec<u8>, Memory>
+    ensures { IfOk result (λ text. text.items ≡ branches_text names.now 0 (bound_of bound.now).branches) }
+{
+    let mut text = Vec::new(alloc);
+    for i in 0..bound.branches() {
+        push_number_line(alloc, &mut text, b"branch ", i)?;
+        text.extend_from_slice(term_lines(alloc, names, bound.terms(i))?.as_slice())?;
+    }
+    Ok(text)
+}
+
+/// The text of a bound on a program's loads: its assumptions, its branches with their terms, and how many branches
+/// there are. Want of memory is its only error.
+pub fn bound_text(alloc: Global, program: &Program, bound: &Bound) -> Result<Vec<u8>, Memory>
+    requires { bound.now.assumed.vars ≡ length program.now.params }
+    ensures { IfOk result (λ text. text.items ≡ text_of_bound program.now.params (bound_of bound.now)) }
+{
+    let names = program.params();
+    let assumed = bound.assumed();
+    let mut text = assumption_lines(alloc, names, assumed.rows())?;
+    text.extend_from_slice(branch_lines(alloc, names, bound)?.as_slice())?;
+    push_number_line(alloc, &mut text, b"branches ", bound.branches())?;
+    Ok(text)
+}

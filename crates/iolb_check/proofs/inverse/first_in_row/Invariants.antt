@@ -1,5 +1,0 @@
-use Rattle.iolb_check.specs.Columns.{AgreesBelow}
-use Rattle.iolb_check.proofs.inverse.first_in_row.Given as goal
-
-abbrev pub invariant-loop-col : goal.invariant-loop-col
-invariant-loop-col l = AgreesBelow l.scale l.row l.forms l.parameters l.number l.col

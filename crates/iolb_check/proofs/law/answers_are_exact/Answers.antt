@@ -1,0 +1,8 @@
+use Rattle.iolb_check.proofs.Exactness.{valid-certificates-give-one, valid-certificates-stand}
+use Rattle.iolb_check.proofs.law.answers_are_exact.Goals as goal
+
+pub returns-clause-stand : goal.returns-clause-stand
+returns-clause-stand c = valid-certificates-stand
+
+pub returns-clause-one : goal.returns-clause-one
+returns-clause-one c = valid-certificates-give-one

@@ -1,0 +1,91 @@
+-- Bounds as the checker makes them, and their values at numbers for the parameters.
+use Rattle.std.specs.Prelude.{◌≡◌, ℕ, zero, suc, ◌^◌, ◌≤◌, ◌⊎◌, ℤ, pos, ◌*ℤ◌, ◌≤ℤ◌, List, [], ◌∷◌, map, length, slice_get, Some, Result, Ok, Err, Vec, max, fold}
+use Rattle.std.specs.Global.{Global}
+use Rattle.std.specs.List.{AllByRecursion}
+use Rattle.iolb_model.specs.Form.{AffineForm, form_value}
+use Rattle.iolb_model.specs.Bound.{AreMet, Bound, BoundTerm, cold, branch_value}
+use Rattle.affine_form.specs.System.{AffineSystem}
+use Rattle.poly_tree.specs.Expansion.{IsCanonical, at, size_at}
+use Rattle.poly_tree.specs.Poly.{Quotient, numerator_at}
+use Rattle.poly_tree.specs.Printed.{polynomial_of}
+use Rattle.poly_tree.specs.Tree.{expansion}
+use Rattle.iolb_check.specs.declared.bound.Value.{Value}
+use Rattle.iolb_check.specs.declared.bound.Value.TheVariants.{Cold}
+use Rattle.iolb_check.specs.declared.value_fault.ValueFault.{ValueFault}
+use Rattle.iolb_check.specs.declared.value_fault.ValueFault.TheVariants.{OutsideAssumption, Wide}
+
+-- the assumptions, and for each branch the values of its terms
+pub record BoundParts : Type 0 where
+  pub assumed : AffineSystem
+  pub branches : List (List Value)
+
+-- the term of a bound that a value is
+abbrev pub term_of : Value → BoundTerm
+term_of (Cold count) = cold (polynomial_of count)
+
+abbrev pub terms_of : List Value → List BoundTerm
+terms_of values = map term_of values
+
+-- the lists of values that vectors hold
+abbrev pub lists : List (Vec Value Global) → List (List Value)
+lists branches = map (λ (terms : Vec Value Global). terms.items) branches
+
+-- the bound that the parts are
+abbrev pub bound_of : BoundParts → Bound
+bound_of parts = record { assumptions = parts.assumed.rows; branches = map terms_of parts.branches }
+
+-- A polynomial counts something: it uses only the parameters, and at all parameter values, of any size, at which the
+-- assumptions are met its value is a whole number of at least 0.
+pub record IsCounting (assumed : AffineSystem) (polynomial : Quotient) : Type 0 where
+  pub parameters : IsCanonical assumed.vars (expansion polynomial.tree)
+  pub whole : (values : List ℤ) → length values ≡ assumed.vars → AreMet assumed.rows values
+      → (n : ℕ) × (numerator_at polynomial values ≡ pos n *ℤ pos polynomial.denominator)
+
+abbrev pub IsTermValue : AffineSystem → Value → Type 0
+IsTermValue assumed (Cold count) = IsCounting assumed count
+
+-- what holds of each bound: its terms' polynomials count something
+abbrev pub IsBound : BoundParts → Type 0
+IsBound parts = AllByRecursion (λ terms. AllByRecursion (IsTermValue parts.assumed) terms) parts.branches
+
+-- ---- values at sizes
+
+-- a polynomial's terms at the sizes reach 2^126
+abbrev pub IsWideTerm : List ℤ → Value → Type 0
+IsWideTerm sizes (Cold count) = 2 ^ 126 ≤ size_at (expansion count.tree) (at sizes)
+
+-- one of the terms is wide
+abbrev pub HasWideTerm : List ℤ → List Value → Type 0
+HasWideTerm sizes [] = ⊥
+HasWideTerm sizes (term ∷ terms) = IsWideTerm sizes term ⊎ HasWideTerm sizes terms
+
+-- one of a branch's terms is wide, or their sum reaches 2^126
+abbrev pub IsWideBranch : List ℤ → ℕ → List Value → Type 0
+IsWideBranch sizes s terms = HasWideTerm sizes terms ⊎ (2 ^ 126 ≤ branch_value (terms_of terms) sizes s)
+
+-- one of the branches is wide
+abbrev pub HasWideBranch : List ℤ → ℕ → List (List Value) → Type 0
+HasWideBranch sizes s [] = ⊥
+HasWideBranch sizes s (terms ∷ branches) = IsWideBranch sizes s terms ⊎ HasWideBranch sizes s branches
+
+-- the greatest of a number and the values of branches
+abbrev pub greatest_branch : List (List Value) → List ℤ → ℕ → ℕ → ℕ
+greatest_branch branches sizes s least = fold max least (map (λ terms. branch_value (terms_of terms) sizes s) branches)
+
+-- the assumption of this number isn't met, and those before it are
+abbrev pub IsFirstUnmet : List AffineForm → List ℤ → ℕ → Type 0
+IsFirstUnmet [] sizes number = ⊥
+IsFirstUnmet (row ∷ rows) sizes zero = ¬ (pos 0 ≤ℤ form_value row sizes)
+IsFirstUnmet (row ∷ rows) sizes (suc number) = (pos 0 ≤ℤ form_value row sizes) × IsFirstUnmet rows sizes number
+
+-- What an evaluation answers: the value, where the assumptions are met and nothing is wide; the first assumption that
+-- isn't met; or that something is wide, where the assumptions are met.
+abbrev pub Evaluates : List AffineForm → List ℤ → ℕ → Type 0 → Result ℕ ValueFault → Type 0
+Evaluates assumptions sizes value wide (Ok found) = AreMet assumptions sizes × (¬ wide) × (found ≡ value)
+Evaluates assumptions sizes value wide (Err (OutsideAssumption number)) = IsFirstUnmet assumptions sizes number
+Evaluates assumptions sizes value wide (Err Wide) = AreMet assumptions sizes × wide
+
+-- the same of a branch that is there
+abbrev pub EvaluatesBranch : BoundParts → List ℤ → ℕ → ℕ → Result ℕ ValueFault → Type 0
+EvaluatesBranch parts sizes s branch result = (terms : List Value) × (slice_get parts.branches branch ≡ Some terms)
+    × Evaluates parts.assumed.rows sizes (branch_value (terms_of terms) sizes s) (IsWideBranch sizes s terms) result

@@ -1,0 +1,165 @@
+//! The values of bounds at sizes.
+
+ghost use Rattle.std.specs.Prelude.{◌≡◌, ◌≤◌, ◌<◌, ◌^◌, ◌↔◌, [], min, take, length, IfOk, IsErr, MatchOption};
+ghost use Rattle.std.specs.List.{AllByRecursion};
+ghost use Rattle.affine_form.specs.Form.{IsSmall};
+ghost use Rattle.affine_form.specs.System.{AllOver};
+ghost use Rattle.iolb_model.specs.Bound.{AreMet, bound_value, branch_value, count_value, term_value};
+ghost use Rattle.poly_tree.specs.Expansion.{at, size_at};
+ghost use Rattle.poly_tree.specs.Printed.{polynomial_of};
+ghost use Rattle.poly_tree.specs.Tree.{expansion};
+ghost use Rattle.iolb_check.specs.Bounds.{Evaluates, EvaluatesBranch, HasWideBranch, IsCounting, IsFirstUnmet, IsTermValue, IsWideBranch, IsWideTerm, bound_of, greatest_branch, lists, term_of, terms_of};
+
+use crate::bound::{Bound, Value};
+use crate::value_fault::ValueFault;
+use affine_form::{Form, System};
+use poly_tree::printed_law::terms_have_the_value;
+use poly_tree::{Poly, Wide};
+
+/// What a sum of values is compared with: 2^126.
+const LIMIT: u128 = 1 << 126;
+
+impl Bound {
+    /// The value at sizes for the parameters and with s red pebbles: the greatest value of a branch, and 0 if there is none.
+    ///
+    /// # Errors
+    ///
+    /// `OutsideAssumption` names the first assumption that is false at the sizes. `Wide` comes where all are true, exactly
+    /// where in some branch the terms of a polynomial, each coefficient's size times the powers of the variables' sizes,
+    /// reach 2^126 in sum, or the branch's value does.
+    pub fn value(&self, sizes: &[i64], s: u64) -> Result<u128, ValueFault>
+        requires each { length sizes.now ≡ self.now.assumed.vars }
+        requires small { AllByRecursion (IsSmall (2 ^ 40)) sizes.now }
+        requires some { 1 ≤ s }
+        requires few { s < 2 ^ 63 }
+        ensures { Evaluates self.now.assumed.rows sizes.now (bound_value (bound_of self.now) sizes.now s) (HasWideBranch sizes.now s self.now.branches) result }
+    {
+        let assumed = self.assumed();
+        let variables = assumed.vars();
+        let wide = widened(sizes);
+        let point = &wide[..variables];
+        if let Some(number) = first_unmet(assumed.rows(), point) {
+            return Err(ValueFault::OutsideAssumption(number));
+        }
+        greatest(self.branch_lists(), assumed, point, s)
+    }
+
+    /// The value of a branch that is there, the sum of its terms' values.
+    ///
+    /// # Errors
+    ///
+    /// Those of `value`, for this branch.
+    pub fn branch_value(&self, branch: usize, sizes: &[i64], s: u64) -> Result<u128, ValueFault>
+        requires there { branch < length self.now.branches }
+        requires each { length sizes.now ≡ self.now.assumed.vars }
+        requires small { AllByRecursion (IsSmall (2 ^ 40)) sizes.now }
+        requires some { 1 ≤ s }
+        requires few { s < 2 ^ 63 }
+        ensures { EvaluatesBranch self.now sizes.now s branch result }
+    {
+        let terms = self.terms(branch);
+        let assumed = self.assumed();
+        let variables = assumed.vars();
+        let wide = widened(sizes);
+        let point = &wide[..variables];
+        if let Some(number) = first_unmet(assumed.rows(), point) {
+            return Err(ValueFault::OutsideAssumption(number));
+        }
+        branch_sum(terms, assumed, point, s)
+    }
+}
+
+/// The sizes, and then zeros.
+fn widened(sizes: &[i64]) -> [i128; 24]
+    requires { length sizes.now ≤ 24 }
+    ensures { take (length sizes.now) result ≡ sizes.now }
+{
+    let mut point = [0i128; 24];
+    for (i, size) in sizes.iter().enumerate() {
+        point[i] = i128::from(*size);
+    }
+    point
+}
+
+/// The number of the first assumption that isn't met at a point.
+fn first_unmet(rows: &[Form], point: &[i128]) -> Option<u16>
+    requires few { length rows.now ≤ 128 }
+    requires over { AllOver (length point.now) rows.now }
+    requires small { AllByRecursion (IsSmall (2 ^ 40)) point.now }
+    ensures { MatchOption result (AreMet rows.now point.now) (λ number. IsFirstUnmet rows.now point.now number) }
+{
+    for (number, row) in rows.iter().enumerate() {
+        if row.value(point) < 0 {
+            return Some(number as u16);
+        }
+    }
+    None
+}
+
+/// The greatest value of branches at sizes that meet the assumptions.
+fn greatest(
+    branches: &[Vec<Value>],
+    assumed: &System,
+    point: &[i128],
+    s: u64,
+) -> Result<u128, ValueFault>
+    requires counting { AllByRecursion (λ terms. AllByRecursion (IsTermValue assumed.now) terms) (lists branches.now) }
+    requires each { length point.now ≡ assumed.now.vars }
+    requires met { AreMet assumed.now.rows point.now }
+    ensures { Evaluates [] point.now (greatest_branch (lists branches.now) point.now s 0) (HasWideBranch point.now s (lists branches.now)) result }
+{
+    let mut best = 0;
+    for terms in branches {
+        let sum = branch_sum(terms.as_slice(), assumed, point, s)?;
+        best = sum.max(best);
+    }
+    Ok(best)
+}
+
+/// The sum of terms' values at sizes that meet the assumptions.
+fn branch_sum(terms: &[Value], assumed: &System, point: &[i128], s: u64) -> Result<u128, ValueFault>
+    requires counting { AllByRecursion (IsTermValue assumed.now) terms.now }
+    requires each { length point.now ≡ assumed.now.vars }
+    requires met { AreMet assumed.now.rows point.now }
+    ensures { Evaluates [] point.now (branch_value (terms_of terms.now) point.now s) (IsWideBranch point.now s terms.now) result }
+{
+    let mut total = 0;
+    for term in terms {
+        let Ok(value) = value_of(term, assumed, point, s) else {
+            return Err(ValueFault::Wide);
+        };
+        total = (value + total).min(LIMIT);
+    }
+    if total < LIMIT {
+        Ok(total)
+    } else {
+        Err(ValueFault::Wide)
+    }
+}
+
+/// A term's value at sizes that meet the assumptions, or 2^126 if that is less.
+fn value_of(term: &Value, assumed: &System, point: &[i128], s: u64) -> Result<u128, Wide>
+    requires counting { IsTermValue assumed.now term.now }
+    requires each { length point.now ≡ assumed.now.vars }
+    requires met { AreMet assumed.now.rows point.now }
+    ensures value { IfOk result (λ value. value ≡ min (term_value (term_of term.now) point.now s) (2 ^ 126)) }
+    ensures wide { IsErr result ↔ IsWideTerm point.now term.now }
+{
+    match term {
+        Value::Cold(count) => count_at(count, assumed, point),
+    }
+}
+
+/// The value at sizes that meet the assumptions of a polynomial that counts something, or 2^126 if that is less.
+fn count_at(count: &Poly, assumed: &System, point: &[i128]) -> Result<u128, Wide>
+    requires counting { IsCounting assumed.now count.now }
+    requires each { length point.now ≡ assumed.now.vars }
+    requires met { AreMet assumed.now.rows point.now }
+    ensures value { IfOk result (λ value. value ≡ min (count_value (polynomial_of count.now) point.now) (2 ^ 126)) }
+    ensures wide { IsErr result ↔ (2 ^ 126 ≤ size_at (expansion count.now.tree) (at point.now)) }
+{
+    terms_have_the_value();
+    let numerator = count.numer(point)?;
+    let value = numerator / count.den();
+    Ok((value as u128).min(LIMIT))
+}
