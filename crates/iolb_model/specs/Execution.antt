@@ -1,6 +1,6 @@
 -- The execution of a program at given parameter values: its statement instances in order. (Feautrier 1991.)
 use Rattle.std.specs.Prelude.{ℕ, zero, suc, ℤ, pos, negsuc, ◌+ℤ◌, ◌-ℤ◌, List, [], ◌∷◌, ◌++◌, map, flat_map}
-use Rattle.iolb_model.specs.Form.{AffineForm, form_value}
+use Rattle.iolb_model.specs.Form.{form_value}
 use Rattle.iolb_model.specs.Program.{Item, assign, loop, Row, done, next, AffineProgram}
 
 -- a statement, by its number, with the values of the loops around it, outermost first

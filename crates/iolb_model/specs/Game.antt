@@ -1,7 +1,8 @@
 -- The red-blue pebble game without recomputation (Hong and Kung 1981). A red pebble is a word in the fast memory,
 -- a blue one a word in the slow memory, and S is how many words the fast memory holds.
-use Rattle.std.specs.Prelude.{◌≡◌, ℕ, ◌+◌, ◌<◌, Bool, true, false, IsTrue, IsFalse, ◌⊎◌, ⊤, List, [], ◌∷◌, ◌++◌, length, replicate, slice_set, slice_index_or, count_by, fold}
+use Rattle.std.specs.Prelude.{◌≡◌, ℕ, ◌+◌, ◌<◌, nat_eq, Bool, true, false, IsTrue, ◌⊎◌, ⊤, List, [], ◌∷◌, ◌++◌, replicate, slice_set, slice_index_or, count_by, fold}
 use Rattle.std.specs.List.{AllByRecursion}
+use Rattle.std.specs.Set.{is_member}
 use Rattle.iolb_model.specs.Graph.{ComputationGraph}
 use Rattle.iolb_model.specs.declared.game.Move.{Move}
 use Rattle.iolb_model.specs.declared.game.Move.TheVariants.{Load, Store, Compute, Drop, Erase}
@@ -79,3 +80,19 @@ is_load (Erase v) = false
 -- how many words the moves load
 abbrev pub loads : List Move → ℕ
 loads moves = count_by is_load moves
+
+-- whether a vertex stands in a set, which is given by its members
+abbrev pub stands_in : List ℕ → ℕ → Bool
+stands_in set vertex = is_member nat_eq set vertex
+
+-- whether a move loads a vertex of a set
+abbrev pub loads_one_of : List ℕ → Move → Bool
+loads_one_of set (Load v) = stands_in set v
+loads_one_of set (Store v) = false
+loads_one_of set (Compute v) = false
+loads_one_of set (Drop v) = false
+loads_one_of set (Erase v) = false
+
+-- how many loads of vertices of a set the moves make
+abbrev pub loads_of : List ℕ → List Move → ℕ
+loads_of set moves = count_by (loads_one_of set) moves

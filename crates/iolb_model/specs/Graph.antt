@@ -39,6 +39,10 @@ abbrev pub vertex_of : ℕ → List Cell → Source → ℕ
 vertex_of instances cells (written_at place) = place
 vertex_of instances cells (input cell) = instances + position_or_len (same_cell cell) cells
 
+-- the vertex of an input cell that is read
+abbrev pub input_vertex : AffineProgram → List ℤ → Cell → ℕ
+input_vertex program parameters cell = vertex_of (length (execution program parameters)) (input_cells program parameters) (input cell)
+
 -- the distinct sources of an instance's reads, as vertices, in the order of the reads
 abbrev pub predecessors_of : AffineProgram → List ℤ → List Instance → List Cell → ℕ × Instance → List ℕ
 predecessors_of program parameters runs cells placed =

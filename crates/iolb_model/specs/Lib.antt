@@ -7,5 +7,6 @@ pub mod Graph
 pub mod Game
 pub mod Polynomial
 pub mod Bound
+pub mod Footprint
 pub mod Printed
 pub mod Headline

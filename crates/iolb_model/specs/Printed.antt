@@ -1,9 +1,8 @@
 -- What is printed of forms, polynomials and bounds.
-use Rattle.std.specs.Prelude.{ℕ, zero, suc, ◌+◌, ◌==◌, if◌then◌else◌, Bool, true, false, ℤ, pos, negsuc, unsigned_abs, List, [], ◌∷◌, ◌++◌, map, zip, length, flat_map, filter, not, codes, decimal}
+use Rattle.std.specs.Prelude.{ℕ, ◌+◌, ◌==◌, if◌then◌else◌, Bool, true, false, ℤ, pos, negsuc, unsigned_abs, List, [], ◌∷◌, ◌++◌, map, zip, length, flat_map, filter, not, codes, decimal}
 use Rattle.std.specs.List.{join_by}
 use Rattle.std.specs.Ordering.{int_eq}
 use Rattle.iolb_model.specs.Form.{AffineForm}
-use Rattle.iolb_model.specs.Program.{AffineProgram}
 use Rattle.iolb_model.specs.Polynomial.{Term, Polynomial}
 use Rattle.iolb_model.specs.Bound.{Bound, BoundTerm, cold}
 

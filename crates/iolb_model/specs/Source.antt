@@ -1,11 +1,11 @@
 -- Sources of reads: the last earlier write of the cell, or the cell as it was before the program. (Feautrier 1991.)
-use Rattle.std.specs.Prelude.{ℕ, zero, suc, ℤ, Bool, true, false, ◌&&◌, ◌==◌, if◌then◌else◌, List, [], ◌∷◌, ◌++◌, map, Option, Some, None, slice_get}
+use Rattle.std.specs.Prelude.{ℕ, zero, suc, ℤ, Bool, false, ◌&&◌, ◌==◌, if◌then◌else◌, List, ◌++◌, map, Option, Some, None, slice_get}
 use Rattle.std.specs.Option.{option_map_or}
 use lib.Pointwise.{pointwise}
 use Rattle.std.specs.Ordering.{int_eq}
-use Rattle.iolb_model.specs.Form.{AffineForm, form_value}
-use Rattle.iolb_model.specs.Program.{Access, Statement, AffineProgram, statement_at}
-use Rattle.iolb_model.specs.Execution.{Instance, execution}
+use Rattle.iolb_model.specs.Form.{form_value}
+use Rattle.iolb_model.specs.Program.{Access, AffineProgram, statement_at}
+use Rattle.iolb_model.specs.Execution.{Instance}
 
 -- a cell of an array: which array, and a whole number for each subscript
 pub record Cell : Type 0 where
