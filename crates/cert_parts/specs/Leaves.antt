@@ -2,29 +2,11 @@
 use Rattle.std.specs.Prelude.{ℕ, List, [], ◌∷◌, if◌then◌else◌, codes, Ok}
 use Rattle.affine_form.specs.Multipliers.{FarkasMultipliers}
 use Rattle.affine_form.specs.declared.key.TheConstants.{ARRIVE, CREDIT, EMPTY, LABEL, ROWS, STOP}
-use Rattle.reuse_paths.specs.declared.leaf.Leaf.{Leaf}
-use Rattle.reuse_paths.specs.declared.leaf.Leaf.TheVariants.{Empty, Stop, Credit, Go, Arrive}
+use Rattle.reuse_paths.specs.LeafClaims.{LeafClaim, no_point, stops, is_credited, goes_on, arrives}
 use Rattle.serde_json.specs.Data.{Data}
 use Rattle.cert_parts.specs.Outcome.{Outcome, ◌>>=◌, fault}
 use Rattle.cert_parts.specs.Json.{has_keys, part, reads_list, each, reads_natural}
 use Rattle.cert_parts.specs.Parts.{reads_multipliers, reads_all_multipliers}
-
--- What is claimed at a leaf: that no point comes there; that a walk stops there at an input with the walk's label; that
--- it stops there in a credited nest; that it goes on there; that it arrives there.
-pub data LeafClaim : Type 0 where
-  no_point : FarkasMultipliers → LeafClaim
-  stops : List FarkasMultipliers → LeafClaim
-  is_credited : ℕ → List FarkasMultipliers → List FarkasMultipliers → LeafClaim
-  goes_on : List FarkasMultipliers → List FarkasMultipliers → LeafClaim
-  arrives : List FarkasMultipliers → LeafClaim
-
--- the claim that the code holds
-abbrev pub claim_of : Leaf → LeafClaim
-claim_of (Empty shown) = no_point shown
-claim_of (Stop label) = stops label.items
-claim_of (Credit credit rows label) = is_credited credit rows.items label.items
-claim_of (Go rows label) = goes_on rows.items label.items
-claim_of (Arrive equal) = arrives equal.items
 
 unfoldable pub reads_no_point : Data → Outcome LeafClaim
 reads_no_point d = do

@@ -1,1 +1,2 @@
+pub mod LeafClaims
 pub mod Quasts
