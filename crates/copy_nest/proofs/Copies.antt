@@ -12,7 +12,10 @@ use Rattle.iolb_model.specs.Execution.{Instance, natural, execution}
 use Rattle.iolb_model.specs.Source.{Cell, same_cell, source_or}
 use Rattle.iolb_model.specs.Polynomial.{monomial}
 use Rattle.iolb_model.specs.Bound.{IsAdmitted, AreMet, bound_value}
-use Rattle.iolb_model.specs.Game.{loads}
+use Rattle.iolb_model.specs.declared.game.Move.{Move}
+use Rattle.std.proofs.lemmas.List.Sums.{sum_by-cons}
+use Rattle.pebble_game.proofs.Disjoint.{disjoint_loads}
+use Rattle.iolb_model.specs.Game.{loads_of, loads}
 use Rattle.execution_laws.specs.Cold.{read_cell, ReadsInput}
 use Rattle.execution_laws.proofs.Members.{Member, Member-map, Member-distinct}
 use Rattle.execution_laws.proofs.Cells.{same_cell-equal}
@@ -169,7 +172,9 @@ value_is nest parameters s admitted =
 pub copies_loaded : CopiesAreLoaded
 copies_loaded nest matrix ok inverse parameters s moves admitted some game =
     subst (λ (n : ℕ). n ≤ loads moves) (sym (value_is nest parameters s admitted ∙ sym (length-grid (sizes nest parameters))))
-    (input_reads_loaded (program_of nest) parameters 0 0 (grid (sizes nest parameters)) s moves game (points_read nest parameters admitted.each)
+    (few_of _ moves _ (input_reads_loaded (program_of nest) parameters 0 0 (grid (sizes nest parameters)) s moves game (points_read nest parameters admitted.each)
     (distinct_images (read_cell (program_of nest) parameters 0 0) (length nest.loops) (cells_same nest parameters matrix admitted.each inverse) (grid (sizes nest parameters))
     (Differ-grid (sizes nest parameters))
-    (subst (λ (n : ℕ). AllByRecursion (λ (x : List ℤ). length x ≡ n) (grid (sizes nest parameters))) (length-map nest.loops (size_of (parameter_names nest) parameters)) (lengths-grid (sizes nest parameters)))))
+    (subst (λ (n : ℕ). AllByRecursion (λ (x : List ℤ). length x ≡ n) (grid (sizes nest parameters))) (length-map nest.loops (size_of (parameter_names nest) parameters)) (lengths-grid (sizes nest parameters)))))) where
+      few_of : (set : List ℕ) (ms : List Move) (n : ℕ) → n ≤ loads_of set ms → n ≤ loads ms
+      few_of set ms n h = omega (arith, h, disjoint_loads ms (set ∷ []) (tt, tt), sum_by-cons (λ (one : List ℕ). loads_of one ms) set [])
