@@ -5,3 +5,4 @@ pub mod Domains
 pub mod Orders
 pub mod Cells
 pub mod InputVertices
+pub mod BranchLoads
