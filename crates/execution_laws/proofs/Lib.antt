@@ -5,3 +5,5 @@ pub mod Domains
 pub mod Orders
 pub mod Cells
 pub mod InputVertices
+pub mod Different
+pub mod Undone

@@ -1,3 +1,4 @@
 pub mod Cold
 pub mod Domain
 pub mod Order
+pub mod Inverse
