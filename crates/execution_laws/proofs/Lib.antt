@@ -6,3 +6,5 @@ pub mod Orders
 pub mod Cells
 pub mod InputVertices
 pub mod BranchLoads
+pub mod Different
+pub mod Undone

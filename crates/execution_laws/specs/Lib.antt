@@ -2,3 +2,4 @@ pub mod Cold
 pub mod Domain
 pub mod Order
 pub mod Branches
+pub mod Inverse

@@ -13,7 +13,7 @@ use Rattle.execution_laws.specs.Cold.{read_cell, ReadsInput}
 use Rattle.execution_laws.specs.Domain.{IsWithin, IsAt}
 use Rattle.execution_laws.proofs.Domains.{domains_executed, way-there}
 use Rattle.execution_laws.proofs.InputVertices.{input_reads_loaded, input_reads_vertices}
-use Rattle.copy_nest.proofs.Grids.{All-weaker, All-map}
+use Rattle.execution_laws.proofs.Different.{All-weaker, All-map}
 use Rattle.affine_form.specs.declared.place.Step.{Step}
 use Rattle.affine_form.specs.declared.place.Step.TheVariants.{Key}
 use Rattle.affine_form.specs.declared.key.TheConstants.{INSIDE, LEAVES}

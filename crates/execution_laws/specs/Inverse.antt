@@ -1,11 +1,6 @@
 -- Matrices that undo the order of a reference's subscripts.
-use Rattle.std.specs.Prelude.{◌≡◌, ℕ, ◌<◌, ◌⊎◌, ℤ, pos, List, [], map, drop, slice_index_or, ◌==◌, if◌then◌else◌}
-use Rattle.iolb_model.specs.Form.{AffineForm, dot}
-use Rattle.iolb_model.specs.Program.{Access}
-
--- the coefficients of the loop variables in each subscript, where so many parameters come first
-abbrev pub loop_coefficients : ℕ → Access → List (List ℤ)
-loop_coefficients parameters access = map (λ (form : AffineForm). drop parameters form.coefficients) access.subscripts
+use Rattle.std.specs.Prelude.{◌≡◌, ℕ, ◌<◌, ◌⊎◌, ℤ, pos, List, [], map, slice_index_or, ◌==◌, if◌then◌else◌}
+use Rattle.iolb_model.specs.Form.{dot}
 
 -- the numbers that the rows have in one column
 abbrev pub column : ℕ → List (List ℤ) → List ℤ

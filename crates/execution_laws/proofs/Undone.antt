@@ -6,7 +6,7 @@ use Rattle.std.proofs.lemmas.Bool.{eq-eqb, ne_eqb, cases_eq}
 use Rattle.std.proofs.lemmas.List.{same_lists, get_or_default}
 use Rattle.integer_laws.proofs.Ring.{zero-mul, mul-cancel, mul-zero, mul-add, add-mul, mul_assoc_ℤ, add_pairs}
 use Rattle.iolb_model.specs.Form.{dot}
-use Rattle.copy_nest.specs.Inverse.{column, scaled_entry, IsScaledInverse}
+use Rattle.execution_laws.specs.Inverse.{column, scaled_entry, IsScaledInverse}
 
 dot-nil : (row : List ℤ) → dot row [] ≡ pos 0
 dot-nil [] = refl
