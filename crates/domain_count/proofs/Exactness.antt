@@ -42,7 +42,8 @@ sums-same var [] sums one other h g = λ p.
     ap (λ (z : ℤ). z *ℤ pos other.denominator) (h.same p (omega arith) ∙ sym (g.same p (omega arith))) ∙ ap (λ (n : ℕ). numerator_at other p *ℤ pos n) (g.whole ∙ sym h.whole)
 sums-same var (bounds ∷ nest) [] one other h g = absurd h
 sums-same var (bounds ∷ nest) (sum ∷ sums) one other h g =
-    let same = between-same var bounds sum one other h.1.1.legal h.1.1.between g.1.1.between in same-values one other same.0 same.1
+    let same = between-same var bounds sum one other h.1.1.legal h.1.1.between g.1.1.between in
+    same-values one other (ap (λ (q : Quotient). q.tree) same) (ap (λ (q : Quotient). q.denominator) same)
 
 -- a summation that is right doesn't fail
 summed-stays : (var : ℕ) (bounds : AffineForm × AffineForm) (summand other sum total : Quotient) (fault : SumFault) → 1 ≤ summand.denominator → SameValues summand other

@@ -8,7 +8,6 @@ use Rattle.integer_laws.proofs.Ring.{zero-mul}
 use Rattle.iolb_model.specs.Form.{AffineForm, dot, form_value}
 use Rattle.affine_rows.specs.Rows.{BoundsFit}
 use Rattle.poly_tree.specs.Expansion.{Expansion, Parts, number, over, none, part, at, put, value, parts_value, IsCanonical}
-use Rattle.poly_tree.specs.Tree.{expansion}
 use Rattle.poly_tree.specs.Poly.{Quotient, IsLegal, numerator_at}
 use Rattle.poly_tree.proofs.Expansions.{IsCanonical-more}
 use Rattle.poly_tree.proofs.Unique.{agree, put-same, put-below, unique}
@@ -104,17 +103,17 @@ put-agrees p q v x y e h w below = by (cases w v below) where
   by (inr less) = put-below p v x w less ∙ h w less ∙ sym (put-below q v y w less)
 
 -- a polynomial in the variables up to one, with a form in those below it put in, reads those below it alone
-substituted-agrees : (var : ℕ) (form : AffineForm) (sum r : Quotient) (p q : List ℤ) → IsLegal sum → IsCanonical (suc var) (expansion sum.tree) → length form.coefficients ≤ var
+substituted-agrees : (var : ℕ) (form : AffineForm) (sum r : Quotient) (p q : List ℤ) → IsLegal sum → IsCanonical (suc var) sum.tree → length form.coefficients ≤ var
     → IsSubstituted var form sum r → var ≤ length p → var ≤ length q → AgreeBelow var p q → numerator_at r p ≡ numerator_at r q
 substituted-agrees var form sum r p q legal canonical le is a b h =
-    let same : value (expansion sum.tree) (put (at p) var (form_value form p)) ≡ value (expansion sum.tree) (put (at q) var (form_value form q))
-    = agree (suc var) (expansion sum.tree) (put (at p) var (form_value form p)) (put (at q) var (form_value form q)) canonical
+    let same : value sum.tree (put (at p) var (form_value form p)) ≡ value sum.tree (put (at q) var (form_value form q))
+    = agree (suc var) sum.tree (put (at p) var (form_value form p)) (put (at q) var (form_value form q)) canonical
     (put-agrees (at p) (at q) var (form_value form p) (form_value form q) (form-agrees form p q var le a b h) h) in
     cancelled sum.denominator (numerator_at r p) (numerator_at r q) legal.positive
     (is.value p (omega arith) ∙ ap (λ (z : ℤ). z *ℤ pos r.denominator) same ∙ sym (is.value q (omega arith)))
 
 -- so does the sum between bounds
-summed-agrees : (var : ℕ) (bounds : AffineForm × AffineForm) (summand sum total : Quotient) (p q : List ℤ) → IsCanonical (suc var) (expansion sum.tree)
+summed-agrees : (var : ℕ) (bounds : AffineForm × AffineForm) (summand sum total : Quotient) (p q : List ℤ) → IsCanonical (suc var) sum.tree
     → length bounds.0.coefficients ≤ var → length bounds.1.coefficients ≤ var → IsSummed var bounds summand sum total
     → var ≤ length p → var ≤ length q → AgreeBelow var p q → numerator_at total p ≡ numerator_at total q
 summed-agrees var bounds summand sum total p q canonical le0 le1 is a b h =
@@ -154,11 +153,11 @@ reads-all var t h p q same =
 
 -- what the sums give uses only the variables before the first of them
 pub sums-use : (var : ℕ) (nest : List (AffineForm × AffineForm)) (sums : List Quotient) (total : Quotient) → IsLegal total → BoundsFit var nest → SumsFit (suc var) sums
-    → IsSumFrom var nest sums total → IsCanonical var (expansion total.tree)
+    → IsSumFrom var nest sums total → IsCanonical var total.tree
 sums-use var [] sums total legal fit uses h =
-    uses-below var (expansion total.tree) legal.canonical (λ p q same. h.same p (omega arith) ∙ sym (h.same q (omega arith)))
+    uses-below var total.tree legal.canonical (λ p q same. h.same p (omega arith) ∙ sym (h.same q (omega arith)))
 sums-use var (bounds ∷ nest) [] total legal fit uses h = absurd h
 sums-use var (bounds ∷ nest) (sum ∷ sums) total legal fit uses h =
-    uses-below var (expansion total.tree) legal.canonical
-    (reads-all var (expansion total.tree)
+    uses-below var total.tree legal.canonical
+    (reads-all var total.tree
     (λ p q a b same. summed-agrees var bounds h.0 sum total p q uses.0 (omega (arith, fit.0.0.over)) (omega (arith, fit.0.1.over)) h.1.1 a b same))

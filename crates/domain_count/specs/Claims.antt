@@ -6,7 +6,6 @@ use Rattle.affine_rows.specs.Rows.{BoundsFit}
 use Rattle.affine_c.specs.Parts.{ProgramParts}
 use Rattle.poly_tree.specs.Expansion.{IsCanonical}
 use Rattle.poly_tree.specs.Poly.{Quotient}
-use Rattle.poly_tree.specs.Tree.{expansion}
 
 -- for each variable multipliers, which are to show that its range is whole, and a polynomial, which is to be an
 -- antidifference of what the variables behind it count
@@ -17,7 +16,7 @@ pub record SumClaims : Type 0 where
 -- each polynomial uses only the variables before it and its own, so many for the first
 abbrev pub SumsFit : ℕ → List Quotient → Type 0
 SumsFit vars [] = ⊤
-SumsFit vars (sum ∷ sums) = IsCanonical vars (expansion sum.tree) × SumsFit (suc vars) sums
+SumsFit vars (sum ∷ sums) = IsCanonical vars sum.tree × SumsFit (suc vars) sums
 
 -- The lengths fit: at most 6 variables, whose bounds are over the parameters and the variables before, and as many
 -- multipliers and polynomials, over the parameters and the variables up to their own.

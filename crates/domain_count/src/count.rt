@@ -5,7 +5,6 @@ ghost use Rattle.affine_rows.specs.Rows.{BoundsFit};
 ghost use Rattle.affine_c.specs.Parts.{meaning};
 ghost use Rattle.poly_tree.specs.Expansion.{IsCanonical};
 ghost use Rattle.poly_tree.specs.Poly.{IsLegal};
-ghost use Rattle.poly_tree.specs.Tree.{expansion};
 ghost use Rattle.domain_count.specs.Claims.{FitsCount, SumsFit};
 ghost use Rattle.domain_count.specs.Count.{AreShownBelow, CountsPoints, IsCount, IsFirstFailure, IsOne, IsSumFrom};
 ghost use Rattle.domain_count.specs.Refused.{IsFaultRefusal, IsRangeRefusal, IsSumRefusal};
@@ -44,7 +43,7 @@ pub fn check_count(
     requires { FitsCount program.now nest.now sums.now }
     ensures right { IfOk result (λ poly. IsCount (meaning program.now) nest.now sums.now poly) }
     ensures counts { IfOk result (λ poly. CountsPoints (meaning program.now) nest.now poly) }
-    ensures parameters { IfOk result (λ poly. IsCanonical (length program.now.params) (expansion poly.tree)) }
+    ensures parameters { IfOk result (λ poly. IsCanonical (length program.now.params) poly.tree) }
     ensures refused { IfErr result (λ refused. IsRefusal (meaning program.now) nest.now sums.now place.now refused) }
 {
     check_ranges(alloc, program, nest.bounds(), sums.shown(), place)?;
@@ -86,7 +85,7 @@ fn check_sums(
     requires one_each { length sums.now ≡ length bounds.now }
     requires variables { SumsFit (suc params) sums.now }
     ensures total { IfOk result (λ total. IsSumFrom params bounds.now sums.now total) }
-    ensures parameters { IfOk result (λ total. IsCanonical params (expansion total.tree)) }
+    ensures parameters { IfOk result (λ total. IsCanonical params total.tree) }
     ensures refused { IfErr result (λ refused. IsSumRefusal params bounds.now sums.now place.now refused) }
 {
     let Ok(start) = one(alloc) else {

@@ -8,7 +8,6 @@ ghost use Rattle.dep_quast.specs.Tree.{SelectionTree, tree_of};
 ghost use Rattle.domain_count.specs.Count.{IsCount, CountsPoints};
 ghost use Rattle.poly_tree.specs.Expansion.{IsCanonical};
 ghost use Rattle.poly_tree.specs.Printed.{polynomial_of};
-ghost use Rattle.poly_tree.specs.Tree.{expansion};
 ghost use Rattle.reuse_paths.specs.Quasts.{tree_at};
 ghost use Rattle.wavefront.specs.Found.{FindsCold};
 ghost use Rattle.wavefront.specs.Loads.{ColdFits, ColdHolds, IsSoundCold, footprint_of};
@@ -52,7 +51,7 @@ pub fn check_cold(
     requires { (tree : SelectionTree) × FitsCold program.now quasts.now term.now tree }
     ensures right { IfOk result (λ poly. IsCount (meaning program.now) term.now.nest term.now.sums poly) }
     ensures counts { IfOk result (λ poly. CountsPoints (meaning program.now) term.now.nest poly) }
-    ensures parameters { IfOk result (λ poly. IsCanonical (length program.now.params) (expansion poly.tree)) }
+    ensures parameters { IfOk result (λ poly. IsCanonical (length program.now.params) poly.tree) }
     ensures holds { OnOk result ((tree : SelectionTree) × (tree_at quasts.now term.now.statement term.now.read ≡ Some tree) × ColdHolds (meaning program.now) place.now tree (term_of term.now)) }
     ensures sound { OnOk result (IsSoundCold (meaning program.now) (term_of term.now)) }
     ensures footprint { IfOk result (λ poly. IsFootprintOf (meaning program.now) (cold (polynomial_of poly)) (footprint_of (meaning program.now) (term_of term.now))) }
