@@ -82,7 +82,7 @@ summed-counts bounds nest summand sum total before over0 over1 is whole some cou
 
 -- the denominator of what the sums give is at least 1
 pub positive-from : (var : ℕ) (nest : List (AffineForm × AffineForm)) (sums : List Quotient) (total : Quotient) → IsSumFrom var nest sums total → 1 ≤ total.denominator
-positive-from var [] sums total h = omega (arith, h.whole)
+positive-from var [] sums total h = omega (arith, ap (λ (q : Quotient). q.denominator) h)
 positive-from var (bounds ∷ nest) [] total h = absurd h
 positive-from var (bounds ∷ nest) (sum ∷ sums) total h = h.1.1.between.less.legal.positive
 
@@ -90,7 +90,7 @@ positive-from var (bounds ∷ nest) (sum ∷ sums) total h = h.1.1.between.less.
 counted : (nest : List (AffineForm × AffineForm)) (sums : List Quotient) (total : Quotient) (before : List ℤ) → BoundsFit (length before) nest → RangesAreWhole nest before
     → IsSumFrom (length before) nest sums total → numerator_at total before ≡ pos (length (points nest before)) *ℤ pos total.denominator
 counted [] sums total before fit whole h =
-    h.same before (omega arith) ∙ sym (ap (λ (n : ℕ). pos 1 *ℤ pos n) h.whole)
+    ap (λ (q : Quotient). numerator_at q before) h ∙ sym (ap (λ (q : Quotient). pos 1 *ℤ pos q.denominator) h)
 counted (bounds ∷ nest) [] total before fit whole h = absurd h
 counted (bounds ∷ nest) (sum ∷ sums) total before fit whole h =
     summed-counts bounds nest h.0 sum total before (omega (arith, fit.0.0.over)) (omega (arith, fit.0.1.over)) h.1.1 whole.0 (positive-from (suc (length before)) nest sums h.0 h.1.0)

@@ -1,10 +1,10 @@
 -- Each operation on polynomials has one answer, and none where it passes its limit.
-use Rattle.std.proofs.Common.{◌≡◌, ◌≢◌, refl, sym, ◌∙◌, ap, subst, inl, inr, ℕ, zero, suc, ◌+◌, ◌*◌, ◌<◌, ◌≤◌, ◌^◌, max, List, ◌++◌, length, replicate, arith}
+use Rattle.std.proofs.Common.{◌≡◌, ◌≢◌, refl, sym, ◌∙◌, ap, subst, inl, inr, ℕ, zero, suc, ◌+◌, ◌*◌, ◌<◌, ◌≤◌, ◌^◌, List, ◌++◌, length, replicate, arith}
 use Rattle.std.proofs.Math.IntN.{ℤ, pos, ◌-ℤ◌, ◌*ℤ◌}
 use Rattle.std.proofs.lemmas.List.{length-append, length-replicate}
 use Rattle.integer_laws.proofs.Ring.{mul_comm, mul_turn}
 use Rattle.iolb_model.specs.Form.{AffineForm, form_value}
-use Rattle.poly_tree.specs.Expansion.{Expansion, Parts, number, over, none, part, at, put, value, weight, scaled, parts_scaled, parts_count, IsCanonical, DegreesAtMost, PartsDegreesAtMost}
+use Rattle.poly_tree.specs.Expansion.{Expansion, Parts, number, over, none, part, at, put, value, scaled, parts_scaled, parts_count, IsCanonical, DegreesAtMost, PartsDegreesAtMost}
 use Rattle.poly_tree.specs.Poly.{Quotient, IsLegal, SameValues, numerator_at, size, put_size, form_size}
 use Rattle.poly_tree.proofs.Products.{canonical-scaled, value-scaled}
 use Rattle.poly_tree.proofs.Reduced.{degrees-scaled}
