@@ -1,6 +1,6 @@
 -- Certificates that claim the same meet the same conditions.
-use Rattle.std.proofs.Common.{◌≡◌, refl, sym, ◌∙◌, ap, subst, inl, inr, ℕ, zero, suc, ◌+◌, ◌*◌, List, [], ◌∷◌, ◌++◌, length, map, arith}
-use Rattle.std.specs.Prelude.{◌==◌, ◌⊎◌, if◌then◌else◌, nat_lt, option_map, option_and_then, Option, Some, None, slice_get, Vec, Bool}
+use Rattle.std.proofs.Common.{◌≡◌, refl, sym, ◌∙◌, ap, subst, inl, inr, ℕ, zero, suc, ◌+◌, ◌*◌, List, [], ◌∷◌, ◌++◌, length, map}
+use Rattle.std.specs.Prelude.{◌⊎◌, if◌then◌else◌, nat_lt, option_map, option_and_then, Option, Some, slice_get, Vec, Bool}
 use Rattle.std.specs.Global.{Global}
 use Rattle.std.proofs.lemmas.List.{length-map}
 use Rattle.iolb_model.specs.Form.{AffineForm}
@@ -36,7 +36,7 @@ use Rattle.wavefront.specs.View.{term_of as cold_of}
 use Rattle.certificates.specs.declared.term.Branch.{Branch}
 use Rattle.certificates.specs.declared.term.Term.{Term}
 use Rattle.certificates.specs.declared.term.Term.TheVariants as terms
-use Rattle.certificates.specs.Claims.{ColdClaim, cold, BranchClaim, CertificateClaim, claim_of_cold, claim_of_term, claim_of_branch, claim_of_certificate, row_trees}
+use Rattle.certificates.specs.Claims.{ColdClaim, BranchClaim, CertificateClaim, claim_of_cold, claim_of_term, claim_of_branch, claim_of_certificate, row_trees}
 use Rattle.certificates.specs.Limits.{CertificateParts}
 use Rattle.cert_fits.specs.FitClaims.{PlacedFit, AllFit, FirstMisfit, names, numbered}
 use Rattle.cert_fits.specs.Parts.{so_many, shown_fit, forms_fit}
@@ -315,8 +315,10 @@ module _ (program : AffineProgram) (qa qb : Quasts) (trees : map row_trees qa.ro
       inl (term-refused-same (place ++ Index index ∷ []) x y failed (head-same (claim_of_term x) (claim_of_term y) (map claim_of_term xs) (map claim_of_term ys) e) h)
   terms-refused-same place index (x ∷ xs) (y ∷ ys) failed e (inr h) =
       let here = head-same (claim_of_term x) (claim_of_term y) (map claim_of_term xs) (map claim_of_term ys) e in
-      inr ((h.0.0, term-accepted-same (place ++ Index index ∷ []) x y h.0.0 here h.0.1),
-      terms-refused-same place (suc index) xs ys failed (tail-same (claim_of_term x) (claim_of_term y) (map claim_of_term xs) (map claim_of_term ys) e) h.1)
+      inr (
+        (h.0.0, term-accepted-same (place ++ Index index ∷ []) x y h.0.0 here h.0.1),
+        terms-refused-same place (suc index) xs ys failed (tail-same (claim_of_term x) (claim_of_term y) (map claim_of_term xs) (map claim_of_term ys) e) h.1,
+      )
 
   branches-accepted-same : (number : ℕ) (xs ys : List Branch) (vs : List (List Value)) → map claim_of_branch xs ≡ map claim_of_branch ys
       → BranchesAccepted program qa number xs vs → BranchesAccepted program qb number ys vs
@@ -339,8 +341,10 @@ module _ (program : AffineProgram) (qa qb : Quasts) (trees : map row_trees qa.ro
       inl (terms-refused-same (terms_place number) 0 x.terms.items y.terms.items failed (ap (λ (b : BranchClaim). b.terms) here) h)
   branches-refused-same number (x ∷ xs) (y ∷ ys) failed e (inr h) =
       let here = head-same (claim_of_branch x) (claim_of_branch y) (map claim_of_branch xs) (map claim_of_branch ys) e in
-      inr ((h.0.0, terms-accepted-same (terms_place number) 0 x.terms.items y.terms.items h.0.0 (ap (λ (b : BranchClaim). b.terms) here) h.0.1),
-      branches-refused-same (suc number) xs ys failed (tail-same (claim_of_branch x) (claim_of_branch y) (map claim_of_branch xs) (map claim_of_branch ys) e) h.1)
+      inr (
+        (h.0.0, terms-accepted-same (terms_place number) 0 x.terms.items y.terms.items h.0.0 (ap (λ (b : BranchClaim). b.terms) here) h.0.1),
+        branches-refused-same (suc number) xs ys failed (tail-same (claim_of_branch x) (claim_of_branch y) (map claim_of_branch xs) (map claim_of_branch ys) e) h.1,
+      )
 
 -- ---- certificates
 
