@@ -1,0 +1,5 @@
+pub mod Marks
+pub mod Held
+pub mod Stretch
+pub mod Cut
+pub mod CompletePebblings
