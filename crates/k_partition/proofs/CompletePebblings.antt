@@ -17,18 +17,12 @@ use Rattle.iolb_model.specs.Game.{AreAllowed, Board, IsCompletePebbling, board_a
 use Rattle.k_partition.specs.Laws.{AreInstances, PartitionsAreLoadedEach, PartitionsAreLoadedSum, PointsTakeEventsEach, PointsTakeEventsSum}
 use Rattle.k_partition.specs.Reuse.{ReusePartition, words_of}
 use Rattle.k_partition.specs.Runs.{IsRedRun, computed_vertices, events, is_event, points_computed}
-use Rattle.k_partition.proofs.Marks.{member-stands}
-use Rattle.k_partition.proofs.Stretch.{distinct-filtered}
+use Rattle.execution_laws.proofs.Marks.{count-put, distinct-filtered, member-stands, unmarked-at}
 
 -- ---- red pebbles
 
 count-cons : (b : Bool) (marks : List Bool) → mark_count (b ∷ marks) ≡ cond b 1 0 + mark_count marks
 count-cons b marks = sum_by-cons (λ (mark : Bool). cond mark 1 0) b marks
-
-count-put : (marks : List Bool) (v : ℕ) → mark_count (set marks v true) ≤ mark_count marks + 1
-count-put [] v = omega arith
-count-put (b ∷ marks) zero = omega (arith, count-cons true marks, count-cons b marks)
-count-put (b ∷ marks) (suc v) = omega (arith, count-cons b (set marks v true), count-cons b marks, count-put marks v)
 
 count-again : (marks : List Bool) (v : ℕ) → marked marks v ≡ true → mark_count (set marks v true) ≡ mark_count marks
 count-again [] v h = refl
@@ -105,11 +99,6 @@ module _ (graph : ComputationGraph) (s : ℕ) where
   computed-once board (Drop w ∷ moves) wide allowed = let later = computed-once (board_after board (Drop w)) moves wide allowed.1 in record { distinct = later.distinct; fresh = later.fresh }
   computed-once board (Erase w ∷ moves) wide allowed = let later = computed-once (board_after board (Erase w)) moves wide allowed.1 in record { distinct = later.distinct; fresh = later.fresh }
 
-unmarked-at-first : (n v : ℕ) → marked (replicate n false) v ≡ false
-unmarked-at-first zero v = refl
-unmarked-at-first (suc n) zero = refl
-unmarked-at-first (suc n) (suc v) = unmarked-at-first n v
-
 -- ---- events
 
 module _ (partition : ReusePartition) where
@@ -160,7 +149,7 @@ module _ (graph : ComputationGraph) (s t u : ℕ) (partition : ReusePartition) (
   all-computed =
       all-left (stands_in (computed_vertices moves)) partition.points
       (λ v m. member-stands (computed_vertices moves) v
-      (is-computed graph s (first_board graph) moves v (game.computed v (are.there v (member-stands partition.points v m))) (unmarked-at-first (vertices graph) v)))
+      (is-computed graph s (first_board graph) moves v (game.computed v (are.there v (member-stands partition.points v m))) (unmarked-at (vertices graph) v)))
 
   once : IsOnce graph s (first_board graph) moves
   once = computed-once graph s (first_board graph) moves (omega (arith, length-replicate (vertices graph) false)) game.allowed

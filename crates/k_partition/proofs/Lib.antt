@@ -1,4 +1,3 @@
-pub mod Marks
 pub mod Held
 pub mod Stretch
 pub mod Cut

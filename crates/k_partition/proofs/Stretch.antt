@@ -1,7 +1,7 @@
 -- At most so many points are computed in a stretch of moves, by the uniform cover inequality.
-use Rattle.std.proofs.Common.{◌≡◌, refl, sym, ◌∙◌, ap, subst, inl, inr, ℕ, ◌+◌, ◌*◌, ◌^◌, ◌≤◌, Bool, true, false, cond, List, [], ◌∷◌, ◌++◌, length, map, sum_by, arith, length-append}
+use Rattle.std.proofs.Common.{◌≡◌, refl, sym, ◌∙◌, ap, subst, inl, inr, ℕ, ◌+◌, ◌*◌, ◌^◌, ◌≤◌, Bool, true, cond, List, [], ◌∷◌, ◌++◌, length, map, sum_by, arith, length-append}
 use Rattle.std.specs.Prelude.{ℤ, nat_eq, filter, Contains, count_by}
-use Rattle.std.specs.List.{AllByRecursion, IsDistinct}
+use Rattle.std.specs.List.{AllByRecursion}
 use Rattle.std.proofs.lemmas.List.{length-map}
 use Rattle.std.proofs.lemmas.List.Sums.{sum_by-cons, length-filter, count_by-le-length}
 use Rattle.execution_laws.proofs.Members.{Member, Member-append_left, Member-append_right, Member-filter, Member-flat_map, Member-map, Contains-member}
@@ -17,24 +17,7 @@ use Rattle.k_partition.specs.Laws.{IsGreatestEach, IsGreatestSum}
 use Rattle.k_partition.specs.Reuse.{AreApart, FixesCoordinates, IsSoundFamily, IsSoundPartition, ReuseFamily, ReusePartition, words_of}
 use Rattle.k_partition.specs.Runs.{IsRedRun, computed_vertices, events, points_computed}
 use Rattle.k_partition.proofs.Held.{event_vertices, length-event_vertices, start-held}
-use Rattle.k_partition.proofs.Marks.{all-contained, all-filtered, length-marked_from, marked-member, marked_from, member-stands, standing-member}
-
--- ---- lists that are filtered
-
-apart-filtered : (x : ℕ) (test : ℕ → Bool) (xs : List ℕ) → AllByRecursion (λ (y : ℕ). nat_eq x y ≡ false) xs → AllByRecursion (λ (y : ℕ). nat_eq x y ≡ false) (filter test xs)
-apart-filtered x test [] h = tt
-apart-filtered x test (y ∷ xs) h = by (test y) (apart-filtered x test xs h.1) where
-  by : (b : Bool) → AllByRecursion (λ (z : ℕ). nat_eq x z ≡ false) (filter test xs) → AllByRecursion (λ (z : ℕ). nat_eq x z ≡ false) (cond b (y ∷ filter test xs) (filter test xs))
-  by true rest = (h.0, rest)
-  by false rest = rest
-
-pub distinct-filtered : (test : ℕ → Bool) (xs : List ℕ) → IsDistinct nat_eq xs → IsDistinct nat_eq (filter test xs)
-unfolding IsDistinct
-distinct-filtered test [] h = tt
-distinct-filtered test (x ∷ xs) h = by (test x) (distinct-filtered test xs h.1) where
-  by : (b : Bool) → IsDistinct nat_eq (filter test xs) → IsDistinct nat_eq (cond b (x ∷ filter test xs) (filter test xs))
-  by true rest = (apart-filtered x test xs h.0, rest)
-  by false rest = rest
+use Rattle.execution_laws.proofs.Marks.{distinct-filtered, all-contained, all-filtered, length-marked_from, marked-member, marked_from, member-stands, standing-member}
 
 -- ---- the families of a stretch
 

@@ -1,7 +1,7 @@
 -- Marks and sets of vertices.
-use Rattle.std.proofs.Common.{◌≡◌, refl, sym, ◌∙◌, ap, subst, inl, inr, ℕ, zero, suc, ◌+◌, Bool, true, false, cond, List, [], ◌∷◌, length, set, arith}
+use Rattle.std.proofs.Common.{◌≡◌, refl, sym, ◌∙◌, ap, subst, inl, inr, ℕ, zero, suc, ◌+◌, ◌≤◌, Bool, true, false, cond, List, [], ◌∷◌, length, set, replicate, arith}
 use Rattle.std.specs.Prelude.{◌⊎◌, ◌||◌, filter, nat_eq, Contains}
-use Rattle.std.specs.List.{AllByRecursion}
+use Rattle.std.specs.List.{AllByRecursion, IsDistinct}
 use Rattle.std.proofs.lemmas.Bool.{eq-eqb, ne_eqb, cases_eq}
 use Rattle.std.proofs.lemmas.List.{get_or-set_other}
 use Rattle.std.proofs.lemmas.List.Elements.{All-from_recursion, All-contains}
@@ -83,3 +83,31 @@ all-filtered {X} P test (x ∷ xs) h = by (test x) refl (all-filtered P test xs 
 -- what holds of all holds of each that a list contains
 pub all-contained : {X : Type 0} (P : X → Type 0) (xs : List X) (x : X) → AllByRecursion P xs → Contains xs x → P x
 all-contained P xs x h c = All-contains P xs x (All-from_recursion P xs h) c
+
+-- none is marked where all marks are off
+pub unmarked-at : (n v : ℕ) → marked (replicate n false) v ≡ false
+unmarked-at zero v = refl
+unmarked-at (suc n) zero = refl
+unmarked-at (suc n) (suc v) = unmarked-at n v
+
+-- a mark more
+pub count-put : (marks : List Bool) (v : ℕ) → mark_count (set marks v true) ≤ mark_count marks + 1
+count-put [] v = omega arith
+count-put (b ∷ marks) zero = omega (arith, sum_by-cons (λ (mark : Bool). cond mark 1 0) true marks, sum_by-cons (λ (mark : Bool). cond mark 1 0) b marks)
+count-put (b ∷ marks) (suc v) = omega (arith, sum_by-cons (λ (mark : Bool). cond mark 1 0) b (set marks v true), sum_by-cons (λ (mark : Bool). cond mark 1 0) b marks, count-put marks v)
+
+apart-filtered : (x : ℕ) (test : ℕ → Bool) (xs : List ℕ) → AllByRecursion (λ (y : ℕ). nat_eq x y ≡ false) xs → AllByRecursion (λ (y : ℕ). nat_eq x y ≡ false) (filter test xs)
+apart-filtered x test [] h = tt
+apart-filtered x test (y ∷ xs) h = by (test y) (apart-filtered x test xs h.1) where
+  by : (b : Bool) → AllByRecursion (λ (z : ℕ). nat_eq x z ≡ false) (filter test xs) → AllByRecursion (λ (z : ℕ). nat_eq x z ≡ false) (cond b (y ∷ filter test xs) (filter test xs))
+  by true rest = (h.0, rest)
+  by false rest = rest
+
+-- different numbers that are left by a test are different
+pub distinct-filtered : (test : ℕ → Bool) (xs : List ℕ) → IsDistinct nat_eq xs → IsDistinct nat_eq (filter test xs)
+unfolding IsDistinct
+distinct-filtered test [] h = tt
+distinct-filtered test (x ∷ xs) h = by (test x) (distinct-filtered test xs h.1) where
+  by : (b : Bool) → IsDistinct nat_eq (filter test xs) → IsDistinct nat_eq (cond b (x ∷ filter test xs) (filter test xs))
+  by true rest = (apart-filtered x test xs h.0, rest)
+  by false rest = rest
