@@ -3,73 +3,10 @@
 use crate::kernels::{GEMM, KERNELS};
 use crate::texts::{COPIED_ARRAY, NOTHING, PRINTED_ARRAY};
 use affine_c::{Program, Reference};
-use affine_text::{ProgramError, read_program};
+use affine_text::read_program;
 use c_printing::program_text;
 use std::alloc::Global;
 use std::test::Fail;
-
-/// The fault of a text: its number and its place. 0 and 0 where it has none, and 255 and 0 where memory is wanted.
-fn fault_of(alloc: Global, text: &[u8]) -> (u8, u64) {
-    match read_program(alloc, text) {
-        Ok(_) => (0, 0),
-        Err(ProgramError::Fault(fault)) => (fault.number, fault.place),
-        Err(ProgramError::Memory) => (255, 0),
-    }
-}
-
-/// Texts, each with the number and the place of its fault; 0 and 0 where it has none.
-const FAULTS: [(&[u8], u8, u64); 7] = [
-    (b"int x;\n", 1, 7),
-    (b"#pragma scop\nA[n*n] = 0;\n#pragma endscop\n", 4, 16),
-    (
-        b"#pragma scop\nfor (i = 0; i < N; i += 2) x = 1;\n#pragma endscop\n",
-        5,
-        32,
-    ),
-    (
-        b"#pragma scop\nfor (i = 0; i < N; i++) A[i] = A[i][0];\n#pragma endscop\n",
-        8,
-        44,
-    ),
-    (
-        b"#pragma scop\nif (N > 0) x = 1;\n#pragma endscop\n",
-        12,
-        13,
-    ),
-    (NOTHING, 0, 0),
-    (
-        b"#pragma scop\n{{{{{{{{{{{{{{{{{{{{{{{{{{{{{{{{{{{{{{{{{{{{{{{{{{{{{{{{{{{{{{{{{}}\n#pragma endscop\n",
-        9,
-        77,
-    ),
-];
-
-/// The first fault of the table that isn't found.
-fn first_missed(alloc: Global) -> Option<u8> {
-    for (text, number, place) in FAULTS.iter() {
-        if fault_of(alloc, text) != (*number, *place) {
-            return Some(*number);
-        }
-    }
-    None
-}
-
-/// The first byte behind which a text that is cut has another fault than that it has no end.
-fn first_ended(alloc: Global, text: &[u8]) -> Option<usize> {
-    for cut in 0..text.len().saturating_sub(1) {
-        if fault_of(alloc, &text[..cut]) != (1, cut as u64) {
-            return Some(cut);
-        }
-    }
-    None
-}
-
-#[test]
-fn faults_of_whole_texts(rt: HostRuntime) -> Result<(), Fail> {
-    assert_eq!(rt; first_missed(rt.alloc()), None);
-    assert_eq!(rt; first_ended(rt.alloc(), COPIED_ARRAY), None);
-    Ok(())
-}
 
 /// Whether the parameters have these names.
 fn are_parameters(program: &Program, names: &[&[u8]]) -> bool {
