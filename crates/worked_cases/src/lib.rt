@@ -11,6 +11,8 @@ mod cover_tests;
 #[cfg(test)]
 mod fault_tests;
 #[cfg(test)]
+mod form_tests;
+#[cfg(test)]
 mod graph_tests;
 #[cfg(test)]
 mod kernels;
