@@ -10,18 +10,17 @@ pub record NamedFault : Type 0 where
   pub name : List ℕ
   pub fault : FileFault
 
--- one fault more
-abbrev pub with_fault : List NamedFault → List ℕ → FileFault → List NamedFault
-with_fault faults name fault = faults ++ record { name = name; fault = fault } ∷ []
+-- The faults so far, and behind them this one of the file of this name. Want of memory is no fault of the files.
+abbrev pub after_fault : List NamedFault → List ℕ → FileFault → List NamedFault
+after_fault faults name Missing = faults ++ record { name = name; fault = Missing } ∷ []
+after_fault faults name TooLong = faults ++ record { name = name; fault = TooLong } ∷ []
+after_fault faults name Failed = faults ++ record { name = name; fault = Failed } ∷ []
+after_fault faults name Memory = faults
 
--- The faults so far, after a read of the file of this name with this outcome: its fault stands behind the earlier ones.
--- Want of memory is no fault of the files.
+-- the faults so far, after a read of the file of this name with this outcome
 abbrev pub after_read : {T : Type 0} → List NamedFault → List ℕ → Result T FileFault → List NamedFault
 after_read faults name (Ok _) = faults
-after_read faults name (Err Missing) = with_fault faults name Missing
-after_read faults name (Err TooLong) = with_fault faults name TooLong
-after_read faults name (Err Failed) = with_fault faults name Failed
-after_read faults name (Err Memory) = faults
+after_read faults name (Err fault) = after_fault faults name fault
 
 -- whether a read failed
 abbrev pub is_failure : FileFault → Bool

@@ -2,7 +2,7 @@
 ghost use Rattle.std.specs.Prelude.{◌≡◌, ◌⊎◌, ℕ, ◌≤◌, List, length, Some, IfOk, OnOk, IfSome, IsErrOf};
 ghost use Rattle.std.specs.Io.KnownBytes.{append_known};
 ghost use Rattle.iolb_host.specs.declared.files.FileFault.TheVariants.{Failed};
-ghost use Rattle.iolb_host.specs.Faults.{with_fault};
+ghost use Rattle.iolb_host.specs.Faults.{after_fault};
 ghost use Rattle.iolb_host.specs.Sink.{after_write};
 ghost use Rattle.iolb_host.specs.Files.{FileMap, content_of};
 
@@ -28,8 +28,8 @@ fn read_both<F: Files>(
     // The fault is that of the read that gave it, and after Ok there is none.
     ensures no_fault { OnOk result (F.faults files.new ≡ F.faults files.old) }
     ensures fault { IsErrOf result FileFault.Failed →
-        (F.faults files.new ≡ with_fault (F.faults files.old) first.now Failed)
-        ⊎ (F.faults files.new ≡ with_fault (F.faults files.old) second.now Failed) }
+        (F.faults files.new ≡ after_fault (F.faults files.old) first.now Failed)
+        ⊎ (F.faults files.new ≡ after_fault (F.faults files.old) second.now Failed) }
 
     // Files that are there, and short enough, are neither missing nor too long.
     ensures there { (map : FileMap) (a b : List ℕ) → F.told files.old ≡ Some map
