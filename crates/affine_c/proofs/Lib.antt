@@ -1,12 +1,2 @@
-pub mod Spelled
-pub mod SpelledNest
-pub mod TextOfNest
 pub mod Bounds
-pub mod InFront
-pub mod Distinct
-pub mod Loops
-pub mod Sized
-pub mod Whole
-pub mod NestLimits
-pub mod Readings
 pub mod Decided

@@ -6,6 +6,3 @@ mod program;
 mod references;
 
 pub use program::program_text;
-
-#[cfg(test)]
-mod tests;

@@ -16,8 +16,6 @@ use Rattle.dep_quast.specs.declared.quast.Quast.{Quast}
 use Rattle.dep_quast.specs.Context.{ReadOf, reference_of, variables_at, no_row}
 use Rattle.dep_quast.specs.Tree.{source, input, empty, blank, SelectionTree, leaf, test, tree_of}
 use Rattle.dep_quast.specs.Truth.{ReadFits, FitsUnder, TreeFits}
-use Rattle.domain_count.specs.Claims.{SumsFit}
-use Rattle.poly_tree.specs.Poly.{Quotient}
 use Rattle.quasts_check.specs.Trees.{RowFits, RowsFit, read_of}
 use Rattle.reuse_paths.specs.declared.quasts.Quasts.{Quasts}
 use Rattle.reuse_paths.specs.Quasts.{tree_at as tree_of_read}
@@ -33,7 +31,7 @@ use Rattle.certificates.specs.Limits.{CertificateParts, IsWithinLimits, IsSmallC
 use Rattle.cert_fits.specs.Fit.{PartsFit, TreeOfTermFits, TermFits, BranchesFit}
 use Rattle.cert_fits.specs.FitClaims.{PlacedFit, AllFit, numbered}
 use Rattle.cert_fits.specs.TreeFit.{row_at, quasts_fit}
-use Rattle.cert_fits.specs.TermFit.{open_count, open_count_if, leaves_of, bounds_at, bounds_fit, sum_at, sums_fit, cold_front_fit, point_fit, cold_back_fit, cold_fit, term_at, branch_at, certificate_fit}
+use Rattle.cert_fits.specs.TermFit.{open_count, open_count_if, leaves_of, bounds_at, bounds_fit, sums_fit, cold_front_fit, point_fit, cold_back_fit, cold_fit, term_at, branch_at, certificate_fit}
 use Rattle.cert_fits.proofs.TreeParts.{AllFit-left, AllFit-right, forms-over, rows-fit}
 
 -- the leaves that aren't empty are as many, whatever the point
@@ -77,10 +75,6 @@ bounds-fit vars index place (bounds ∷ nest) small h = (
   (record { over = h.0; small = small.0.0 }, record { over = h.1.0; small = small.0.1 }),
   subst (λ (n : ℕ). BoundsFit n nest) (sym (next vars index)) (bounds-fit vars (suc index) place nest small.1 h.1.1),
 )
-
-sums-fit : (vars index : ℕ) (place : List Step) (sums : List Quotient) → AllFit (numbered (sum_at vars place) index sums) → SumsFit (vars + index) sums
-sums-fit vars index place [] h = tt
-sums-fit vars index place (sum ∷ sums) h = (h.0, subst (λ (n : ℕ). SumsFit n sums) (sym (next vars index)) (sums-fit vars (suc index) place sums h.1))
 
 columns-many : (rows columns called : ℕ) → columns ≡ (if rows == 0 then 0 else called) → 1 ≤ rows → columns ≡ called
 columns-many rows columns called e some = by (rows == 0) refl e where
@@ -206,7 +200,6 @@ module _ (program : ProgramParts) (quasts : Quasts) (trees : AllFit (quasts_fit 
             bounds = bounds_over;
             shown = in_back.1.0;
             sums = in_back.1.1.1.0;
-            variables = subst (λ (n : ℕ). SumsFit n cold.sums.sums) (none (suc params)) (sums-fit (suc params) 0 (place ++ Key SUMS ∷ []) cold.sums.sums (AllFit-right (front ++ bounds ++ point ++ back) sums h));
           };
         },
       )

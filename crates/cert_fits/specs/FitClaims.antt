@@ -4,7 +4,6 @@ use Rattle.std.specs.List.{AllByRecursion}
 use Rattle.affine_form.specs.declared.place.Step.{Step}
 use Rattle.poly_tree.specs.Expansion.{IsCanonical}
 use Rattle.poly_tree.specs.Poly.{Quotient}
-use Rattle.poly_tree.specs.Tree.{expansion}
 
 -- A list is as long as called for; a number names one of so many things; a polynomial uses only so many variables.
 pub data FitClaim : Type 0 where
@@ -15,7 +14,7 @@ pub data FitClaim : Type 0 where
 abbrev pub Fits : FitClaim → Type 0
 Fits (as_many found called) = found ≡ called
 Fits (names number count) = number < count
-Fits (uses polynomial variables) = IsCanonical variables (expansion polynomial.tree)
+Fits (uses polynomial variables) = IsCanonical variables polynomial.tree
 
 -- a claim with the place of what it is about
 pub record PlacedFit : Type 0 where

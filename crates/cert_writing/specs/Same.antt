@@ -1,6 +1,6 @@
 -- Certificates that claim the same.
 use Rattle.std.specs.Prelude.{◌≡◌, ℕ, List, map, Ok, Err}
-use Rattle.poly_tree.specs.Poly.{Quotient, IsLegal, SameValues, IsSamePoly}
+use Rattle.poly_tree.specs.Poly.{Quotient, IsLegal, SameValues}
 use Rattle.wavefront.specs.declared.cold.Cold.{Cold}
 use Rattle.certificates.specs.Limits.{CertificateParts, IsWithinLimits}
 use Rattle.certificates.specs.declared.term.Term.{Term}
@@ -17,7 +17,7 @@ use Rattle.cert_writing.specs.Written.{written_of}
 -- of the program are.
 pub record IsSamePolynomial (first second : Quotient) : Type 0 where
   pub values : SameValues first second
-  pub same : IsLegal first → IsLegal second → IsSamePoly first second
+  pub same : IsLegal first → IsLegal second → first ≡ second
 
 abbrev pub IsSameCold : Cold → Cold → Type 0
 IsSameCold first second = (claim_of_cold first ≡ claim_of_cold second) × AreAll IsSamePolynomial first.sums.sums second.sums.sums

@@ -7,7 +7,6 @@ use Rattle.affine_form.specs.Form.{IsSmall, IsSmallForm}
 use Rattle.affine_form.specs.Multipliers.{FarkasMultipliers}
 use Rattle.poly_tree.specs.Expansion.{IsCanonical, coefficients}
 use Rattle.poly_tree.specs.Poly.{Quotient, size}
-use Rattle.poly_tree.specs.Tree.{expansion}
 use Rattle.dep_quast.specs.Tree.{SourceClaim, SelectionTree, leaf, test, tree_of, Leaf as TreeLeaf, source, input, empty, blank}
 use Rattle.reuse_paths.specs.declared.leaf.Leaf.{Leaf}
 use Rattle.reuse_paths.specs.declared.leaf.Leaf.TheVariants.{Empty, Stop, Credit, Go, Arrive}
@@ -32,8 +31,8 @@ NameRows shown = AllByRecursion NamesRows shown
 
 -- A polynomial over at most 24 variables, whose numbers and denominator are of size below 2^62, and its size below 2^126.
 pub record IsSmallPolynomial (polynomial : Quotient) : Type 0 where
-  pub variables : IsCanonical 24 (expansion polynomial.tree)
-  pub numbers : AllByRecursion (IsSmall (2 ^ 62)) (coefficients (expansion polynomial.tree))
+  pub variables : IsCanonical 24 polynomial.tree
+  pub numbers : AllByRecursion (IsSmall (2 ^ 62)) (coefficients polynomial.tree)
   pub over : polynomial.denominator < 2 ^ 62
   pub light : size polynomial < 2 ^ 126
 

@@ -18,12 +18,12 @@ pub struct Certificate {
 impl Model for Certificate {
     ghost use Rattle.certificates.specs.Limits.{CertificateParts, IsWithinLimits};
     ghost use Rattle.dep_quast.specs.contracts.quast.Quast as quast;
-    ghost use Rattle.poly_tree.specs.contracts.tree.Tree as tree;
+    ghost use Rattle.poly_tree.specs.Stored.{quotient_code};
     ghost use Rattle.std.specs.Coded.{codes};
 
     ghost Value = { CertificateParts };
 
-    ghost coded = { Prim.hlevel (codes, quast.the_row.coded, tree.the_row.coded) };
+    ghost coded = { Prim.hlevel (codes, quast.the_row.coded, quotient_code) };
 
     ghost view = { λ certificate. record { quasts = certificate.quasts; branches = certificate.branches.items } };
 

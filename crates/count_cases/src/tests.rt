@@ -5,8 +5,9 @@ ghost use Rattle.std.specs.List.{AllByRecursion};
 
 use crate::cases::{Case, RIGHT, Terms, WRONG};
 use crate::points::points_of;
-use affine_c::{Program, read_copy_nest};
+use affine_c::Program;
 use affine_form::{Form, Multipliers, Place, Refused, Step};
+use affine_text::read_program;
 use domain_count::{Nest, Sums, check_count, fits_count};
 use poly_tree::Poly;
 use std::alloc::Global;
@@ -101,10 +102,7 @@ fn program(alloc: Global, parameters: usize) -> Result<Program, Fail> {
     } else {
         b"#pragma scop\nfor (i = 0; i < N; i++) for (j = 0; j < M; j++) A[i][j] = B[i][j];\n#pragma endscop\n"
     };
-    match read_copy_nest(alloc, text)? {
-        Some(program) => Ok(program),
-        None => Err(Fail::new("the text is a copy nest's")),
-    }
+    Ok(read_program(alloc, text)?)
 }
 
 /// What is answered on a case, at a place of one step.

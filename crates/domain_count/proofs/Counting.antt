@@ -20,7 +20,6 @@ use Rattle.affine_rows.specs.Rows.{BoundsFit, widened, variables_from, within_ro
 use Rattle.affine_rows.proofs.Meaning.{form_value-widened, form_value-difference, values_at-variables, within_rows-met}
 use Rattle.affine_rows.proofs.RowLemmas.{All-append}
 use Rattle.poly_tree.specs.Expansion.{at, put, value}
-use Rattle.poly_tree.specs.Tree.{expansion}
 use Rattle.poly_tree.specs.Poly.{Quotient, numerator_at}
 use Rattle.domain_count.specs.Points.{points}
 use Rattle.domain_count.specs.Antidifference.{IsSummed}
@@ -41,7 +40,7 @@ longer xs x = omega (arith, length-append xs (x ∷ []))
 
 -- a polynomial's numerator where a point has this value behind others
 last_value : Quotient → List ℤ → ℤ → ℤ
-last_value sum before x = value (expansion sum.tree) (at (before ++ x ∷ []))
+last_value sum before x = value sum.tree (at (before ++ x ∷ []))
 
 -- one summation: where the summand counts the points behind each value, the sum counts the points behind all values
 summed-counts : (bounds : AffineForm × AffineForm) (nest : List (AffineForm × AffineForm)) (summand sum total : Quotient) (before : List ℤ)
@@ -65,7 +64,7 @@ summed-counts bounds nest summand sum total before over0 over1 is whole some cou
     ∙ difference-value sum.denominator shifted.denominator anti.difference.denominator summand.denominator
     (last_value sum before x) (last_value sum before (x -ℤ pos 1)) (numerator_at shifted point) (numerator_at anti.difference point) (numerator_at summand point) (pos (length (points nest point)))
     anti.backward.shift.legal.positive anti.backward.less.legal.positive some
-    (anti.backward.shift.value point ∙ ap (λ (f : ℕ → ℤ). value (expansion sum.tree) f *ℤ pos shifted.denominator)
+    (anti.backward.shift.value point ∙ ap (λ (f : ℕ → ℤ). value sum.tree f *ℤ pos shifted.denominator)
     (ap (λ (z : ℤ). put (at point) var (z -ℤ pos 1)) (at-last before x) ∙ put-last before x (x -ℤ pos 1)))
     (anti.backward.less.value point) (anti.same point) (counts x p q) in
     let number : pos (length (points (bounds ∷ nest) before)) *ℤ pos sum.denominator ≡ last_value sum before upper -ℤ last_value sum before (lower -ℤ pos 1)
@@ -73,9 +72,9 @@ summed-counts bounds nest summand sum total before over0 over1 is whole some cou
     between-value sum.denominator is.between.upper.denominator is.between.lower.denominator total.denominator
     (last_value sum before upper) (last_value sum before (lower -ℤ pos 1)) (numerator_at is.between.upper before) (numerator_at is.between.lower before) (numerator_at total before)
     (pos (length (points (bounds ∷ nest) before))) is.legal.positive is.between.at_upper.legal.positive is.between.at_lower.legal.positive
-    (is.between.at_upper.value before over1 ∙ ap (λ (f : ℕ → ℤ). value (expansion sum.tree) f *ℤ pos is.between.upper.denominator) (put-behind before upper))
+    (is.between.at_upper.value before over1 ∙ ap (λ (f : ℕ → ℤ). value sum.tree f *ℤ pos is.between.upper.denominator) (put-behind before upper))
     (is.between.at_lower.value before over0
-    ∙ ap (λ (f : ℕ → ℤ). value (expansion sum.tree) f *ℤ pos is.between.lower.denominator)
+    ∙ ap (λ (f : ℕ → ℤ). value sum.tree f *ℤ pos is.between.lower.denominator)
     (ap (λ (z : ℤ). put (at before) var z) (less (dot bounds.0.coefficients before) bounds.0.constant) ∙ put-behind before (lower -ℤ pos 1)))
     (is.between.less.value before) number where
       less : (a b : ℤ) → a +ℤ (b -ℤ pos 1) ≡ (a +ℤ b) -ℤ pos 1
@@ -83,7 +82,7 @@ summed-counts bounds nest summand sum total before over0 over1 is whole some cou
 
 -- the denominator of what the sums give is at least 1
 pub positive-from : (var : ℕ) (nest : List (AffineForm × AffineForm)) (sums : List Quotient) (total : Quotient) → IsSumFrom var nest sums total → 1 ≤ total.denominator
-positive-from var [] sums total h = omega (arith, h.whole)
+positive-from var [] sums total h = omega (arith, ap (λ (q : Quotient). q.denominator) h)
 positive-from var (bounds ∷ nest) [] total h = absurd h
 positive-from var (bounds ∷ nest) (sum ∷ sums) total h = h.1.1.between.less.legal.positive
 
@@ -91,7 +90,7 @@ positive-from var (bounds ∷ nest) (sum ∷ sums) total h = h.1.1.between.less.
 counted : (nest : List (AffineForm × AffineForm)) (sums : List Quotient) (total : Quotient) (before : List ℤ) → BoundsFit (length before) nest → RangesAreWhole nest before
     → IsSumFrom (length before) nest sums total → numerator_at total before ≡ pos (length (points nest before)) *ℤ pos total.denominator
 counted [] sums total before fit whole h =
-    h.same before (omega arith) ∙ sym (ap (λ (n : ℕ). pos 1 *ℤ pos n) h.whole)
+    ap (λ (q : Quotient). numerator_at q before) h ∙ sym (ap (λ (q : Quotient). pos 1 *ℤ pos q.denominator) h)
 counted (bounds ∷ nest) [] total before fit whole h = absurd h
 counted (bounds ∷ nest) (sum ∷ sums) total before fit whole h =
     summed-counts bounds nest h.0 sum total before (omega (arith, fit.0.0.over)) (omega (arith, fit.0.1.over)) h.1.1 whole.0 (positive-from (suc (length before)) nest sums h.0 h.1.0)

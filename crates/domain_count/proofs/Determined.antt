@@ -1,15 +1,14 @@
 -- Each operation on polynomials has one answer, and none where it passes its limit.
-use Rattle.std.proofs.Common.{◌≡◌, ◌≢◌, refl, sym, ◌∙◌, ap, subst, inl, inr, ℕ, zero, suc, ◌+◌, ◌*◌, ◌<◌, ◌≤◌, ◌^◌, max, List, ◌++◌, length, replicate, arith}
+use Rattle.std.proofs.Common.{◌≡◌, ◌≢◌, refl, sym, ◌∙◌, ap, subst, inl, inr, ℕ, zero, suc, ◌+◌, ◌*◌, ◌<◌, ◌≤◌, ◌^◌, List, ◌++◌, length, replicate, arith}
 use Rattle.std.proofs.Math.IntN.{ℤ, pos, ◌-ℤ◌, ◌*ℤ◌}
 use Rattle.std.proofs.lemmas.List.{length-append, length-replicate}
 use Rattle.integer_laws.proofs.Ring.{mul_comm, mul_turn}
 use Rattle.iolb_model.specs.Form.{AffineForm, form_value}
-use Rattle.poly_tree.specs.Expansion.{Expansion, Parts, number, over, none, part, at, put, value, weight, scaled, parts_scaled, parts_count, IsCanonical, DegreesAtMost, PartsDegreesAtMost}
-use Rattle.poly_tree.specs.Tree.{expansion}
-use Rattle.poly_tree.specs.Poly.{Quotient, IsLegal, IsSamePoly, SameValues, numerator_at, size, put_size, form_size}
+use Rattle.poly_tree.specs.Expansion.{Expansion, Parts, number, over, none, part, at, put, value, scaled, parts_scaled, parts_count, IsCanonical, DegreesAtMost, PartsDegreesAtMost}
+use Rattle.poly_tree.specs.Poly.{Quotient, IsLegal, SameValues, numerator_at, size, put_size, form_size}
 use Rattle.poly_tree.proofs.Products.{canonical-scaled, value-scaled}
 use Rattle.poly_tree.proofs.Reduced.{degrees-scaled}
-use Rattle.poly_tree.proofs.SameLemmas.{same-denominators, same-trees}
+use Rattle.poly_tree.proofs.SameLemmas.{same-polynomial}
 use Rattle.poly_tree.proofs.Unique.{agree, unique}
 use Rattle.domain_count.specs.Antidifference.{less_one, IsShifted, ShiftPasses, IsSubtracted, SubtractionPasses, IsSubstituted, SubstitutionPasses, IsBackwardDifference, DifferencePasses, IsAntidifference, IsNoAntidifference, IsBetween, BetweenPasses}
 use Rattle.domain_count.proofs.Fractions.{cancelled}
@@ -21,16 +20,13 @@ crossed k d e x y v some h g =
     cancelled k (x *ℤ pos e) (y *ℤ pos d) some
     (mul_turn x (pos e) (pos k) ∙ ap (λ (z : ℤ). z *ℤ pos e) h ∙ mul_turn v (pos d) (pos e) ∙ ap (λ (z : ℤ). z *ℤ pos d) (sym g) ∙ mul_turn y (pos k) (pos d))
 
-same-poly : (a b : Quotient) → IsLegal a → IsLegal b → SameValues a b → IsSamePoly a b
-same-poly a b la lb h = (same-trees a b la lb h, same-denominators a b la lb h)
-
 -- what agrees at long points agrees at all
 same-long : (n : ℕ) (a b : Quotient) → ((p : List ℤ) → n ≤ length p → (numerator_at a p *ℤ pos b.denominator) ≡ (numerator_at b p *ℤ pos a.denominator)) → SameValues a b
 same-long n a b h = λ p.
     let long = p ++ replicate n (pos 1) in
     let points : at p ≡ at long = λ i w. at-longer p n w i in
-    ap (λ (f : ℕ → ℤ). value (expansion a.tree) f *ℤ pos b.denominator) points ∙ h long (omega (arith, length-append p (replicate n (pos 1)), length-replicate n (pos 1)))
-    ∙ ap (λ (f : ℕ → ℤ). value (expansion b.tree) f *ℤ pos a.denominator) (sym points)
+    ap (λ (f : ℕ → ℤ). value a.tree f *ℤ pos b.denominator) points ∙ h long (omega (arith, length-append p (replicate n (pos 1)), length-replicate n (pos 1)))
+    ∙ ap (λ (f : ℕ → ℤ). value b.tree f *ℤ pos a.denominator) (sym points)
 
 everywhere-long : (n : ℕ) (t u : Expansion) → IsCanonical (2 ^ 16) t → IsCanonical (2 ^ 16) u → ((p : List ℤ) → n ≤ length p → value t (at p) ≡ value u (at p))
     → (point : ℕ → ℤ) → value t point ≡ value u point
@@ -63,22 +59,18 @@ not-zero (suc k) h = λ e. absurd cc
 degrees-of : (n k : ℕ) (t : Expansion) (r : Quotient) → 1 ≤ k → IsLegal r → IsCanonical (2 ^ 16) t
     → ((p : List ℤ) → n ≤ length p → (numerator_at r p *ℤ pos k) ≡ (value t (at p) *ℤ pos r.denominator)) → DegreesAtMost 8 t
 degrees-of n k t r some legal c h =
-    let left = canonical-scaled (2 ^ 16) (pos k) (expansion r.tree) (not-zero k some) legal.canonical in
+    let left = canonical-scaled (2 ^ 16) (pos k) r.tree (not-zero k some) legal.canonical in
     let right = canonical-scaled (2 ^ 16) (pos r.denominator) t (not-zero r.denominator legal.positive) c in
-    let same : scaled (pos k) (expansion r.tree) ≡ scaled (pos r.denominator) t
-    = unique (2 ^ 16) (scaled (pos k) (expansion r.tree)) (scaled (pos r.denominator) t) left right
-    (everywhere-long n (scaled (pos k) (expansion r.tree)) (scaled (pos r.denominator) t) left right
-    (λ p long. value-scaled (pos k) (expansion r.tree) (at p) ∙ mul_comm (pos k) (numerator_at r p) ∙ h p long ∙ mul_comm (value t (at p)) (pos r.denominator) ∙ sym (value-scaled (pos r.denominator) t (at p)))) in
-    unscaled-degrees 8 (pos r.denominator) t (subst (DegreesAtMost 8) same (degrees-scaled 8 (pos k) (expansion r.tree) legal.degrees))
+    let same : scaled (pos k) r.tree ≡ scaled (pos r.denominator) t
+    = unique (2 ^ 16) (scaled (pos k) r.tree) (scaled (pos r.denominator) t) left right
+    (everywhere-long n (scaled (pos k) r.tree) (scaled (pos r.denominator) t) left right
+    (λ p long. value-scaled (pos k) r.tree (at p) ∙ mul_comm (pos k) (numerator_at r p) ∙ h p long ∙ mul_comm (value t (at p)) (pos r.denominator) ∙ sym (value-scaled (pos r.denominator) t (at p)))) in
+    unscaled-degrees 8 (pos r.denominator) t (subst (DegreesAtMost 8) same (degrees-scaled 8 (pos k) r.tree legal.degrees))
 
--- the sizes of one polynomial
-size-same : (a b : Quotient) → IsSamePoly a b → size a ≡ size b
-size-same a b same = ap (λ (t : Expansion). max 1 (weight t) * a.denominator) same.0 ∙ ap (λ (d : ℕ). max 1 (weight (expansion b.tree)) * d) same.1
-
-shift-same : (var : ℕ) (sum s r : Quotient) → IsLegal sum → IsShifted var sum s → IsShifted var sum r → IsSamePoly s r
+shift-same : (var : ℕ) (sum s r : Quotient) → IsLegal sum → IsShifted var sum s → IsShifted var sum r → s ≡ r
 shift-same var sum s r legal h g =
-    same-poly s r h.legal g.legal
-    (λ p. crossed sum.denominator s.denominator r.denominator (numerator_at s p) (numerator_at r p) (value (expansion sum.tree) (put (at p) var (at p var -ℤ pos 1))) legal.positive (h.value p) (g.value p))
+    same-polynomial s r h.legal g.legal
+    (λ p. crossed sum.denominator s.denominator r.denominator (numerator_at s p) (numerator_at r p) (value sum.tree (put (at p) var (at p var -ℤ pos 1))) legal.positive (h.value p) (g.value p))
 
 shift-stays : (var : ℕ) (sum s : Quotient) → IsLegal sum → IsShifted var sum s → ShiftPasses var sum → ⊥
 shift-stays var sum s legal h (inl wide) = over (put_size sum var 2) (2 ^ 126) h.narrow wide where
@@ -88,11 +80,11 @@ shift-stays var sum s legal h (inr passes) =
     passes.1.2 (degrees-of 0 sum.denominator passes.0 s legal.positive h.legal passes.1.0
     (λ p long. h.value p ∙ ap (λ (z : ℤ). z *ℤ pos s.denominator) (sym (passes.1.1 p))))
 
-substituted-same : (var : ℕ) (form : AffineForm) (sum s r : Quotient) → IsLegal sum → IsSubstituted var form sum s → IsSubstituted var form sum r → IsSamePoly s r
+substituted-same : (var : ℕ) (form : AffineForm) (sum s r : Quotient) → IsLegal sum → IsSubstituted var form sum s → IsSubstituted var form sum r → s ≡ r
 substituted-same var form sum s r legal h g =
-    same-poly s r h.legal g.legal
+    same-polynomial s r h.legal g.legal
     (same-long (length form.coefficients) s r
-    (λ p long. crossed sum.denominator s.denominator r.denominator (numerator_at s p) (numerator_at r p) (value (expansion sum.tree) (put (at p) var (form_value form p))) legal.positive (h.value p long) (g.value p long)))
+    (λ p long. crossed sum.denominator s.denominator r.denominator (numerator_at s p) (numerator_at r p) (value sum.tree (put (at p) var (form_value form p))) legal.positive (h.value p long) (g.value p long)))
 
 substitution-stays : (var : ℕ) (form : AffineForm) (sum s : Quotient) → IsLegal sum → IsSubstituted var form sum s → SubstitutionPasses var form sum → ⊥
 substitution-stays var form sum s legal h (inl wide) = over (put_size sum var (form_size form)) (2 ^ 126) h.narrow wide where
@@ -102,42 +94,30 @@ substitution-stays var form sum s legal h (inr passes) =
     passes.1.2 (degrees-of (length form.coefficients) sum.denominator passes.0 s legal.positive h.legal passes.1.0
     (λ p long. h.value p long ∙ ap (λ (z : ℤ). z *ℤ pos s.denominator) (sym (passes.1.1 p long))))
 
-subtracted-same : (a b c d r s : Quotient) → IsLegal a → IsLegal b → IsSamePoly a c → IsSamePoly b d → IsSubtracted a b r → IsSubtracted c d s → IsSamePoly r s
+subtracted-same : (a b c d r s : Quotient) → IsLegal a → IsLegal b → a ≡ c → b ≡ d → IsSubtracted a b r → IsSubtracted c d s → r ≡ s
 subtracted-same a b c d r s la lb first second h g =
-    same-poly r s h.legal g.legal
+    let moved : IsSubtracted a b s
+    = subst (λ (x : Quotient). IsSubtracted x b s) (sym first) (subst (λ (y : Quotient). IsSubtracted c y s) (sym second) g) in
+    same-polynomial r s h.legal g.legal
     (λ p. crossed (a.denominator * b.denominator) r.denominator s.denominator (numerator_at r p) (numerator_at s p)
-    ((numerator_at a p *ℤ pos b.denominator) -ℤ (numerator_at b p *ℤ pos a.denominator)) (product a.denominator b.denominator la.positive lb.positive) (h.value p) (moved p)) where
+    ((numerator_at a p *ℤ pos b.denominator) -ℤ (numerator_at b p *ℤ pos a.denominator)) (product a.denominator b.denominator la.positive lb.positive) (h.value p) (moved.value p)) where
       product : (m n : ℕ) → 1 ≤ m → 1 ≤ n → 1 ≤ m * n
       product m n x y = grind arith
 
-      moved : (p : List ℤ) → numerator_at s p *ℤ pos (a.denominator * b.denominator) ≡ ((numerator_at a p *ℤ pos b.denominator) -ℤ (numerator_at b p *ℤ pos a.denominator)) *ℤ pos s.denominator
-      moved p =
-          let here : numerator_at a p ≡ numerator_at c p = ap (λ (t : Expansion). value t (at p)) first.0 in
-          let there : numerator_at b p ≡ numerator_at d p = ap (λ (t : Expansion). value t (at p)) second.0 in
-          let m : a.denominator ≡ c.denominator = first.1 in
-          let n : b.denominator ≡ d.denominator = second.1 in
-          let whole : numerator_at s p *ℤ pos (c.denominator * d.denominator) ≡ ((numerator_at c p *ℤ pos d.denominator) -ℤ (numerator_at d p *ℤ pos c.denominator)) *ℤ pos s.denominator = g.value p in
-          joined (numerator_at a p) (numerator_at c p) (numerator_at b p) (numerator_at d p) a.denominator c.denominator b.denominator d.denominator (numerator_at s p) s.denominator here there m n whole where
-            joined : (x y z w : ℤ) (i j k l : ℕ) (v : ℤ) (e : ℕ) → x ≡ y → z ≡ w → i ≡ j → k ≡ l → v *ℤ pos (j * l) ≡ ((y *ℤ pos l) -ℤ (w *ℤ pos j)) *ℤ pos e
-                → v *ℤ pos (i * k) ≡ ((x *ℤ pos k) -ℤ (z *ℤ pos i)) *ℤ pos e
-            joined x y z w i j k l v e p q r s h = cc
+subtraction-stays : (a b c d r : Quotient) → a ≡ c → b ≡ d → IsSubtracted a b r → SubtractionPasses c d → ⊥
+subtraction-stays a b c d r first second h wide =
+    over (size a * size b) (2 ^ 125) h.narrow (subst (λ (x : Quotient). 2 ^ 125 ≤ size x * size b) (sym first) (subst (λ (y : Quotient). 2 ^ 125 ≤ size c * size y) (sym second) wide)) where
+      over : (m n : ℕ) → m < n → n ≤ m → ⊥
+      over m n p q = omega arith
 
-subtraction-stays : (a b c d r : Quotient) → IsSamePoly a c → IsSamePoly b d → IsSubtracted a b r → SubtractionPasses c d → ⊥
-subtraction-stays a b c d r first second h wide = over (size a) (size c) (size b) (size d) (2 ^ 125) (size-same a c first) (size-same b d second) h.narrow wide where
-  over : (x y z w n : ℕ) → x ≡ y → z ≡ w → x * z < n → n ≤ y * w → ⊥
-  over x y z w n p q h g = let e : x * z ≡ y * w = cc in omega (arith, e)
-
-same_refl : (a : Quotient) → IsSamePoly a a
-same_refl a = (refl, refl)
-
-difference-same : (var : ℕ) (sum d e : Quotient) → IsLegal sum → IsBackwardDifference var sum d → IsBackwardDifference var sum e → IsSamePoly d e
+difference-same : (var : ℕ) (sum d e : Quotient) → IsLegal sum → IsBackwardDifference var sum d → IsBackwardDifference var sum e → d ≡ e
 difference-same var sum d e legal h g =
-    subtracted-same sum h.shifted sum g.shifted d e legal h.shift.legal (same_refl sum) (shift-same var sum h.shifted g.shifted legal h.shift g.shift) h.less g.less
+    subtracted-same sum h.shifted sum g.shifted d e legal h.shift.legal refl (shift-same var sum h.shifted g.shifted legal h.shift g.shift) h.less g.less
 
 pub difference-stays : (var : ℕ) (sum d : Quotient) → IsLegal sum → IsBackwardDifference var sum d → DifferencePasses var sum → ⊥
 difference-stays var sum d legal h (inl wide) = shift-stays var sum h.shifted legal h.shift wide
 difference-stays var sum d legal h (inr passes) =
-    subtraction-stays sum h.shifted sum passes.0 d (same_refl sum) (shift-same var sum h.shifted passes.0 legal h.shift passes.1.0) h.less passes.1.1
+    subtraction-stays sum h.shifted sum passes.0 d refl (shift-same var sum h.shifted passes.0 legal h.shift passes.1.0) h.less passes.1.1
 
 -- two summands of the same values have the same antidifferences
 pub antidifference-stays : (var : ℕ) (summand other sum : Quotient) → IsLegal sum → 1 ≤ summand.denominator → SameValues summand other
@@ -145,16 +125,16 @@ pub antidifference-stays : (var : ℕ) (summand other sum : Quotient) → IsLega
 antidifference-stays var summand other sum legal some same h g =
     let one = difference-same var sum h.difference g.difference legal h.backward g.backward in
     g.other (λ p.
-    let here : numerator_at h.difference p ≡ numerator_at g.difference p = ap (λ (t : Expansion). value t (at p)) one.0 in
+    let here : numerator_at h.difference p ≡ numerator_at g.difference p = ap (λ (q : Quotient). numerator_at q p) one in
     ap (λ (z : ℤ). z *ℤ pos other.denominator) (sym here)
     ∙ chained summand.denominator h.difference.denominator other.denominator (numerator_at h.difference p) (numerator_at summand p) (numerator_at other p) some (h.same p) (same p)
-    ∙ ap (λ (n : ℕ). numerator_at other p *ℤ pos n) one.1) where
+    ∙ ap (λ (q : Quotient). numerator_at other p *ℤ pos q.denominator) one) where
       chained : (k d e : ℕ) (x y z : ℤ) → 1 ≤ k → x *ℤ pos k ≡ y *ℤ pos d → y *ℤ pos e ≡ z *ℤ pos k → x *ℤ pos e ≡ z *ℤ pos d
       chained k d e x y z some a b =
           cancelled k (x *ℤ pos e) (z *ℤ pos d) some
           (mul_turn x (pos e) (pos k) ∙ ap (λ (w : ℤ). w *ℤ pos e) a ∙ mul_turn y (pos d) (pos e) ∙ ap (λ (w : ℤ). w *ℤ pos d) b ∙ mul_turn z (pos k) (pos d))
 
-pub between-same : (var : ℕ) (bounds : AffineForm × AffineForm) (sum s r : Quotient) → IsLegal sum → IsBetween var bounds sum s → IsBetween var bounds sum r → IsSamePoly s r
+pub between-same : (var : ℕ) (bounds : AffineForm × AffineForm) (sum s r : Quotient) → IsLegal sum → IsBetween var bounds sum s → IsBetween var bounds sum r → s ≡ r
 between-same var bounds sum s r legal h g =
     subtracted-same h.upper h.lower g.upper g.lower s r h.at_upper.legal h.at_lower.legal (substituted-same var bounds.1 sum h.upper g.upper legal h.at_upper g.at_upper)
     (substituted-same var (less_one bounds.0) sum h.lower g.lower legal h.at_lower g.at_lower) h.less g.less

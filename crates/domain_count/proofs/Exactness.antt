@@ -2,7 +2,6 @@
 use Rattle.std.proofs.Common.{◌≡◌, ◌≢◌, refl, sym, ◌∙◌, ap, subst, inl, inr, ℕ, zero, suc, ◌+◌, ◌-◌, ◌<◌, ◌≤◌, List, [], ◌∷◌, length, drop, drop-cons, arith}
 use Rattle.std.specs.Prelude.{◌⊎◌}
 use Rattle.std.specs.List.{AllByRecursion}
-use Rattle.std.proofs.Math.IntN.{ℤ, pos, ◌*ℤ◌}
 use Rattle.std.proofs.lemmas.List.{length-drop}
 use Rattle.iolb_model.specs.Form.{AffineForm}
 use Rattle.iolb_model.specs.Program.{AffineProgram}
@@ -10,8 +9,7 @@ use Rattle.execution_laws.proofs.Orders.{cases_place}
 use Rattle.affine_form.specs.Multipliers.{FarkasMultipliers}
 use Rattle.affine_form.specs.declared.place.Step.{Step}
 use Rattle.affine_form.specs.declared.refused.No.{No as FailedCondition}
-use Rattle.poly_tree.specs.Poly.{Quotient, IsLegal, SameValues, numerator_at}
-use Rattle.poly_tree.proofs.SameLemmas.{same-values}
+use Rattle.poly_tree.specs.Poly.{Quotient, IsLegal, SameValues}
 use Rattle.domain_count.specs.declared.summation.SumFault.{SumFault}
 use Rattle.domain_count.specs.declared.summation.SumFault.TheVariants.{Wide, Differs, Memory}
 use Rattle.domain_count.specs.Antidifference.{IsSummed, FailsAs}
@@ -37,12 +35,13 @@ sums-at var (suc i) (bounds ∷ nest) (sum ∷ sums) total h le =
 
 -- the sums give one polynomial
 sums-same : (var : ℕ) (nest : List (AffineForm × AffineForm)) (sums : List Quotient) (one other : Quotient) → IsSumFrom var nest sums one → IsSumFrom var nest sums other
-    → SameValues one other
-sums-same var [] sums one other h g = λ p.
-    ap (λ (z : ℤ). z *ℤ pos other.denominator) (h.same p (omega arith) ∙ sym (g.same p (omega arith))) ∙ ap (λ (n : ℕ). numerator_at other p *ℤ pos n) (g.whole ∙ sym h.whole)
+    → one ≡ other
+sums-same var [] sums one other h g = h ∙ sym g
 sums-same var (bounds ∷ nest) [] one other h g = absurd h
-sums-same var (bounds ∷ nest) (sum ∷ sums) one other h g =
-    let same = between-same var bounds sum one other h.1.1.legal h.1.1.between g.1.1.between in same-values one other same.0 same.1
+sums-same var (bounds ∷ nest) (sum ∷ sums) one other h g = between-same var bounds sum one other h.1.1.legal h.1.1.between g.1.1.between
+
+equal-values : (one other : Quotient) → one ≡ other → SameValues one other
+equal-values one other e = subst (SameValues one) e (λ p. refl)
 
 -- a summation that is right doesn't fail
 summed-stays : (var : ℕ) (bounds : AffineForm × AffineForm) (summand other sum total : Quotient) (fault : SumFault) → 1 ≤ summand.denominator → SameValues summand other
@@ -80,7 +79,7 @@ failure-behind params m k nest sums total fault h le not failure =
     = subst (λ (ss : List Quotient). IsSumFrom (params + k) (bounds_at nest k ∷ drop (suc k) nest) ss later.0) failure.at_variable
     (subst (λ (ns : List (AffineForm × AffineForm)). IsSumFrom (params + k) ns (drop k sums) later.0) (drop-cons nest k (bounds_at [] 0) failure.there) moved) in
     summed-stays (params + k) (bounds_at nest k) here.0 failure.summand failure.sum later.0 fault (positive-from (suc (params + k)) (drop (suc k) nest) failure.others here.0 here.1.0)
-    (sums-same (suc (params + k)) (drop (suc k) nest) failure.others here.0 failure.summand here.1.0 failure.behind) here.1.1 not failure.fails where
+    (equal-values here.0 failure.summand (sums-same (suc (params + k)) (drop (suc k) nest) failure.others here.0 failure.summand here.1.0 failure.behind)) here.1.1 not failure.fails where
       reached : (p a b c : ℕ) → a + b ≡ c → (p + a) + b ≡ p + c
       reached p a b c e = omega arith
 
@@ -142,7 +141,7 @@ not-both params k nest sums legal h g =
     = subst (λ (ss : List Quotient). IsSumFrom (suc (params + k)) (drop (suc k) nest) ss g.summand) (sym others) g.behind in
     let fails : FailsAs (params + k) (bounds_at nest k) g.summand h.sum Wide = subst (λ (s : Quotient). FailsAs (params + k) (bounds_at nest k) g.summand s Wide) (sym same) g.fails in
     by is (positive-from (suc (params + k)) (drop (suc k) nest) h.others g.summand behind)
-    (sums-same (suc (params + k)) (drop (suc k) nest) h.others g.summand h.summand behind h.behind) fails where
+    (equal-values g.summand h.summand (sums-same (suc (params + k)) (drop (suc k) nest) h.others g.summand h.summand behind h.behind)) fails where
       by : IsLegal h.sum → 1 ≤ g.summand.denominator → SameValues g.summand h.summand → FailsAs (params + k) (bounds_at nest k) g.summand h.sum Wide → ⊥
       by is some one (inl passes) = difference-stays (params + k) h.sum h.fails.difference is h.fails.backward passes
       by is some one (inr passes) = antidifference-stays (params + k) g.summand h.summand h.sum is some one passes.0 h.fails

@@ -8,3 +8,4 @@ pub mod Counting
 pub mod Variables
 pub mod Determined
 pub mod Exactness
+pub mod Ones

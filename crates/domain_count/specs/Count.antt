@@ -9,7 +9,8 @@ use Rattle.affine_form.specs.Multipliers.{FarkasMultipliers}
 use Rattle.affine_form.specs.Shown.{Shows}
 use Rattle.affine_form.specs.System.{AffineSystem}
 use Rattle.affine_rows.specs.Rows.{BoundsFit, widened, variables_from, difference, within_rows, step_of}
-use Rattle.poly_tree.specs.Poly.{Quotient, IsForm, numerator_at}
+use Rattle.poly_tree.specs.Expansion.{number}
+use Rattle.poly_tree.specs.Poly.{Quotient, numerator_at}
 use Rattle.domain_count.specs.declared.summation.SumFault.{SumFault}
 use Rattle.domain_count.specs.Points.{count}
 use Rattle.domain_count.specs.Claims.{SumClaims}
@@ -50,13 +51,13 @@ abbrev pub AreShownBelow : AffineProgram → List (AffineForm × AffineForm) →
 AreShownBelow program nest shown bound = (k : ℕ) → k < bound → IsShown program nest shown k
 
 -- the polynomial 1
-abbrev pub IsOne : Quotient → Type 0
-IsOne poly = IsForm (record { coefficients = []; constant = pos 1 }) poly
+abbrev pub one : Quotient
+one = record { tree = number (pos 1); denominator = 1 }
 
 -- The polynomial that the sums give for the variables from one on, which has this number: 1 where there is none; else
 -- the sum over the first of them of what they give for those behind it.
 abbrev pub IsSumFrom : ℕ → List (AffineForm × AffineForm) → List Quotient → Quotient → Type 0
-IsSumFrom var [] sums total = IsOne total
+IsSumFrom var [] sums total = total ≡ one
 IsSumFrom var (bounds ∷ nest) [] total = ⊥
 IsSumFrom var (bounds ∷ nest) (sum ∷ sums) total =
     (summand : Quotient) × (IsSumFrom (suc var) nest sums summand × IsSummed var bounds summand sum total)

@@ -6,7 +6,7 @@ use Rattle.iolb_model.specs.Program.{AffineProgram}
 use Rattle.affine_form.specs.declared.place.Step.{Step}
 use Rattle.affine_form.specs.declared.refused.No.{No as FailedCondition}
 use Rattle.affine_form.specs.declared.refused.Refused.TheVariants.{No}
-use Rattle.poly_tree.specs.Poly.{Quotient, IsLegal, SameValues}
+use Rattle.poly_tree.specs.Poly.{Quotient, IsLegal}
 use Rattle.domain_count.specs.Claims.{SumClaims}
 use Rattle.domain_count.specs.Count.{IsCount}
 use Rattle.domain_count.specs.Refusal.{IsRefusal}
@@ -16,10 +16,10 @@ abbrev pub RightClaimsStand : Type 0
 RightClaimsStand = (program : AffineProgram) (nest : List (AffineForm × AffineForm)) (claims : SumClaims) (total : Quotient) (place : List Step) (failed : FailedCondition)
     → IsCount program nest claims total → IsRefusal program nest claims place (No failed) → ⊥
 
--- They give one polynomial: two have the same values.
+-- They give one polynomial.
 abbrev pub RightClaimsGiveOne : Type 0
 RightClaimsGiveOne = (program : AffineProgram) (nest : List (AffineForm × AffineForm)) (claims : SumClaims) (one other : Quotient)
-    → IsCount program nest claims one → IsCount program nest claims other → SameValues one other
+    → IsCount program nest claims one → IsCount program nest claims other → one ≡ other
 
 -- Claims that aren't right are refused by one condition at one place.
 abbrev pub RefusalsAreOne : Type 0

@@ -1,13 +1,12 @@
 //! Counts by summation.
 
-ghost use Rattle.std.specs.Prelude.{suc, ◌≡◌, ◌+◌, ◌≤◌, length, IfOk, IfErr, OnOk};
+ghost use Rattle.std.specs.Prelude.{◌≡◌, ◌+◌, ◌≤◌, length, IfOk, IfErr, OnOk};
 ghost use Rattle.affine_rows.specs.Rows.{BoundsFit};
 ghost use Rattle.affine_c.specs.Parts.{meaning};
 ghost use Rattle.poly_tree.specs.Expansion.{IsCanonical};
 ghost use Rattle.poly_tree.specs.Poly.{IsLegal};
-ghost use Rattle.poly_tree.specs.Tree.{expansion};
-ghost use Rattle.domain_count.specs.Claims.{FitsCount, SumsFit};
-ghost use Rattle.domain_count.specs.Count.{AreShownBelow, CountsPoints, IsCount, IsFirstFailure, IsOne, IsSumFrom};
+ghost use Rattle.domain_count.specs.Claims.{FitsCount};
+ghost use Rattle.domain_count.specs.Count.{AreShownBelow, CountsPoints, IsCount, IsFirstFailure, IsSumFrom, one};
 ghost use Rattle.domain_count.specs.Refused.{IsFaultRefusal, IsRangeRefusal, IsSumRefusal};
 ghost use Rattle.domain_count.specs.Refusal.{IsRefusal};
 
@@ -44,7 +43,7 @@ pub fn check_count(
     requires { FitsCount program.now nest.now sums.now }
     ensures right { IfOk result (λ poly. IsCount (meaning program.now) nest.now sums.now poly) }
     ensures counts { IfOk result (λ poly. CountsPoints (meaning program.now) nest.now poly) }
-    ensures parameters { IfOk result (λ poly. IsCanonical (length program.now.params) (expansion poly.tree)) }
+    ensures parameters { IfOk result (λ poly. IsCanonical (length program.now.params) poly.tree) }
     ensures refused { IfErr result (λ refused. IsRefusal (meaning program.now) nest.now sums.now place.now refused) }
 {
     check_ranges(alloc, program, nest.bounds(), sums.shown(), place)?;
@@ -84,9 +83,8 @@ fn check_sums(
     requires few { params + length bounds.now ≤ 24 }
     requires fit { BoundsFit params bounds.now }
     requires one_each { length sums.now ≡ length bounds.now }
-    requires variables { SumsFit (suc params) sums.now }
     ensures total { IfOk result (λ total. IsSumFrom params bounds.now sums.now total) }
-    ensures parameters { IfOk result (λ total. IsCanonical params (expansion total.tree)) }
+    ensures parameters { IfOk result (λ total. IsCanonical params total.tree) }
     ensures refused { IfErr result (λ refused. IsSumRefusal params bounds.now sums.now place.now refused) }
 {
     let Ok(start) = one(alloc) else {
@@ -111,10 +109,13 @@ fn sum_refusal(alloc: Global, place: &Place, k: usize, fault: SumFault) -> Refus
 
 /// The polynomial 1. Want of memory is its only error.
 fn one(alloc: Global) -> Result<Poly, Memory>
-    ensures { IfOk result (λ poly. IsOne poly) }
+    ensures { IfOk result (λ poly. poly ≡ one) }
 {
     let form = Form::new(Vec::new(alloc), 1);
-    Poly::from_form(alloc, &form)
+    let poly = Poly::from_form(alloc, &form)?;
+    // Its reader says that the polynomial is canonical and in lowest terms.
+    let _den = poly.den();
+    Ok(poly)
 }
 
 /// The sum over all variables, from the last on, of the polynomial 1; or the first variable whose summation fails.
@@ -128,7 +129,7 @@ fn sum_up(
     requires few { params + length bounds.now ≤ 24 }
     requires fit { BoundsFit params bounds.now }
     requires one_each { length sums.now ≡ length bounds.now }
-    requires one { IsOne start }
+    requires one { start ≡ one }
     ensures total { IfOk result (λ total. IsSumFrom params bounds.now sums.now total) }
     ensures legal { IfOk result (λ total. IsLegal total) }
     ensures fails { IfErr result (λ failed. IsFirstFailure params bounds.now sums.now failed.0 failed.1) }

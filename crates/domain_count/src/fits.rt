@@ -1,20 +1,18 @@
 //! Whether claims have the lengths that a nest asks for.
 
-ghost use Rattle.std.specs.Prelude.{suc, ◌≡◌, ◌+◌, ◌≤◌, ◌<◌, ◌^◌, ◌↔◌, IsTrue, length};
+ghost use Rattle.std.specs.Prelude.{◌≡◌, ◌+◌, ◌≤◌, ◌<◌, ◌^◌, ◌↔◌, IsTrue, length};
 ghost use Rattle.std.specs.List.{AllByRecursion};
 ghost use Rattle.affine_form.specs.Form.{IsSmall};
 ghost use Rattle.affine_rows.specs.Rows.{BoundsFit, IsSmallOver};
-ghost use Rattle.domain_count.specs.Claims.{FitsCount, SumsFit};
+ghost use Rattle.domain_count.specs.Claims.{FitsCount};
 
 use crate::nest::Nest;
 use crate::sums::Sums;
 use affine_c::Program;
 use affine_form::Form;
-use poly_tree::Poly;
 
 /// Whether the lengths fit: at most 6 variables, whose bounds are over the parameters and the variables before, with
-/// numbers of size below 2^20; and as many multipliers and polynomials, which use only the parameters and the variables
-/// up to their own.
+/// numbers of size below 2^20; and as many multipliers and polynomials.
 pub fn fits_count(program: &Program, nest: &Nest, sums: &Sums) -> bool
     ensures { IsTrue result ↔ FitsCount program.now nest.now sums.now }
 {
@@ -23,7 +21,7 @@ pub fn fits_count(program: &Program, nest: &Nest, sums: &Sums) -> bool
     if variables > 6 || sums.shown().len() != variables || sums.sums().len() != variables {
         return false;
     }
-    bounds_fit(params, nest.bounds()) && sums_fit(params + 1, sums.sums())
+    bounds_fit(params, nest.bounds())
 }
 
 /// Whether each variable's bounds are over so many variables and one more for each variable before it.
@@ -33,19 +31,6 @@ fn bounds_fit(vars: usize, bounds: &[(Form, Form)]) -> bool
 {
     for (k, (lower, upper)) in bounds.iter().enumerate() {
         if !is_small_over(vars + k, lower) || !is_small_over(vars + k, upper) {
-            return false;
-        }
-    }
-    true
-}
-
-/// Whether each polynomial uses only so many variables and one more for each polynomial before it.
-fn sums_fit(vars: usize, sums: &[Poly]) -> bool
-    requires { vars + length sums.now ≤ 24 }
-    ensures { IsTrue result ↔ SumsFit vars sums.now }
-{
-    for (k, sum) in sums.iter().enumerate() {
-        if !sum.uses_below(vars + k) {
             return false;
         }
     }

@@ -17,12 +17,12 @@ pub struct Sums {
 
 impl Model for Sums {
     ghost use Rattle.domain_count.specs.Claims.{SumClaims};
-    ghost use Rattle.poly_tree.specs.contracts.tree.Tree as tree_contract;
+    ghost use Rattle.poly_tree.specs.Stored.{quotient_code};
     ghost use Rattle.std.specs.Coded.{codes};
 
     ghost Value = { SumClaims };
 
-    ghost coded = { Prim.hlevel (codes, tree_contract.the_row.coded) };
+    ghost coded = { Prim.hlevel (codes, quotient_code) };
 
     ghost view = { λ claims. record { shown = claims.shown.items; sums = claims.sums.items } };
 }

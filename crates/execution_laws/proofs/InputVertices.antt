@@ -7,17 +7,13 @@ use Rattle.std.proofs.lemmas.List.{length-map}
 use Rattle.iolb_model.specs.Program.{Access, AffineProgram, statement_at, no_statement}
 use Rattle.iolb_model.specs.Execution.{Instance, execution}
 use Rattle.iolb_model.specs.Source.{Cell, same_cell, cell_of, Source, input, source_of, sources_of}
-use Rattle.iolb_model.specs.Graph.{placed, input_cell, input_cells, vertex_of, predecessors_of, computation_graph}
-use Rattle.iolb_model.specs.Game.{predecessors_at, loads}
+use Rattle.iolb_model.specs.Graph.{placed, input_cell, input_cells, vertex_of, input_vertex, predecessors_of, computation_graph}
+use Rattle.iolb_model.specs.Game.{predecessors_at, loads_of}
 use Rattle.pebble_game.specs.Inputs.{IsReadInput}
 use Rattle.pebble_game.proofs.Loaded.{read_inputs_loaded}
-use Rattle.execution_laws.specs.Cold.{read_at, read_cell, ReadsInput, InputReadsAreLoaded}
+use Rattle.execution_laws.specs.Cold.{read_at, read_cell, read_vertices, ReadsInput, InputReadsAreVertices, InputReadsAreLoaded}
 use Rattle.execution_laws.proofs.Members.{Member, Member-map, Member-flat_map, Member-filter_map, Member-distinct, Member-enumerate, Contains-member}
-use Rattle.execution_laws.proofs.Cells.{same_cell-equal, position-apart}
-
--- a cell's vertex among the inputs
-abbrev pub input_vertex : AffineProgram → List ℤ → Cell → ℕ
-input_vertex program parameters cell = length (execution program parameters) + position_or_len (same_cell cell) (input_cells program parameters)
+use Rattle.execution_laws.proofs.Cells.{same_cell-equal, position-Member, position-apart}
 
 -- an element that is there is a member
 Member-get_or : {A : Type 0} (xs : List A) (n : ℕ) (d : A) → n < length xs → Member (get_or xs n d) xs
@@ -125,9 +121,18 @@ vertices_distinct program parameters statement read [] h d = tt
 vertices_distinct program parameters statement read (values ∷ points) h d =
     (vertices_apart program parameters statement read values points h.0 h.1 d.0, vertices_distinct program parameters statement read points h.1 d.1)
 
+pub input_reads_vertices : InputReadsAreVertices
+input_reads_vertices program parameters statement read [] h = tt
+input_reads_vertices program parameters statement read (values ∷ points) h =
+    let cell : Cell = read_cell program parameters statement read values in
+    let cells : List Cell = input_cells program parameters in
+    let place : position_or_len (same_cell cell) cells < length cells =
+    slice_get-below cells (position_or_len (same_cell cell) cells) cell (position-Member cell cells (Member-input_cells program parameters statement read values h.0)) in
+    (omega (arith, place), input_reads_vertices program parameters statement read points h.1)
+
 pub input_reads_loaded : InputReadsAreLoaded
 input_reads_loaded program parameters statement read points s moves game reads apart =
-    subst (λ (n : ℕ). n ≤ loads moves) (length-map points (λ (values : List ℤ). input_vertex program parameters (read_cell program parameters statement read values)))
-    (read_inputs_loaded (computation_graph program parameters) s moves
-    (map (λ (values : List ℤ). input_vertex program parameters (read_cell program parameters statement read values)) points) game
+    subst (λ (n : ℕ). n ≤ loads_of (read_vertices program parameters statement read points) moves)
+    (length-map points (λ (values : List ℤ). input_vertex program parameters (read_cell program parameters statement read values)))
+    (read_inputs_loaded (computation_graph program parameters) s moves (read_vertices program parameters statement read points) game
     (vertices_distinct program parameters statement read points reads apart) (are_read_inputs program parameters statement read points reads))

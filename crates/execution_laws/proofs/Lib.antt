@@ -5,3 +5,6 @@ pub mod Domains
 pub mod Orders
 pub mod Cells
 pub mod InputVertices
+pub mod BranchLoads
+pub mod Different
+pub mod Undone

@@ -8,7 +8,6 @@ use Rattle.affine_form.specs.System.{AffineSystem}
 use Rattle.poly_tree.specs.Expansion.{IsCanonical, at, size_at}
 use Rattle.poly_tree.specs.Poly.{Quotient, numerator_at}
 use Rattle.poly_tree.specs.Printed.{polynomial_of}
-use Rattle.poly_tree.specs.Tree.{expansion}
 use Rattle.iolb_check.specs.declared.bound.Value.{Value}
 use Rattle.iolb_check.specs.declared.bound.Value.TheVariants.{Cold}
 use Rattle.iolb_check.specs.declared.value_fault.ValueFault.{ValueFault}
@@ -37,7 +36,7 @@ bound_of parts = record { assumptions = parts.assumed.rows; branches = map terms
 -- A polynomial counts something: it uses only the parameters, and at all parameter values, of any size, at which the
 -- assumptions are met its value is a whole number of at least 0.
 pub record IsCounting (assumed : AffineSystem) (polynomial : Quotient) : Type 0 where
-  pub parameters : IsCanonical assumed.vars (expansion polynomial.tree)
+  pub parameters : IsCanonical assumed.vars polynomial.tree
   pub whole : (values : List ℤ) → length values ≡ assumed.vars → AreMet assumed.rows values
       → (n : ℕ) × (numerator_at polynomial values ≡ pos n *ℤ pos polynomial.denominator)
 
@@ -52,7 +51,7 @@ IsBound parts = AllByRecursion (λ terms. AllByRecursion (IsTermValue parts.assu
 
 -- a polynomial's terms at the sizes reach 2^126
 abbrev pub IsWideTerm : List ℤ → Value → Type 0
-IsWideTerm sizes (Cold count) = 2 ^ 126 ≤ size_at (expansion count.tree) (at sizes)
+IsWideTerm sizes (Cold count) = 2 ^ 126 ≤ size_at count.tree (at sizes)
 
 -- one of the terms is wide
 abbrev pub HasWideTerm : List ℤ → List Value → Type 0

@@ -28,12 +28,12 @@ pub struct Bound {
 impl Model for Bound {
     ghost use Rattle.std.specs.Prelude.{List, map};
     ghost use Rattle.std.specs.Coded.{codes};
-    ghost use Rattle.poly_tree.specs.contracts.tree.Tree as tree;
+    ghost use Rattle.poly_tree.specs.Stored.{quotient_code};
     ghost use Rattle.iolb_check.specs.Bounds.{BoundParts, IsBound};
 
     ghost Value = { BoundParts };
 
-    ghost coded = { Prim.hlevel (codes, tree.the_row.coded) };
+    ghost coded = { Prim.hlevel (codes, quotient_code) };
 
     ghost view = { λ bound. record { assumed = bound.assumed; branches = map (λ terms. terms.items) bound.branches.items } };
 

@@ -9,9 +9,7 @@ ghost use Rattle.quasts_check.specs.Trees.{RowsAreTrue};
 ghost use Rattle.certificates.specs.declared.term.Term.TheVariants.{Cold as cold_term};
 ghost use Rattle.cert_fits.specs.Fit.{BranchesFit, TermFits, TreeOfTermFits};
 ghost use Rattle.dep_quast.specs.Tree.{SelectionTree};
-ghost use Rattle.poly_tree.specs.Printed.{polynomial_of};
-ghost use Rattle.wavefront.specs.Loads.{BoundsLoads};
-ghost use Rattle.iolb_check.specs.Bounds.{IsCounting, lists};
+ghost use Rattle.iolb_check.specs.Bounds.{lists};
 ghost use Rattle.iolb_check.specs.Conditions.{AreAccepted, BranchHolds, BranchesAccepted, IsAccepted, IsColdAccepted, IsColdRefused, IsFirstBranchRefused, IsFirstRefused, IsRefused, Names, TermHolds, terms_place as place_of_terms};
 
 use crate::bound::Value;
@@ -38,9 +36,9 @@ pub(crate) fn check_branches(
     requires fits { BranchesFit program.now quasts.now branches.now }
     requires are_true { RowsAreTrue (meaning program.now) 0 quasts.now.rows.items }
     requires few { AllByRecursion (λ branch. length branch.terms.items ≤ 1) branches.now }
-    ensures accepted { IfOk result (λ values. BranchesAccepted program.now quasts.now 0 branches.now (lists values.items)) }
+    ensures accepted { IfOk result (λ values. BranchesAccepted (meaning program.now) quasts.now 0 branches.now (lists values.items)) }
     ensures hold { IfOk result (λ values. AllByRecursion (BranchHolds program.now) (lists values.items)) }
-    ensures refused { IfErr result (Names (IsFirstBranchRefused program.now quasts.now 0 branches.now)) }
+    ensures refused { IfErr result (Names (IsFirstBranchRefused (meaning program.now) quasts.now 0 branches.now)) }
 {
     let mut values = Vec::new(alloc);
     for (number, branch) in branches.iter().enumerate() {
@@ -80,10 +78,10 @@ fn check_terms(
 ) -> Result<Vec<Value>, Refused>
     requires fits { AllByRecursion (TermFits program.now quasts.now) terms.now }
     requires are_true { RowsAreTrue (meaning program.now) 0 quasts.now.rows.items }
-    ensures accepted { IfOk result (λ values. AreAccepted program.now quasts.now place.now 0 terms.now values.items) }
+    ensures accepted { IfOk result (λ values. AreAccepted (meaning program.now) quasts.now place.now 0 terms.now values.items) }
     ensures hold { IfOk result (λ values. AllByRecursion (TermHolds program.now) values.items) }
     ensures as_many { IfOk result (λ values. length values.items ≡ length terms.now) }
-    ensures refused { IfErr result (Names (IsFirstRefused program.now quasts.now place.now 0 terms.now)) }
+    ensures refused { IfErr result (Names (IsFirstRefused (meaning program.now) quasts.now place.now 0 terms.now)) }
 {
     let mut values = Vec::new(alloc);
     for (index, term) in terms.iter().enumerate() {
@@ -109,9 +107,9 @@ fn check_term(
 ) -> Result<Value, Refused>
     requires fits { TermFits program.now quasts.now term.now }
     requires are_true { RowsAreTrue (meaning program.now) 0 quasts.now.rows.items }
-    ensures accepted { IfOk result (λ value. IsAccepted program.now quasts.now (place.now ++ Index index ∷ []) term.now value) }
+    ensures accepted { IfOk result (λ value. IsAccepted (meaning program.now) quasts.now (place.now ++ Index index ∷ []) term.now value) }
     ensures holds { IfOk result (λ value. TermHolds program.now value) }
-    ensures refused { IfErr result (Names (IsRefused program.now quasts.now (place.now ++ Index index ∷ []) term.now)) }
+    ensures refused { IfErr result (Names (IsRefused (meaning program.now) quasts.now (place.now ++ Index index ∷ []) term.now)) }
 {
     let cold = cold_of(term);
     match check_cold_term(alloc, program, quasts, place, index, cold) {
@@ -140,10 +138,9 @@ fn check_cold_term(
 ) -> Result<Poly, Refused>
     requires fits { (tree : SelectionTree) × TreeOfTermFits program.now quasts.now cold.now tree }
     requires are_true { RowsAreTrue (meaning program.now) 0 quasts.now.rows.items }
-    ensures accepted { IfOk result (λ count. IsColdAccepted program.now quasts.now ((place.now ++ Index index ∷ []) ++ Key COLD ∷ []) cold.now count) }
-    ensures bounds { IfOk result (λ count. BoundsLoads (meaning program.now) (polynomial_of count)) }
-    ensures counting { IfOk result (λ count. IsCounting program.now.assumed count) }
-    ensures refused { IfErr result (Names (IsColdRefused program.now quasts.now ((place.now ++ Index index ∷ []) ++ Key COLD ∷ []) cold.now)) }
+    ensures accepted { IfOk result (λ count. IsColdAccepted (meaning program.now) quasts.now ((place.now ++ Index index ∷ []) ++ Key COLD ∷ []) cold.now count) }
+    ensures holds { IfOk result (λ count. TermHolds program.now (Value.Cold count)) }
+    ensures refused { IfErr result (Names (IsColdRefused (meaning program.now) quasts.now ((place.now ++ Index index ∷ []) ++ Key COLD ∷ []) cold.now)) }
 {
     let _params = program.params();
     let Ok(place) = cold_place(alloc, place, index) else {

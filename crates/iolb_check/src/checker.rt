@@ -27,9 +27,9 @@ use std::alloc::Global;
 /// terms in order.
 pub fn check(alloc: Global, program: &Program, certificate: &Certificate) -> Result<Bound, Refused>
     ensures assumed { IfOk result (λ bound. bound.assumed ≡ program.now.assumed) }
-    ensures meets { IfOk result (λ bound. MeetsConditions program.now certificate.now bound.branches) }
+    ensures meets { IfOk result (λ bound. MeetsConditions (meaning program.now) certificate.now bound.branches) }
     ensures holds { IfOk result (λ bound. BoundHolds (meaning program.now) (bound_of bound)) }
-    ensures refused { IfErr result (Names (IsRefusal program.now certificate.now)) }
+    ensures refused { IfErr result (Names (IsRefusal (meaning program.now) certificate.now)) }
 {
     match first_misfit(alloc, program, certificate) {
         Ok(None) => {}

@@ -7,7 +7,6 @@ ghost use Rattle.affine_form.specs.System.{AllOver};
 ghost use Rattle.iolb_model.specs.Bound.{AreMet, bound_value, branch_value, count_value, term_value};
 ghost use Rattle.poly_tree.specs.Expansion.{at, size_at};
 ghost use Rattle.poly_tree.specs.Printed.{polynomial_of};
-ghost use Rattle.poly_tree.specs.Tree.{expansion};
 ghost use Rattle.iolb_check.specs.Bounds.{Evaluates, EvaluatesBranch, HasWideBranch, IsCounting, IsFirstUnmet, IsTermValue, IsWideBranch, IsWideTerm, bound_of, greatest_branch, lists, term_of, terms_of};
 
 use crate::bound::{Bound, Value};
@@ -156,7 +155,7 @@ fn count_at(count: &Poly, assumed: &System, point: &[i128]) -> Result<u128, Wide
     requires each { length point.now ≡ assumed.now.vars }
     requires met { AreMet assumed.now.rows point.now }
     ensures value { IfOk result (λ value. value ≡ min (count_value (polynomial_of count.now) point.now) (2 ^ 126)) }
-    ensures wide { IsErr result ↔ (2 ^ 126 ≤ size_at (expansion count.now.tree) (at point.now)) }
+    ensures wide { IsErr result ↔ (2 ^ 126 ≤ size_at count.now.tree (at point.now)) }
 {
     terms_have_the_value();
     let numerator = count.numer(point)?;

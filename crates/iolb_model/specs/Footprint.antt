@@ -37,3 +37,15 @@ pub record IsFootprintOf (program : AffineProgram) (term : BoundTerm) (footprint
 abbrev pub AreApartFootprints : AffineProgram → List Footprint → Type 0
 AreApartFootprints program footprints = (values : List ℤ) → IsAdmitted program values
     → ArePairwiseDisjoint (map (λ (footprint : Footprint). footprint values) footprints)
+
+-- footprints of terms, one for each
+abbrev pub AreFootprintsOf : AffineProgram → List BoundTerm → List Footprint → Type 0
+AreFootprintsOf program [] footprints = footprints ≡ []
+AreFootprintsOf program (term ∷ terms) [] = ⊥
+AreFootprintsOf program (term ∷ terms) (footprint ∷ footprints) = IsFootprintOf program term footprint × AreFootprintsOf program terms footprints
+
+-- The terms of a branch have footprints of which no two have a vertex in common, so that their loads add up.
+pub record HasFootprints (program : AffineProgram) (terms : List BoundTerm) : Type 0 where
+  pub footprints : List Footprint
+  pub each : AreFootprintsOf program terms footprints
+  pub apart : AreApartFootprints program footprints

@@ -1,21 +1,20 @@
 -- Each input that is read was loaded: between a board without its red pebble and the computing of a reader
 -- stands a load of it.
-use Rattle.std.proofs.Common.{inl, inr, ◌≡◌, refl, sym, ◌∙◌, ap, subst, ℕ, ◌+◌, ◌<◌, ◌≤◌, ◌≢◌, Bool, true, false, cond, not, List, [], ◌∷◌, ◌++◌, zero, suc, length, get_or, set, replicate, arith, IsTrue}
-use Rattle.std.specs.Prelude.{count_by, nat_eq, ◌||◌, Contains, ◌⊎◌}
-use Rattle.std.specs.List.{AllByRecursion, IsDistinct, list_any}
+use Rattle.std.proofs.Common.{inl, inr, ◌≡◌, refl, sym, ◌∙◌, ap, subst, ℕ, ◌+◌, ◌≤◌, ◌≢◌, Bool, true, false, cond, List, [], ◌∷◌, zero, suc, length, set, replicate, arith, IsTrue}
+use Rattle.std.specs.Prelude.{filter, nat_eq, ◌||◌, ◌&&◌, Contains}
+use Rattle.std.specs.List.{AllByRecursion, IsDistinct}
 use Rattle.std.proofs.lemmas.List.Elements.{All-from_recursion, All-contains}
-use Rattle.std.proofs.lemmas.Bool.{eqb-false, ne_eqb, cases_eq}
-use Rattle.std.proofs.lemmas.Map.Made.{length-le_from_is_member}
+use Rattle.std.proofs.lemmas.Bool.{eqb-true, eqb-false, ne_eqb, cases_eq}
+use Rattle.std.proofs.lemmas.Map.Made.{length-le_from_is_member, is_member-filter}
 use Rattle.std.specs.Set.{is_member}
 use Rattle.std.specs.Cmp.{nat_eq_equiv}
 use Rattle.std.proofs.lemmas.List.Sums.{sum_by-cons}
-use Rattle.std.proofs.lemmas.List.{get_or-set_other, get_or-set_same}
-use Rattle.std.proofs.lemmas.Grind.{common_steps}
+use Rattle.std.proofs.lemmas.List.{get_or-set_other}
 use Rattle.iolb_model.specs.declared.game.Move.{Move}
 use Rattle.iolb_model.specs.declared.game.Move.TheVariants.{Load, Store, Compute, Drop, Erase}
 use Rattle.iolb_model.specs.Graph.{ComputationGraph}
-use Rattle.iolb_model.specs.Game.{Board, marked, predecessors_at, IsAllowed, AreAllowed, board_after, final_board, IsCompletePebbling, is_load, loads, first_board}
-use Rattle.pebble_game.specs.Inputs.{IsReadInput, ReadInputsAreLoaded}
+use Rattle.iolb_model.specs.Game.{Board, marked, predecessors_at, AreAllowed, board_after, final_board, IsCompletePebbling, loads_one_of, loads_of, stands_in, first_board}
+use Rattle.pebble_game.specs.Inputs.{IsReadInput, ReadInputIsLoaded, ReadInputsAreLoaded}
 
 -- the vertices that are loaded, in order
 abbrev pub loaded : List Move → List ℕ
@@ -26,13 +25,20 @@ loaded (Compute v ∷ moves) = loaded moves
 loaded (Drop v ∷ moves) = loaded moves
 loaded (Erase v ∷ moves) = loaded moves
 
-pub loads-loaded : (moves : List Move) → loads moves ≡ length (loaded moves)
-loads-loaded [] = refl
-loads-loaded (Load v ∷ moves) = sum_by-cons (λ (move : Move). cond (is_load move) 1 0) (Load v) moves ∙ ap (λ n. 1 + n) (loads-loaded moves) ∙ omega arith
-loads-loaded (Store v ∷ moves) = loads-loaded moves
-loads-loaded (Compute v ∷ moves) = loads-loaded moves
-loads-loaded (Drop v ∷ moves) = loads-loaded moves
-loads-loaded (Erase v ∷ moves) = loads-loaded moves
+filtered-step : (b : Bool) (v n : ℕ) (rest : List ℕ) → n ≡ length rest → cond b 1 0 + n ≡ length (cond b (v ∷ rest) rest)
+filtered-step true v n rest e = omega (arith, e)
+filtered-step false v n rest e = omega (arith, e)
+
+-- the loads of a set's vertices are those among the loaded ones
+pub loads_of-loaded : (set : List ℕ) (moves : List Move) → loads_of set moves ≡ length (filter (stands_in set) (loaded moves))
+loads_of-loaded set [] = refl
+loads_of-loaded set (Load v ∷ moves) =
+    sum_by-cons (λ (move : Move). cond (loads_one_of set move) 1 0) (Load v) moves
+    ∙ filtered-step (stands_in set v) v (loads_of set moves) (filter (stands_in set) (loaded moves)) (loads_of-loaded set moves)
+loads_of-loaded set (Store v ∷ moves) = loads_of-loaded set moves
+loads_of-loaded set (Compute v ∷ moves) = loads_of-loaded set moves
+loads_of-loaded set (Drop v ∷ moves) = loads_of-loaded set moves
+loads_of-loaded set (Erase v ∷ moves) = loads_of-loaded set moves
 
 -- another vertex's mark stays
 marked_other : (marks : List Bool) (v w : ℕ) (b : Bool) → v ≢ w → marked (set marks w b) v ≡ marked marks v
@@ -103,7 +109,24 @@ each_loaded graph s moves (v ∷ inputs) game read q h =
     by_eqb q v (λ (same : q ≡ v). subst (λ (u : ℕ). is_member nat_eq (loaded moves) u ≡ true) (sym same) (read_input_loaded graph s moves v game read.0))
     (λ (apart : nat_eq q v ≡ false). each_loaded graph s moves inputs game read.1 q (rw apart at h))
 
+-- and among those that are loaded of their own set
+each_loaded_of : (graph : ComputationGraph) (s : ℕ) (moves : List Move) (inputs : List ℕ) → IsCompletePebbling graph s moves
+    → AllByRecursion (IsReadInput graph) inputs → (q : ℕ) → is_member nat_eq inputs q ≡ true → is_member nat_eq (filter (stands_in inputs) (loaded moves)) q ≡ true
+each_loaded_of graph s moves inputs game read q h =
+    is_member-filter nat_eq_equiv (stands_in inputs) q (λ x e. ap (stands_in inputs) (eqb-true q x e)) (loaded moves)
+    ∙ both (is_member nat_eq (loaded moves) q) (stands_in inputs q) (each_loaded graph s moves inputs game read q h) h where
+      both : (a b : Bool) → a ≡ true → b ≡ true → (a && b) ≡ true
+      both true b e f = f
+      both false b e f = cc
+
 pub read_inputs_loaded : ReadInputsAreLoaded
 read_inputs_loaded graph s moves inputs game apart read =
-    subst (λ (n : ℕ). length inputs ≤ n) (sym (loads-loaded moves))
-    (length-le_from_is_member nat_eq_equiv inputs (loaded moves) apart (each_loaded graph s moves inputs game read))
+    subst (λ (n : ℕ). length inputs ≤ n) (sym (loads_of-loaded inputs moves))
+    (length-le_from_is_member nat_eq_equiv inputs (filter (stands_in inputs) (loaded moves)) apart (each_loaded_of graph s moves inputs game read))
+
+one_distinct : (v : ℕ) → IsDistinct nat_eq (v ∷ [])
+unfolding IsDistinct
+one_distinct v = (tt, tt)
+
+pub read_input_loaded_once : ReadInputIsLoaded
+read_input_loaded_once graph s moves v game read = read_inputs_loaded graph s moves (v ∷ []) game (one_distinct v) (read, tt)

@@ -1,8 +1,10 @@
 //! What every complete pebbling has to load.
 
-ghost use Rattle.pebble_game.specs.Inputs.{ReadInputsAreLoaded};
+ghost use Rattle.pebble_game.specs.Inputs.{ReadInputIsLoaded, ReadInputsAreLoaded};
 
-/// A law: every complete pebbling loads each input that is read at least once. (Hong and Kung 1981.)
+/// A law: every complete pebbling loads each input that is read at least once, and so different ones at least as often as
+/// they are. (Hong and Kung 1981.)
 pub fn read_inputs_are_loaded()
-    ensures { ReadInputsAreLoaded }
+    ensures each { ReadInputIsLoaded }
+    ensures many { ReadInputsAreLoaded }
 {}

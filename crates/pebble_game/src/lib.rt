@@ -4,6 +4,7 @@
 
 pub mod graph;
 pub mod inputs;
+pub mod sets;
 
 pub use graph::Graph;
 pub use iolb_model::game::Move;

@@ -8,9 +8,7 @@ use Rattle.std.proofs.lemmas.Nat.Gcd.{dvd_antisymm}
 use Rattle.std.proofs.Math.Nat.{one-dvd}
 use Rattle.integer_laws.proofs.Ring.{mul-zero, zero-mul, mul_comm, mul-one}
 use Rattle.iolb_model.specs.Form.{AffineForm, dot, form_value}
-use Rattle.poly_tree.specs.declared.tree.Tree.{Tree}
 use Rattle.poly_tree.specs.Expansion.{Expansion, Parts, number, over, none, part, at, put, value, weight, sizes, products_from, IsAffine, IsExtended, IsCanonical, DegreesAtMost, PartsDegreesAtMost}
-use Rattle.poly_tree.specs.Tree.{expansion}
 use Rattle.poly_tree.specs.Poly.{Quotient, IsLegal, IsForm, IsPutIn, IsSubstitutionOf, IsShiftOf, SubstitutionPassesDegree, ShiftPassesDegree, PutPassesDegree, put_size, form_size}
 use Rattle.std.specs.List.{AllByRecursion}
 use Rattle.affine_form.specs.Form.{IsSmall, IsLegalForm}
@@ -103,10 +101,10 @@ mutual
   degrees-more_parts d e none le h = tt
   degrees-more_parts d e (part t ps) le h = (degrees-more d e t le h.0, degrees-more_parts d e ps le h.1)
 
-pub legal-affine : (xs : List ℤ) (constant : ℤ) (tree : Tree) → length xs ≤ 24 → IsAffine xs constant (expansion tree) → IsLegal (record { tree = tree; denominator = 1 })
-legal-affine xs constant tree few h = record {
-  canonical = IsCanonical-more (length xs) (2 ^ 16) (expansion tree) (omega arith) h.canonical;
-  degrees = degrees-more 1 8 (expansion tree) (lit≤ tt) h.degrees;
+pub legal-affine : (xs : List ℤ) (constant : ℤ) (t : Expansion) → length xs ≤ 24 → IsAffine xs constant t → IsLegal (record { tree = t; denominator = 1 })
+legal-affine xs constant t few h = record {
+  canonical = IsCanonical-more (length xs) (2 ^ 16) t (omega arith) h.canonical;
+  degrees = degrees-more 1 8 t (lit≤ tt) h.degrees;
   positive = lit≤ tt;
   primitive = λ k p q. dvd_antisymm p (one-dvd k);
 }
@@ -121,8 +119,8 @@ products-dot (x ∷ xs) front (p ∷ ps) v e le =
       pushed : (ys : List ℤ) → length ys ≡ v → length (ys ++ p ∷ []) ≡ suc v
       pushed ys q = omega (arith, length_push ys p)
 
-pub form-affine : (form : AffineForm) (tree : Tree) → IsAffine form.coefficients form.constant (expansion tree) → IsForm form (record { tree = tree; denominator = 1 })
-form-affine form tree h = record {
+pub form-affine : (form : AffineForm) (t : Expansion) → IsAffine form.coefficients form.constant t → IsForm form (record { tree = t; denominator = 1 })
+form-affine form t h = record {
   whole = refl;
   same = λ point le. h.sum (at point) ∙ ap (λ (z : ℤ). z +ℤ form.constant) (products-dot form.coefficients [] point 0 refl le);
 }
@@ -145,12 +143,12 @@ affine-value form t h point le = h.sum (at point) ∙ ap (λ (z : ℤ). z +ℤ f
 pub substitution-value : (a : Quotient) (v : ℕ) (form : AffineForm) (t : Expansion) (r : Quotient) → IsAffine form.coefficients form.constant t
     → IsPutIn a v (λ point. value t (at point)) r → IsSubstitutionOf a v form r
 substitution-value a v form t r h p = λ point le.
-    p point ∙ ap (λ (z : ℤ). value (expansion a.tree) (put (at point) v z) *ℤ pos r.denominator) (affine-value form t h point le)
+    p point ∙ ap (λ (z : ℤ). value a.tree (put (at point) v z) *ℤ pos r.denominator) (affine-value form t h point le)
 
 pub substitution-wide : (a : Quotient) (v : ℕ) (form : AffineForm) (t : Expansion) → IsAffine form.coefficients form.constant t
     → (2 ^ 126 ≤ put_size a v (max 1 (weight t))) ⊎ PutPassesDegree a v t → (2 ^ 126 ≤ put_size a v (form_size form)) ⊎ SubstitutionPassesDegree a v form
 substitution-wide a v form t h (inl p) = inl (subst (λ (n : ℕ). 2 ^ 126 ≤ put_size a v n) (affine-weight form t h) p)
-substitution-wide a v form t h (inr p) = inr (p.0, (p.1.0, (λ point le. p.1.1 (at point) ∙ ap (λ (z : ℤ). value (expansion a.tree) (put (at point) v z)) (affine-value form t h point le)), p.1.2))
+substitution-wide a v form t h (inr p) = inr (p.0, (p.1.0, (λ point le. p.1.1 (at point) ∙ ap (λ (z : ℤ). value a.tree (put (at point) v z)) (affine-value form t h point le)), p.1.2))
 
 -- a variable minus 1 that is put in
 minus_one-inner : (v : ℕ) (s t : Expansion) → s ≡ number (negsuc 0) → IsExtended v (pos 1) s t → t ≡ over v (part (number (negsuc 0)) (part (number (pos 1)) none))
@@ -171,9 +169,9 @@ minus_one-weight v s t e h = ap weight (minus_one-inner v s t e h)
 
 pub shift-value : (a : Quotient) (v : ℕ) (s t : Expansion) (r : Quotient) → s ≡ number (negsuc 0) → IsExtended v (pos 1) s t → IsPutIn a v (λ point. value t (at point)) r → IsShiftOf a v r
 shift-value a v s t r e h p = λ point.
-    p point ∙ ap (λ (z : ℤ). value (expansion a.tree) (put (at point) v z) *ℤ pos r.denominator) (minus_one-value v s t e h (at point))
+    p point ∙ ap (λ (z : ℤ). value a.tree (put (at point) v z) *ℤ pos r.denominator) (minus_one-value v s t e h (at point))
 
 pub shift-wide : (a : Quotient) (v : ℕ) (s t : Expansion) → s ≡ number (negsuc 0) → IsExtended v (pos 1) s t
     → (2 ^ 126 ≤ put_size a v (max 1 (weight t))) ⊎ PutPassesDegree a v t → (2 ^ 126 ≤ put_size a v 2) ⊎ ShiftPassesDegree a v
 shift-wide a v s t e h (inl p) = inl (subst (λ (n : ℕ). 2 ^ 126 ≤ put_size a v (max 1 n)) (minus_one-weight v s t e h) p)
-shift-wide a v s t e h (inr p) = inr (p.0, (p.1.0, (λ point. p.1.1 (at point) ∙ ap (λ (z : ℤ). value (expansion a.tree) (put (at point) v z)) (minus_one-value v s t e h (at point))), p.1.2))
+shift-wide a v s t e h (inr p) = inr (p.0, (p.1.0, (λ point. p.1.1 (at point) ∙ ap (λ (z : ℤ). value a.tree (put (at point) v z)) (minus_one-value v s t e h (at point))), p.1.2))

@@ -5,7 +5,6 @@ use Rattle.std.proofs.Math.IntN.{ℤ, pos, ◌+ℤ◌, ◌*ℤ◌}
 use Rattle.std.proofs.Math.IntN.{neg_ℤ}
 use Rattle.integer_laws.proofs.Ring.{mul_assoc_ℤ, mul_comm, mul-neg}
 use Rattle.poly_tree.specs.Expansion.{Expansion, at, scaled, value, IsSum, IsProduct, IsLinear, IsCanonical, DegreesAtMost}
-use Rattle.poly_tree.specs.Tree.{expansion}
 use Rattle.poly_tree.specs.Poly.{Quotient, numerator_at, IsReduced, IsProductOf, IsCombinationOf, IsDifferenceOf}
 use Rattle.poly_tree.proofs.Products.{value-scaled, canonical-scaled}
 use Rattle.poly_tree.proofs.Reduced.{degrees-scaled}
@@ -83,24 +82,24 @@ below-cap n m cap limit e p q = omega arith
 
 -- the value of what is left without a common factor
 pub reduced-value : (t : Expansion) (d : ℕ) (r : Quotient) → IsReduced t d r → (point : ℕ → ℤ)
-    → (value (expansion r.tree) point *ℤ pos d) ≡ (value t point *ℤ pos r.denominator)
+    → (value r.tree point *ℤ pos d) ≡ (value t point *ℤ pos r.denominator)
 reduced-value t d r h point =
-    let x = value (expansion r.tree) point in
+    let x = value r.tree point in
     ap (λ (n : ℕ). x *ℤ pos n) (sym h.over)
     ∙ sym (mul_assoc_ℤ x (pos h.factor) (pos r.denominator))
-    ∙ ap (λ (z : ℤ). z *ℤ pos r.denominator) (mul_comm x (pos h.factor) ∙ sym (value-scaled (pos h.factor) (expansion r.tree) point) ∙ ap (λ (u : Expansion). value u point) h.tree)
+    ∙ ap (λ (z : ℤ). z *ℤ pos r.denominator) (mul_comm x (pos h.factor) ∙ sym (value-scaled (pos h.factor) r.tree point) ∙ ap (λ (u : Expansion). value u point) h.tree)
 
 -- the value of a product
-pub product-value : (a b r : Quotient) (t : Expansion) → IsProduct (expansion a.tree) (expansion b.tree) t → IsReduced t (a.denominator * b.denominator) r → IsProductOf a b r
+pub product-value : (a b r : Quotient) (t : Expansion) → IsProduct a.tree b.tree t → IsReduced t (a.denominator * b.denominator) r → IsProductOf a b r
 product-value a b r t p h point =
     reduced-value t (a.denominator * b.denominator) r h (at point) ∙ ap (λ (z : ℤ). z *ℤ pos r.denominator) (p.product (at point))
 
 -- the value of a sum of multiples
-pub combination-value : (a b r : Quotient) (k : ℤ) (t : Expansion) → IsLinear (pos b.denominator) (expansion a.tree) k (expansion b.tree) t → IsReduced t (a.denominator * b.denominator) r
+pub combination-value : (a b r : Quotient) (k : ℤ) (t : Expansion) → IsLinear (pos b.denominator) a.tree k b.tree t → IsReduced t (a.denominator * b.denominator) r
     → IsCombinationOf a b k r
 combination-value a b r k t p h point =
-    let x = value (expansion a.tree) (at point) in
-    let y = value (expansion b.tree) (at point) in
+    let x = value a.tree (at point) in
+    let y = value b.tree (at point) in
     reduced-value t (a.denominator * b.denominator) r h (at point)
     ∙ ap (λ (z : ℤ). z *ℤ pos r.denominator) (p.sum (at point) ∙ ap (λ (z : ℤ). z +ℤ (k *ℤ y)) (mul_comm (pos b.denominator) x) ∙ ap (λ (z : ℤ). (x *ℤ pos b.denominator) +ℤ z) (mul_comm k y))
 

@@ -4,7 +4,6 @@ use Rattle.std.specs.Prelude.{◌==◌, nat_lt, ◌||◌, ◌&&◌, sum}
 use Rattle.std.specs.List.{AllByRecursion}
 use Rattle.std.proofs.lemmas.Bool.Decides.{nat_tests}
 use Rattle.iolb_model.specs.Polynomial.{Term}
-use Rattle.poly_tree.specs.Tree.{expansion}
 use Rattle.poly_tree.specs.Printed.{is_greater, is_printed_before, insert_term, in_print_order, expansion_terms, AreInOrder, TermsAreInOrder}
 
 greater-trans : (es fs gs : List ℕ) → is_greater es fs ≡ true → is_greater fs gs ≡ true → is_greater es gs ≡ true
@@ -66,4 +65,4 @@ in-order (t ∷ ts) = insert-order t (in_print_order ts) (in-order ts)
 
 -- the law
 pub terms_are_in_order : TermsAreInOrder
-terms_are_in_order q = in-order (expansion_terms (expansion q.tree))
+terms_are_in_order q = in-order (expansion_terms q.tree)

@@ -11,7 +11,6 @@ use Rattle.std.proofs.lemmas.List.{length-append, length-replicate}
 use Rattle.integer_laws.proofs.Ring.{mul-zero, one-mul, mul-one, mul_assoc_ℤ, mul_comm, mul-add}
 use Rattle.iolb_model.specs.Polynomial.{Term, int_power, monomial, terms_value}
 use Rattle.poly_tree.specs.Expansion.{Expansion, Parts, number, over, none, part, at, value, parts_value, powers_from, IsCanonical, AreCanonical}
-use Rattle.poly_tree.specs.Tree.{expansion}
 use Rattle.poly_tree.specs.Printed.{with_exponent, with_power, named_term, AreNonzero, expansion_terms, parts_terms, is_printed_before, insert_term, in_print_order, TermsHaveTheValue}
 use Rattle.poly_tree.proofs.TermLemmas.{powers-monomial}
 
@@ -141,7 +140,7 @@ printed-value bound t point c = order-value (expansion_terms t) point ∙ terms-
 
 -- the law
 pub terms_have_the_value : TermsHaveTheValue
-terms_have_the_value q legal point = printed-value (2 ^ 16) (expansion q.tree) point legal.canonical
+terms_have_the_value q legal point = printed-value (2 ^ 16) q.tree point legal.canonical
 
 -- terms put into a row that is in order, the last first
 abbrev pub insert_all : List Term → List Term → List Term

@@ -7,7 +7,6 @@ use Rattle.std.proofs.lemmas.Nat.Gcd.{dvd_refl}
 use Rattle.integer_laws.proofs.Ring.{mul-one, mul_comm}
 use Rattle.iolb_model.specs.Polynomial.{Term, Polynomial, int_power}
 use Rattle.poly_tree.specs.Expansion.{Expansion, number, over, zero_expansion, parts_from, at, value, scaled, powers_from, IsCanonical, HasTop, LastNonzero, DividesAll}
-use Rattle.poly_tree.specs.Tree.{expansion}
 use Rattle.poly_tree.specs.Poly.{numerator_at}
 use Rattle.poly_tree.specs.Printed.{with_exponent, with_power, expansion_terms, parts_terms, in_print_order, ProductsArePrinted}
 use Rattle.poly_tree.proofs.Expansions.{IsCanonical-more}
@@ -85,15 +84,15 @@ products_are_printed q es legal few low h =
     let times : (point : List ℤ) → numerator_at q point ≡ value mono (at point) *ℤ pos q.denominator
     = λ point. h point ∙ ap (λ (z : ℤ). z *ℤ pos q.denominator) (sym (is.product (at point) ∙ powers-monomial es [] point 0 refl)) in
     let multiple : IsCanonical (2 ^ 16) (scaled (pos q.denominator) mono) = canonical-scaled (2 ^ 16) (pos q.denominator) mono (nonzero q.denominator legal.positive) canonical in
-    let same : expansion q.tree ≡ scaled (pos q.denominator) mono
-    = unique (2 ^ 16) (expansion q.tree) (scaled (pos q.denominator) mono) legal.canonical multiple
-    (everywhere (2 ^ 16) (expansion q.tree) (scaled (pos q.denominator) mono) legal.canonical multiple
+    let same : q.tree ≡ scaled (pos q.denominator) mono
+    = unique (2 ^ 16) q.tree (scaled (pos q.denominator) mono) legal.canonical multiple
+    (everywhere (2 ^ 16) q.tree (scaled (pos q.denominator) mono) legal.canonical multiple
     (λ point. times point ∙ mul_comm (value mono (at point)) (pos q.denominator) ∙ sym (value-scaled (pos q.denominator) mono (at point)))) in
     let whole : q.denominator ≡ 1
     = legal.primitive q.denominator (dvd_refl q.denominator) (subst (DividesAll q.denominator) (sym same) (divides-multiple q.denominator mono)) in
-    let equal : expansion q.tree ≡ mono
-    = unique (2 ^ 16) (expansion q.tree) mono legal.canonical canonical
-    (everywhere (2 ^ 16) (expansion q.tree) mono legal.canonical canonical
+    let equal : q.tree ≡ mono
+    = unique (2 ^ 16) q.tree mono legal.canonical canonical
+    (everywhere (2 ^ 16) q.tree mono legal.canonical canonical
     (λ point. times point ∙ ap (λ (n : ℕ). value mono (at point) *ℤ pos n) whole ∙ mul-one (value mono (at point)))) in
     ap (λ (ts : List Term). polynomial ts q.denominator) (ap (λ (t : Expansion). in_print_order (expansion_terms t)) equal ∙ ap in_print_order is.term)
     ∙ ap (polynomial ((record { coefficient = pos 1; exponents = es }) ∷ [])) whole where

@@ -8,9 +8,7 @@ use lib.Signed.{◌≤ℤ◌}
 use Rattle.std.proofs.lemmas.Int.{ints, unsigned_abs-mul}
 use Rattle.std.proofs.lemmas.Nat.Gcd.{dvd_antisymm}
 use Rattle.integer_laws.proofs.Ring.{mul-zero}
-use Rattle.poly_tree.specs.declared.tree.Tree.{Tree}
 use Rattle.poly_tree.specs.Expansion.{Expansion, Parts, number, over, none, part, scaled, parts_scaled, parts_count, IsCanonical, AreCanonical, HasTop, LastNonzero, DegreesAtMost, PartsDegreesAtMost, DividesAll, DividesParts, IsContent}
-use Rattle.poly_tree.specs.Tree.{expansion}
 use Rattle.poly_tree.specs.Poly.{IsLegal, IsReduced}
 
 -- what is canonical as a multiple is so itself
@@ -66,12 +64,12 @@ mutual
   divides-scaled_parts j k (part t ps) h = (divides-scaled j k t h.0, divides-scaled_parts j k ps h.1)
 
 -- what is left of a common factor after a division by it
-primitive : (t : Expansion) (tree : Tree) (f q : ℤ) (start : ℕ) → 1 ≤ unsigned_abs f → IsContent t start (unsigned_abs f) → scaled f (expansion tree) ≡ t → unsigned_abs f * unsigned_abs q ≡ start
-    → (k : ℕ) → k ∣ unsigned_abs q → DividesAll k (expansion tree) → k ≡ 1
-primitive t tree f q start some content e is k p h =
+primitive : (t : Expansion) (u : Expansion) (f q : ℤ) (start : ℕ) → 1 ≤ unsigned_abs f → IsContent t start (unsigned_abs f) → scaled f u ≡ t → unsigned_abs f * unsigned_abs q ≡ start
+    → (k : ℕ) → k ∣ unsigned_abs q → DividesAll k u → k ≡ 1
+primitive t u f q start some content e is k p h =
     let factor = unsigned_abs f in
     let of_start : factor * k ∣ start = subst (λ (m : ℕ). factor * k ∣ m) is (mul-dvd-mul_left k factor p) in
-    let of_all : DividesAll (factor * k) t = subst (DividesAll (factor * k)) e (divides-scaled k f (expansion tree) h) in
+    let of_all : DividesAll (factor * k) t = subst (DividesAll (factor * k)) e (divides-scaled k f u h) in
     let of_factor : factor * k ∣ factor * 1 = subst (λ (m : ℕ). factor * k ∣ m) (one factor) (content.greatest (factor * k) of_start of_all) in
     dvd_antisymm (dvd_of_mul-dvd-mul_left k some of_factor) (one-dvd k) where
       one : (n : ℕ) → n ≡ n * 1
@@ -92,25 +90,25 @@ above (pos zero) (negsuc n) den p d e = absurd (omega (arith, ints))
 above (negsuc m) (negsuc n) den p d e = absurd (omega (arith, ints))
 
 -- a canonical tree divided by its content is a legal polynomial
-pub legal-reduced : (t : Expansion) (tree : Tree) (f q den : ℤ) → pos 1 ≤ℤ f → pos 1 ≤ℤ den → IsContent t (unsigned_abs den) (unsigned_abs f) → scaled f (expansion tree) ≡ t → (f *ℤ q) ≡ den
-    → IsCanonical (2 ^ 16) t → DegreesAtMost 8 t → IsLegal (record { tree = tree; denominator = unsigned_abs q }) × (pos 1 ≤ℤ q)
-legal-reduced t tree f q den some positive content e is canonical degrees = (
+pub legal-reduced : (t : Expansion) (u : Expansion) (f q den : ℤ) → pos 1 ≤ℤ f → pos 1 ≤ℤ den → IsContent t (unsigned_abs den) (unsigned_abs f) → scaled f u ≡ t → (f *ℤ q) ≡ den
+    → IsCanonical (2 ^ 16) t → DegreesAtMost 8 t → IsLegal (record { tree = u; denominator = unsigned_abs q }) × (pos 1 ≤ℤ q)
+legal-reduced t u f q den some positive content e is canonical degrees = (
   record {
-    canonical = unscaled (2 ^ 16) f (expansion tree) (subst (IsCanonical (2 ^ 16)) (sym e) canonical);
-    degrees = unscaled-degrees 8 f (expansion tree) (subst (DegreesAtMost 8) (sym e) degrees);
+    canonical = unscaled (2 ^ 16) f u (subst (IsCanonical (2 ^ 16)) (sym e) canonical);
+    degrees = unscaled-degrees 8 f u (subst (DegreesAtMost 8) (sym e) degrees);
     positive = at_least_one q (above f q den some positive is);
-    primitive = primitive t tree f q (unsigned_abs den) (at_least_one f some) content e (sizes f q den is);
+    primitive = primitive t u f q (unsigned_abs den) (at_least_one f some) content e (sizes f q den is);
   },
   above f q den some positive is,
 )
 
 -- and it is the tree over the denominator
-pub is-reduced : (t : Expansion) (tree : Tree) (f q den : ℤ) → pos 1 ≤ℤ f → scaled f (expansion tree) ≡ t → (f *ℤ q) ≡ den
-    → IsReduced t (unsigned_abs den) (record { tree = tree; denominator = unsigned_abs q })
-is-reduced t tree f q den some e is = record {
+pub is-reduced : (t : Expansion) (u : Expansion) (f q den : ℤ) → pos 1 ≤ℤ f → scaled f u ≡ t → (f *ℤ q) ≡ den
+    → IsReduced t (unsigned_abs den) (record { tree = u; denominator = unsigned_abs q })
+is-reduced t u f q den some e is = record {
   factor = unsigned_abs f;
   some = at_least_one f some;
-  tree = ap (λ (z : ℤ). scaled z (expansion tree)) (same f some) ∙ e;
+  tree = ap (λ (z : ℤ). scaled z u) (same f some) ∙ e;
   over = sizes f q den is;
 } where
   same : (z : ℤ) → pos 1 ≤ℤ z → pos (unsigned_abs z) ≡ z

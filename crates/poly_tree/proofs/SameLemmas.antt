@@ -9,9 +9,7 @@ use Rattle.std.proofs.lemmas.Nat.Gcd.{dvd_refl, dvd-zero, mod-eq-zero_of_dvd}
 use Rattle.std.proofs.Math.Nat.{dvd_of_mul-dvd-mul_left, dvd-mul_right, dvd-mul_left, dvd-add, dvd-sub}
 use Rattle.integer_laws.proofs.Ring.{mul_comm, mul-cancel}
 use lib.Signed.{◌≤ℤ◌}
-use Rattle.poly_tree.specs.declared.tree.Tree.{Tree}
 use Rattle.poly_tree.specs.Expansion.{DegreesAtMost, Expansion, Parts, number, over, none, part, at, value, scaled, parts_scaled, IsCanonical, DividesAll, DividesParts}
-use Rattle.poly_tree.specs.Tree.{expansion}
 use Rattle.poly_tree.specs.Poly.{Quotient, numerator_at, IsLegal, SameValues}
 use Rattle.poly_tree.proofs.Products.{value-scaled, canonical-scaled}
 use Rattle.poly_tree.proofs.Unique.{agree, unique}
@@ -118,12 +116,12 @@ quotient g n some h = let r = mod-eq-zero_of_dvd g h in omega arith
 
 -- a denominator is the common divisor
 denominator-is : (a b : Quotient) → IsLegal a → (c : Common b.denominator a.denominator) → 1 ≤ c.factor
-    → DividesAll a.denominator (scaled (pos b.denominator) (expansion a.tree)) → a.denominator ≡ c.factor
+    → DividesAll a.denominator (scaled (pos b.denominator) a.tree) → a.denominator ≡ c.factor
 denominator-is a b legal c some h =
     let k = a.denominator / c.factor in
     let whole : c.factor * k ≡ a.denominator = quotient c.factor a.denominator some c.second in
     let divides : k ∣ a.denominator = subst (λ (m : ℕ). k ∣ m) whole (dvd-mul_left k c.factor) in
-    let one : k ≡ 1 = legal.primitive k divides (gauss b.denominator a.denominator c k (expansion a.tree) some whole h) in
+    let one : k ≡ 1 = legal.primitive k divides (gauss b.denominator a.denominator c k a.tree some whole h) in
     sym whole ∙ ap (λ (m : ℕ). c.factor * m) one ∙ single c.factor where
       single : (n : ℕ) → n * 1 ≡ n
       single n = omega arith
@@ -139,17 +137,17 @@ nonzero zero p = absurd (omega arith)
 nonzero (suc n) p = λ e. absurd cc
 
 -- the multiples by the other's denominator are the same
-pub same-multiples : (a b : Quotient) → IsLegal a → IsLegal b → SameValues a b → scaled (pos b.denominator) (expansion a.tree) ≡ scaled (pos a.denominator) (expansion b.tree)
+pub same-multiples : (a b : Quotient) → IsLegal a → IsLegal b → SameValues a b → scaled (pos b.denominator) a.tree ≡ scaled (pos a.denominator) b.tree
 same-multiples a b la lb h =
-    unique (2 ^ 16) (scaled (pos b.denominator) (expansion a.tree)) (scaled (pos a.denominator) (expansion b.tree)) left right
-    (everywhere (2 ^ 16) (scaled (pos b.denominator) (expansion a.tree)) (scaled (pos a.denominator) (expansion b.tree)) left right
-    (λ point. value-scaled (pos b.denominator) (expansion a.tree) (at point) ∙ mul_comm (pos b.denominator) (numerator_at a point) ∙ h point
-    ∙ mul_comm (numerator_at b point) (pos a.denominator) ∙ sym (value-scaled (pos a.denominator) (expansion b.tree) (at point)))) where
-      left : IsCanonical (2 ^ 16) (scaled (pos b.denominator) (expansion a.tree))
-      left = canonical-scaled (2 ^ 16) (pos b.denominator) (expansion a.tree) (nonzero b.denominator lb.positive) la.canonical
+    unique (2 ^ 16) (scaled (pos b.denominator) a.tree) (scaled (pos a.denominator) b.tree) left right
+    (everywhere (2 ^ 16) (scaled (pos b.denominator) a.tree) (scaled (pos a.denominator) b.tree) left right
+    (λ point. value-scaled (pos b.denominator) a.tree (at point) ∙ mul_comm (pos b.denominator) (numerator_at a point) ∙ h point
+    ∙ mul_comm (numerator_at b point) (pos a.denominator) ∙ sym (value-scaled (pos a.denominator) b.tree (at point)))) where
+      left : IsCanonical (2 ^ 16) (scaled (pos b.denominator) a.tree)
+      left = canonical-scaled (2 ^ 16) (pos b.denominator) a.tree (nonzero b.denominator lb.positive) la.canonical
 
-      right : IsCanonical (2 ^ 16) (scaled (pos a.denominator) (expansion b.tree))
-      right = canonical-scaled (2 ^ 16) (pos a.denominator) (expansion b.tree) (nonzero a.denominator la.positive) lb.canonical
+      right : IsCanonical (2 ^ 16) (scaled (pos a.denominator) b.tree)
+      right = canonical-scaled (2 ^ 16) (pos a.denominator) b.tree (nonzero a.denominator la.positive) lb.canonical
 
 pub same-denominators : (a b : Quotient) → IsLegal a → IsLegal b → SameValues a b → a.denominator ≡ b.denominator
 unfolding turn
@@ -157,26 +155,37 @@ same-denominators a b la lb h =
     let c = common (b.denominator + a.denominator) b.denominator a.denominator (omega arith) in
     let e = same-multiples a b la lb h in
     let some : 1 ≤ c.factor = c.some lb.positive in
-    denominator-is a b la c some (subst (DividesAll a.denominator) (sym e) (divides-multiple a.denominator (expansion b.tree)))
-    ∙ sym (denominator-is b a lb (turn b.denominator a.denominator c) some (subst (DividesAll b.denominator) e (divides-multiple b.denominator (expansion a.tree))))
+    denominator-is a b la c some (subst (DividesAll a.denominator) (sym e) (divides-multiple a.denominator b.tree))
+    ∙ sym (denominator-is b a lb (turn b.denominator a.denominator c) some (subst (DividesAll b.denominator) e (divides-multiple b.denominator a.tree)))
 
 -- and then so are the trees
-pub same-trees : (a b : Quotient) → IsLegal a → IsLegal b → SameValues a b → expansion a.tree ≡ expansion b.tree
+pub same-trees : (a b : Quotient) → IsLegal a → IsLegal b → SameValues a b → a.tree ≡ b.tree
 same-trees a b la lb h =
-    unique (2 ^ 16) (expansion a.tree) (expansion b.tree) la.canonical lb.canonical
-    (everywhere (2 ^ 16) (expansion a.tree) (expansion b.tree) la.canonical lb.canonical
+    unique (2 ^ 16) a.tree b.tree la.canonical lb.canonical
+    (everywhere (2 ^ 16) a.tree b.tree la.canonical lb.canonical
     (λ point. cancel b.denominator (numerator_at a point) (numerator_at b point) lb.positive (h point ∙ ap (λ (n : ℕ). numerator_at b point *ℤ pos n) (same-denominators a b la lb h)))) where
       cancel : (n : ℕ) (x y : ℤ) → 1 ≤ n → (x *ℤ pos n) ≡ (y *ℤ pos n) → x ≡ y
       cancel zero x y p e = absurd (omega arith)
       cancel (suc n) x y p e = mul-cancel n x y (mul_comm (pos (suc n)) x ∙ e ∙ mul_comm y (pos (suc n)))
 
 -- the same trees and denominators have the same values
-pub same-values : (a b : Quotient) → expansion a.tree ≡ expansion b.tree → a.denominator ≡ b.denominator → SameValues a b
+pub same-values : (a b : Quotient) → a.tree ≡ b.tree → a.denominator ≡ b.denominator → SameValues a b
 same-values a b e f = λ point. ap (λ (t : Expansion). value t (at point) *ℤ pos b.denominator) e ∙ ap (λ (n : ℕ). numerator_at b point *ℤ pos n) (sym f)
 
+-- polynomials are equal that have the same tree and the same denominator
+pub same-parts_polynomial : (a b : Quotient) → a.tree ≡ b.tree → a.denominator ≡ b.denominator → a ≡ b
+same-parts_polynomial a b e f =
+    ap (λ (t : Expansion). make t a.denominator) e ∙ ap (make b.tree) f where
+      make : Expansion → ℕ → Quotient
+      make t n = record { tree = t; denominator = n }
+
+-- legal polynomials with the same values are equal
+pub same-polynomial : (a b : Quotient) → IsLegal a → IsLegal b → SameValues a b → a ≡ b
+same-polynomial a b la lb h = same-parts_polynomial a b (same-trees a b la lb h) (same-denominators a b la lb h)
+
 -- a legal polynomial's copy is legal
-pub legal-copy : (a : Quotient) (tree : Tree) (d : ℤ) → IsLegal a → expansion tree ≡ expansion a.tree → d ≡ pos a.denominator → IsLegal (record { tree = tree; denominator = unsigned_abs d }) × (pos 1 ≤ℤ d)
-legal-copy a tree d legal e f =
+pub legal-copy : (a : Quotient) (t : Expansion) (d : ℤ) → IsLegal a → t ≡ a.tree → d ≡ pos a.denominator → IsLegal (record { tree = t; denominator = unsigned_abs d }) × (pos 1 ≤ℤ d)
+legal-copy a t d legal e f =
     let size : a.denominator ≡ unsigned_abs d = sym (ap unsigned_abs f) in (
       record {
         canonical = subst (IsCanonical (2 ^ 16)) (sym e) legal.canonical;

@@ -11,7 +11,6 @@ use Rattle.affine_form.specs.Form.{IsSmall}
 use Rattle.poly_tree.specs.Expansion.{Expansion, Parts, number, over, none, part, at, value, parts_value, weight, coefficients, parts_coefficients, powers_from, put, scaled, parts_scaled, IsCanonical, AreCanonical}
 use Rattle.poly_tree.specs.Terms.{terms_weight, HasExponents, AreApart, IsNoGreater, IsTermsSum}
 use Rattle.poly_tree.specs.Poly.{Quotient, IsReduced}
-use Rattle.poly_tree.specs.Tree.{expansion}
 use Rattle.poly_tree.proofs.TermLemmas.{powers-push, powers-monomial}
 use Rattle.poly_tree.proofs.Products.{weight-scaled}
 use Rattle.poly_tree.proofs.Reduced.{unscaled}
@@ -316,11 +315,11 @@ mutual
 -- terms over a denominator, without common factors
 pub no-greater : (ts : List Term) (t : Expansion) (d : ℕ) (r : Quotient) → AllByRecursion HasExponents ts → AreApart ts → IsTermsSum ts 24 t → IsReduced t d r → IsNoGreater ts d r
 no-greater ts t d r low h is reduced = record {
-  numbers = λ limit some small. small-part limit reduced.factor (expansion r.tree) reduced.some
+  numbers = λ limit some small. small-part limit reduced.factor r.tree reduced.some
       (subst (λ (u : Expansion). AllByRecursion (IsSmall limit) (coefficients u)) (sym reduced.tree) (small-sum limit t ts some low h small is));
   over = smaller reduced.factor r.denominator d reduced.some reduced.over;
-  light = lighter (weight (expansion r.tree)) (weight t) reduced.factor r.denominator d reduced.some (sym (weight-scaled (pos reduced.factor) (expansion r.tree)) ∙ ap weight reduced.tree) is.light reduced.over;
-  variables = unscaled 24 (pos reduced.factor) (expansion r.tree) (subst (IsCanonical 24) (sym reduced.tree) is.canonical);
+  light = lighter (weight r.tree) (weight t) reduced.factor r.denominator d reduced.some (sym (weight-scaled (pos reduced.factor) r.tree) ∙ ap weight reduced.tree) is.light reduced.over;
+  variables = unscaled 24 (pos reduced.factor) r.tree (subst (IsCanonical 24) (sym reduced.tree) is.canonical);
 } where
   smaller : (f q n : ℕ) → 1 ≤ f → f * q ≡ n → q ≤ n
   smaller f q n some e = let k : 1 * q ≤ f * q = mul-le-mul some (omega arith) in omega arith

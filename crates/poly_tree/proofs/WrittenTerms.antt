@@ -10,7 +10,6 @@ use Rattle.affine_form.specs.Form.{IsSmall}
 use Rattle.poly_tree.specs.Expansion.{Expansion, Parts, number, over, none, part, weight, parts_weight, coefficients, parts_coefficients, parts_count, IsCanonical, AreCanonical, DegreesAtMost, PartsDegreesAtMost}
 use Rattle.poly_tree.specs.Terms.{terms_weight, HasExponents, AreApart}
 use Rattle.poly_tree.specs.Poly.{Quotient, IsLegal, numerator_at}
-use Rattle.poly_tree.specs.Tree.{expansion}
 use Rattle.poly_tree.specs.Printed.{with_exponent, with_power, expansion_terms, parts_terms, is_printed_before, insert_term, in_print_order, polynomial_of, width, widened, widened_term, written_terms, AreWritten}
 use Rattle.poly_tree.proofs.PrintedLemmas.{Short, short, nonzero-printed, printed-value}
 use Rattle.poly_tree.proofs.TermNumbers.{exponent, Differ, Apart}
@@ -342,16 +341,16 @@ short-ordered m ts h = all-ordered (λ (t : Term). length t.exponents ≤ m) ts 
 -- the exponents of the terms that are printed are at most 8
 pub low-printed : (q : Quotient) → IsLegal q → AllByRecursion (λ (term : Term). AllByRecursion (λ e. e ≤ 8) term.exponents) (polynomial_of q).terms
 unfolding Low LowList
-low-printed q legal = all-ordered (Low 8) (expansion_terms (expansion q.tree)) (low-terms 8 (expansion q.tree) legal.degrees)
+low-printed q legal = all-ordered (Low 8) (expansion_terms q.tree) (low-terms 8 q.tree legal.degrees)
 
 -- they have the polynomial's value
-pub written-value : (bound : ℕ) (q : Quotient) (point : List ℤ) → IsCanonical bound (expansion q.tree) → terms_value (written_terms q) point ≡ numerator_at q point
-written-value bound q point c = widened-value (width (polynomial_of q).terms) (polynomial_of q).terms point ∙ printed-value bound (expansion q.tree) point c
+pub written-value : (bound : ℕ) (q : Quotient) (point : List ℤ) → IsCanonical bound q.tree → terms_value (written_terms q) point ≡ numerator_at q point
+written-value bound q point c = widened-value (width (polynomial_of q).terms) (polynomial_of q).terms point ∙ printed-value bound q.tree point c
 
 pub are-written : (q : Quotient) → IsLegal q → AreWritten q
 unfolding Low LowList SmallTerm
 are-written q legal =
-    let tree = expansion q.tree in
+    let tree = q.tree in
     let terms = in_print_order (expansion_terms tree) in
     let n = width terms in
     record {

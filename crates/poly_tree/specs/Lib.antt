@@ -1,5 +1,6 @@
 pub mod Expansion
 pub mod Poly
+pub mod Stored
 pub mod Powers
 pub mod Printed
 pub mod Terms

@@ -7,7 +7,6 @@ use Rattle.affine_form.specs.Form.{IsSmall}
 use Rattle.poly_tree.specs.Expansion.{Expansion, Parts, number, over, none, part, coefficients, IsCanonical}
 use Rattle.poly_tree.specs.Poly.{Quotient, IsLegal, numerator_at, size}
 use Rattle.poly_tree.specs.Terms.{HasExponents, AreApart, terms_size}
-use Rattle.poly_tree.specs.Tree.{expansion}
 
 -- exponents of variables below one, and then its own
 abbrev pub with_exponent : ℕ → ℕ → List ℕ → List ℕ
@@ -65,7 +64,7 @@ AreNonzero terms = AllByRecursion (λ (term : Term). term.coefficient ≢ pos 0)
 
 -- the polynomial that a tree over a denominator is, by its terms in the order in which they are printed
 abbrev pub polynomial_of : Quotient → Polynomial
-polynomial_of q = record { terms = in_print_order (expansion_terms (expansion q.tree)); denominator = q.denominator }
+polynomial_of q = record { terms = in_print_order (expansion_terms q.tree); denominator = q.denominator }
 
 -- its numerator is the tree's value at every point
 abbrev pub TermsHaveTheValue : Type 0
@@ -100,10 +99,10 @@ written_terms q = map (widened_term (width (polynomial_of q).terms)) (polynomial
 -- What is known of them, where the polynomial has at most 24 variables: they are terms of which polynomials are made,
 -- none is 0, their coefficients are numbers of the tree, and they have the polynomial's size.
 pub record AreWritten (q : Quotient) : Type 0 where
-  pub fit : IsCanonical 24 (expansion q.tree) → AllByRecursion HasExponents (written_terms q)
+  pub fit : IsCanonical 24 q.tree → AllByRecursion HasExponents (written_terms q)
   pub apart : AreApart (written_terms q)
   pub nonzero : AreNonzero (written_terms q)
-  pub small : (limit : ℕ) → AllByRecursion (IsSmall limit) (coefficients (expansion q.tree))
+  pub small : (limit : ℕ) → AllByRecursion (IsSmall limit) (coefficients q.tree)
       → AllByRecursion (λ (term : Term). IsSmall limit term.coefficient) (written_terms q)
   pub light : terms_size (written_terms q) q.denominator ≡ size q
   pub value : (point : List ℤ) → terms_value (written_terms q) point ≡ numerator_at q point

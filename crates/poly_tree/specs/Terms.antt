@@ -6,7 +6,6 @@ use Rattle.iolb_model.specs.Polynomial.{Term, terms_value}
 use Rattle.affine_form.specs.Form.{IsSmall}
 use Rattle.poly_tree.specs.Expansion.{Expansion, IsCanonical, DegreesAtMost, at, value, weight, coefficients}
 use Rattle.poly_tree.specs.Poly.{Quotient, numerator_at, size}
-use Rattle.poly_tree.specs.Tree.{expansion}
 
 -- a coefficient and the exponents of the variables
 abbrev pub term_of : ℤ × Vec ℕ Global → Term
@@ -49,7 +48,7 @@ pub record IsTermsSum (terms : List Term) (bound : ℕ) (t : Expansion) : Type 0
 -- What terms over a denominator become: numbers no greater than theirs, over at most 24 variables.
 pub record IsNoGreater (terms : List Term) (denominator : ℕ) (r : Quotient) : Type 0 where
   pub numbers : (limit : ℕ) → 1 ≤ limit → AllByRecursion (λ (term : Term). IsSmall limit term.coefficient) terms
-      → AllByRecursion (IsSmall limit) (coefficients (expansion r.tree))
+      → AllByRecursion (IsSmall limit) (coefficients r.tree)
   pub over : r.denominator ≤ denominator
   pub light : size r ≤ terms_size terms denominator
-  pub variables : IsCanonical 24 (expansion r.tree)
+  pub variables : IsCanonical 24 r.tree

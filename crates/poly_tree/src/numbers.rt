@@ -13,7 +13,7 @@ use crate::tree::Tree;
 impl Poly {
     /// Whether each coefficient is of size below a limit.
     pub fn has_numbers_below(&self, limit: u128) -> bool
-        ensures { IsTrue result ↔ AllByRecursion (IsSmall limit) (coefficients (expansion self.now.tree)) }
+        ensures { IsTrue result ↔ AllByRecursion (IsSmall limit) (coefficients self.now.tree) }
     {
         numbers_below(self.tree(), limit)
     }

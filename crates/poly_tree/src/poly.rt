@@ -3,7 +3,7 @@
 ghost use Rattle.std.specs.Prelude.{◌≡◌, ◌*◌, ◌<◌, ◌≤◌, ◌^◌, ◌⊎◌, min, max, pos, ◌≤ℤ◌, unsigned_abs, ◌↔◌, IfOk, IsErr, IsOk, IsTrue, length};
 ghost use Rattle.poly_tree.specs.Expansion.{IsCanonical, DegreesAtMost, at, size_at, value, weight};
 ghost use Rattle.poly_tree.specs.Tree.{expansion};
-ghost use Rattle.poly_tree.specs.Poly.{IsDifferenceOf, IsForm, IsLegal, IsProductOf, IsPutIn, IsReduced, IsShiftOf, IsSubstitutionOf, IsSumOf, IsCombinationOf, IsSamePoly, ProductPassesDegree, PutPassesDegree, SameValues, ShiftPassesDegree, SubstitutionPassesDegree, form_size, numerator_at, put_size, size};
+ghost use Rattle.poly_tree.specs.Poly.{IsDifferenceOf, IsForm, IsLegal, IsProductOf, IsPutIn, IsReduced, IsShiftOf, IsSubstitutionOf, IsSumOf, IsCombinationOf, ProductPassesDegree, PutPassesDegree, SameValues, ShiftPassesDegree, SubstitutionPassesDegree, form_size, numerator_at, put_size, size};
 
 use crate::affine::{form_tree, with_variable};
 use crate::common_factor::{common_factor, divided, quotient};
@@ -35,16 +35,16 @@ pub struct Poly {
 impl Model for Poly {
     ghost use Rattle.std.specs.Prelude.{pos, ◌≤ℤ◌, unsigned_abs};
     ghost use Rattle.poly_tree.specs.Poly.{IsLegal, Quotient};
-    ghost use Rattle.poly_tree.specs.contracts.tree.Tree as tree_contract;
-    ghost use Rattle.std.specs.Coded.{codes};
+    ghost use Rattle.poly_tree.specs.Stored.{quotient_code};
+    ghost use Rattle.poly_tree.specs.Tree.{expansion};
 
     ghost Value = { Quotient };
 
-    ghost coded = { Prim.hlevel (codes, tree_contract.the_row.coded) };
+    ghost coded = { quotient_code };
 
-    ghost view = { λ poly. record { tree = poly.tree; denominator = unsigned_abs poly.den } };
+    ghost view = { λ poly. record { tree = expansion poly.tree; denominator = unsigned_abs poly.den } };
 
-    ghost invariant = { λ poly. IsLegal (record { tree = poly.tree; denominator = unsigned_abs poly.den })
+    ghost invariant = { λ poly. IsLegal (record { tree = expansion poly.tree; denominator = unsigned_abs poly.den })
         × (pos 1 ≤ℤ poly.den) };
 }
 
@@ -59,7 +59,7 @@ impl Poly {
 
     /// A copy of the polynomial. Want of memory is its only error.
     pub fn try_clone(&self, alloc: Global) -> Result<Poly, Memory>
-        ensures { IfOk result (λ poly. IsSamePoly poly self.now) }
+        ensures { IfOk result (λ poly. poly ≡ self.now) }
     {
         let tree = copied(alloc, self.tree())?;
         Ok(Poly {
@@ -70,7 +70,7 @@ impl Poly {
 
     /// The tree.
     pub fn tree(&self) -> &Tree
-        ensures tree { result.now ≡ self.now.tree }
+        ensures tree { expansion result.now ≡ self.now.tree }
         ensures legal { IsLegal self.now }
     {
         &self.tree
@@ -86,7 +86,7 @@ impl Poly {
 
     /// Whether the polynomial uses only variables below a number.
     pub fn uses_below(&self, variables: usize) -> bool
-        ensures { IsTrue result ↔ IsCanonical variables (expansion self.now.tree) }
+        ensures { IsTrue result ↔ IsCanonical variables self.now.tree }
     {
         match look(self.tree()) {
             Top::Number(_) => true,
@@ -101,9 +101,9 @@ impl Poly {
     /// `Wide` exactly where the sum over the terms of the coefficient's size times the powers of the sizes of the
     /// variables' values, each at least 1, reaches 2^126.
     pub fn numer(&self, point: &[i128]) -> Result<i128, Wide>
-        requires { IsCanonical (length point.now) (expansion self.now.tree) }
+        requires { IsCanonical (length point.now) self.now.tree }
         ensures value { IfOk result (λ n. n ≡ numerator_at self.now point.now) }
-        ensures exact { IsErr result ↔ (2 ^ 126 ≤ size_at (expansion self.now.tree) (at point.now)) }
+        ensures exact { IsErr result ↔ (2 ^ 126 ≤ size_at self.now.tree (at point.now)) }
     {
         if size_at(self.tree(), point) >= 1 << 126 {
             return Err(Wide);
@@ -169,11 +169,10 @@ impl Poly {
         put_in(alloc, self, var, &inner)
     }
 
-    /// Whether two polynomials have the same value at every point of whole numbers. Then their trees and denominators
-    /// are equal.
+    /// Whether two polynomials have the same value at every point of whole numbers. Then they are equal.
     pub fn same(&self, other: &Poly) -> bool
         ensures exact { IsTrue result ↔ SameValues self.now other.now }
-        ensures equal { IsTrue result → IsSamePoly self.now other.now }
+        ensures equal { IsTrue result → self.now ≡ other.now }
     {
         if self.den() != other.den() {
             return false;

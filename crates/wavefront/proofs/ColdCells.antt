@@ -10,9 +10,9 @@ use Rattle.iolb_model.specs.Program.{AffineProgram}
 use Rattle.iolb_model.specs.Source.{Cell, same_cell}
 use Rattle.execution_laws.specs.Cold.{read_cell}
 use Rattle.execution_laws.proofs.Cells.{same_cell-equal}
-use Rattle.copy_nest.specs.Inverse.{IsScaledInverse}
-use Rattle.copy_nest.proofs.Grids.{Differ}
-use Rattle.copy_nest.proofs.Undone.{same_point, dot-append}
+use Rattle.execution_laws.specs.Inverse.{IsScaledInverse}
+use Rattle.execution_laws.proofs.Different.{Differ}
+use Rattle.execution_laws.proofs.Undone.{same_point, dot-append}
 use Rattle.affine_form.specs.Substitution.{values_at}
 use Rattle.affine_rows.proofs.Meaning.{values_at-put_in}
 use Rattle.dep_quast.specs.Context.{reference_of}

@@ -8,12 +8,12 @@ use Rattle.iolb_model.specs.Path.{PathStep, row_path}
 use Rattle.iolb_model.specs.Program.{AffineProgram, IsWellFormed}
 use Rattle.iolb_model.specs.Bound.{IsAdmitted}
 use Rattle.iolb_model.specs.Source.{same_cell}
-use Rattle.iolb_model.specs.Game.{loads}
+use Rattle.iolb_model.specs.Game.{loads_of}
 use Rattle.execution_laws.specs.Cold.{read_cell, ReadsInput}
 use Rattle.execution_laws.specs.Domain.{IsWithin, IsAt}
 use Rattle.execution_laws.proofs.Domains.{domains_executed, way-there}
-use Rattle.execution_laws.proofs.InputVertices.{input_reads_loaded}
-use Rattle.copy_nest.proofs.Grids.{All-weaker, All-map}
+use Rattle.execution_laws.proofs.InputVertices.{input_reads_loaded, input_reads_vertices}
+use Rattle.execution_laws.proofs.Different.{All-weaker, All-map}
 use Rattle.affine_form.specs.declared.place.Step.{Step}
 use Rattle.affine_form.specs.declared.place.Step.TheVariants.{Key}
 use Rattle.affine_form.specs.declared.key.TheConstants.{INSIDE, LEAVES}
@@ -27,7 +27,7 @@ use Rattle.dep_quast.proofs.Points.{within-length, values-front, holds-there}
 use Rattle.dep_quast.proofs.Shown.{goals-met, within_rows-few}
 use Rattle.domain_count.specs.Points.{points}
 use Rattle.wavefront.specs.Term.{ColdTerm, nest_variables, nest_system, instance_point, inside_goals}
-use Rattle.wavefront.specs.Loads.{ColdFits, ColdHolds, ColdTermsAreLoaded, instance_values, all_instances}
+use Rattle.wavefront.specs.Loads.{ColdFits, ColdHolds, ColdTermsAreLoaded, instance_values, all_instances, footprint_of}
 use Rattle.wavefront.proofs.NestPoints.{points-within, points-differ, nest-met}
 use Rattle.wavefront.proofs.ColdLeaves.{tree-input}
 use Rattle.wavefront.proofs.ColdCells.{instance-at, cells-differ}
@@ -77,8 +77,10 @@ module _ (program : AffineProgram) (place : List Step) (tree : SelectionTree) (t
 pub cold-terms-loaded : ColdTermsAreLoaded
 cold-terms-loaded program place tree term formed fits true_tree holds = (
   λ values admitted. (all-read program place tree term formed fits true_tree holds values admitted, all-differ program place tree term formed fits true_tree holds values admitted),
+  λ values admitted. input_reads_vertices program values term.reader.statement term.reader.read (all_instances term values)
+      (all-read program place tree term formed fits true_tree holds values admitted),
   λ values s moves admitted game.
-      subst (λ (n : ℕ). n ≤ loads moves) (length-map (points term.nest values) (instance_values term values))
+      subst (λ (n : ℕ). n ≤ loads_of (footprint_of program term values) moves) (length-map (points term.nest values) (instance_values term values))
       (input_reads_loaded program values term.reader.statement term.reader.read (all_instances term values) s moves game
       (all-read program place tree term formed fits true_tree holds values admitted) (all-differ program place tree term formed fits true_tree holds values admitted)),
 )

@@ -5,7 +5,7 @@ use Rattle.std.specs.List.{range_with_len}
 use Rattle.std.proofs.lemmas.List.{get_or-map, get_or-drop}
 use Rattle.iolb_model.specs.Form.{AffineForm, dot}
 use Rattle.affine_form.specs.Matrix.{IntegerMatrix}
-use Rattle.copy_nest.specs.Inverse.{column, product_entry}
+use Rattle.execution_laws.specs.Inverse.{column, product_entry}
 use Rattle.wavefront.specs.Inverse.{matrix_rows}
 use Rattle.wavefront.specs.Columns.{coefficients_at}
 use Rattle.wavefront.specs.Inverse.{coefficients_past}

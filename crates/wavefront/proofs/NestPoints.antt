@@ -12,7 +12,7 @@ use Rattle.iolb_model.specs.Execution.{natural, range}
 use Rattle.execution_laws.specs.Domain.{IsWithin}
 use Rattle.execution_laws.proofs.Ordered.{All-from}
 use Rattle.execution_laws.proofs.Ranges.{range-within}
-use Rattle.copy_nest.proofs.Grids.{Differ, All-weaker, All-map, All-every, All-flat_map, Differ-append, Differ-map, Differ-rising, same_head, same_tail}
+use Rattle.execution_laws.proofs.Different.{Differ, All-weaker, All-map, All-every, All-flat_map, Differ-append, Differ-map, Differ-rising, same_head, same_tail}
 use Rattle.affine_form.specs.Substitution.{values_at}
 use Rattle.affine_form.specs.System.{IsMet}
 use Rattle.affine_rows.specs.Rows.{widened, variables_from, within_rows, step_of}

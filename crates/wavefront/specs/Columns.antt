@@ -1,7 +1,7 @@
 -- The coefficients that forms have at one place.
 use Rattle.std.specs.Prelude.{◌≡◌, ℕ, ◌+◌, ◌<◌, ℤ, pos, List, map, slice_index_or}
 use Rattle.iolb_model.specs.Form.{AffineForm, dot}
-use Rattle.copy_nest.specs.Inverse.{scaled_entry}
+use Rattle.execution_laws.specs.Inverse.{scaled_entry}
 
 -- the coefficient of each form at this place, 0 past a form's variables
 abbrev pub coefficients_at : ℕ → List AffineForm → List ℤ

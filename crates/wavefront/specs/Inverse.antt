@@ -4,7 +4,7 @@ use Rattle.std.specs.List.{range_with_len}
 use Rattle.iolb_model.specs.Form.{AffineForm}
 use Rattle.iolb_model.specs.Program.{AffineProgram}
 use Rattle.affine_form.specs.Matrix.{IntegerMatrix}
-use Rattle.copy_nest.specs.Inverse.{IsScaledInverse}
+use Rattle.execution_laws.specs.Inverse.{IsScaledInverse}
 use Rattle.wavefront.specs.Term.{ColdTerm, cell_forms}
 
 -- a matrix's rows

@@ -3,12 +3,12 @@ use Rattle.std.specs.Prelude.{◌≡◌, ℕ, ◌*◌, ◌≤◌, ℤ, List, [],
 use Rattle.std.specs.List.{AllByRecursion, IsDistinct}
 use Rattle.iolb_model.specs.declared.game.Move.{Move}
 use Rattle.iolb_model.specs.Program.{AffineProgram, IsWellFormed}
-use Rattle.iolb_model.specs.Polynomial.{Polynomial}
-use Rattle.iolb_model.specs.Bound.{IsAdmitted, cold, term_value}
+use Rattle.iolb_model.specs.Bound.{IsAdmitted}
+use Rattle.iolb_model.specs.Footprint.{AreVertices, Footprint}
 use Rattle.iolb_model.specs.Source.{same_cell}
 use Rattle.iolb_model.specs.Graph.{computation_graph}
-use Rattle.iolb_model.specs.Game.{IsCompletePebbling, loads}
-use Rattle.execution_laws.specs.Cold.{read_cell, ReadsInput}
+use Rattle.iolb_model.specs.Game.{IsCompletePebbling, loads_of}
+use Rattle.execution_laws.specs.Cold.{read_cell, read_vertices, ReadsInput}
 use Rattle.affine_form.specs.declared.place.Step.{Step}
 use Rattle.affine_form.specs.Substitution.{values_at}
 use Rattle.affine_rows.specs.Rows.{BoundsFit, IsSmallOver}
@@ -62,16 +62,19 @@ IsSoundCold program term = (values : List ℤ) → IsAdmitted program values
     → AllByRecursion (ReadsInput program values term.reader.statement term.reader.read) (all_instances term values)
     × IsDistinct same_cell (map (read_cell program values term.reader.statement term.reader.read) (all_instances term values))
 
--- So it costs as many loads as the nest has points: in every complete pebbling, with any number of red pebbles.
+-- its footprint: the vertices of the input cells that its points read
+abbrev pub footprint_of : AffineProgram → ColdTerm → Footprint
+footprint_of program term values = read_vertices program values term.reader.statement term.reader.read (all_instances term values)
+
+-- they are vertices of the program's computation graph
+abbrev pub HasFootprint : AffineProgram → ColdTerm → Type 0
+HasFootprint program term = (values : List ℤ) → IsAdmitted program values → AreVertices (computation_graph program values) (footprint_of program term values)
+
+-- So it costs as many loads of its footprint as the nest has points: in every complete pebbling, with any number of red
+-- pebbles.
 abbrev pub CostsItsCount : AffineProgram → ColdTerm → Type 0
 CostsItsCount program term = (values : List ℤ) (s : ℕ) (moves : List Move) → IsAdmitted program values
-    → IsCompletePebbling (computation_graph program values) s moves → count term.nest values ≤ loads moves
-
--- A polynomial bounds the loads of a program: at all admitted parameter values, of any size, it is at most the loads of
--- every complete pebbling, with any number of red pebbles.
-abbrev pub BoundsLoads : AffineProgram → Polynomial → Type 0
-BoundsLoads program polynomial = (values : List ℤ) (s : ℕ) (moves : List Move) → IsAdmitted program values
-    → IsCompletePebbling (computation_graph program values) s moves → term_value (cold polynomial) values s ≤ loads moves
+    → IsCompletePebbling (computation_graph program values) s moves → count term.nest values ≤ loads_of (footprint_of program term values) moves
 
 -- What is claimed of a cold term holds, but for its count: the instances are in their domain, the leaves are inputs or
 -- have no point, and the cells differ.
@@ -80,8 +83,8 @@ pub record ColdHolds (program : AffineProgram) (place : List Step) (tree : Selec
   pub leaves : AllHold (term_leaves program place tree term)
   pub undone : CellsAreUndone program term
 
--- A cold term whose claims hold, over a true source tree, is sound, and costs its count.
+-- A cold term whose claims hold, over a true source tree, is sound, and costs its count in loads of its footprint.
 abbrev pub ColdTermsAreLoaded : Type 0
 ColdTermsAreLoaded = (program : AffineProgram) (place : List Step) (tree : SelectionTree) (term : ColdTerm) → IsWellFormed program
     → ColdFits program tree term → IsTrueTree program term.reader tree → ColdHolds program place tree term
-    → IsSoundCold program term × CostsItsCount program term
+    → IsSoundCold program term × HasFootprint program term × CostsItsCount program term

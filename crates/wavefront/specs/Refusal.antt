@@ -7,7 +7,7 @@ use Rattle.affine_form.specs.declared.key.TheConstants.{INVERSE, MATRIX}
 use Rattle.affine_form.specs.declared.refused.No.{No as FailedCondition}
 use Rattle.affine_form.specs.declared.refused.Refused.{Refused}
 use Rattle.affine_form.specs.declared.refused.Refused.TheVariants.{No, Memory}
-use Rattle.copy_nest.specs.Inverse.{IsFirstDifference}
+use Rattle.execution_laws.specs.Inverse.{IsFirstDifference}
 use Rattle.dep_quast.specs.Claims.{AllHold, FirstFails}
 use Rattle.dep_quast.specs.Tree.{SelectionTree}
 use Rattle.domain_count.specs.Refusal.{IsRefusal}

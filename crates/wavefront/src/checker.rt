@@ -1,15 +1,16 @@
 //! The check of cold terms.
 
 ghost use Rattle.std.specs.Prelude.{◌≡◌, Some, length, IfOk, OnOk, IfErr};
+ghost use Rattle.iolb_model.specs.Bound.{cold};
+ghost use Rattle.iolb_model.specs.Footprint.{IsFootprintOf};
 ghost use Rattle.affine_c.specs.Parts.{meaning};
 ghost use Rattle.dep_quast.specs.Tree.{SelectionTree, tree_of};
 ghost use Rattle.domain_count.specs.Count.{IsCount, CountsPoints};
 ghost use Rattle.poly_tree.specs.Expansion.{IsCanonical};
 ghost use Rattle.poly_tree.specs.Printed.{polynomial_of};
-ghost use Rattle.poly_tree.specs.Tree.{expansion};
 ghost use Rattle.reuse_paths.specs.Quasts.{tree_at};
 ghost use Rattle.wavefront.specs.Found.{FindsCold};
-ghost use Rattle.wavefront.specs.Loads.{ColdFits, ColdHolds, IsSoundCold, BoundsLoads};
+ghost use Rattle.wavefront.specs.Loads.{ColdFits, ColdHolds, IsSoundCold, footprint_of};
 ghost use Rattle.wavefront.specs.Refusal.{IsColdRefusal};
 ghost use Rattle.wavefront.specs.View.{FitsCold, term_of};
 
@@ -29,8 +30,8 @@ use std::alloc::Global;
 /// the count of its nest's points.
 ///
 /// After `Ok` the term is sound: at all admitted parameter values, of any size, each point of the nest has an instance
-/// whose read has an input cell as its source, and different points have different cells. So the count is at most the
-/// loads of every complete pebbling (Hong and Kung 1981).
+/// whose read has an input cell as its source, and different points have different cells. These cells are its footprint:
+/// every complete pebbling (Hong and Kung 1981) makes at least as many loads of them as the count.
 ///
 /// # Errors
 ///
@@ -50,10 +51,10 @@ pub fn check_cold(
     requires { (tree : SelectionTree) × FitsCold program.now quasts.now term.now tree }
     ensures right { IfOk result (λ poly. IsCount (meaning program.now) term.now.nest term.now.sums poly) }
     ensures counts { IfOk result (λ poly. CountsPoints (meaning program.now) term.now.nest poly) }
-    ensures parameters { IfOk result (λ poly. IsCanonical (length program.now.params) (expansion poly.tree)) }
+    ensures parameters { IfOk result (λ poly. IsCanonical (length program.now.params) poly.tree) }
     ensures holds { OnOk result ((tree : SelectionTree) × (tree_at quasts.now term.now.statement term.now.read ≡ Some tree) × ColdHolds (meaning program.now) place.now tree (term_of term.now)) }
     ensures sound { OnOk result (IsSoundCold (meaning program.now) (term_of term.now)) }
-    ensures bounds { IfOk result (λ poly. BoundsLoads (meaning program.now) (polynomial_of poly)) }
+    ensures footprint { IfOk result (λ poly. IsFootprintOf (meaning program.now) (cold (polynomial_of poly)) (footprint_of (meaning program.now) (term_of term.now))) }
     ensures refused { IfErr result (λ refused. (tree : SelectionTree) × FitsCold program.now quasts.now term.now tree × IsColdRefusal (meaning program.now) place.now tree (term_of term.now) refused) }
 {
     let Some(quast) = quasts.tree(term.statement, term.read) else {

@@ -3,7 +3,7 @@
 ghost use Rattle.std.specs.Prelude.{◌≡◌, ◌≢◌, ◌+◌, ◌*◌, ◌^◌, ◌<◌, ◌≤◌, ◌+ℤ◌, ◌*ℤ◌, unsigned_abs, length, pos, take, drop, slice_index_or, IfSome, IfNone};
 ghost use Rattle.std.specs.List.{AllByRecursion};
 ghost use Rattle.iolb_model.specs.Form.{dot};
-ghost use Rattle.copy_nest.specs.Inverse.{scaled_entry, IsScaledInverse, IsFirstDifference};
+ghost use Rattle.execution_laws.specs.Inverse.{scaled_entry, IsScaledInverse, IsFirstDifference};
 ghost use Rattle.affine_form.specs.Form.{IsSmall};
 ghost use Rattle.wavefront.specs.Inverse.{matrix_rows, coefficients_past};
 ghost use Rattle.wavefront.specs.Columns.{coefficients_at, AgreesBelow};

@@ -1,5 +1,8 @@
-use Rattle.execution_laws.proofs.InputVertices.{input_reads_loaded}
+use Rattle.execution_laws.proofs.InputVertices.{input_reads_loaded, input_reads_vertices}
 use Rattle.execution_laws.proofs.cold.input_reads_are_loaded.Goals as goal
 
-pub returns : goal.returns
-returns c = input_reads_loaded
+pub returns-clause-vertices : goal.returns-clause-vertices
+returns-clause-vertices c = input_reads_vertices
+
+pub returns-clause-loaded : goal.returns-clause-loaded
+returns-clause-loaded c = input_reads_loaded

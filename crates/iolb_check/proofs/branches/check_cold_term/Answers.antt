@@ -32,11 +32,11 @@ check_cold-requires c =
     )
 
 named : (program : ProgramParts) (quasts : Quasts) (place : List Step) (cold : Cold) (r : Refused)
-    → ((tree : SelectionTree) × FitsCold program quasts cold tree × IsColdRefusal (meaning program) place tree (term_of cold) r) → Names (IsColdRefused program quasts place cold) r
+    → ((tree : SelectionTree) × FitsCold program quasts cold tree × IsColdRefusal (meaning program) place tree (term_of cold) r) → Names (IsColdRefused (meaning program) quasts place cold) r
 named program quasts place cold (No failed) h = (h.0, h.1.there, h.2)
 named program quasts place cold Memory h = tt
 
 pub returns-clause-refused : goal.returns-clause-refused
 returns-clause-refused c =
-    subst (λ (place : List Step). Names (IsColdRefused c.args.program.now c.args.quasts.now place c.args.cold.now) c.in-Err.refused) c.in-Ok.ensures
+    subst (λ (place : List Step). Names (IsColdRefused (meaning c.args.program.now) c.args.quasts.now place c.args.cold.now) c.in-Err.refused) c.in-Ok.ensures
     (named c.args.program.now c.args.quasts.now c.in-Ok.place c.args.cold.now c.in-Err.refused c.in-Err.ensures.refused)

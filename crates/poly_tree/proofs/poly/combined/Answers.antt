@@ -13,8 +13,8 @@ linear-requires-clause-light c =
     let a = c.args.a.now in
     let b = c.args.b.now in
     let small : size a * size b < 2 ^ 125 = below-cap (size a * size b) c.size_product.result (2 ^ 126) (2 ^ 125) c.size_product.ensures c.if-size_product.false (lit≤ tt) in
-    let room : b.denominator * weight (expansion a.tree) + a.denominator * weight (expansion b.tree) < 2 ^ 125 + 2 ^ 125
-    = linear-room (weight (expansion a.tree)) (weight (expansion b.tree)) a.denominator b.denominator (2 ^ 125) c.tree.ensures.legal.positive c.tree-2.ensures.legal.positive small in
+    let room : b.denominator * weight a.tree + a.denominator * weight b.tree < 2 ^ 125 + 2 ^ 125
+    = linear-room (weight a.tree) (weight b.tree) a.denominator b.denominator (2 ^ 125) c.tree.ensures.legal.positive c.tree-2.ensures.legal.positive small in
     let fits : FitsSigned w128 c.den.result = search rules in
     rw (to_z-of_z w128 c.den.result fits, to_z-of_z w128 c.args.factor c.ranges.factor, c.den.ensures.denominator, c.tree.ensures.tree, c.tree-2.ensures.tree, c.requires) (omega arith)
 
@@ -23,7 +23,7 @@ common_denominator-requires c =
     let a = c.args.a.now in
     let b = c.args.b.now in
     let small : size a * size b < 2 ^ 125 = below-cap (size a * size b) c.size_product.result (2 ^ 126) (2 ^ 125) c.size_product.ensures c.if-size_product.false (lit≤ tt) in
-    let room : a.denominator * b.denominator < 2 ^ 125 = denominator-room (weight (expansion a.tree)) (weight (expansion b.tree)) a.denominator b.denominator (2 ^ 125) small in
+    let room : a.denominator * b.denominator < 2 ^ 125 = denominator-room (weight a.tree) (weight b.tree) a.denominator b.denominator (2 ^ 125) small in
     omega arith
 
 pub returns-clause-value : goal.returns-clause-value
@@ -36,7 +36,7 @@ returns-clause-value c =
     let fits_d : FitsSigned w128 c.common_denominator.result = search rules in
     let plain : IsLinear c.den.result (expansion c.tree.result.now) c.args.factor (expansion c.tree-2.result.now) t
     = simp (to_z-of_z w128 c.den.result fits, to_z-of_z w128 c.args.factor c.ranges.factor) at c.in_ok-tree.ensures in
-    let l : IsLinear (pos b.denominator) (expansion a.tree) c.args.factor (expansion b.tree) t
+    let l : IsLinear (pos b.denominator) a.tree c.args.factor b.tree t
     = simp (c.den.ensures.denominator, c.tree.ensures.tree, c.tree-2.ensures.tree) at plain in
     let n : IsReduced t (a.denominator * b.denominator) r
     = subst (λ (m : ℕ). IsReduced t m r) (ap unsigned_abs (to_z-of_z w128 c.common_denominator.result fits_d ∙ c.common_denominator.ensures.product)) c.in_ok-reduced.ensures in

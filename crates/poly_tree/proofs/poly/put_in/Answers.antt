@@ -2,7 +2,6 @@ use Rattle.std.proofs.Common.{◌≡◌, ◌<◌, ◌*ℤ◌, ◌^◌, ℕ, ℤ,
 use mir.Syntax.{w128}
 use Rattle.std.proofs.lemmas.Int.{to_z-of_z}
 use Rattle.std.specs.Prelude.{unsigned_abs}
-use Rattle.poly_tree.specs.declared.tree.Tree.{Tree}
 use Rattle.poly_tree.specs.Expansion.{Expansion, at, weight, IsPut}
 use Rattle.poly_tree.specs.Poly.{put_size, Quotient, IsReduced}
 use Rattle.poly_tree.specs.Tree.{expansion}
@@ -16,16 +15,16 @@ put-requires c =
     let heavy = max 1 (weight (expansion c.args.inner.now)) in
     let m = put_size a c.args.var heavy in
     let small : m < 2 ^ 126 = omega (arith, c.put_size_of.ensures, c.if-put_size_of.false) in
-    let room = put-room c.args.var heavy (weight (expansion a.tree)) a.denominator (2 ^ 126) (2 ^ 16) (expansion a.tree) (omega arith) c.tree.ensures.legal.positive c.tree.ensures.legal.canonical refl small in
+    let room = put-room c.args.var heavy (weight a.tree) a.denominator (2 ^ 126) (2 ^ 16) a.tree (omega arith) c.tree.ensures.legal.positive c.tree.ensures.legal.canonical refl small in
     rw c.tree.ensures.tree (omega (arith, room))
 
-put_it : (a : Quotient) (v : ℕ) (f t : Expansion) (u : Tree) → u ≡ a.tree → IsPut v f (expansion u) t → IsPut v f (expansion a.tree) t
-put_it a v f t u e h = subst (λ (w : Tree). IsPut v f (expansion w) t) e h
+put_it : (a : Quotient) (v : ℕ) (f t : Expansion) (u : Expansion) → u ≡ a.tree → IsPut v f u t → IsPut v f a.tree t
+put_it a v f t u e h = subst (λ (w : Expansion). IsPut v f w t) e h
 
 pub returns-then-not-degrees_fit-clause-wide : goal.returns-then-not-degrees_fit-clause-wide
 returns-then-not-degrees_fit-clause-wide c = λ e.
     let t = expansion c.in_ok-tree.tree in
-    let h = put_it c.args.poly.now c.args.var (expansion c.args.inner.now) t c.tree.result.now c.tree.ensures.tree c.in_ok-tree.ensures in
+    let h = put_it c.args.poly.now c.args.var (expansion c.args.inner.now) t (expansion c.tree.result.now) c.tree.ensures.tree c.in_ok-tree.ensures in
     inr (t, (h.canonical (2 ^ 16) c.tree.ensures.legal.canonical c.requires.canonical, h.same, λ p. let yes = c.degrees_fit.ensures.1 p in let no = c.if-not-degrees_fit.true in cc))
 
 pub returns-clause-value : goal.returns-clause-value
@@ -33,7 +32,7 @@ returns-clause-value c =
     let a = c.args.poly.now in
     let t = expansion c.in_ok-tree.tree in
     let r = c.in_ok-reduced.field-0 in
-    let h = put_it a c.args.var (expansion c.args.inner.now) t c.tree.result.now c.tree.ensures.tree c.in_ok-tree.ensures in
+    let h = put_it a c.args.var (expansion c.args.inner.now) t (expansion c.tree.result.now) c.tree.ensures.tree c.in_ok-tree.ensures in
     let fits : FitsSigned w128 c.den.result = search rules in
     let n : IsReduced t a.denominator r = subst (λ (m : ℕ). IsReduced t m r) (ap unsigned_abs (to_z-of_z w128 c.den.result fits ∙ c.den.ensures.denominator)) c.in_ok-reduced.ensures in
     λ point. reduced-value t a.denominator r n (at point) ∙ ap (λ (z : ℤ). z *ℤ pos r.denominator) (h.same (at point))

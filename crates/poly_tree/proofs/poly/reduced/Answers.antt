@@ -17,7 +17,7 @@ invariant_of-result c =
     let e : scaled f (expansion c.in_ok-quotients.quotients) ≡ expansion c.args.tree.now = simp (to_z-of_z w128 f fits_f) at c.in_ok-quotients.ensures in
     let content : IsContent (expansion c.args.tree.now) (unsigned_abs c.args.den) (unsigned_abs f) = simp (to_z-of_z w128 c.args.den c.ranges.den) at c.common_factor-factor.ensures.content in
     rw (to_z-of_z w128 q fits_q)
-    (legal-reduced (expansion c.args.tree.now) c.in_ok-quotients.quotients f q c.args.den c.common_factor-factor.ensures.some c.requires.positive content e is c.requires.canonical c.requires.degrees)
+    (legal-reduced (expansion c.args.tree.now) (expansion c.in_ok-quotients.quotients) f q c.args.den c.common_factor-factor.ensures.some c.requires.positive content e is c.requires.canonical c.requires.degrees)
 
 pub returns : goal.returns
 returns c =
@@ -28,7 +28,7 @@ returns c =
     let is : (f *ℤ q) ≡ c.args.den = simp (to_z-of_z w128 f fits_f, to_z-of_z w128 c.args.den c.ranges.den) at c.quotient.ensures in
     let e : scaled f (expansion c.in_ok-quotients.quotients) ≡ expansion c.args.tree.now = simp (to_z-of_z w128 f fits_f) at c.in_ok-quotients.ensures in
     rw (to_z-of_z w128 q fits_q)
-    (is-reduced (expansion c.args.tree.now) c.in_ok-quotients.quotients f q c.args.den c.common_factor-factor.ensures.some e is)
+    (is-reduced (expansion c.args.tree.now) (expansion c.in_ok-quotients.quotients) f q c.args.den c.common_factor-factor.ensures.some e is)
 
 pub quotient-requires-clause-divides : goal.quotient-requires-clause-divides
 quotient-requires-clause-divides c =

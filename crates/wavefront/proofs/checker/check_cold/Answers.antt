@@ -4,9 +4,9 @@ use Rattle.affine_c.specs.Parts.{meaning}
 use Rattle.dep_quast.specs.Tree.{SelectionTree, tree_of}
 use Rattle.dep_quast.specs.Truth.{IsTrueTree}
 use Rattle.wavefront.specs.Found.{FindsCold}
-use Rattle.wavefront.specs.Loads.{ColdFits, ColdHolds, IsSoundCold, CostsItsCount}
+use Rattle.wavefront.specs.Loads.{ColdFits, ColdHolds, IsSoundCold, HasFootprint, CostsItsCount}
 use Rattle.wavefront.specs.View.{term_of}
-use Rattle.wavefront.proofs.Bounds.{bounds-loads}
+use Rattle.wavefront.proofs.Bounds.{footprint-is}
 use Rattle.wavefront.proofs.ColdLoads.{cold-terms-loaded}
 use Rattle.wavefront.proofs.checker.check_cold.Goals as goal
 
@@ -14,8 +14,9 @@ same-some : (t u : SelectionTree) (o : Option SelectionTree) → o ≡ Some t �
 same-some t u o e f = cc
 
 -- what holds after the last condition
-both : (c : goal.In-Ok-None) → IsSoundCold (meaning c.args.program.now) (term_of c.args.term.now) × CostsItsCount (meaning c.args.program.now) (term_of c.args.term.now)
-both c =
+all : (c : goal.In-Ok-None) → IsSoundCold (meaning c.args.program.now) (term_of c.args.term.now) × HasFootprint (meaning c.args.program.now) (term_of c.args.term.now)
+    × CostsItsCount (meaning c.args.program.now) (term_of c.args.term.now)
+all c =
     let tree : SelectionTree = tree_of c.in-Some.quast.now in
     let same : c.requires.0 ≡ tree = same-some c.requires.0 tree _ c.requires.1.there c.in-Some.ensures in
     let holds : ColdHolds (meaning c.args.program.now) c.args.place.now tree (term_of c.args.term.now) =
@@ -33,11 +34,11 @@ returns-in-Ok-None-clause-holds c = (
 )
 
 pub returns-in-Ok-None-clause-sound : goal.returns-in-Ok-None-clause-sound
-returns-in-Ok-None-clause-sound c = (both c).0
+returns-in-Ok-None-clause-sound c = (all c).0
 
-pub returns-in-Ok-None-clause-bounds : goal.returns-in-Ok-None-clause-bounds
-returns-in-Ok-None-clause-bounds c =
-    bounds-loads (meaning c.args.program.now) c.args.term.now.nest c.in_ok-count.count c.den-den.ensures.legal c.in_ok-count.ensures.counts c.terms_have_the_value.ensures (both c).1
+pub returns-in-Ok-None-clause-footprint : goal.returns-in-Ok-None-clause-footprint
+returns-in-Ok-None-clause-footprint c =
+    footprint-is (meaning c.args.program.now) (term_of c.args.term.now) c.in_ok-count.count c.den-den.ensures.legal c.in_ok-count.ensures.counts c.terms_have_the_value.ensures (all c).1 (all c).2
 
 pub returns-in-Ok-Some-clause-refused : goal.returns-in-Ok-Some-clause-refused
 returns-in-Ok-Some-clause-refused c =

@@ -1,7 +1,7 @@
 use Rattle.std.proofs.Common.{◌≡◌, sym, ◌∙◌, ap, subst, inl, inr, ◌⊎◌, ℕ, ◌+◌, ◌*◌, ◌<◌, List, take, drop, arith}
 use Rattle.std.specs.Prelude.{ℤ}
 use Rattle.iolb_model.specs.Form.{dot}
-use Rattle.copy_nest.specs.Inverse.{product_entry, scaled_entry}
+use Rattle.execution_laws.specs.Inverse.{product_entry, scaled_entry}
 use Rattle.wavefront.specs.Inverse.{matrix_rows}
 use Rattle.wavefront.specs.Columns.{coefficients_at}
 use Rattle.wavefront.specs.Inverse.{coefficients_past}

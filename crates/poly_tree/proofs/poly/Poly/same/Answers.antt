@@ -14,6 +14,6 @@ pub returns-then-not-equal-clause-exact : goal.returns-then-not-equal-clause-exa
 returns-then-not-equal-clause-exact c = (
   λ e. absurd cc,
   λ h. let trees : expansion c.tree.result.now ≡ expansion c.tree-2.result.now
-      = ap expansion c.tree.ensures.tree ∙ same-trees c.args.self.now c.args.other.now c.tree.ensures.legal c.tree-2.ensures.legal h ∙ sym (ap expansion c.tree-2.ensures.tree) in
+      = c.tree.ensures.tree ∙ same-trees c.args.self.now c.args.other.now c.tree.ensures.legal c.tree-2.ensures.legal h ∙ sym c.tree-2.ensures.tree in
       let yes = c.equal.ensures.1 trees in let no = c.if-not-equal.true in absurd cc,
 )

@@ -1,6 +1,0 @@
-pub mod Nest
-pub mod Spelling
-pub mod Inverse
-pub mod Count
-pub mod Loads
-pub mod Steps
