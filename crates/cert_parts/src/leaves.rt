@@ -3,7 +3,8 @@
 ghost use Rattle.std.specs.Prelude.{◌≡◌, map};
 ghost use Rattle.serde_json.specs.View.{view};
 ghost use Rattle.cert_parts.specs.Outcome.{Gives};
-ghost use Rattle.cert_parts.specs.Leaves.{claim_of, reads_no_point, reads_stop, reads_credit, reads_go, reads_arrive, reads_leaf, reads_leaves};
+ghost use Rattle.reuse_paths.specs.LeafClaims.{claim_of};
+ghost use Rattle.cert_parts.specs.Leaves.{reads_no_point, reads_stop, reads_credit, reads_go, reads_arrive, reads_leaf, reads_leaves};
 
 use crate::error::{CertError, fault, under};
 use crate::json::{has_keys, list};

@@ -7,7 +7,7 @@ ghost use Rattle.serde_json.specs.View.{view};
 ghost use Rattle.cert_parts.specs.Outcome.{Gives};
 ghost use Rattle.cert_parts.specs.Json.{part};
 ghost use Rattle.cert_parts.specs.Trees.{reads_source, reads_input, reads_empty, reads_true, reads_tree_leaf, reads_nested, leaf_count, reads_tree, reads_trees, reads_all_trees};
-ghost use Rattle.cert_parts.specs.Read.{row_trees};
+ghost use Rattle.reuse_paths.specs.Rows.{row_trees};
 
 use crate::error::{CertError, fault, under};
 use crate::json::{has_keys, list};

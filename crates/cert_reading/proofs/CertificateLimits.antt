@@ -1,6 +1,7 @@
 -- Certificates that are read are within their limits.
-use Rattle.std.proofs.Common.{◌≡◌, suc, ◌≤◌, List, [], ◌∷◌, length, codes, Ok, Err, refl, sym, subst, ap, arith}
+use Rattle.std.proofs.Common.{◌≡◌, suc, ◌≤◌, List, [], ◌∷◌, length, map, codes, Ok, Err, refl, sym, subst, ap, arith}
 use Rattle.std.proofs.lemmas.Bool.{leb-true}
+use Rattle.std.proofs.lemmas.List.{length-map}
 use Rattle.std.proofs.lemmas.Result.{IfOk-at_ok}
 use Rattle.std.specs.Prelude.{IfOk, nat_le}
 use Rattle.std.specs.List.{AllByRecursion}
@@ -8,6 +9,7 @@ use Rattle.affine_form.specs.declared.key.TheConstants.{BRANCHES, COLD, DISJOINT
 use Rattle.certificates.specs.declared.term.Term.{Term}
 use Rattle.certificates.specs.declared.term.Term.TheVariants as terms
 use Rattle.certificates.specs.declared.term.Branch.{Branch}
+use Rattle.certificates.specs.Claims.{claim_of_term, claim_of_branch, claim_of_certificate}
 use Rattle.certificates.specs.Limits.{NameRows, IsSmallTree, IsSmallTerm, IsSmallBranch, CertificateParts, IsWithinLimits}
 use Rattle.serde_json.specs.Data.{Data}
 use Rattle.cert_parts.specs.Outcome.{Outcome, fault}
@@ -77,11 +79,12 @@ certificate_small d =
 
 -- ---- what was read of them
 
-all_related : {A X : Type 0} (R : A → X → Type 0) (P : A → Type 0) (Q : X → Type 0) → ((a : A) (x : X) → R a x → P a → Q x) → (written : List A) (xs : List X) → AreAll R written xs → AllByRecursion P written → AllByRecursion Q xs
-all_related R P Q each_one [] [] are all = tt
-all_related R P Q each_one [] (x ∷ xs) are all = absurd are
-all_related R P Q each_one (a ∷ written) [] are all = absurd are
-all_related R P Q each_one (a ∷ written) (x ∷ xs) are all = (each_one a x are.0 all.0, all_related R P Q each_one written xs are.1 all.1)
+all_related : {A B X : Type 0} (R : A → X → Type 0) (claim : B → X) (P : A → Type 0) (Q : B → Type 0) → ((a : A) (b : B) → R a (claim b) → P a → Q b)
+    → (written : List A) (bs : List B) → AreAll R written (map claim bs) → AllByRecursion P written → AllByRecursion Q bs
+all_related R claim P Q each_one [] [] are all = tt
+all_related R claim P Q each_one [] (b ∷ bs) are all = absurd are
+all_related R claim P Q each_one (a ∷ written) [] are all = absurd are
+all_related R claim P Q each_one (a ∷ written) (b ∷ bs) are all = (each_one a b are.0 all.0, all_related R claim P Q each_one written bs are.1 all.1)
 
 as_many : {A X : Type 0} (R : A → X → Type 0) (written : List A) (xs : List X) → AreAll R written xs → length xs ≡ length written
 as_many R [] [] are = refl
@@ -89,21 +92,21 @@ as_many R [] (x ∷ xs) are = absurd are
 as_many R (a ∷ written) [] are = absurd are
 as_many R (a ∷ written) (x ∷ xs) are = ap suc (as_many R written xs are.1)
 
-read_term_small : (written : WrittenCold) (term : Term) → IsTerm written term → IsSmallWrittenCold written → IsSmallTerm term
+read_term_small : (written : WrittenCold) (term : Term) → IsTerm written (claim_of_term term) → IsSmallWrittenCold written → IsSmallTerm term
 read_term_small written (terms.Cold cold) is small = read_cold_small written cold is small
 
-read_branch_small : (written : WrittenBranch) (branch : Branch) → IsBranch written branch → IsSmallWrittenBranch written → IsSmallBranch branch
+read_branch_small : (written : WrittenBranch) (branch : Branch) → IsBranch written (claim_of_branch branch) → IsSmallWrittenBranch written → IsSmallBranch branch
 read_branch_small written branch is small = record {
-  few = omega (arith, small.terms.1, as_many IsTerm written.terms branch.terms.items is.0);
-  terms = all_related IsTerm IsSmallWrittenCold IsSmallTerm read_term_small written.terms branch.terms.items is.0 small.terms.0;
+  few = omega (arith, small.terms.1, as_many IsTerm written.terms (map claim_of_term branch.terms.items) is.0, length-map branch.terms.items claim_of_term);
+  terms = all_related IsTerm claim_of_term IsSmallWrittenCold IsSmallTerm read_term_small written.terms branch.terms.items is.0 small.terms.0;
   disjoint = subst NameRows (sym is.1) small.disjoint;
 }
 
-pub read_within_limits : (d : Data) (written : WrittenCertificate) (parts : CertificateParts) → reads_certificate d ≡ Ok written → IsCertificate written parts → IsWithinLimits parts
+pub read_within_limits : (d : Data) (written : WrittenCertificate) (parts : CertificateParts) → reads_certificate d ≡ Ok written → IsCertificate written (claim_of_certificate parts) → IsWithinLimits parts
 read_within_limits d written parts says is =
     let small : IsSmallWritten written = IfOk-at_ok IsSmallWritten says (certificate_small d) in
     record {
       trees = quasts_small written.trees parts.quasts is.0 small.trees;
-      few = omega (arith, small.branches.1, as_many IsBranch written.branches parts.branches is.1);
-      branches = all_related IsBranch IsSmallWrittenBranch IsSmallBranch read_branch_small written.branches parts.branches is.1 small.branches.0;
+      few = omega (arith, small.branches.1, as_many IsBranch written.branches (map claim_of_branch parts.branches) is.1, length-map parts.branches claim_of_branch);
+      branches = all_related IsBranch claim_of_branch IsSmallWrittenBranch IsSmallBranch read_branch_small written.branches parts.branches is.1 small.branches.0;
     }

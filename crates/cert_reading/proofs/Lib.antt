@@ -5,3 +5,4 @@ pub mod PartLimits
 pub mod TreeLimits
 pub mod TermLimits
 pub mod CertificateLimits
+pub mod OneCertificate

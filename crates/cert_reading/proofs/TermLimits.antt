@@ -19,13 +19,16 @@ use Rattle.certificates.specs.Limits.{AreSmall, NamesRows, NameRows, IsSmallPoly
 use Rattle.serde_json.specs.Data.{Data}
 use Rattle.cert_parts.specs.Outcome.{Outcome, fault, under}
 use Rattle.cert_parts.specs.Json.{has_keys, part, reads_integer, reads_natural, reads_list, reads_short_list, each}
-use Rattle.cert_parts.specs.Leaves.{LeafClaim, no_point, stops, is_credited, goes_on, arrives, claim_of, reads_no_point, reads_stop, reads_credit, reads_go, reads_arrive, reads_leaf, reads_leaves}
+use Rattle.reuse_paths.specs.LeafClaims.{LeafClaim, no_point, stops, is_credited, goes_on, arrives, claim_of}
+use Rattle.cert_parts.specs.Leaves.{reads_no_point, reads_stop, reads_credit, reads_go, reads_arrive, reads_leaf, reads_leaves}
 use Rattle.cert_parts.specs.Nests.{pair_in, reads_pair, reads_nest}
 use Rattle.cert_parts.specs.Parts.{reads_form, reads_forms, reads_multipliers, reads_all_multipliers, reads_matrix}
 use Rattle.cert_parts.specs.Polynomials.{reads_coefficient, term_in, reads_term, stands_apart, reads_term_behind, terms_from, reads_terms, reads_quotient, reads_polynomial, reads_polynomials}
 use Rattle.cert_parts.specs.Read.{IsPolynomial, ArePolynomials}
 use Rattle.cert_reading.specs.Terms.{reads_inverse, cold_keys, ColdFront, reads_cold_front, ColdMiddle, reads_cold_middle, reads_cold_members, reads_cold}
-use Rattle.cert_reading.specs.Written.{ColdClaim, WrittenCold, claim_of_cold, IsCold}
+use Rattle.certificates.specs.Claims.{ColdClaim, claim_of_cold}
+use Rattle.cert_reading.specs.Views.{cold_term}
+use Rattle.cert_reading.specs.Written.{WrittenCold, IsTerm}
 use Rattle.cert_reading.proofs.Given.{given_then, given_behind, given_under, given_if, given_part, given_list, given_short_list, given_keys}
 use Rattle.cert_reading.proofs.PartLimits.{integer_small, natural_small, form_small, forms_small, multipliers_small, all_multipliers_small}
 
@@ -278,7 +281,7 @@ unfolding reads_cold
 cold_small d = given_keys cold_keys d reads_cold_members IsSmallWrittenCold (cold_members_small d)
 
 -- what was read of it is within its limits too
-pub read_cold_small : (written : WrittenCold) (cold : Cold) → IsCold written cold → IsSmallWrittenCold written → IsSmallCold cold
+pub read_cold_small : (written : WrittenCold) (cold : Cold) → IsTerm written (cold_term cold) → IsSmallWrittenCold written → IsSmallCold cold
 read_cold_small written cold is small =
     let claim : IsSmallColdClaim (claim_of_cold cold) = subst IsSmallColdClaim (sym is.0) small.claim in
     record {

@@ -14,9 +14,9 @@ use Rattle.serde_json.specs.Find.{as_bool}
 use Rattle.cert_parts.specs.Outcome.{Outcome, fault}
 use Rattle.cert_parts.specs.Json.{has_keys, part, reads_natural}
 use Rattle.cert_parts.specs.Parts.{reads_form, reads_forms, reads_multipliers, reads_all_multipliers}
-use Rattle.cert_parts.specs.Read.{row_trees}
+use Rattle.reuse_paths.specs.Rows.{row_trees}
 use Rattle.cert_parts.specs.Trees.{source_keys, test_keys, is_true, reads_source, reads_input, reads_empty, reads_true, reads_tree_leaf, reads_test, reads_nested, leaf_count as written_leaves, reads_tree, reads_trees, reads_all_trees}
-use Rattle.cert_reading.specs.Written.{AreTrees}
+
 use Rattle.cert_reading.proofs.Given.{given_then, given_behind, given_if, given_part, given_list}
 use Rattle.cert_reading.proofs.PartLimits.{form_small, forms_small, multipliers_small, all_multipliers_small}
 
@@ -109,6 +109,6 @@ rows_of : (rows : List (Vec Quast Global)) → AllByRecursion (AllByRecursion Is
 rows_of [] all = tt
 rows_of (row ∷ rows) all = (all_of row.items all.0, rows_of rows all.1)
 
-pub quasts_small : (trees : List (List SelectionTree)) (quasts : Quasts) → AreTrees trees quasts → AllByRecursion (AllByRecursion IsSmallTree) trees
+pub quasts_small : (trees : List (List SelectionTree)) (quasts : Quasts) → map row_trees quasts.rows.items ≡ trees → AllByRecursion (AllByRecursion IsSmallTree) trees
     → AllByRecursion (λ row. AllByRecursion (λ quast. IsSmallTree (tree_of quast)) row.items) quasts.rows.items
 quasts_small trees quasts are all = rows_of quasts.rows.items (subst (AllByRecursion (AllByRecursion IsSmallTree)) (sym are) all)

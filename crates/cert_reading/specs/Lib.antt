@@ -1,5 +1,6 @@
 pub mod Written
 pub mod Terms
-pub mod ColdViews
+pub mod Views
 pub mod Certificates
 pub mod Texts
+pub mod Laws

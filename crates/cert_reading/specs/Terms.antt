@@ -7,11 +7,13 @@ use Rattle.affine_form.specs.declared.key.TheConstants.{COLD, INSIDE, INVERSE, L
 use Rattle.serde_json.specs.Data.{Data}
 use Rattle.cert_parts.specs.Outcome.{Outcome, ◌>>=◌, fault}
 use Rattle.cert_parts.specs.Json.{has_keys, with_keys, part, reads_short_list, each, reads_natural}
-use Rattle.cert_parts.specs.Leaves.{LeafClaim, reads_leaves}
+use Rattle.reuse_paths.specs.LeafClaims.{LeafClaim}
+use Rattle.cert_parts.specs.Leaves.{reads_leaves}
 use Rattle.cert_parts.specs.Nests.{reads_nest}
 use Rattle.cert_parts.specs.Parts.{reads_forms, reads_all_multipliers, reads_matrix}
 use Rattle.cert_parts.specs.Polynomials.{reads_polynomials}
-use Rattle.cert_reading.specs.Written.{ColdClaim, WrittenCold}
+use Rattle.certificates.specs.Claims.{ColdClaim}
+use Rattle.cert_reading.specs.Written.{WrittenCold}
 
 -- A matrix and its scale, from 1 to 2^20.
 unfoldable pub reads_inverse : Data → Outcome (IntegerMatrix × ℕ)

@@ -1,8 +1,9 @@
 //! The texts of branches.
 
-ghost use Rattle.std.specs.Prelude.{◌≡◌, codes};
+ghost use Rattle.std.specs.Prelude.{◌≡◌, codes, map};
 ghost use Rattle.affine_form.specs.declared.key.TheConstants.{TERMS};
 ghost use Rattle.serde_json.specs.View.{view};
+ghost use Rattle.certificates.specs.Claims.{claim_of_branch, claim_of_term};
 ghost use Rattle.cert_parts.specs.Outcome.{GivesBy};
 ghost use Rattle.cert_parts.specs.Json.{part};
 ghost use Rattle.cert_parts.specs.Read.{AreAll};
@@ -19,7 +20,7 @@ use std::alloc::Global;
 
 /// The member `terms`.
 fn terms_part(alloc: Global, value: &Value) -> Result<Vec<Term>, CertError>
-    ensures { GivesBy (λ said found. AreAll IsTerm said found.items) result (part (codes "terms") TERMS reads_terms (view value.now)) }
+    ensures { GivesBy (λ said found. AreAll IsTerm said (map claim_of_term found.items)) result (part (codes "terms") TERMS reads_terms (view value.now)) }
 {
     match value.get("terms") {
         Some(member) => match term_list(alloc, member) {
@@ -33,7 +34,7 @@ fn terms_part(alloc: Global, value: &Value) -> Result<Vec<Term>, CertError>
 /// A branch.
 #[tactic(auto, unfolding(crate::specs::Certificates::reads_branch, cert_parts::specs::Json::with_keys))]
 fn one_branch(alloc: Global, value: &Value) -> Result<Branch, CertError>
-    ensures { GivesBy IsBranch result (reads_branch (view value.now)) }
+    ensures { GivesBy (λ said found. IsBranch said (claim_of_branch found)) result (reads_branch (view value.now)) }
 {
     if !has_keys(value, &["disjoint", "terms"]) {
         return Err(fault(alloc, 2));
@@ -51,7 +52,7 @@ fn one_branch(alloc: Global, value: &Value) -> Result<Branch, CertError>
 /// The branches of a certificate.
 #[tactic(auto, unfolding(crate::specs::Certificates::reads_branches))]
 pub(crate) fn branch_list(alloc: Global, value: &Value) -> Result<Vec<Branch>, CertError>
-    ensures { GivesBy (λ said found. AreAll IsBranch said found.items) result (reads_branches (view value.now)) }
+    ensures { GivesBy (λ said found. AreAll IsBranch said (map claim_of_branch found.items)) result (reads_branches (view value.now)) }
 {
     let values = match short_list(alloc, value, 8) {
         Ok(values) => values,

@@ -2,11 +2,12 @@
 
 ghost use Rattle.std.specs.Prelude.{◌≡◌, map};
 ghost use Rattle.serde_json.specs.View.{view};
+ghost use Rattle.certificates.specs.Claims.{claim_of_cold};
 ghost use Rattle.cert_parts.specs.Outcome.{Gives, GivesBy};
-ghost use Rattle.cert_parts.specs.Leaves.{claim_of};
+ghost use Rattle.reuse_paths.specs.LeafClaims.{claim_of};
 ghost use Rattle.cert_reading.specs.Terms.{reads_cold_front, reads_cold_middle, reads_cold_members, reads_cold, cold_claim};
-ghost use Rattle.cert_reading.specs.ColdViews.{front_of, middle_of};
-ghost use Rattle.cert_reading.specs.Written.{IsCold, claim_of_cold};
+ghost use Rattle.cert_reading.specs.Views.{cold_term, front_of, middle_of};
+ghost use Rattle.cert_reading.specs.Written.{IsTerm};
 
 use crate::members::{inverse_part, leaves_part, nest_part, sums_part};
 use affine_form::{Form, Multipliers, key};
@@ -111,7 +112,7 @@ fn made(front: ColdParts, middle: ColdPlaces, sums: Vec<Poly>) -> Cold
 
 /// The members of a cold term.
 fn members(alloc: Global, value: &Value) -> Result<Cold, CertError>
-    ensures { GivesBy IsCold result (reads_cold_members (view value.now)) }
+    ensures { GivesBy (λ said found. IsTerm said (cold_term found)) result (reads_cold_members (view value.now)) }
 {
     let front = match front(alloc, value) {
         Ok(front) => front,
@@ -130,7 +131,7 @@ fn members(alloc: Global, value: &Value) -> Result<Cold, CertError>
 /// A cold term.
 #[tactic(auto, unfolding(crate::specs::Terms::reads_cold))]
 pub(crate) fn cold(alloc: Global, value: &Value) -> Result<Cold, CertError>
-    ensures { GivesBy IsCold result (reads_cold (view value.now)) }
+    ensures { GivesBy (λ said found. IsTerm said (cold_term found)) result (reads_cold (view value.now)) }
 {
     let keys = [
         "inside",

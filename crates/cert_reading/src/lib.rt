@@ -3,6 +3,7 @@
 
 mod branches;
 mod cold;
+mod law;
 mod members;
 mod reading;
 mod terms;
@@ -10,4 +11,5 @@ mod terms;
 mod tests;
 
 pub use cert_parts::{CertError, CertFault};
+pub use law::{texts_have_one_answer, texts_have_one_certificate};
 pub use reading::read_certificate;

@@ -5,7 +5,8 @@ ghost use Rattle.affine_form.specs.declared.key.TheConstants.{INVERSE, LEAVES, N
 ghost use Rattle.serde_json.specs.View.{view};
 ghost use Rattle.cert_parts.specs.Outcome.{Gives, GivesBy};
 ghost use Rattle.cert_parts.specs.Json.{part};
-ghost use Rattle.cert_parts.specs.Leaves.{claim_of, reads_leaves};
+ghost use Rattle.reuse_paths.specs.LeafClaims.{claim_of};
+ghost use Rattle.cert_parts.specs.Leaves.{reads_leaves};
 ghost use Rattle.cert_parts.specs.Nests.{reads_nest};
 ghost use Rattle.cert_parts.specs.Polynomials.{reads_polynomials};
 ghost use Rattle.cert_parts.specs.Read.{ArePolynomials};

@@ -3,13 +3,16 @@
 ghost use Rattle.std.specs.Prelude.{◌≡◌, map, codes};
 ghost use Rattle.affine_form.specs.declared.key.TheConstants.{BRANCHES, QUASTS, VERSION};
 ghost use Rattle.serde_json.specs.View.{view};
+ghost use Rattle.certificates.specs.Claims.{claim_of_branch, claim_of_certificate};
 ghost use Rattle.cert_parts.specs.Outcome.{Gives, GivesBy};
 ghost use Rattle.cert_parts.specs.Json.{part};
-ghost use Rattle.cert_parts.specs.Read.{AreAll, row_trees};
+ghost use Rattle.reuse_paths.specs.Rows.{row_trees};
+ghost use Rattle.cert_parts.specs.Read.{AreAll};
 ghost use Rattle.cert_parts.specs.Trees.{reads_all_trees};
 ghost use Rattle.cert_reading.specs.Certificates.{reads_branches, reads_version, reads_certificate};
+ghost use Rattle.cert_reading.specs.Views.{claim_of_parts};
 ghost use Rattle.cert_reading.specs.Texts.{ReadsText};
-ghost use Rattle.cert_reading.specs.Written.{IsBranch, IsCertificate, AreParts};
+ghost use Rattle.cert_reading.specs.Written.{IsBranch, IsCertificate};
 
 use crate::branches::branch_list;
 use affine_form::{Step, key};
@@ -22,7 +25,7 @@ use std::alloc::Global;
 
 /// The member `branches`.
 fn branches_part(alloc: Global, value: &Value) -> Result<Vec<Branch>, CertError>
-    ensures { GivesBy (λ said found. AreAll IsBranch said found.items) result (part (codes "branches") BRANCHES reads_branches (view value.now)) }
+    ensures { GivesBy (λ said found. AreAll IsBranch said (map claim_of_branch found.items)) result (part (codes "branches") BRANCHES reads_branches (view value.now)) }
 {
     match value.get("branches") {
         Some(member) => match branch_list(alloc, member) {
@@ -63,7 +66,7 @@ fn version_part(alloc: Global, value: &Value) -> Result<(), CertError>
 /// The parts of a certificate: the source trees, and the branches.
 #[tactic(auto, unfolding(crate::specs::Certificates::reads_certificate, cert_parts::specs::Json::with_keys))]
 fn parts(alloc: Global, value: &Value) -> Result<(Quasts, Vec<Branch>), CertError>
-    ensures { GivesBy AreParts result (reads_certificate (view value.now)) }
+    ensures { GivesBy (λ said parts. IsCertificate said (claim_of_parts parts)) result (reads_certificate (view value.now)) }
 {
     if !has_keys(value, &["branches", "quasts", "version"]) {
         return Err(fault(alloc, 2));
@@ -84,7 +87,7 @@ fn parts(alloc: Global, value: &Value) -> Result<(Quasts, Vec<Branch>), CertErro
 
 /// Reads the text of a certificate, into its source trees and its branches.
 fn read_parts(alloc: Global, bytes: &[u8]) -> Result<(Quasts, Vec<Branch>), CertError>
-    ensures { ReadsText AreParts bytes.now result }
+    ensures { ReadsText (λ said parts. IsCertificate said (claim_of_parts parts)) bytes.now result }
 {
     let value = match Value::from_slice(alloc, bytes) {
         Ok(value) => value,
@@ -102,7 +105,7 @@ fn read_parts(alloc: Global, bytes: &[u8]) -> Result<(Quasts, Vec<Branch>), Cert
 /// object's keys before its values, these by the byte order of the keys: 2 where a value has another shape, 3 where a
 /// limit is passed, 4 where a form of term isn't built yet. Want of memory, at any time.
 pub fn read_certificate(alloc: Global, bytes: &[u8]) -> Result<Certificate, CertError>
-    ensures { ReadsText IsCertificate bytes.now result }
+    ensures { ReadsText (λ said certificate. IsCertificate said (claim_of_certificate certificate)) bytes.now result }
 {
     let (quasts, branches) = match read_parts(alloc, bytes) {
         Ok(parts) => parts,

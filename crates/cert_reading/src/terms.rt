@@ -1,7 +1,8 @@
 //! The texts of terms.
 
-ghost use Rattle.std.specs.Prelude.{◌≡◌};
+ghost use Rattle.std.specs.Prelude.{◌≡◌, map};
 ghost use Rattle.serde_json.specs.View.{view};
+ghost use Rattle.certificates.specs.Claims.{claim_of_term};
 ghost use Rattle.cert_parts.specs.Outcome.{GivesBy};
 ghost use Rattle.cert_parts.specs.Read.{AreAll};
 ghost use Rattle.cert_reading.specs.Terms.{reads_term, reads_terms};
@@ -17,7 +18,7 @@ use std::alloc::Global;
 /// A term, told by its key.
 #[tactic(auto, unfolding(crate::specs::Terms::reads_term))]
 fn term(alloc: Global, value: &Value) -> Result<Term, CertError>
-    ensures { GivesBy IsTerm result (reads_term (view value.now)) }
+    ensures { GivesBy (λ said found. IsTerm said (claim_of_term found)) result (reads_term (view value.now)) }
 {
     if has_keys(value, &["cold"]) {
         return match value.get("cold") {
@@ -38,7 +39,7 @@ fn term(alloc: Global, value: &Value) -> Result<Term, CertError>
 /// The terms of a branch.
 #[tactic(auto, unfolding(crate::specs::Terms::reads_terms))]
 pub(crate) fn term_list(alloc: Global, value: &Value) -> Result<Vec<Term>, CertError>
-    ensures { GivesBy (λ said found. AreAll IsTerm said found.items) result (reads_terms (view value.now)) }
+    ensures { GivesBy (λ said found. AreAll IsTerm said (map claim_of_term found.items)) result (reads_terms (view value.now)) }
 {
     let values = match short_list(alloc, value, 16) {
         Ok(values) => values,

@@ -12,8 +12,8 @@ use Rattle.certificates.specs.Limits.{CertificateParts, IsNestedTree, IsSmallTre
 use Rattle.serde_json.specs.Data.{Data, Members, no_members, member, object, depth, members_depth}
 use Rattle.serde_json.specs.Read.{max_depth}
 use Rattle.serde_json.specs.Written.{has_float, members_have_float}
-use Rattle.cert_parts.specs.Leaves.{LeafClaim, no_point, stops, is_credited, goes_on, arrives}
-use Rattle.cert_parts.specs.Read.{row_trees}
+use Rattle.reuse_paths.specs.LeafClaims.{LeafClaim, no_point, stops, is_credited, goes_on, arrives}
+use Rattle.reuse_paths.specs.Rows.{row_trees}
 use Rattle.cert_reading.specs.Written.{WrittenCold, WrittenBranch}
 use Rattle.cert_writing.specs.Parts.{list, whole, natural, form_data, forms_data, weights_data, multipliers_data, all_multipliers_data, rows_of, row_data, matrix_data, pair_data, nest_data}
 use Rattle.cert_writing.specs.Polynomials.{term_data, polynomial_data}

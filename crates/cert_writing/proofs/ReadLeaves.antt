@@ -6,7 +6,8 @@ use Rattle.reuse_paths.specs.declared.leaf.Leaf.{Leaf}
 use Rattle.reuse_paths.specs.declared.leaf.Leaf.TheVariants.{Empty, Stop, Credit, Go, Arrive}
 use Rattle.certificates.specs.Limits.{IsSmallLeaf}
 use Rattle.cert_parts.specs.Json.{has_keys}
-use Rattle.cert_parts.specs.Leaves.{LeafClaim, claim_of, reads_no_point, reads_stop, reads_credit, reads_go, reads_arrive, reads_leaf, reads_leaves}
+use Rattle.reuse_paths.specs.LeafClaims.{LeafClaim, claim_of}
+use Rattle.cert_parts.specs.Leaves.{reads_no_point, reads_stop, reads_credit, reads_go, reads_arrive, reads_leaf, reads_leaves}
 use Rattle.cert_writing.specs.Leaves.{leaf_data, leaves_data}
 use Rattle.cert_writing.specs.ReadBack.{AreMultipliersRead, LeafIsRead}
 use Rattle.cert_writing.proofs.ReadLists.{natural-read, list-of-read, all-both, all-map}

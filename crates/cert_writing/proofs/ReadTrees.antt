@@ -8,7 +8,7 @@ use Rattle.dep_quast.specs.Tree.{SourceClaim, SelectionTree, leaf, test, source,
 use Rattle.dep_quast.specs.declared.quast.Quast.{Quast}
 use Rattle.certificates.specs.Limits.{NamesRows, NameRows, IsSmallSource, IsNestedTree, IsSmallTree, leaf_count}
 use Rattle.cert_parts.specs.Json.{has_keys}
-use Rattle.cert_parts.specs.Read.{row_trees}
+use Rattle.reuse_paths.specs.Rows.{row_trees}
 use Rattle.cert_parts.specs.Trees.{reads_source, reads_input, reads_empty, reads_true, reads_tree_leaf, reads_test, reads_nested, leaf_count as count_of_leaves, reads_tree, reads_trees, reads_all_trees}
 use Rattle.cert_writing.specs.Trees.{tree_data, trees_data, all_trees_data}
 use Rattle.cert_writing.specs.ReadBack.{FormIsRead, AreMultipliersRead, TreeIsRead, TreesAreRead}

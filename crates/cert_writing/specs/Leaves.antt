@@ -1,7 +1,7 @@
 -- Claims at the leaves of source trees as JSON values.
 use Rattle.std.specs.Prelude.{List, map, codes}
 use Rattle.serde_json.specs.Data.{Data, object, no_members, member}
-use Rattle.cert_parts.specs.Leaves.{LeafClaim, no_point, stops, is_credited, goes_on, arrives}
+use Rattle.reuse_paths.specs.LeafClaims.{LeafClaim, no_point, stops, is_credited, goes_on, arrives}
 use Rattle.cert_writing.specs.Parts.{list, natural, multipliers_data, all_multipliers_data}
 
 abbrev pub leaf_data : LeafClaim → Data

@@ -14,7 +14,8 @@ use Rattle.wavefront.specs.declared.cold.Cold.{Cold}
 use Rattle.certificates.specs.Limits.{NamesRows, IsNestedTree, IsSmallLeaf}
 use Rattle.certificates.specs.declared.term.Term.{Term}
 use Rattle.certificates.specs.declared.term.Branch.{Branch}
-use Rattle.cert_parts.specs.Leaves.{claim_of, reads_leaf}
+use Rattle.reuse_paths.specs.LeafClaims.{claim_of}
+use Rattle.cert_parts.specs.Leaves.{reads_leaf}
 use Rattle.cert_parts.specs.Nests.{reads_pair}
 use Rattle.cert_parts.specs.Parts.{reads_form, reads_multipliers, reads_matrix}
 use Rattle.cert_parts.specs.Polynomials.{reads_polynomial}

@@ -8,7 +8,8 @@ use Rattle.certificates.specs.declared.term.Term.TheVariants as terms
 use Rattle.certificates.specs.declared.term.Branch.{Branch}
 use Rattle.cert_parts.specs.declared.error.CertFault.{CertFault}
 use Rattle.cert_parts.specs.declared.error.CertError.TheVariants.{Fault}
-use Rattle.cert_parts.specs.Read.{AreAll, row_trees}
+use Rattle.reuse_paths.specs.Rows.{row_trees}
+use Rattle.cert_parts.specs.Read.{AreAll}
 use Rattle.cert_reading.specs.Texts.{IsTextOf, ReadsText}
 use Rattle.cert_reading.specs.Written.{IsCertificate, claim_of_cold}
 use Rattle.cert_writing.specs.Written.{written_of}

@@ -8,7 +8,7 @@ use Rattle.certificates.specs.Limits.{CertificateParts}
 use Rattle.certificates.specs.declared.term.Term.{Term}
 use Rattle.certificates.specs.declared.term.Term.TheVariants as terms
 use Rattle.certificates.specs.declared.term.Branch.{Branch}
-use Rattle.cert_parts.specs.Read.{row_trees}
+use Rattle.reuse_paths.specs.Rows.{row_trees}
 use Rattle.cert_reading.specs.Written.{WrittenCold, WrittenBranch, WrittenCertificate, claim_of_cold}
 
 -- a polynomial, by its terms in the order in which they are printed

@@ -2,7 +2,7 @@
 
 ghost use Rattle.std.specs.Prelude.{◌≡◌, map, IfOk};
 ghost use Rattle.std.specs.List.{AllByRecursion};
-ghost use Rattle.cert_parts.specs.Leaves.{claim_of, no_point, stops, is_credited, goes_on, arrives};
+ghost use Rattle.reuse_paths.specs.LeafClaims.{claim_of, no_point, stops, is_credited, goes_on, arrives};
 ghost use Rattle.serde_json.specs.View.{view};
 ghost use Rattle.cert_writing.specs.Leaves.{leaf_data, leaves_data};
 ghost use Rattle.cert_writing.specs.ReadBack.{LeafIsRead};

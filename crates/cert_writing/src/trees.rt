@@ -3,7 +3,7 @@
 ghost use Rattle.std.specs.Prelude.{◌≡◌, map, IfOk};
 ghost use Rattle.std.specs.List.{AllByRecursion};
 ghost use Rattle.dep_quast.specs.Tree.{tree_of};
-ghost use Rattle.cert_parts.specs.Read.{row_trees};
+ghost use Rattle.reuse_paths.specs.Rows.{row_trees};
 ghost use Rattle.serde_json.specs.View.{view};
 ghost use Rattle.cert_writing.specs.ReadBack.{TreeIsRead, TreesAreRead};
 ghost use Rattle.cert_writing.specs.Trees.{tree_data, trees_data, all_trees_data, test_data};

@@ -1,13 +1,12 @@
 -- What a certificate claims: its parts as plain lists and trees.
-use Rattle.std.specs.Prelude.{ℕ, List, map, Vec}
-use Rattle.std.specs.Global.{Global}
+use Rattle.std.specs.Prelude.{ℕ, List, map}
 use Rattle.iolb_model.specs.Form.{AffineForm}
 use Rattle.affine_form.specs.Matrix.{IntegerMatrix}
 use Rattle.affine_form.specs.Multipliers.{FarkasMultipliers}
 use Rattle.poly_tree.specs.Poly.{Quotient}
-use Rattle.dep_quast.specs.declared.quast.Quast.{Quast}
-use Rattle.dep_quast.specs.Tree.{SelectionTree, tree_of}
+use Rattle.dep_quast.specs.Tree.{SelectionTree}
 use Rattle.reuse_paths.specs.LeafClaims.{LeafClaim, claim_of}
+use Rattle.reuse_paths.specs.Rows.{row_trees}
 use Rattle.wavefront.specs.declared.cold.Cold.{Cold}
 use Rattle.certificates.specs.declared.term.Term.{Term}
 use Rattle.certificates.specs.declared.term.Term.TheVariants as terms
@@ -59,10 +58,6 @@ claim_of_term (terms.Cold term) = cold (claim_of_cold term) term.sums.sums
 
 abbrev pub claim_of_branch : Branch → BranchClaim
 claim_of_branch branch = record { terms = map claim_of_term branch.terms.items; disjoint = branch.disjoint.items }
-
--- the source trees of a statement's reads
-abbrev pub row_trees : Vec Quast Global → List SelectionTree
-row_trees row = map tree_of row.items
 
 abbrev pub claim_of_certificate : CertificateParts → CertificateClaim
 claim_of_certificate parts = record { trees = map row_trees parts.quasts.rows.items; branches = map claim_of_branch parts.branches }

@@ -15,7 +15,7 @@ use Rattle.domain_count.proofs.Fractions.{cancelled}
 use Rattle.domain_count.proofs.Variables.{at-longer, at-listed, length-listed, listed}
 
 -- two values over their denominators that are one value
-crossed : (k d e : ℕ) (x y v : ℤ) → 1 ≤ k → x *ℤ pos k ≡ v *ℤ pos d → y *ℤ pos k ≡ v *ℤ pos e → x *ℤ pos e ≡ y *ℤ pos d
+pub crossed : (k d e : ℕ) (x y v : ℤ) → 1 ≤ k → x *ℤ pos k ≡ v *ℤ pos d → y *ℤ pos k ≡ v *ℤ pos e → x *ℤ pos e ≡ y *ℤ pos d
 crossed k d e x y v some h g =
     cancelled k (x *ℤ pos e) (y *ℤ pos d) some
     (mul_turn x (pos e) (pos k) ∙ ap (λ (z : ℤ). z *ℤ pos e) h ∙ mul_turn v (pos d) (pos e) ∙ ap (λ (z : ℤ). z *ℤ pos d) (sym g) ∙ mul_turn y (pos k) (pos d))

@@ -1,7 +1,7 @@
 -- Polynomials by their terms.
 use Rattle.std.proofs.Common.{◌≡◌, ℕ, zero, suc, ◌+◌, ◌*◌, ◌<◌, ◌≤◌, max, min, List, [], ◌∷◌, ◌++◌, length, get_or, take, drop, replicate, arith, subst, sym, refl, ◌∙◌, ap, append_assoc, mul-le-mul, Vec, Global}
 use Rattle.std.proofs.Math.IntN.{ℤ, pos, ◌+ℤ◌, ◌*ℤ◌}
-use Rattle.std.specs.Prelude.{unsigned_abs}
+use Rattle.std.specs.Prelude.{slice_get, Some}
 use Rattle.std.specs.List.{AllByRecursion}
 use Rattle.std.proofs.lemmas.Int.{ints}
 use Rattle.std.proofs.lemmas.List.{take_more, length-take-le, length_push, get_or_at, get_or_past, take-append-drop, map-append}
@@ -104,12 +104,12 @@ powers-monomial (f ∷ es) front (p ∷ ps) v e =
     ∙ ap (λ (ys : List ℤ). int_power p f *ℤ powers_from es (suc v) (at ys)) (sym (append_assoc front (p ∷ []) ps))
     ∙ ap (λ (z : ℤ). int_power p f *ℤ z) (powers-monomial es (front ++ p ∷ []) ps (suc v) (omega (arith, length_push front p)))
 
-terms_value-push : (ts : List Term) (t : Term) (point : List ℤ) → terms_value (ts ++ t ∷ []) point ≡ terms_value ts point +ℤ (t.coefficient *ℤ monomial t.exponents point)
-terms_value-push [] t point = flip (t.coefficient *ℤ monomial t.exponents point) where
-  flip : (a : ℤ) → a +ℤ pos 0 ≡ pos 0 +ℤ a
-  flip a = omega (arith, ints)
-terms_value-push (s ∷ ts) t point = ap (λ (z : ℤ). (s.coefficient *ℤ monomial s.exponents point) +ℤ z) (terms_value-push ts t point)
-    ∙ regroup (s.coefficient *ℤ monomial s.exponents point) (terms_value ts point) (t.coefficient *ℤ monomial t.exponents point) where
+terms_value-append : (ts us : List Term) (point : List ℤ) → terms_value (ts ++ us) point ≡ terms_value ts point +ℤ terms_value us point
+terms_value-append [] us point = none (terms_value us point) where
+  none : (a : ℤ) → a ≡ pos 0 +ℤ a
+  none a = omega (arith, ints)
+terms_value-append (t ∷ ts) us point = ap (λ (z : ℤ). (t.coefficient *ℤ monomial t.exponents point) +ℤ z) (terms_value-append ts us point)
+    ∙ regroup (t.coefficient *ℤ monomial t.exponents point) (terms_value ts point) (terms_value us point) where
       regroup : (a b c : ℤ) → a +ℤ (b +ℤ c) ≡ (a +ℤ b) +ℤ c
       regroup a b c = omega (arith, ints)
 
@@ -117,23 +117,27 @@ terms_weight-append : (ts us : List Term) → terms_weight (ts ++ us) ≡ terms_
 terms_weight-append [] us = omega arith
 terms_weight-append (t ∷ ts) us = omega (arith, terms_weight-append ts us)
 
-terms_more : (pairs : List (ℤ × Vec ℕ Global)) (i : ℕ) (d : ℤ × Vec ℕ Global) → i < length pairs → terms_of (take (i + 1) pairs) ≡ terms_of (take i pairs) ++ term_of (get_or pairs i d) ∷ []
-terms_more pairs i d below = ap terms_of (take_more pairs i d below) ∙ map-append term_of (take i pairs) (get_or pairs i d ∷ [])
+-- terms in two parts
+terms_split : (pairs front back : List (ℤ × Vec ℕ Global)) (i : ℕ) → front ≡ take i pairs → back ≡ drop i pairs → terms_of pairs ≡ terms_of front ++ terms_of back
+terms_split pairs front back i first second =
+    ap terms_of (sym (take-append-drop i pairs)) ∙ map-append term_of (take i pairs) (drop i pairs)
+    ∙ ap (λ (ps : List (ℤ × Vec ℕ Global)). terms_of ps ++ terms_of (drop i pairs)) (sym first) ∙ ap (λ (ps : List (ℤ × Vec ℕ Global)). terms_of front ++ terms_of ps) (sym second)
 
--- the terms up to a place and the next are no heavier than all
-pub terms-room : (pairs : List (ℤ × Vec ℕ Global)) (i : ℕ) (d : ℤ × Vec ℕ Global) (c : ℤ) → i < length pairs → c ≡ (get_or pairs i d).0
-    → terms_weight (terms_of (take i pairs)) + unsigned_abs c ≤ terms_weight (terms_of pairs)
-terms-room pairs i d c below e =
-    let whole : terms_weight (terms_of pairs) ≡ terms_weight (terms_of (take (i + 1) pairs)) + terms_weight (terms_of (drop (i + 1) pairs))
-    = ap (λ (ps : List (ℤ × Vec ℕ Global)). terms_weight (terms_of ps)) (sym (take-append-drop (i + 1) pairs)) ∙ ap terms_weight (map-append term_of (take (i + 1) pairs) (drop (i + 1) pairs)) ∙ terms_weight-append (terms_of (take (i + 1) pairs)) (terms_of (drop (i + 1) pairs)) in
-    let more = ap terms_weight (terms_more pairs i d below) ∙ terms_weight-append (terms_of (take i pairs)) (term_of (get_or pairs i d) ∷ []) in
-    omega (arith, whole, more, ap unsigned_abs e)
+-- no part is heavier than all, and each has exponents if all have
+pub record ArePartsOf (pairs front back : List (ℤ × Vec ℕ Global)) : Type 0 where
+  pub whole : terms_of pairs ≡ terms_of front ++ terms_of back
+  pub weights : terms_weight (terms_of pairs) ≡ terms_weight (terms_of front) + terms_weight (terms_of back)
+  pub first : AllByRecursion HasExponents (terms_of front)
+  pub second : AllByRecursion HasExponents (terms_of back)
 
--- the exponents of a term that is read
-pub exponents-at : (pairs : List (ℤ × Vec ℕ Global)) (i : ℕ) (d : ℤ × Vec ℕ Global) → AllByRecursion HasExponents (terms_of pairs) → i < length pairs → HasExponents (term_of (get_or pairs i d))
-exponents-at [] i d h p = absurd (omega arith)
-exponents-at (x ∷ pairs) zero d h p = h.0
-exponents-at (x ∷ pairs) (suc i) d h p = exponents-at pairs i d h.1 (omega arith)
+pub parts-of_terms : (pairs front back : List (ℤ × Vec ℕ Global)) (i : ℕ) → front ≡ take i pairs → back ≡ drop i pairs → AllByRecursion HasExponents (terms_of pairs) → ArePartsOf pairs front back
+parts-of_terms pairs front back i first second low =
+    let whole = terms_split pairs front back i first second in
+    let both = All-parts HasExponents (terms_of front) (terms_of back) (subst (AllByRecursion HasExponents) whole low) in
+    record { whole = whole; weights = ap terms_weight whole ∙ terms_weight-append (terms_of front) (terms_of back); first = both.0; second = both.1 } where
+      All-parts : (P : Term → Type 0) (ts us : List Term) → AllByRecursion P (ts ++ us) → AllByRecursion P ts × AllByRecursion P us
+      All-parts P [] us h = (tt, h)
+      All-parts P (t ∷ ts) us h = let rest = All-parts P ts us h.1 in ((h.0, rest.0), rest.1)
 
 -- no terms
 pub terms-none : (t : Expansion) → t ≡ zero_expansion → IsTermsSum [] 24 t
@@ -144,20 +148,35 @@ terms-none t e = record {
   degrees = subst (DegreesAtMost 8) (sym e) tt;
 }
 
--- one term more
-pub terms-push : (pairs : List (ℤ × Vec ℕ Global)) (i : ℕ) (d : ℤ × Vec ℕ Global) (total m t : Expansion) → AllByRecursion HasExponents (terms_of pairs) → i < length pairs
-    → IsTermsSum (terms_of (take i pairs)) 24 total → IsMonomial (get_or pairs i d).0 (get_or pairs i d).1.items m → IsSum total m t → IsTermsSum (terms_of (take (i + 1) pairs)) 24 t
-terms-push pairs i d total m t low below h mono added =
-    let here = get_or pairs i d in
-    let before = terms_of (take i pairs) in
-    subst (λ (ts : List Term). IsTermsSum ts 24 t) (sym (terms_more pairs i d below)) (record {
-      sum = λ point. added.sum (at point) ∙ ap (λ (z : ℤ). z +ℤ value m (at point)) (h.sum point)
-          ∙ ap (λ (z : ℤ). terms_value before point +ℤ z) (mono.product (at point) ∙ ap (λ (z : ℤ). here.0 *ℤ z) (powers-monomial here.1.items [] point 0 refl))
-          ∙ sym (terms_value-push before (term_of here) point);
-      light = omega (arith, added.light, h.light, mono.light, terms_weight-append before (term_of here ∷ []));
-      canonical = added.canonical 24 h.canonical (IsCanonical-more (length here.1.items) 24 m (exponents-at pairs i d low below).0 mono.canonical);
-      degrees = added.degrees 8 h.degrees mono.degrees;
-    })
+-- one term, the first of a list of one
+pub terms-one : (pairs : List (ℤ × Vec ℕ Global)) (x : ℤ × Vec ℕ Global) (m : Expansion) → length pairs ≡ 1 → Some x ≡ slice_get pairs 0 → AllByRecursion HasExponents (terms_of pairs)
+    → IsMonomial x.0 x.1.items m → IsTermsSum (terms_of pairs) 24 m
+terms-one [] x m one first low mono = absurd (omega arith)
+terms-one (y ∷ z ∷ pairs) x m one first low mono = absurd (omega arith)
+terms-one (y ∷ []) x m one first low mono =
+    let here : x ≡ y = cc in
+    let is : IsMonomial y.0 y.1.items m = subst (λ (p : ℤ × Vec ℕ Global). IsMonomial p.0 p.1.items m) here mono in
+    record {
+      sum = λ point. is.product (at point) ∙ ap (λ (z : ℤ). y.0 *ℤ z) (powers-monomial y.1.items [] point 0 refl) ∙ alone (y.0 *ℤ monomial y.1.items point);
+      light = omega (arith, is.light);
+      canonical = IsCanonical-more (length y.1.items) 24 m low.0.0 is.canonical;
+      degrees = is.degrees;
+    } where
+      alone : (a : ℤ) → a ≡ a +ℤ pos 0
+      alone a = omega (arith, ints)
+
+pub some-terms : (pairs : List (ℤ × Vec ℕ Global)) (x : ℤ × Vec ℕ Global) → Some x ≡ slice_get pairs 0 → 1 ≤ length pairs
+some-terms [] x first = absurd cc
+some-terms (y ∷ pairs) x first = omega arith
+
+-- what both parts add up to
+pub terms-both : (ts us : List Term) (a b t : Expansion) → IsTermsSum ts 24 a → IsTermsSum us 24 b → IsSum a b t → IsTermsSum (ts ++ us) 24 t
+terms-both ts us a b t h g added = record {
+  sum = λ point. added.sum (at point) ∙ ap (λ (z : ℤ). z +ℤ value b (at point)) (h.sum point) ∙ ap (λ (z : ℤ). terms_value ts point +ℤ z) (g.sum point) ∙ sym (terms_value-append ts us point);
+  light = omega (arith, added.light, h.light, g.light, terms_weight-append ts us);
+  canonical = added.canonical 24 h.canonical g.canonical;
+  degrees = added.degrees 8 h.degrees g.degrees;
+}
 
 -- the capped size of terms
 pub terms-capped : (w d m limit : ℕ) → 1 ≤ d → 1 ≤ limit → m ≡ min (max (min w limit) 1 * d) limit → m ≡ min (max 1 w * d) limit
@@ -172,15 +191,3 @@ terms-small w d limit p h = let r : w * 1 ≤ max 1 w * d = mul-le-mul (omega ar
 
 pub terms-over : (terms : List Term) (t : Expansion) (d : ℕ) (r : Quotient) → IsTermsSum terms 24 t → IsReduced t d r → IsTermsOver terms d r
 terms-over terms t d r h reduced = λ point. reduced-value t d r reduced (at point) ∙ ap (λ (z : ℤ). z *ℤ pos r.denominator) (h.sum point)
-
-pub terms-push_read : (pairs : List (ℤ × Vec ℕ Global)) (i : ℕ) (x : ℤ × Vec ℕ Global) (es : List ℕ) (total m t : Expansion) → AllByRecursion HasExponents (terms_of pairs) → i < length pairs → x ≡ get_or pairs i x → es ≡ x.1.items
-    → IsTermsSum (terms_of (take i pairs)) 24 total → IsMonomial x.0 es m → IsSum total m t → IsTermsSum (terms_of (take (i + 1) pairs)) 24 t
-terms-push_read pairs i x es total m t low below read same h mono added =
-    terms-push pairs i x total m t low below h
-    (subst (λ (y : ℤ × Vec ℕ Global). IsMonomial y.0 y.1.items m) read (subst (λ (fs : List ℕ). IsMonomial x.0 fs m) same mono)) added
-
-pub exponents-read : (pairs : List (ℤ × Vec ℕ Global)) (i : ℕ) (x : ℤ × Vec ℕ Global) (es : List ℕ) → AllByRecursion HasExponents (terms_of pairs) → i < length pairs → x ≡ get_or pairs i x → es ≡ x.1.items
-    → (length es ≤ 24) × AllByRecursion (λ e. e ≤ 8) es
-exponents-read pairs i x es low below read same =
-    let h = exponents-at pairs i x low below in
-    subst (λ (fs : List ℕ). (length fs ≤ 24) × AllByRecursion (λ e. e ≤ 8) fs) (sym same) (subst (λ (y : ℤ × Vec ℕ Global). HasExponents (term_of y)) (sym read) h)

@@ -283,7 +283,8 @@ pub(crate) fn reduced(alloc: Global, tree: &Tree, den: i128) -> Result<Poly, Mem
     requires positive { pos 1 ≤ℤ den }
     requires canonical { IsCanonical (2 ^ 16) (expansion tree.now) }
     requires degrees { DegreesAtMost 8 (expansion tree.now) }
-    ensures { IfOk result (λ r. IsReduced (expansion tree.now) (unsigned_abs den) r) }
+    ensures reduced { IfOk result (λ r. IsReduced (expansion tree.now) (unsigned_abs den) r) }
+    ensures legal { IfOk result (λ r. IsLegal r) }
 {
     let factor = common_factor(tree, den);
     let quotients = divided(alloc, tree, factor)?;

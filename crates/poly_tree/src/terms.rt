@@ -3,6 +3,7 @@
 ghost use Rattle.std.specs.Prelude.{◌≡◌, ◌*◌, ◌<◌, ◌≤◌, ◌^◌, ◌+◌, [], ◌∷◌, ◌++◌, length, min, pos, ◌≤ℤ◌, replicate, unsigned_abs, IfOk, IsOk};
 ghost use Rattle.std.specs.List.{AllByRecursion};
 ghost use Rattle.poly_tree.specs.Expansion.{IsJoined, IsMonomial, parts_from, zero_expansion};
+ghost use Rattle.poly_tree.specs.Poly.{IsLegal};
 ghost use Rattle.poly_tree.specs.Terms.{AreApart, HasExponents, IsNoGreater, IsTermsOver, IsTermsSum, terms_of, terms_size, terms_weight};
 ghost use Rattle.poly_tree.specs.Tree.{expansion, expansions};
 
@@ -32,6 +33,7 @@ impl Poly {
         requires exponents { AllByRecursion HasExponents (terms_of terms.now) }
         requires apart { AreApart (terms_of terms.now) }
         ensures value { IfOk result (λ r. IsTermsOver (terms_of terms.now) (unsigned_abs den) r) }
+        ensures legal { IfOk result (λ r. IsLegal r) }
         ensures within { IfOk result (λ r. IsNoGreater (terms_of terms.now) (unsigned_abs den) r) }
         ensures narrow { IsOk result → terms_size (terms_of terms.now) (unsigned_abs den) < 2 ^ 126 }
         ensures wide { result ≡ Err PolyFault.Wide → 2 ^ 126 ≤ terms_size (terms_of terms.now) (unsigned_abs den) }
@@ -56,18 +58,22 @@ fn weight_of_terms(terms: &[(i128, Vec<u8>)]) -> u128
     sum
 }
 
-/// The tree that terms add up to.
+/// The tree that terms add up to: the sum of what the halves add up to, so that no tree is copied once for each term.
 fn sum_of_terms(alloc: Global, terms: &[(i128, Vec<u8>)]) -> Result<Tree, Memory>
     requires light { terms_weight (terms_of terms.now) < 2 ^ 126 }
     requires exponents { AllByRecursion HasExponents (terms_of terms.now) }
     ensures { IfOk result (λ t. IsTermsSum (terms_of terms.now) 24 (expansion t)) }
 {
-    let mut total = Tree::Num(0);
-    for (coefficient, exponents) in terms {
-        let term = monomial(alloc, *coefficient, exponents.as_slice())?;
-        total = sum(alloc, &total, &term)?;
+    let Some((coefficient, exponents)) = terms.first() else {
+        return Ok(Tree::Num(0));
+    };
+    if terms.len() == 1 {
+        return monomial(alloc, *coefficient, exponents.as_slice());
     }
-    Ok(total)
+    let (front, back) = terms.split_at(terms.len() / 2);
+    let first = sum_of_terms(alloc, front)?;
+    let second = sum_of_terms(alloc, back)?;
+    sum(alloc, &first, &second)
 }
 
 /// A coefficient times powers of the variables, as a tree.

@@ -1,2 +1,3 @@
 pub mod LeafClaims
 pub mod Quasts
+pub mod Rows

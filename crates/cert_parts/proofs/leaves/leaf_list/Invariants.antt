@@ -1,5 +1,6 @@
 use Rattle.std.proofs.Common.{◌≡◌, map, drop}
-use Rattle.cert_parts.specs.Leaves.{claim_of, reads_leaf, reads_leaves}
+use Rattle.reuse_paths.specs.LeafClaims.{claim_of}
+use Rattle.cert_parts.specs.Leaves.{reads_leaf, reads_leaves}
 use Rattle.serde_json.specs.View.{view}
 use Rattle.cert_parts.specs.Json.{each}
 use Rattle.cert_parts.proofs.Loop.{with_front}

@@ -25,4 +25,4 @@ returns-in-Ok-from_terms c =
     let within : IsNoGreater (terms_of terms) den c.in-Ok-from_terms.poly =
     subst (λ (n : ℕ). IsNoGreater (terms_of terms) n c.in-Ok-from_terms.poly) over
     (subst (λ ts. IsNoGreater (terms_of ts) (unsigned_abs z) c.in-Ok-from_terms.poly) c.as_slice.ensures.value c.in-Ok-from_terms.ensures.within) in
-    (record { terms = terms_of terms; denominator = den }, rw (c.in-Ok.ensures.read, lt-ltb _ _ narrow) refl, record { value = value; within = within })
+    (record { terms = terms_of terms; denominator = den }, rw (c.in-Ok.ensures.read, lt-ltb _ _ narrow) refl, record { value = value; legal = c.in-Ok-from_terms.ensures.legal; within = within })

@@ -1,6 +1,6 @@
 use Rattle.std.proofs.Common.{◌≡◌, [], ◌∷◌, ◌++◌, map}
 use Rattle.std.proofs.lemmas.List.{map_push}
-use Rattle.cert_parts.specs.Read.{row_trees}
+use Rattle.reuse_paths.specs.Rows.{row_trees}
 use Rattle.cert_parts.specs.Trees.{reads_trees, reads_all_trees}
 use Rattle.serde_json.specs.View.{view}
 use Rattle.cert_parts.proofs.Loop.{goes_on, ends, is_done}

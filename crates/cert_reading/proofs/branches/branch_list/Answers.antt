@@ -1,3 +1,6 @@
+use Rattle.std.proofs.Common.{◌≡◌, [], ◌∷◌, ◌++◌, map}
+use Rattle.std.proofs.lemmas.List.{map_push}
+use Rattle.certificates.specs.Claims.{claim_of_branch}
 use Rattle.serde_json.specs.View.{view}
 use Rattle.cert_parts.proofs.LoopBy.{goes_on_by, ends_by, is_done_by}
 use Rattle.cert_reading.specs.Certificates.{reads_branch, reads_branches}
@@ -6,14 +9,16 @@ use Rattle.cert_reading.proofs.branches.branch_list.Goals as goal
 
 pub returns-in-Err-one_branch : goal.returns-in-Err-one_branch
 returns-in-Err-one_branch c =
-    ends_by IsBranch reads_branch c.in-Ok.values.now c.loop-i.i c.loop-i.found.items (reads_branches (view c.args.value.now)) c.index-values-i.result c.in-Err-one_branch.error c.under.result
+    ends_by IsBranch reads_branch c.in-Ok.values.now c.loop-i.i (map claim_of_branch c.loop-i.found.items) (reads_branches (view c.args.value.now)) c.index-values-i.result c.in-Err-one_branch.error c.under.result
     c.loop-i-test.true c.index-values-i.is c.in-Err-one_branch.ensures c.under.ensures c.loop-i.invariant
 
 pub loop-i-preserved : goal.loop-i-preserved
 loop-i-preserved c =
-    rw c.in_ok-push-in-Ok-one_branch.ensures.items
-    (goes_on_by IsBranch reads_branch c.in-Ok.values.now c.loop-i.i c.loop-i.found.items (reads_branches (view c.args.value.now)) c.index-values-i.result c.in-Ok-one_branch.item
+    let found : map claim_of_branch c.push.new.self.items ≡ map claim_of_branch c.loop-i.found.items ++ claim_of_branch c.in-Ok-one_branch.item ∷ []
+    = rw c.in_ok-push-in-Ok-one_branch.ensures.items (map_push claim_of_branch c.loop-i.found.items c.in-Ok-one_branch.item) in
+    rw found
+    (goes_on_by IsBranch reads_branch c.in-Ok.values.now c.loop-i.i (map claim_of_branch c.loop-i.found.items) (reads_branches (view c.args.value.now)) c.index-values-i.result (claim_of_branch c.in-Ok-one_branch.item)
     c.loop-i-test.true c.index-values-i.is c.in-Ok-one_branch.ensures c.loop-i.invariant)
 
 pub returns : goal.returns
-returns c = is_done_by IsBranch reads_branch c.in-Ok.values.now c.loop-i.i c.loop-i.found.items (reads_branches (view c.args.value.now)) c.loop-i-test.false c.loop-i.invariant
+returns c = is_done_by IsBranch reads_branch c.in-Ok.values.now c.loop-i.i (map claim_of_branch c.loop-i.found.items) (reads_branches (view c.args.value.now)) c.loop-i-test.false c.loop-i.invariant

@@ -1,3 +1,5 @@
+use Rattle.std.proofs.Common.{map}
+use Rattle.certificates.specs.Claims.{claim_of_branch}
 use Rattle.serde_json.specs.View.{view}
 use Rattle.cert_parts.proofs.LoopBy.{SoFar}
 use Rattle.cert_reading.specs.Certificates.{reads_branch, reads_branches}
@@ -5,4 +7,4 @@ use Rattle.cert_reading.specs.Written.{IsBranch}
 use Rattle.cert_reading.proofs.branches.branch_list.Given as goal
 
 abbrev pub invariant-loop-i : goal.invariant-loop-i
-invariant-loop-i l = SoFar IsBranch reads_branch l.values l.i l.found.items (reads_branches (view l.value))
+invariant-loop-i l = SoFar IsBranch reads_branch l.values l.i (map claim_of_branch l.found.items) (reads_branches (view l.value))

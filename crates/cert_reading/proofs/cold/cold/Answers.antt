@@ -5,7 +5,9 @@ use Rattle.cert_parts.specs.Outcome.{GivesBy, fault}
 use Rattle.cert_parts.specs.Json.{has_keys, with_keys}
 use Rattle.cert_parts.proofs.Members.{fails_fault}
 use Rattle.cert_reading.specs.Terms.{cold_keys, reads_cold, reads_cold_members}
-use Rattle.cert_reading.specs.Written.{IsCold}
+use Rattle.cert_reading.specs.Views.{cold_term}
+use Rattle.cert_reading.specs.Written.{IsTerm}
+use Rattle.wavefront.specs.declared.cold.Cold.{Cold}
 use Rattle.cert_reading.proofs.cold.cold.Goals as goal
 
 other : (d : Data) → has_keys cold_keys d ≡ false → reads_cold d ≡ fault 2
@@ -21,4 +23,4 @@ returns-then-not-has_keys c =
     fails_fault 2 c.fault.result (reads_cold (view c.args.value.now)) c.fault.ensures (other (view c.args.value.now) (sym c.if-not-has_keys.ensures))
 
 pub returns : goal.returns
-returns c = subst (GivesBy IsCold c.members.result) (sym (same (view c.args.value.now) (sym c.if-not-has_keys.ensures))) c.members.ensures
+returns c = subst (GivesBy (λ said (found : Cold). IsTerm said (cold_term found)) c.members.result) (sym (same (view c.args.value.now) (sym c.if-not-has_keys.ensures))) c.members.ensures

@@ -9,7 +9,7 @@ use Rattle.cert_parts.specs.Json.{part}
 use Rattle.cert_parts.specs.Polynomials.{reads_polynomials}
 use Rattle.cert_parts.specs.Read.{ArePolynomials}
 use Rattle.cert_reading.specs.Terms.{ColdFront, ColdMiddle, cold_claim, reads_cold_front, reads_cold_middle, reads_cold_members}
-use Rattle.cert_reading.specs.ColdViews.{front_of, middle_of}
+use Rattle.cert_reading.specs.Views.{front_of, middle_of}
 use Rattle.cert_reading.specs.Written.{WrittenCold}
 use Rattle.cert_reading.proofs.Steps.{first_fails, second_fails, third_fails, all_read}
 use Rattle.cert_reading.proofs.cold.members.Goals as goal

@@ -1,7 +1,7 @@
 use Rattle.std.proofs.Common.{◌≡◌, Vec, Global, map, ap, sym}
 use Rattle.dep_quast.specs.declared.quast.Quast.{Quast}
 use Rattle.serde_json.specs.View.{view}
-use Rattle.cert_parts.specs.Read.{row_trees}
+use Rattle.reuse_paths.specs.Rows.{row_trees}
 use Rattle.cert_reading.proofs.Opened.{certificate_read}
 use Rattle.cert_reading.proofs.reading.parts.Goals as goal
 

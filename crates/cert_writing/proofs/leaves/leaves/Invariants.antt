@@ -1,7 +1,7 @@
 use Rattle.std.proofs.Common.{◌≡◌, ◌++◌, map, drop}
 use Rattle.std.specs.List.{AllByRecursion}
 use Rattle.serde_json.specs.View.{view}
-use Rattle.cert_parts.specs.Leaves.{claim_of}
+use Rattle.reuse_paths.specs.LeafClaims.{claim_of}
 use Rattle.cert_writing.specs.Leaves.{leaf_data}
 use Rattle.cert_writing.specs.ReadBack.{LeafIsRead}
 use Rattle.cert_writing.proofs.leaves.leaves.Given as goal

@@ -1,7 +1,7 @@
 use Rattle.std.proofs.Common.{◌≡◌, ◌++◌, map, drop}
 use Rattle.std.specs.List.{AllByRecursion}
 use Rattle.serde_json.specs.View.{view}
-use Rattle.cert_parts.specs.Read.{row_trees}
+use Rattle.reuse_paths.specs.Rows.{row_trees}
 use Rattle.cert_writing.specs.Trees.{trees_data}
 use Rattle.cert_writing.specs.ReadBack.{TreesAreRead}
 use Rattle.cert_writing.proofs.trees.all_trees.Given as goal

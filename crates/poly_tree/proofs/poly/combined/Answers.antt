@@ -39,5 +39,5 @@ returns-clause-value c =
     let l : IsLinear (pos b.denominator) a.tree c.args.factor b.tree t
     = simp (c.den.ensures.denominator, c.tree.ensures.tree, c.tree-2.ensures.tree) at plain in
     let n : IsReduced t (a.denominator * b.denominator) r
-    = subst (λ (m : ℕ). IsReduced t m r) (ap unsigned_abs (to_z-of_z w128 c.common_denominator.result fits_d ∙ c.common_denominator.ensures.product)) c.in_ok-reduced.ensures in
+    = subst (λ (m : ℕ). IsReduced t m r) (ap unsigned_abs (to_z-of_z w128 c.common_denominator.result fits_d ∙ c.common_denominator.ensures.product)) c.in_ok-reduced.ensures.reduced in
     combination-value a b r c.args.factor t l n

@@ -34,5 +34,5 @@ returns-clause-value c =
     let r = c.in_ok-reduced.field-0 in
     let h = put_it a c.args.var (expansion c.args.inner.now) t (expansion c.tree.result.now) c.tree.ensures.tree c.in_ok-tree.ensures in
     let fits : FitsSigned w128 c.den.result = search rules in
-    let n : IsReduced t a.denominator r = subst (λ (m : ℕ). IsReduced t m r) (ap unsigned_abs (to_z-of_z w128 c.den.result fits ∙ c.den.ensures.denominator)) c.in_ok-reduced.ensures in
+    let n : IsReduced t a.denominator r = subst (λ (m : ℕ). IsReduced t m r) (ap unsigned_abs (to_z-of_z w128 c.den.result fits ∙ c.den.ensures.denominator)) c.in_ok-reduced.ensures.reduced in
     λ point. reduced-value t a.denominator r n (at point) ∙ ap (λ (z : ℤ). z *ℤ pos r.denominator) (h.same (at point))

@@ -19,8 +19,8 @@ invariant_of-result c =
     rw (to_z-of_z w128 q fits_q)
     (legal-reduced (expansion c.args.tree.now) (expansion c.in_ok-quotients.quotients) f q c.args.den c.common_factor-factor.ensures.some c.requires.positive content e is c.requires.canonical c.requires.degrees)
 
-pub returns : goal.returns
-returns c =
+pub returns-clause-reduced : goal.returns-clause-reduced
+returns-clause-reduced c =
     let f = c.common_factor-factor.result in
     let q = c.quotient.result in
     let fits_f : FitsSigned w128 f = search rules in
@@ -36,3 +36,6 @@ quotient-requires-clause-divides c =
     let fits_f : FitsSigned w128 f = search rules in
     let content : IsContent (expansion c.args.tree.now) (unsigned_abs c.args.den) (unsigned_abs f) = simp (to_z-of_z w128 c.args.den c.ranges.den) at c.common_factor-factor.ensures.content in
     rw (to_z-of_z w128 f fits_f, to_z-of_z w128 c.args.den c.ranges.den) content.divides_start
+
+pub returns-clause-legal : goal.returns-clause-legal
+returns-clause-legal c = (invariant_of-result c).0

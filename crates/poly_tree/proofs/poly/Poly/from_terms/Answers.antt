@@ -14,11 +14,11 @@ returns-clause-value c =
     let t = expansion c.in_ok-tree.tree in
     let r = c.in_ok-reduced.field-0 in
     terms-over (terms_of c.args.terms.now) t (unsigned_abs c.args.den) r c.in_ok-tree.ensures
-    (subst (λ (m : ℕ). IsReduced t m r) (ap unsigned_abs (to_z-of_z w128 c.args.den c.ranges.den)) c.in_ok-reduced.ensures)
+    (subst (λ (m : ℕ). IsReduced t m r) (ap unsigned_abs (to_z-of_z w128 c.args.den c.ranges.den)) c.in_ok-reduced.ensures.reduced)
 
 pub returns-clause-within : goal.returns-clause-within
 returns-clause-within c =
     let t = expansion c.in_ok-tree.tree in
     let r = c.in_ok-reduced.field-0 in
     no-greater (terms_of c.args.terms.now) t (unsigned_abs c.args.den) r c.requires.exponents c.requires.apart c.in_ok-tree.ensures
-    (subst (λ (m : ℕ). IsReduced t m r) (ap unsigned_abs (to_z-of_z w128 c.args.den c.ranges.den)) c.in_ok-reduced.ensures)
+    (subst (λ (m : ℕ). IsReduced t m r) (ap unsigned_abs (to_z-of_z w128 c.args.den c.ranges.den)) c.in_ok-reduced.ensures.reduced)

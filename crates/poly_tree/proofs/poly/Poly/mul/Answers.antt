@@ -43,5 +43,5 @@ returns-clause-value c =
     (subst (λ (u : Expansion). IsProduct (expansion c.tree.result.now) u t) c.tree-2.ensures.tree c.in_ok-tree.ensures) in
     let fits_d : FitsSigned w128 c.common_denominator.result = search rules in
     let n : IsReduced t (a.denominator * b.denominator) r
-    = subst (λ (m : ℕ). IsReduced t m r) (ap unsigned_abs (to_z-of_z w128 c.common_denominator.result fits_d ∙ c.common_denominator.ensures.product)) c.in_ok-reduced.ensures in
+    = subst (λ (m : ℕ). IsReduced t m r) (ap unsigned_abs (to_z-of_z w128 c.common_denominator.result fits_d ∙ c.common_denominator.ensures.product)) c.in_ok-reduced.ensures.reduced in
     product-value a b r t product n
