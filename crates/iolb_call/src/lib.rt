@@ -1,0 +1,19 @@
+//! What `iolb` does when it is called: it checks certificates of lower bounds on the loads of affine loop nests, and
+//! evaluates them.
+#![tactic(auto)]
+
+mod answer;
+mod call;
+mod checking;
+mod lines;
+mod pointer_text;
+mod status;
+mod stop;
+mod system;
+#[cfg(test)]
+mod tests;
+mod writing;
+
+pub use call::run;
+pub use status::Status;
+pub use system::program;
