@@ -1,7 +1,7 @@
 -- Why a task isn't answered.
 use Rattle.std.specs.Prelude.{⊤, ℕ, ℤ, List}
 use Rattle.iolb_model.specs.Bound.{AreMet}
-use Rattle.affine_c.specs.Parts.{ProgramParts}
+use Rattle.iolb_model.specs.Program.{AffineProgram}
 use Rattle.command_words.specs.Requests.{Task}
 use Rattle.iolb_check.specs.declared.bound.Value.{Value}
 use Rattle.iolb_check.specs.Bounds.{BoundParts, HasWideBranch, IsFirstUnmet}
@@ -10,7 +10,7 @@ use Rattle.iolb_call.specs.declared.stop.Stop.TheVariants.{Words, ProgramFile, P
 use Rattle.iolb_call.specs.Task.{IsBeyond, IsOutside}
 
 -- why a task isn't answered for a program and these values
-abbrev pub AnswerStop : Task → ProgramParts → List (List Value) → Stop → Type 0
+abbrev pub AnswerStop : Task → AffineProgram → List (List Value) → Stop → Type 0
 AnswerStop task program values Words = ⊥
 AnswerStop task program values (ProgramFile fault) = ⊥
 AnswerStop task program values (ProgramText fault) = ⊥

@@ -3,6 +3,7 @@
 ghost use Rattle.std.specs.Prelude.{◌≡◌, ◌≤◌, ◌<◌, ◌^◌, ◌++◌, length, slice_get, List, Some, codes, decimal, IfOk, IfErr, OnOk};
 ghost use Rattle.std.specs.List.{AllByRecursion};
 ghost use Rattle.iolb_model.specs.Bound.{AreMet, bound_value, branch_value};
+ghost use Rattle.affine_c.specs.Parts.{meaning};
 ghost use Rattle.affine_form.specs.Form.{IsSmall};
 ghost use Rattle.command_words.specs.Requests.{IsSmallJob, task_of};
 ghost use Rattle.iolb_check.specs.declared.bound.Value.{Value as value};
@@ -31,8 +32,8 @@ pub(crate) fn answer(
     requires job { IsSmallJob job.now }
     requires given { GivesSizes (task_of job.now) program.now.params sizes.now }
     requires small { AllByRecursion (IsSmall (2 ^ 40)) sizes.now }
-    ensures text { IfOk result (λ text. IsAnswer (task_of job.now) program.now bound.now.branches text.items) }
-    ensures stop { IfErr result (λ stop. AnswerStop (task_of job.now) program.now bound.now.branches stop) }
+    ensures text { IfOk result (λ text. IsAnswer (task_of job.now) (meaning program.now) bound.now.branches text.items) }
+    ensures stop { IfErr result (λ stop. AnswerStop (task_of job.now) (meaning program.now) bound.now.branches stop) }
 {
     let _params = program.params();
     match job {
@@ -50,7 +51,8 @@ fn values_text(alloc: Global, bound: &Bound, sizes: &[i64], s: u64) -> Result<Ve
     requires small { AllByRecursion (IsSmall (2 ^ 40)) sizes.now }
     requires some { 1 ≤ s }
     requires few { s < 2 ^ 63 }
-    ensures met { IfOk result (λ text. AreMet bound.now.assumed.rows sizes.now) }
+    ensures met { OnOk result (AreMet bound.now.assumed.rows sizes.now) }
+    ensures narrow { OnOk result (¬ HasWideBranch sizes.now s bound.now.branches) }
     ensures text { IfOk result (λ text. text.items ≡ text_of_values (bound_of bound.now) sizes.now s) }
     ensures stop { IfErr result (λ stop. ValueStop bound.now sizes.now s stop) }
 {

@@ -1,10 +1,11 @@
 //! The program's call.
 
-ghost use Rattle.std.specs.Prelude.{◌≡◌, map, string_bytes};
-ghost use Rattle.iolb_call.specs.Stop.{Call, stop_status, stop_line as line_of_stop};
+ghost use Rattle.std.specs.Prelude.{◌≡◌, ◌≤◌};
+ghost use Rattle.iolb_call.specs.Stop.{call_of, stop_status, stop_line as line_of_stop};
 ghost use Rattle.iolb_call.specs.Written.{LineWritten};
 ghost use Rattle.iolb_call.specs.Outcome.{Outcome};
 ghost use Rattle.iolb_call.specs.Headline.{IsLowerBoundPrinted};
+ghost use Rattle.iolb_call.specs.Use.{HasOneFaultAtMost, files_use, sink_use};
 
 use crate::checking::run_command;
 use crate::lines::stop_line;
@@ -23,7 +24,7 @@ fn stopped<E: Sink>(
     stop: &Stop,
     err: &mut E,
 ) -> Status
-    ensures { LineWritten (record { before = E.written err.old; after = E.written err.new; faults = E.faults err.old; faults_after = E.faults err.new }) (line_of_stop program.now certificate.now stop.now) (stop_status stop.now) result }
+    ensures { LineWritten (sink_use E.written E.faults err.old err.new) (line_of_stop program.now certificate.now stop.now) (stop_status stop.now) result }
 {
     match stop_line(alloc, program, certificate, stop) {
         Ok(line) => write_line(err, line.as_slice(), stop.status()),
@@ -41,30 +42,22 @@ pub fn run<F: Files, O: Sink, E: Sink>(
     out: &mut O,
     err: &mut E,
 ) -> Status
-    ensures outcome { Outcome result (record {
-      words = map (λ word. string_bytes word) words.now.items;
-      files = F.told files.old;
-      counts = record {
-        missing = F.missing files.old;
-        missing_after = F.missing files.new;
-        long = F.long files.old;
-        long_after = F.long files.new;
-        failed = F.faults files.old;
-        failed_after = F.faults files.new;
-      };
-    }) (record { before = O.written out.old; after = O.written out.new; faults = O.faults out.old; faults_after = O.faults out.new }) (record { before = E.written err.old; after = E.written err.new; faults = E.faults err.old; faults_after = E.faults err.new }) }
-    ensures headline { result ≡ Status.Done → IsLowerBoundPrinted (record {
-      words = map (λ word. string_bytes word) words.now.items;
-      files = F.told files.old;
-      counts = record {
-        missing = F.missing files.old;
-        missing_after = F.missing files.new;
-        long = F.long files.old;
-        long_after = F.long files.new;
-        failed = F.faults files.old;
-        failed_after = F.faults files.new;
-      };
-    }) (record { before = O.written out.old; after = O.written out.new; faults = O.faults out.old; faults_after = O.faults out.new }) (record { before = E.written err.old; after = E.written err.new; faults = E.faults err.old; faults_after = E.faults err.new }) }
+    ensures outcome { Outcome result (call_of words.now.items (F.told files.old)) (record {
+      files = files_use F.faults files.old files.new;
+      output = sink_use O.written O.faults out.old out.new;
+      error = sink_use E.written E.faults err.old err.new;
+    }) }
+    ensures headline { result ≡ Status.Done → IsLowerBoundPrinted (call_of words.now.items (F.told files.old)) (record {
+      files = files_use F.faults files.old files.new;
+      output = sink_use O.written O.faults out.old out.new;
+      error = sink_use E.written E.faults err.old err.new;
+    }) }
+
+    // Whatever the status is: what the files tell stays, one read had a fault, if any, and no count of a sink falls.
+    ensures told_stays { F.told files.new ≡ F.told files.old }
+    ensures reads { HasOneFaultAtMost (files_use F.faults files.old files.new) }
+    ensures output_counts { O.faults out.old ≤ O.faults out.new }
+    ensures error_counts { E.faults err.old ≤ E.faults err.new }
 {
     let command = match command_of(alloc, words.as_slice()) {
         Ok(Some(command)) => command,

@@ -1,6 +1,6 @@
 //! A request: the program in one file, the certificate in another, and what answers the job.
 
-ghost use Rattle.std.specs.Prelude.{◌≡◌, ◌≤◌, ◌^◌, IfOk, IfErr, IfSome, IfNone};
+ghost use Rattle.std.specs.Prelude.{◌≡◌, ◌^◌, OnOk, IfOk, IfErr, IfSome, IfNone};
 ghost use Rattle.std.specs.List.{AllByRecursion};
 ghost use Rattle.iolb_model.specs.Headline.{BoundHolds};
 ghost use Rattle.affine_form.specs.Form.{IsSmall};
@@ -9,8 +9,7 @@ ghost use Rattle.command_words.specs.Requests.{IsSmallJob, asked, task_of};
 ghost use Rattle.iolb_check.specs.Bounds.{bound_of};
 ghost use Rattle.iolb_check.specs.Conditions.{MeetsConditions};
 ghost use Rattle.iolb_call.specs.Judged.{JudgeStop};
-ghost use Rattle.iolb_call.specs.Reading.{Counts};
-ghost use Rattle.iolb_call.specs.Stop.{CertificateStop, IsAccepted, IsGoodFor, RequestStop};
+ghost use Rattle.iolb_call.specs.Stop.{CertificateStop, IsAccepted, IsGoodFor, RequestStop, faults_at};
 ghost use Rattle.iolb_call.specs.Task.{GivesSizes, LacksSizes};
 
 use crate::answer::answer;
@@ -47,9 +46,9 @@ fn sizes_for(alloc: Global, names: &[Name], job: &Job) -> Result<Option<Vec<i64>
 /// Tests the conditions: the bound that holds, or why not.
 fn judge(alloc: Global, program: &Program, certificate: &Certificate) -> Result<Bound, Stop>
     ensures assumed { IfOk result (λ bound. bound.assumed ≡ program.now.assumed) }
-    ensures meets { IfOk result (λ bound. MeetsConditions program.now certificate.now bound.branches) }
+    ensures meets { IfOk result (λ bound. MeetsConditions (meaning program.now) certificate.now bound.branches) }
     ensures holds { IfOk result (λ bound. BoundHolds (meaning program.now) (bound_of bound)) }
-    ensures stop { IfErr result (λ stop. JudgeStop program.now certificate.now stop) }
+    ensures stop { IfErr result (λ stop. JudgeStop (meaning program.now) certificate.now stop) }
 {
     match check(alloc, program, certificate) {
         Ok(bound) => Ok(bound),
@@ -67,18 +66,10 @@ fn answer_for<F: Files>(
 ) -> Result<Vec<u8>, Stop>
     requires job { IsSmallJob command.now.job }
     ensures told_stays { F.told files.new ≡ F.told files.old }
-    ensures missing_never_falls { F.missing files.old ≤ F.missing files.new }
-    ensures long_never_falls { F.long files.old ≤ F.long files.new }
-    ensures faults_never_fall { F.faults files.old ≤ F.faults files.new }
-    ensures good { IfOk result (λ text. IsGoodFor (F.told files.old) (asked command.now) program.now text.items) }
-    ensures stop { IfErr result (λ stop. CertificateStop (F.told files.old) (record {
-      missing = F.missing files.old;
-      missing_after = F.missing files.new;
-      long = F.long files.old;
-      long_after = F.long files.new;
-      failed = F.faults files.old;
-      failed_after = F.faults files.new;
-    }) (asked command.now) program.now stop) }
+    ensures read { OnOk result (F.faults files.new ≡ F.faults files.old) }
+    ensures noted { IfErr result (λ stop. F.faults files.new ≡ faults_at (asked command.now) stop (F.faults files.old)) }
+    ensures good { IfOk result (λ text. IsGoodFor (F.told files.old) (asked command.now) (meaning program.now) text.items) }
+    ensures stop { IfErr result (λ stop. CertificateStop (F.told files.old) (asked command.now) (meaning program.now) stop) }
 {
     let sizes = match sizes_for(alloc, program.params(), &command.job) {
         Ok(Some(sizes)) => sizes,
@@ -94,10 +85,8 @@ fn answer_for<F: Files>(
         Err(CertError::Fault(fault)) => return Err(Stop::CertificateText(fault)),
         Err(CertError::Memory) => return Err(Stop::Memory),
     };
-    match judge(alloc, program, &certificate) {
-        Ok(bound) => answer(alloc, program, &bound, &command.job, sizes.as_slice()),
-        Err(stop) => Err(stop),
-    }
+    let bound = judge(alloc, program, &certificate)?;
+    answer(alloc, program, &bound, &command.job, sizes.as_slice())
 }
 
 /// Does what a command asks for: the text of its answer, or why not.
@@ -107,15 +96,11 @@ pub(crate) fn run_command<F: Files>(
     files: &mut F,
 ) -> Result<Vec<u8>, Stop>
     requires job { IsSmallJob command.now.job }
+    ensures told_stays { F.told files.new ≡ F.told files.old }
+    ensures read { OnOk result (F.faults files.new ≡ F.faults files.old) }
+    ensures noted { IfErr result (λ stop. F.faults files.new ≡ faults_at (asked command.now) stop (F.faults files.old)) }
     ensures accepted { IfOk result (λ text. IsAccepted (F.told files.old) (asked command.now) text.items) }
-    ensures stop { IfErr result (λ stop. RequestStop (F.told files.old) (record {
-      missing = F.missing files.old;
-      missing_after = F.missing files.new;
-      long = F.long files.old;
-      long_after = F.long files.new;
-      failed = F.faults files.old;
-      failed_after = F.faults files.new;
-    }) (asked command.now) stop) }
+    ensures stop { IfErr result (λ stop. RequestStop (F.told files.old) (asked command.now) stop) }
 {
     let bytes = match files.read(command.program, PROGRAM_MOST) {
         Ok(bytes) => bytes,
