@@ -10,7 +10,7 @@ use Rattle.iolb_check.specs.Bounds.{BoundParts, EvaluatesBranch, HasWideBranch, 
 use Rattle.iolb_call.specs.Values.{branch_value_lines}
 
 -- assumptions that are met have none that isn't
-met-first : (rows : List AffineForm) (sizes : List ℤ) (n : ℕ) → AreMet rows sizes → IsFirstUnmet rows sizes n → ⊥
+pub met-first : (rows : List AffineForm) (sizes : List ℤ) (n : ℕ) → AreMet rows sizes → IsFirstUnmet rows sizes n → ⊥
 met-first [] sizes n met unmet = absurd unmet
 met-first (row ∷ rows) sizes zero met unmet = unmet met.0
 met-first (row ∷ rows) sizes (suc n) met unmet = met-first rows sizes n met.1 unmet.1
