@@ -3,3 +3,6 @@ pub mod Keys
 pub mod Words
 pub mod Stops
 pub mod Values
+pub mod Phases
+pub mod Ends
+pub mod One
