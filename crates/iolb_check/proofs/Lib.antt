@@ -1,3 +1,4 @@
 pub mod Lists
 pub mod Terms
 pub mod Exactness
+pub mod SameClaims

@@ -1,10 +1,11 @@
-//! That a certificate isn't both accepted and refused.
+//! That a certificate has one answer.
 
-ghost use Rattle.iolb_check.specs.Exact.{ValidCertificatesGiveOne, ValidCertificatesStand};
+ghost use Rattle.iolb_check.specs.Exact.{RefusalsAreOne, ValidCertificatesGiveOne, ValidCertificatesStand};
 
-/// A law: a certificate that meets the conditions isn't refused, and each of its terms has one polynomial, up to how it is
-/// written: two have the same values at every point.
+/// A law: what a certificate claims has one answer. Where it meets the conditions it isn't refused, and meets them with one
+/// list of values; else it is refused by one condition at one place.
 pub fn answers_are_exact()
     ensures stand { ValidCertificatesStand }
     ensures one { ValidCertificatesGiveOne }
+    ensures refused { RefusalsAreOne }
 {}
