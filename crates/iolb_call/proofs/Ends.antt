@@ -17,6 +17,7 @@ use Rattle.command_words.specs.Requests.{Request, Task, checks, evaluates, reque
 use Rattle.command_words.specs.Sizes.{NamedSize, values_for}
 use Rattle.iolb_check.specs.declared.bound.Value.{Value}
 use Rattle.iolb_check.specs.Bounds.{HasWideBranch, IsFirstUnmet}
+use Rattle.iolb_check.specs.Exact.{IsLegalCertificate, RefusalsAreOne, ValidCertificatesGiveOne, ValidCertificatesStand}
 use Rattle.iolb_host.specs.declared.files.FileFault.{FileFault}
 use Rattle.iolb_host.specs.declared.files.FileFault.TheVariants.{Missing, TooLong, Failed, Memory as NoMemoryForFile}
 use Rattle.iolb_host.specs.Files.{FileMap, content_of}
@@ -29,6 +30,7 @@ use Rattle.iolb_call.specs.Stop.{program_most, certificate_most, stop_line, stop
 use Rattle.iolb_call.specs.Task.{HasSizes, LacksSizes, bound_with}
 use Rattle.iolb_call.specs.Valid.{IsValid, IsInvalid}
 use Rattle.iolb_call.specs.Values.{values_text}
+use Rattle.iolb_call.proofs.Legal.{legal}
 use Rattle.iolb_call.proofs.Phases.{Phase, phase_one}
 use Rattle.iolb_call.proofs.Values.{met-first}
 
@@ -37,9 +39,9 @@ pub record AreExact : Type 0 where
   pub one_program : TextsMeanOneProgram
   pub one_certificate : TextsHaveOneCertificate
   pub one_answer : TextsHaveOneAnswer
-  pub one_values : (program : AffineProgram) (claim : CertificateClaim) (v w : List (List Value)) → IsValid program claim v → IsValid program claim w → v ≡ w
-  pub valid_or_not : (program : AffineProgram) (claim : CertificateClaim) (v : List (List Value)) (failed : FailedCondition) → IsValid program claim v → IsInvalid program claim failed → ⊥
-  pub one_refusal : (program : AffineProgram) (claim : CertificateClaim) (f g : FailedCondition) → IsInvalid program claim f → IsInvalid program claim g → f ≡ g
+  pub stand : ValidCertificatesStand
+  pub one_values : ValidCertificatesGiveOne
+  pub one_refusal : RefusalsAreOne
 
 -- how a call ends: its status, and what it writes to the output and to the standard error
 pub record CallEnd : Type 0 where
@@ -142,20 +144,32 @@ task_one (evaluates s named) request program values one other (sizes, given, end
     values_one request s program values sizes one other ends
     (subst (λ (z : List ℤ). ValueEnds request s program values z other) (same_some others sizes (sym gives ∙ given)) end)
 
-conditions_one : AreExact → (request : Request) (program : AffineProgram) (claim : CertificateClaim) (one other : CallEnd)
+same_refusal : AreExact → (program : AffineProgram) (claim : CertificateClaim) (f g : FailedCondition) → IsLegalCertificate claim → IsInvalid program claim f → IsInvalid program claim g → f ≡ g
+same_refusal exact program claim f g legal one other =
+    exact.one_refusal program one.certificate other.certificate f g (one.claims ∙ sym other.claims) (subst IsLegalCertificate (sym one.claims) legal) one.fails other.fails
+
+valid_or_not : AreExact → (program : AffineProgram) (claim : CertificateClaim) (values : List (List Value)) (failed : FailedCondition) → IsValid program claim values → IsInvalid program claim failed → ⊥
+valid_or_not exact program claim values failed valid invalid =
+    exact.stand program valid.certificate invalid.certificate values failed (valid.claims ∙ sym invalid.claims) valid.meets invalid.fails
+
+same_values : AreExact → (program : AffineProgram) (claim : CertificateClaim) (v w : List (List Value)) → IsValid program claim v → IsValid program claim w → v ≡ w
+same_values exact program claim v w one other =
+    exact.one_values program one.certificate other.certificate v w (one.claims ∙ sym other.claims) one.meets other.meets
+
+conditions_one : AreExact → (request : Request) (program : AffineProgram) (claim : CertificateClaim) → IsLegalCertificate claim → (one other : CallEnd)
     → ConditionEnds request program claim one → ConditionEnds request program claim other → one ≡ other
-conditions_one exact request program claim = phase_one _ _ _ _
-    (λ f g fails again. ap (λ failed. stop_end request (Condition failed)) (exact.one_refusal program claim f g fails again))
-    (λ failed values fails valid. exact.valid_or_not program claim values failed valid fails)
+conditions_one exact request program claim legal = phase_one _ _ _ _
+    (λ f g fails again. ap (λ failed. stop_end request (Condition failed)) (same_refusal exact program claim f g legal fails again))
+    (λ failed values fails valid. valid_or_not exact program claim values failed valid fails)
     (λ v w one other valid again ends end. task_one request.task request program v one other ends
-    (subst (λ (z : List (List Value)). TaskEnds request.task request program z other) (exact.one_values program claim w v again valid) end))
+    (subst (λ (z : List (List Value)). TaskEnds request.task request program z other) (same_values exact program claim w v again valid) end))
 
 certificate_one : AreExact → (request : Request) (program : AffineProgram) (bytes : List ℕ) (one other : CallEnd)
     → CertificateEnds request program bytes one → CertificateEnds request program bytes other → one ≡ other
 certificate_one exact request program bytes = phase_one _ _ _ _
     (λ f g has again. ap (λ fault. stop_end request (CertificateText fault)) (exact.one_answer.one_fault bytes f g has again))
     (λ fault claim faulty has. exact.one_answer.either bytes claim fault has faulty)
-    (λ a b one other has again ends end. conditions_one exact request program a one other ends
+    (λ a b one other has again ends end. conditions_one exact request program a (legal bytes a has) one other ends
     (subst (λ (z : CertificateClaim). ConditionEnds request program z other) (exact.one_certificate bytes b a again has) end))
 
 absent_one : (content : Option (List ℕ)) (most : ℕ) (f g : FileFault) → IsAbsent content most f → IsAbsent content most g → f ≡ g

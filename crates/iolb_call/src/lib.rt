@@ -5,6 +5,7 @@
 mod answer;
 mod call;
 mod checking;
+mod law;
 mod lines;
 mod pointer_text;
 mod status;
@@ -15,5 +16,6 @@ mod tests;
 mod writing;
 
 pub use call::run;
+pub use law::outcomes_are_one;
 pub use status::Status;
 pub use system::program;
