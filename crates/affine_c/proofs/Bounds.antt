@@ -4,6 +4,7 @@ use Rattle.std.specs.Prelude.{◌⊎◌, ◌==◌, if◌then◌else◌, ⊤, Opt
 use Rattle.std.specs.List.{AllByRecursion, enumerate_from}
 use Rattle.std.proofs.lemmas.Bool.{eqb-true}
 use Rattle.std.proofs.lemmas.List.{length-map}
+use Rattle.integer_laws.proofs.Lists.{there}
 use Rattle.iolb_model.specs.Form.{AffineForm}
 use Rattle.iolb_model.specs.Path.{PathStep, rises, first_of, item_path, row_path}
 use Rattle.iolb_model.specs.Program.{Item, assign, loop, Row, done, next, AffineProgram, IsOver, StatementFits, ItemFits, RowFits}
@@ -133,12 +134,6 @@ common-within parts t s at is below read =
     (row_common-within (row_of parts.tree) t s (statements-rise (meaning parts) is.well_formed)
     (subst (λ (o : Option (List PathStep)). IsSomeAnd o (λ path. Unit {0})) (sym way) tt)) in
     omega (arith, length-map at.bounds.items step_of)
-
--- what stands at a place that is there
-there : {X : Type 0} (xs : List X) (k : ℕ) → k < length xs → (x : X) × (x ≡ get_or xs k x)
-there [] k below = absurd (omega arith)
-there (x ∷ xs) zero below = (x, refl)
-there (x ∷ xs) (suc k) below = there xs k (omega arith)
 
 -- two statements have at most 4 loops in common
 pub common-few : (parts : ProgramParts) (tree : List CodeItem) (t s : ℕ) → tree ≡ parts.tree → IsProgram parts → t < length parts.statements

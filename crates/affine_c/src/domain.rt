@@ -15,7 +15,7 @@ use std::alloc::Global;
 
 impl Program {
     /// The domain of a statement as rows over the parameters and the statement's loop values, each to be at least 0:
-    /// for each loop around it, outermost first, `x - lower` and `upper - x`. Want of memory is its only error.
+    /// for each loop around it, outermost first, `x - lower` and `upper - x`.
     pub fn domain(&self, alloc: Global, statement: u16) -> Result<System, Memory>
         requires { statement < length self.now.statements }
         ensures { IfOk result (λ system. system ≡ domain_of (meaning self.now) statement) }

@@ -61,7 +61,6 @@ impl Program {
     /// The program of these parts, and `None` exactly where they don't make one: it is to be well formed, each statement
     /// with the bounds of the loops around it, and within the limits: at most 6 parameters, 32 assumptions, 128 arrays of
     /// at most 4 subscripts, and 32 statements in at most 4 loops with at most 32 reads, and numbers of size below 2^20.
-    /// Want of memory is its only error.
     pub fn new(
         alloc: Global,
         params: Vec<Name>,

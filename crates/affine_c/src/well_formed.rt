@@ -95,8 +95,7 @@ fn row_fits(draft: &Draft, variables: usize, items: &[Item]) -> bool
     true
 }
 
-/// Puts the numbers of the statements of a row of items at the end, in the order of the text. Want of memory is its only
-/// error.
+/// Puts the numbers of the statements of a row of items at the end, in the order of the text.
 fn push_numbers(items: &[Item], numbers: &mut Vec<u16>) -> Result<(), Memory>
     ensures { OnOk result (numbers.new.items ≡ numbers.old.items ++ row_statements (row_of items.now)) }
 {
@@ -181,8 +180,7 @@ fn all_stand(draft: &Draft) -> bool
     true
 }
 
-/// Whether the statements are numbered in the order of the text, and each stands in the tree once. Want of memory is its
-/// only error.
+/// Whether the statements are numbered in the order of the text, and each stands in the tree once.
 fn are_numbered(alloc: Global, draft: &Draft) -> Result<bool, Memory>
     ensures { IfOk result (λ yes. IsTrue yes ↔ (row_statements (row_of draft.now.tree.items) ≡ range_with_len 0 (length draft.now.statements.items))) }
 {
@@ -191,7 +189,7 @@ fn are_numbered(alloc: Global, draft: &Draft) -> Result<bool, Memory>
     Ok(count_up_to(numbers.as_slice(), draft.statements.as_slice().len()))
 }
 
-/// Whether the parts make a well-formed program. Want of memory is its only error.
+/// Whether the parts make a well-formed program.
 fn is_well_formed(alloc: Global, draft: &Draft) -> Result<bool, Memory>
     ensures { IfOk result (λ yes. IsTrue yes ↔ IsWellFormed (meaning (parts_of draft.now))) }
 {
@@ -205,7 +203,7 @@ fn is_well_formed(alloc: Global, draft: &Draft) -> Result<bool, Memory>
 }
 
 /// Whether the parts make a program: they are within their limits and well formed, the assumptions are over the
-/// parameters, and each statement has the bounds of the loops around it. Want of memory is its only error.
+/// parameters, and each statement has the bounds of the loops around it.
 pub(crate) fn is_program(alloc: Global, draft: &Draft) -> Result<bool, Memory>
     ensures { IfOk result (λ yes. IsTrue yes ↔ IsProgram (parts_of draft.now)) }
 {

@@ -5,6 +5,7 @@ use Rattle.std.specs.List.{AllByRecursion}
 use Rattle.std.proofs.Math.IntN.{ℤ, pos, negsuc, ◌-ℤ◌, ◌*ℤ◌}
 use Rattle.std.proofs.lemmas.Int.{ints, unsigned_abs-mul}
 use Rattle.std.proofs.lemmas.List.{length-append, length-replicate, length-map, length-set, append_assoc, replicate_more}
+use Rattle.integer_laws.proofs.Lists.{All-append, All-replicate, All-weaken}
 use Rattle.iolb_model.specs.Form.{AffineForm}
 use Rattle.affine_form.specs.Form.{variables, IsSmall, IsSmallForm}
 use Rattle.affine_form.specs.Combination.{add_lists, coefficient_of, combination, constant_form}
@@ -15,18 +16,6 @@ use Rattle.affine_form.proofs.Sizes.{size-add, product-below}
 use Rattle.affine_form.proofs.SubstitutionLemmas.{length-substitution}
 use Rattle.execution_laws.specs.Order.{Direction, upward}
 use Rattle.affine_rows.specs.Rows.{widened, variable, variables_from, difference, within_rows, equality_rows, put_in, order_rows, IsSmallOver, IsSmallWithin, BoundsFit, step_of}
-
-pub All-append : {X : Type 0} (P : X → Type 0) (xs ys : List X) → AllByRecursion P xs → AllByRecursion P ys → AllByRecursion P (xs ++ ys)
-All-append P [] ys h g = g
-All-append P (x ∷ xs) ys h g = (h.0, All-append P xs ys h.1 g)
-
-pub All-replicate : {X : Type 0} (P : X → Type 0) (n : ℕ) (x : X) → P x → AllByRecursion P (replicate n x)
-All-replicate P zero x h = tt
-All-replicate P (suc n) x h = (h, All-replicate P n x h)
-
-pub All-weaken : {X : Type 0} (P Q : X → Type 0) (xs : List X) → ((x : X) → P x → Q x) → AllByRecursion P xs → AllByRecursion Q xs
-All-weaken P Q [] f h = tt
-All-weaken P Q (x ∷ xs) f h = (f x h.0, All-weaken P Q xs f h.1)
 
 -- a form read over more variables has them
 pub length-widened : (vars : ℕ) (form : AffineForm) → variables form ≤ vars → variables (widened vars form) ≡ vars

@@ -1,7 +1,8 @@
 -- One step of a walk along lists of forms.
 use Rattle.std.proofs.Common.{◌≡◌, sym, ◌∙◌, ap, ℕ, zero, suc, ◌+◌, ◌-◌, ◌<◌, ◌≤◌, List, [], ◌∷◌, ◌++◌, length, replicate, get_or, drop, arith}
 use Rattle.std.proofs.Math.IntN.{pos, negsuc}
-use Rattle.std.proofs.lemmas.List.{drop_more, drop_all, append_assoc, append-nil}
+use Rattle.std.proofs.lemmas.List.{drop_all, append_assoc, append-nil}
+use Rattle.integer_laws.proofs.Lists.{rest_at}
 use Rattle.iolb_model.specs.Form.{AffineForm}
 use Rattle.execution_laws.specs.Order.{upward}
 use Rattle.affine_rows.specs.Rows.{difference, order_rows}
@@ -10,10 +11,6 @@ use Rattle.affine_rows.specs.Rows.{difference, order_rows}
 two_more : (rows rest whole : List AffineForm) (f g : AffineForm) → rows ++ f ∷ g ∷ rest ≡ whole → ((rows ++ f ∷ []) ++ g ∷ []) ++ rest ≡ whole
 two_more rows rest whole f g h =
     append_assoc (rows ++ f ∷ []) (g ∷ []) rest ∙ append_assoc rows (f ∷ []) (g ∷ rest) ∙ h
-
--- what is left at a place, by its first member
-rest_at : {X : Type 0} (xs : List X) (i : ℕ) (x : X) → i < length xs → x ≡ get_or xs i x → drop i xs ≡ x ∷ drop (i + 1) xs
-rest_at xs i x below is = drop_more xs i x below ∙ ap (λ z. z ∷ drop (i + 1) xs) (sym is)
 
 below-more : (n i : ℕ) → i < n → n - i ≡ suc (n - (i + 1))
 below-more n i h = omega arith

@@ -8,7 +8,7 @@ ghost use Rattle.affine_rows.specs.Rows.{widened, difference};
 use affine_form::{Form, Memory};
 use std::alloc::Global;
 
-/// The form read over so many variables: those that it lacks have coefficient 0. Want of memory is its only error.
+/// The form read over so many variables: those that it lacks have coefficient 0.
 pub fn widened(alloc: Global, vars: usize, form: &Form) -> Result<Form, Memory>
     requires room { variables form.now ≤ vars }
     requires few { vars ≤ 24 }
@@ -21,7 +21,7 @@ pub fn widened(alloc: Global, vars: usize, form: &Form) -> Result<Form, Memory>
     Ok(Form::new(coef, form.constant()))
 }
 
-/// A form less another, both read over so many variables, and a number. Want of memory is its only error.
+/// A form less another, both read over so many variables, and a number.
 pub fn difference(
     alloc: Global,
     vars: usize,

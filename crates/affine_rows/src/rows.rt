@@ -13,7 +13,7 @@ use affine_form::{Form, Memory};
 use std::alloc::Global;
 
 /// The rows which say that values are within the bounds of their loops, where the first forms stand for the parameters:
-/// `value - lower` and `upper - value` for each loop. Want of memory is its only error.
+/// `value - lower` and `upper - value` for each loop.
 pub fn within_rows(
     alloc: Global,
     vars: usize,
@@ -45,7 +45,7 @@ pub fn within_rows(
 }
 
 /// The rows which say that the cell of subscripts at a point is the cell of others at another point: the subscripts
-/// are equal pair by pair. Want of memory is its only error.
+/// are equal pair by pair.
 pub fn cell_rows(
     alloc: Global,
     vars: usize,
@@ -76,7 +76,7 @@ pub fn cell_rows(
 }
 
 /// The rows which say that the loop values ys come before the loop values xs at a level of so many loops around both,
-/// which run upward. Want of memory is its only error.
+/// which run upward.
 pub fn order_rows(
     alloc: Global,
     vars: usize,
@@ -106,7 +106,7 @@ pub fn order_rows(
     Ok(rows)
 }
 
-/// A form with forms put in for its variables. Want of memory is its only error.
+/// A form with forms put in for its variables.
 pub fn put(alloc: Global, vars: usize, form: &Form, point: &[Form]) -> Result<Form, Memory>
     requires few { vars ≤ 24 }
     requires few_forms { length point.now ≤ 24 }
@@ -120,7 +120,7 @@ pub fn put(alloc: Global, vars: usize, form: &Form, point: &[Form]) -> Result<Fo
     Ok(put)
 }
 
-/// Copies of forms. Want of memory is its only error.
+/// Copies of forms.
 fn copies(alloc: Global, forms: &[Form]) -> Result<Vec<Form>, Memory>
     ensures { IfOk result (λ copies. copies.items ≡ forms.now) }
 {

@@ -6,7 +6,7 @@ ghost use Rattle.affine_form.specs.System.{AllOver};
 use affine_form::{Form, Memory, System};
 use std::alloc::Global;
 
-/// The system of these rows, over so many variables. Want of memory is its only error.
+/// The system of these rows, over so many variables.
 pub fn system_of(alloc: Global, vars: usize, rows: &[Form]) -> Result<System, Memory>
     requires few { vars ≤ 24 }
     requires few_rows { length rows.now ≤ 128 }

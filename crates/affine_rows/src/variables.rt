@@ -7,7 +7,7 @@ ghost use Rattle.affine_rows.specs.Rows.{variable, variables_from, IsSmallOver};
 use affine_form::{Form, Memory};
 use std::alloc::Global;
 
-/// The form over so many variables that is the one at this place. Want of memory is its only error.
+/// The form over so many variables that is the one at this place.
 pub fn variable(alloc: Global, vars: usize, place: usize) -> Result<Form, Memory>
     requires there { place < vars }
     requires few { vars ≤ 24 }
@@ -18,7 +18,7 @@ pub fn variable(alloc: Global, vars: usize, place: usize) -> Result<Form, Memory
     Ok(Form::new(coef, 0))
 }
 
-/// So many variables in a row, from the first on, as forms over all variables. Want of memory is its only error.
+/// So many variables in a row, from the first on, as forms over all variables.
 pub fn variables_from(
     alloc: Global,
     vars: usize,

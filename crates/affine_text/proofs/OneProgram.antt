@@ -3,8 +3,8 @@ use Rattle.std.proofs.Common.{◌≡◌, refl, sym, ◌∙◌, ap, subst, ℕ, L
 use Rattle.std.specs.Prelude.{Result, Ok}
 use Rattle.iolb_model.specs.Form.{AffineForm}
 use Rattle.iolb_model.specs.Program.{Item, assign, loop, Row, done, next, Array, Statement, AffineProgram}
-use Rattle.c_reading.specs.Text.{Reading, reading_of}
-use Rattle.affine_text.specs.Meaning.{TreeLine, begins, does, ends, item_lines, row_lines, IsReadingOf, Means}
+use Rattle.c_reading.specs.Text.{Reading}
+use Rattle.affine_text.specs.Meaning.{TreeLine, begins, ends, item_lines, row_lines, IsReadingOf}
 use Rattle.affine_text.specs.Laws.{TextsMeanOneProgram}
 
 -- the lines of a loop, with what follows

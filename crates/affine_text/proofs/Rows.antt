@@ -3,12 +3,12 @@ use Rattle.std.proofs.Common.{ℕ, ◌+◌, ◌<◌, ◌≤◌, ◌^◌, List, [
 use Rattle.std.specs.Prelude.{unsigned_abs}
 use Rattle.std.specs.List.{AllByRecursion}
 use Rattle.std.proofs.lemmas.List.{length-append, length-take-le, length-drop}
+use Rattle.integer_laws.proofs.Lists.{All-append, All-weaken}
 use Rattle.iolb_model.specs.Program.{IsOver}
 use Rattle.affine_form.specs.Form.{IsSmall, IsSmallForm}
 use Rattle.c_reading.specs.Numbers.{constant_of}
 use Rattle.reading_laws.specs.Well.{IsRowOver}
 use Rattle.affine_text.specs.Meaning.{narrowed}
-use Rattle.reading_laws.proofs.Rows.{All-append, All-weaken}
 use Rattle.affine_text.proofs.Lists.{All-take, All-drop, All-mapped}
 
 -- a number below 2^20 is below 2^62

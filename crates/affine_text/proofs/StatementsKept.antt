@@ -3,6 +3,7 @@ use Rattle.std.proofs.Common.{◌≡◌, sym, ◌∙◌, ap, subst, ℕ, zero, s
 use Rattle.std.proofs.lemmas.List.{map_push, length-append}
 use Rattle.std.specs.Prelude.{Some}
 use Rattle.std.specs.List.{AllByRecursion, enumerate_from}
+use Rattle.integer_laws.proofs.Lists.{All-weaken}
 use Rattle.iolb_model.specs.Path.{row_path}
 use Rattle.iolb_model.specs.Program.{Row, Statement as ModelStatement}
 use Rattle.c_reading.specs.Access.{Access, Statement as ReadStatement}
@@ -11,7 +12,6 @@ use Rattle.c_reading.specs.declared.lines.Line.TheVariants.{Begin, Does, End}
 use Rattle.c_reading.specs.declared.lines.Loop.{Loop}
 use Rattle.c_reading.specs.Text.{Reading}
 use Rattle.affine_form.proofs.Lists.{All-push}
-use Rattle.reading_laws.proofs.Rows.{All-weaken}
 use Rattle.reading_laws.specs.Well.{AreLinesIn, IsAccessIn, parameters_of, statement_count}
 use Rattle.affine_c.specs.Limits.{IsStatementWithinLimits}
 use Rattle.affine_c.specs.Parts.{statement_of, step_of}

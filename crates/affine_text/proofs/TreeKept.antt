@@ -1,5 +1,5 @@
 -- What is kept while a tree grows by the lines of a text.
-use Rattle.std.proofs.Common.{◌≡◌, ◌∙◌, ap, subst, ℕ, zero, suc, ◌+◌, ◌-◌, ◌<◌, List, [], ◌∷◌, ◌++◌, length, append_assoc, arith}
+use Rattle.std.proofs.Common.{◌≡◌, ◌∙◌, ap, subst, ℕ, zero, suc, ◌+◌, ◌-◌, ◌<◌, List, [], ◌∷◌, ◌++◌, append_assoc, arith}
 use Rattle.std.specs.Prelude.{slice_index_or}
 use Rattle.iolb_model.specs.Form.{AffineForm}
 use Rattle.c_reading.specs.Access.{Statement}
@@ -7,7 +7,7 @@ use Rattle.c_reading.specs.declared.lines.Line.{Line}
 use Rattle.c_reading.specs.declared.lines.Line.TheVariants.{Begin, Does, End}
 use Rattle.c_reading.specs.declared.lines.Loop.{Loop}
 use Rattle.c_reading.specs.Text.{Reading}
-use Rattle.reading_laws.specs.Well.{AreLinesIn, IsRowOver, parameters_of, statement_count}
+use Rattle.reading_laws.specs.Well.{AreLinesIn, statement_count}
 use Rattle.affine_text.specs.Meaning.{TreeLine, begins, does, ends, narrowed, tree_lines}
 
 -- with the lines so far, the depth, the next statement's number, and the lines that are left
@@ -15,11 +15,6 @@ pub record Kept (reading : Reading) (parameters : ℕ) (so_far : List TreeLine) 
   pub well : AreLinesIn reading depth rest
   pub lines : so_far ++ tree_lines reading.names parameters depth number rest ≡ tree_lines reading.names parameters 0 0 reading.lines
   pub count : number + statement_count rest ≡ statement_count reading.lines
-
--- what a line that is left says
-pub begins_there : (reading : Reading) (depth : ℕ) (l : Loop) (rest : List Line) → AreLinesIn reading depth (Begin l ∷ rest)
-    → (l.name < length reading.names) × (depth < 4) × IsRowOver (length (parameters_of reading)) depth l.lower × IsRowOver (length (parameters_of reading)) depth l.upper
-begins_there reading depth l rest h = (h.0, h.1, h.2, h.3)
 
 pub kept_begin : (reading : Reading) (p : ℕ) (so new : List TreeLine) (depth number : ℕ) (l : Loop) (rest : List Line) (name : List ℕ) (lower upper : AffineForm)
     → Kept reading p so depth number (Begin l ∷ rest) → new ≡ so ++ begins name lower upper ∷ [] → name ≡ slice_index_or reading.names l.name [] → lower ≡ narrowed p depth l.lower → upper ≡ narrowed p depth l.upper
@@ -58,9 +53,6 @@ kept_does reading p so new depth number s rest h grown = subst (λ (n : ℕ). Ke
 deep : (reading : Reading) (depth : ℕ) (rest : List Line) → AreLinesIn reading depth (End ∷ rest) → (0 < depth) × AreLinesIn reading (depth - 1) rest
 deep reading zero rest h = absurd h
 deep reading (suc depth) rest h = (omega arith, subst (λ (n : ℕ). AreLinesIn reading n rest) (omega arith) h)
-
-pub ends_there : (reading : Reading) (depth : ℕ) (rest : List Line) → AreLinesIn reading depth (End ∷ rest) → 0 < depth
-ends_there reading depth rest h = (deep reading depth rest h).0
 
 pub kept_end : (reading : Reading) (p : ℕ) (so new : List TreeLine) (depth number : ℕ) (rest : List Line)
     → Kept reading p so depth number (End ∷ rest) → new ≡ so ++ ends ∷ [] → Kept reading p new (depth - 1) number rest

@@ -9,7 +9,7 @@ use affine_c::Item;
 use affine_form::{Form, Memory};
 use std::alloc::Global;
 
-/// The bounds of one loop more, outermost first. Want of memory is its only error.
+/// The bounds of one loop more, outermost first.
 fn with_loop(
     alloc: Global,
     lower: &Form,
@@ -24,8 +24,7 @@ fn with_loop(
     Ok(())
 }
 
-/// The bounds of the loops of an item that are around a statement, outermost first, where it stands there. Want of
-/// memory is its only error.
+/// The bounds of the loops of an item that are around a statement, outermost first, where it stands there.
 #[cycle(way)]
 fn bounds_within(
     alloc: Global,
@@ -57,8 +56,7 @@ fn bounds_within(
     }
 }
 
-/// The bounds of the loops of a row of items that are around a statement, outermost first, where it stands there. Want
-/// of memory is its only error.
+/// The bounds of the loops of a row of items that are around a statement, outermost first, where it stands there.
 #[cycle(way)]
 pub(crate) fn bounds_in(
     alloc: Global,

@@ -9,7 +9,7 @@ use affine_form::{Form, Memory};
 use c_reading::Row;
 use std::alloc::Global;
 
-/// Puts numbers at the end. Want of memory is its only error.
+/// Puts numbers at the end.
 fn push_numbers(coef: &mut Vec<i128>, numbers: &[i32]) -> Result<(), Memory>
     ensures { OnOk result (coef.new.items ≡ coef.old.items ++ numbers.now) }
 {
@@ -27,7 +27,7 @@ fn numbers_from(numbers: &[i32], from: usize, many: usize) -> &[i32]
     &numbers[from..from + many]
 }
 
-/// The form over so many parameters and loops whose numbers are in this row. Want of memory is its only error.
+/// The form over so many parameters and loops whose numbers are in this row.
 pub(crate) fn form_of(
     alloc: Global,
     row: &Row,
@@ -46,7 +46,7 @@ pub(crate) fn form_of(
     Ok(Form::new(coef, i128::from(numbers[0])))
 }
 
-/// The forms of these rows. Want of memory is its only error.
+/// The forms of these rows.
 pub(crate) fn forms_of(
     alloc: Global,
     rows: &[Row],

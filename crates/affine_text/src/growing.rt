@@ -71,7 +71,7 @@ impl GrowingTree {
         self.open.len()
     }
 
-    /// A loop begins. Want of memory is its only error.
+    /// A loop begins.
     pub(crate) fn begin(
         &mut self,
         alloc: Global,
@@ -92,7 +92,7 @@ impl GrowingTree {
         Ok(())
     }
 
-    /// A statement stands there. Want of memory is its only error.
+    /// A statement stands there.
     pub(crate) fn assign(&mut self, number: u16) -> Result<(), Memory>
         ensures lines { OnOk result (lines_so_far self.new ≡ lines_so_far self.old ++ does number ∷ []) }
         ensures open { OnOk result (length self.new.open.items ≡ length self.old.open.items) }
@@ -102,7 +102,7 @@ impl GrowingTree {
         Ok(())
     }
 
-    /// The innermost loop ends. Want of memory is its only error.
+    /// The innermost loop ends.
     pub(crate) fn end(&mut self) -> Result<(), Memory>
         requires { 0 < length self.old.open.items }
         ensures lines { OnOk result (lines_so_far self.new ≡ lines_so_far self.old ++ ends ∷ []) }

@@ -14,7 +14,7 @@ use affine_form::{Memory, Name, System};
 use c_reading::{Reading, Row};
 use std::alloc::Global;
 
-/// The system of the rows that are assumed. Want of memory is its only error.
+/// The system of the rows that are assumed.
 fn assumed_of(alloc: Global, rows: &[Row], parameters: usize) -> Result<System, Memory>
     requires few { parameters ≤ 6 }
     requires few_rows { length rows.now ≤ 32 }
@@ -28,7 +28,7 @@ fn assumed_of(alloc: Global, rows: &[Row], parameters: usize) -> Result<System, 
     Ok(system)
 }
 
-/// The arrays, each with its number of subscripts as a byte. Want of memory is its only error.
+/// The arrays, each with its number of subscripts as a byte.
 fn arrays_of(alloc: Global, arrays: &[(Name, usize)]) -> Result<Vec<(Name, u8)>, Memory>
     requires { AllByRecursion (λ (array : List ℕ × ℕ). array.1 ≤ 4) arrays.now }
     ensures arrays { IfOk result (λ made. made.items ≡ arrays.now) }
@@ -40,7 +40,7 @@ fn arrays_of(alloc: Global, arrays: &[(Name, usize)]) -> Result<Vec<(Name, u8)>,
     Ok(made)
 }
 
-/// The program that a reading says. Want of memory is its only error.
+/// The program that a reading says.
 pub(crate) fn program_of(alloc: Global, reading: &Reading) -> Result<Program, Memory>
     requires { IsWellRead reading.now }
     ensures { IfOk result (λ program. IsReadingOf reading.now (meaning program)) }

@@ -18,7 +18,7 @@ use affine_form::Memory;
 use c_reading::{Access, Line, Reading, Statement as ReadStatement};
 use std::alloc::Global;
 
-/// The reference that was read. Want of memory is its only error.
+/// The reference that was read.
 fn reference_of(
     alloc: Global,
     access: &Access,
@@ -38,7 +38,7 @@ fn reference_of(
     })
 }
 
-/// The references that were read. Want of memory is its only error.
+/// The references that were read.
 fn references_of(
     alloc: Global,
     accesses: &[Access],
@@ -58,8 +58,7 @@ fn references_of(
     Ok(references)
 }
 
-/// The statement of this number that was read, with the bounds of the loops around it in the tree. Want of memory is its
-/// only error.
+/// The statement of this number that was read, with the bounds of the loops around it in the tree.
 fn statement_at(
     alloc: Global,
     statement: &ReadStatement,
@@ -90,8 +89,7 @@ fn statement_at(
     })
 }
 
-/// The statements among the lines, in the order of the text, with the bounds of the loops around them in the tree. Want
-/// of memory is its only error.
+/// The statements among the lines, in the order of the text, with the bounds of the loops around them in the tree.
 pub(crate) fn statements_of(
     alloc: Global,
     reading: &Reading,

@@ -12,7 +12,7 @@ use affine_form::Memory;
 use c_reading::{Line, Reading};
 use std::alloc::Global;
 
-/// The tree that the lines spell. Want of memory is its only error.
+/// The tree that the lines spell.
 pub(crate) fn tree_of(
     alloc: Global,
     reading: &Reading,

@@ -1,6 +1,7 @@
 -- The numbers of every form that is meant are small, and signs make them negative.
 use Rattle.std.proofs.Common.{◌≡◌, ℕ, zero, suc, Bool, true, false, List, refl, sym, ap, ◌∙◌, Option, Some, None, subst, arith}
 use Rattle.std.specs.Prelude.{◌&&◌, ◌||◌, ◌^◌, nat_lt, if◌then◌else◌, ℤ, pos, Ok}
+use Rattle.std.proofs.lemmas.Bool.{and_parts}
 use Rattle.c_reading.specs.Numbers.{is_integer, is_small, value_from, combined, constant_of, zeros}
 use Rattle.c_reading.specs.Affine as rule
 use Rattle.c_reading.specs.Affine.{Affine}
@@ -8,7 +9,6 @@ use Rattle.c_grammar.specs.Affine as tree
 use Rattle.c_grammar.specs.Affine.{Factor}
 use Rattle.c_grammar.specs.Meaning as mean
 use Rattle.c_grammar.specs.Meaning.{Names, Form, form, given, factor_means, products_means, term_means, sums_means, affine_means}
-use Rattle.c_grammar.proofs.Steps.{and_both}
 use Rattle.c_grammar.proofs.Spelled.{then_some, given_some, given_last, some_if, same_some}
 use Rattle.c_grammar.proofs.Small.{AreSmall, combined_kept, combined_negative, combined_are, single_are, flipped}
 
@@ -37,7 +37,7 @@ negated_are a c e = form_are _ _ c (λ ns f. eleven _ a.numbers ns f) e
 
 integer_small : (bytes : List ℕ) (n : ℤ) → mean.integer_means bytes ≡ Some n → is_small n ≡ true
 unfolding mean.integer_means
-integer_small bytes n e = some_if _ _ e (λ both same. ap is_small (sym same) ∙ (and_both (is_integer bytes) (nat_lt (value_from 0 bytes) (2 ^ 20)) both).1)
+integer_small bytes n e = some_if _ _ e (λ both same. ap is_small (sym same) ∙ (and_parts (is_integer bytes) (nat_lt (value_from 0 bytes) (2 ^ 20)) both).1)
 
 mutual
   unfolding affine_means sums_means term_means products_means factor_means

@@ -4,7 +4,7 @@ use Rattle.std.specs.Prelude.{◌==◌, ◌&&◌, ◌||◌, if◌then◌else◌,
 use Rattle.std.specs.List.{prefix_len, AllByRecursion}
 use Rattle.std.proofs.lemmas.List.{drop-drop, take-append-le, take-append-drop, append_assoc, append-nil, length-append, take_at, drop_at}
 use Rattle.std.proofs.lemmas.List.Sums.{prefix_len-le-length}
-use Rattle.std.proofs.lemmas.Bool.{eqb-true}
+use Rattle.std.proofs.lemmas.Bool.{eqb-true, or_parts, and_parts}
 use Rattle.std.proofs.lemmas.Option.{option_and_then_some}
 use Rattle.c_tokens.specs.declared.token.Token.{Token}
 use Rattle.c_tokens.specs.declared.token.TokenKind.{TokenKind}
@@ -16,7 +16,7 @@ use Rattle.c_tokens.specs.Text.{opens, closes, directive_of, assumption_tokens, 
 use Rattle.c_tokens.specs.Pieces.{is_among, is_keyword, name_kind, name_at, begins_number, number_rest, is_pair, symbol_at, block_comment, comment_end, slash_at, newline_at, piece_from, piece_of, has_comments, piece_length}
 use Rattle.c_tokens.specs.Tokens.{end_kind, tokens_in, token_at, piece_tokens}
 use Rattle.c_grammar.specs.Words.{Word, word_of}
-use Rattle.c_grammar.proofs.Steps.{spelled_kind, class, goes_on, is_last, AreLexical, bool_cases, or_none, and_both}
+use Rattle.c_grammar.proofs.Steps.{spelled_kind, class, goes_on, is_last, AreLexical, bool_cases}
 
 -- ---- pieces
 
@@ -65,8 +65,8 @@ not_byte set c b lacks has = bool_cases (b == c) (λ is. let same : b ≡ c = eq
 -- no pair begins with `#`
 not_hash_pair : (b c : ℕ) → is_pair b c ≡ true → (b == 35) ≡ false
 not_hash_pair b c is = or_cases _ _ is
-    (λ e. not_byte (codes "+-*/<>=!") 35 b refl (and_both (c == 61) _ e).1)
-    (λ e. not_byte (codes "+-&|") 35 b refl (and_both (c == b) _ e).1)
+    (λ e. not_byte (codes "+-*/<>=!") 35 b refl (and_parts (c == 61) _ e).1)
+    (λ e. not_byte (codes "+-&|") 35 b refl (and_parts (c == b) _ e).1)
 
 -- bytes that begin no name, no number, no space and no head are a symbol
 symbol_kind : (b : ℕ) (rest : List ℕ) → is_name_start b ≡ false → begins_number b rest ≡ false → is_space b ≡ false → (b == 35) ≡ false → token.Symbol ≡ spelled_kind (b ∷ rest)
@@ -83,7 +83,7 @@ symbol_lexical b (c ∷ rest) n m s = if_holds (λ (p : _). LexicalAs (b ∷ c �
     (λ _. if_holds (λ (p : _). LexicalAs (b ∷ c ∷ rest) (λ place. piece_tokens place p) (piece_length p)) _ _ (is_among (codes "()[]{};,=+-*/%<>!&|?:.") b)
     (λ is. (token_of token.Symbol 1, (λ place. refl), refl, (omega arith, symbol_kind b [] n (alone b c m) s (not_byte (codes "()[]{};,=+-*/%<>!&|?:.") 35 b refl is), refl))) (λ _. (last_token token.Bad 0, (λ place. refl), refl, (refl, refl, refl)))) where
       alone : (b c : ℕ) → (is_digit b || (b == 46 && is_digit c)) ≡ false → (is_digit b || (b == 46 && false)) ≡ false
-      alone b c m = rw (or_none (is_digit b) _ m).0 (no (b == 46)) where
+      alone b c m = rw (or_parts (is_digit b) _ m).0 (no (b == 46)) where
         no : (t : Bool) → (t && false) ≡ false
         no true = refl
         no false = refl
@@ -155,7 +155,7 @@ digit_goes_on before c is = bool_cases (is_letter c) (λ letter. rw letter refl)
 number_begins : (b : ℕ) (rest : List ℕ) → begins_number b rest ≡ true → begins_number b (take (number_rest b rest) rest) ≡ true
 number_begins b [] is = is
 number_begins b (c ∷ rest) is = or_cases (is_digit b) (b == 46 && is_digit c) is (λ digit. rw digit refl) (λ both.
-    let d = and_both (b == 46) (is_digit c) both in
+    let d = and_parts (b == 46) (is_digit c) both in
     let more : number_rest b (c ∷ rest) ≡ suc (number_rest c rest) = rw (digit_goes_on b c d.1) (omega arith) in
     ap (λ (n : ℕ). begins_number b (take n (c ∷ rest))) more ∙ is)
 
@@ -188,7 +188,7 @@ piece_lexical r b rest =
     if_holds (λ (p : _). LexicalAs (b ∷ rest) (λ place. piece_tokens place p) (piece_length p)) _ _ (is_name_start b) (λ is. name_lexical b rest is) (λ name.
     if_holds (λ (p : _). LexicalAs (b ∷ rest) (λ place. piece_tokens place p) (piece_length p)) _ _ (begins_number b rest) (λ is. number_lexical b rest name is) (λ number.
     if_holds (λ (p : _). LexicalAs (b ∷ rest) (λ place. piece_tokens place p) (piece_length p)) _ _ (b == 47 && has_comments r) (λ slash.
-    let same : b ≡ 47 = eqb-true b 47 (and_both (b == 47) _ slash).0 in
+    let same : b ≡ 47 = eqb-true b 47 (and_parts (b == 47) _ slash).0 in
     subst (λ (x : ℕ). LexicalAs (x ∷ rest) (λ place. piece_tokens place (slash_at rest)) (piece_length (slash_at rest))) (sym same) (slash_lexical rest))
     (λ _. symbol_lexical b rest name number space)))))
 

@@ -4,6 +4,7 @@ pub mod Forms
 pub mod SoundAffine
 pub mod SoundRefs
 pub mod SoundValues
+pub mod SoundHeaders
 pub mod SoundItems
 pub mod SoundText
 pub mod Lexical
@@ -11,5 +12,6 @@ pub mod Spelled
 pub mod RunAffine
 pub mod RunRefs
 pub mod RunValues
+pub mod RunHeaders
 pub mod RunItems
 pub mod RunText

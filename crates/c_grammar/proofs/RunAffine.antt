@@ -1,6 +1,7 @@
 -- Affine expressions that are spelled within the limits are read, with their meaning.
 use Rattle.std.proofs.Common.{◌≡◌, ℕ, zero, suc, ◌≤◌, Bool, true, false, not, List, [], ◌∷◌, ◌++◌, refl, sym, ap, ◌∙◌, Option, Some, None, subst, arith}
 use Rattle.std.specs.Prelude.{◌&&◌, ◌||◌, if◌then◌else◌, ℤ, pos, Result, Ok, bytes_eq, codes}
+use Rattle.std.proofs.lemmas.Bool.{and_parts}
 use Rattle.c_tokens.specs.declared.token.TokenKind.TheVariants as token
 use Rattle.c_reading.specs.declared.named.Kind.{Kind}
 use Rattle.c_reading.specs.declared.named.Kind.TheVariants.{Parameter, OpenLoop, ClosedLoop, Array}
@@ -14,7 +15,7 @@ use Rattle.c_grammar.specs.Affine as tree
 use Rattle.c_grammar.specs.Affine.{Factor, factor_words, products_words, term_words, sums_words, affine_words}
 use Rattle.c_grammar.specs.Meaning as mean
 use Rattle.c_grammar.specs.Meaning.{Names, Form, form, given, factor_means, products_means, term_means, sums_means, affine_means}
-use Rattle.c_grammar.proofs.Steps.{bare, first, spelled_kind, next_is, and_both}
+use Rattle.c_grammar.proofs.Steps.{bare, first, spelled_kind, next_is}
 use Rattle.c_grammar.proofs.SoundAffine.{form_of, Allowed}
 use Rattle.c_grammar.proofs.Small.{AreSmall, flipped, flipped_negative}
 use Rattle.c_grammar.proofs.Forms.{affine_are, factor_are, flip, negated_is, signed_is}
@@ -69,7 +70,7 @@ slot_run i name rest x at e =
 -- an integer below 2^20 is read
 integer_read : (i : Input) (n : ℤ) → mean.integer_means (spelling i) ≡ Some n → rule.number i ≡ Ok (one_number n, next i)
 unfolding mean.integer_means
-integer_read i n e = some_if _ _ e (λ both same. let is = and_both (is_integer (spelling i)) _ both in rw (is.0, is.1) (ap (λ (n : ℤ). Ok (one_number n, next i)) same))
+integer_read i n e = some_if _ _ e (λ both same. let is = and_parts (is_integer (spelling i)) _ both in rw (is.0, is.1) (ap (λ (n : ℤ). Ok (one_number n, next i)) same))
 
 -- ---- numbers
 

@@ -1,6 +1,6 @@
 -- What a rule of the reading takes from the words that are left, and what it leaves.
 use Rattle.std.proofs.Common.{◌≡◌, ℕ, suc, ◌-◌, arith, Bool, true, false, List, [], ◌∷◌, ◌++◌, length, map, drop, refl, sym, ap, ◌∙◌, Option, Some, subst}
-use Rattle.std.specs.Prelude.{◌==◌, ◌&&◌, ◌||◌, if◌then◌else◌, Result, Ok, Err}
+use Rattle.std.specs.Prelude.{◌==◌, ◌||◌, if◌then◌else◌, Result, Ok, Err}
 use Rattle.std.proofs.lemmas.List.{append_assoc, append-nil}
 use Rattle.std.proofs.lemmas.Bool.Decides.{nat_tests}
 use Rattle.std.proofs.lemmas.Slice.Eq.{bytes_eq-Decides}
@@ -13,6 +13,7 @@ use Rattle.c_reading.specs.declared.error.ReadFault.{ReadFault}
 use Rattle.c_reading.specs.Input.{Input, Rule, Outcome, and_then, given as rule_given, kind, spelling, next, sees, left, is_name_kind, is_number_kind}
 use Rattle.c_reading.specs.Head.{is_line_end, is_parameters, is_assumptions}
 use Rattle.c_reading.specs.Items.{is_end}
+use Rattle.c_reading.proofs.TokenKinds.{name_kind_is}
 use Rattle.c_grammar.specs.Words.{Word, word_of, program_end, line_end, a_name, a_number, a_symbol}
 use Rattle.c_grammar.specs.Meaning.{Names, Meaning, then_in, given}
 
@@ -149,11 +150,6 @@ next_is i = at i.tokens where
   at [] = refl
   at (t ∷ ts) = refl
 
--- the names stay
-pub bare_next : (i : Input) → bare (next i) ≡ bare i
-unfolding next
-bare_next i = refl
-
 -- as many tokens are left as words
 pub left_is : (i : Input) → left i ≡ length (words i)
 left_is i = at i.tokens where
@@ -202,10 +198,6 @@ pub took_symbol : (word : List ℕ) → spelled_kind word ≡ token.Symbol → (
 took_symbol word is i g seen = took_word word token.Symbol symbols is i g seen
 
 -- each test of a kind finds it alone
-pub name_kind_is : (k : TokenKind) → is_name_kind k ≡ true → k ≡ token.Name
-name_kind_is token.Name e = refl
-name_kind_is _ e = cc
-
 pub number_kind_is : (k : TokenKind) → is_number_kind k ≡ true → k ≡ token.Number
 number_kind_is token.Number e = refl
 number_kind_is _ e = cc
@@ -285,11 +277,6 @@ pub if_ok : {A P : Type 0} (x y : A) {z : A} (c : Bool) → (if c then x else y)
 if_ok x y true e t f = t refl e
 if_ok x y false e t f = f refl e
 
--- a test that succeeded, where else there is a fault
-pub only_then : {A P : Type 0} (x : A) (y : ReadFault) {z : A} (c : Bool) → (if c then Ok x else Err y) ≡ Ok z → (c ≡ true → x ≡ z → P) → P
-only_then x y true e t = t refl cc
-only_then x y false e t = absurd cc
-
 -- ---- meanings, put together
 
 -- a step means something, and what follows
@@ -339,16 +326,6 @@ plus_none {i} {j} {ws} t = subst (λ (l : List Word). Took i l j) (append-nil ws
 -- the same words were there before
 pub took_from : {i j : Input} {ws : List Word} (k : Input) → words k ≡ words i → Took i ws j → Took k ws j
 took_from k same t = record { spelled = same ∙ t.spelled; lexical = t.lexical }
-
--- neither of two tests succeeded
-pub or_none : (a b : Bool) → (a || b) ≡ false → (a ≡ false) × (b ≡ false)
-or_none true b e = cc
-or_none false b e = (refl, e)
-
--- both of two tests succeeded
-pub and_both : (a b : Bool) → (a && b) ≡ true → (a ≡ true) × (b ≡ true)
-and_both true b e = (refl, e)
-and_both false b e = cc
 
 -- one more than a number isn't 0
 pub suc_not_zero : (d : ℕ) → (suc d == 0) ≡ false

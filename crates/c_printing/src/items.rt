@@ -12,7 +12,7 @@ use affine_c::{Item, Program};
 use affine_form::{Form, Memory, Name};
 use std::alloc::Global;
 
-/// Items in a row, written at the end. Want of memory is its only error.
+/// Items in a row, written at the end.
 #[cycle(printing)]
 pub(crate) fn push_items(
     alloc: Global,
@@ -30,7 +30,7 @@ pub(crate) fn push_items(
     Ok(())
 }
 
-/// An item, written at the end. Want of memory is its only error.
+/// An item, written at the end.
 #[cycle(printing)]
 fn push_item(
     alloc: Global,
@@ -59,7 +59,7 @@ fn push_item(
     }
 }
 
-/// Copies of names, and one more. Want of memory is its only error.
+/// Copies of names, and one more.
 fn with_name(alloc: Global, names: &[Name], last: &Name) -> Result<Vec<Name>, Memory>
     ensures { IfOk result (λ all. all.items ≡ names.now ++ last.now ∷ []) }
 {
@@ -71,7 +71,7 @@ fn with_name(alloc: Global, names: &[Name], last: &Name) -> Result<Vec<Name>, Me
     Ok(all)
 }
 
-/// A loop's header, written on a line at the end. Want of memory is its only error.
+/// A loop's header, written on a line at the end.
 fn push_header(
     alloc: Global,
     text: &mut Vec<u8>,
@@ -92,7 +92,7 @@ fn push_header(
     Ok(())
 }
 
-/// A loop's name between two pieces, and then a form, written at the end. Want of memory is its only error.
+/// A loop's name between two pieces, and then a form, written at the end.
 fn push_bound(
     alloc: Global,
     text: &mut Vec<u8>,

@@ -14,7 +14,7 @@ use std::alloc::Global;
 
 /// A program as C text, one item a line without indentation: its parameters, its assumptions, and its loops and
 /// statements between the line that opens the program and the line that closes it. A statement is printed as a function
-/// of its reads. Want of memory is its only error.
+/// of its reads.
 pub fn program_text(alloc: Global, program: &Program) -> Result<Vec<u8>, Memory>
     ensures { IfOk result (λ text. text.items ≡ text_of_program (meaning program.now)) }
 {
@@ -28,7 +28,7 @@ pub fn program_text(alloc: Global, program: &Program) -> Result<Vec<u8>, Memory>
     Ok(text)
 }
 
-/// The parameters, written on a line at the end, if there are any. Want of memory is its only error.
+/// The parameters, written on a line at the end, if there are any.
 fn push_parameters(text: &mut Vec<u8>, names: &[Name]) -> Result<(), Memory>
     ensures { OnOk result (text.new.items ≡ text.old.items ++ parameters_text names.now) }
 {
@@ -41,7 +41,7 @@ fn push_parameters(text: &mut Vec<u8>, names: &[Name]) -> Result<(), Memory>
     Ok(())
 }
 
-/// Names, each behind a space, written at the end. Want of memory is its only error.
+/// Names, each behind a space, written at the end.
 fn push_names(text: &mut Vec<u8>, names: &[Name]) -> Result<(), Memory>
     ensures { OnOk result (text.new.items ≡ text.old.items ++ flat_map (λ name. codes " " ++ name) names.now) }
 {
@@ -52,7 +52,7 @@ fn push_names(text: &mut Vec<u8>, names: &[Name]) -> Result<(), Memory>
     Ok(())
 }
 
-/// The assumptions, each written on a line at the end. Want of memory is its only error.
+/// The assumptions, each written on a line at the end.
 fn push_assumptions(
     alloc: Global,
     text: &mut Vec<u8>,
@@ -68,7 +68,7 @@ fn push_assumptions(
     Ok(())
 }
 
-/// An assumption, written on a line at the end. Want of memory is its only error.
+/// An assumption, written on a line at the end.
 fn push_assumption(
     alloc: Global,
     text: &mut Vec<u8>,
@@ -82,7 +82,7 @@ fn push_assumption(
     Ok(())
 }
 
-/// A form between two pieces, written at the end. Want of memory is its only error.
+/// A form between two pieces, written at the end.
 fn push_between(
     alloc: Global,
     text: &mut Vec<u8>,

@@ -10,7 +10,7 @@ use affine_c::{Program, Reference};
 use affine_form::{Form, Memory, Name};
 use std::alloc::Global;
 
-/// A statement, written on a line at the end. Want of memory is its only error.
+/// A statement, written on a line at the end.
 pub(crate) fn push_statement(
     alloc: Global,
     text: &mut Vec<u8>,
@@ -29,7 +29,7 @@ pub(crate) fn push_statement(
     Ok(())
 }
 
-/// What a statement reads, written at the end. Want of memory is its only error.
+/// What a statement reads, written at the end.
 fn push_reads(
     alloc: Global,
     text: &mut Vec<u8>,
@@ -51,7 +51,7 @@ fn push_reads(
     Ok(())
 }
 
-/// References, each behind a comma, written at the end. Want of memory is its only error.
+/// References, each behind a comma, written at the end.
 fn push_others(
     alloc: Global,
     text: &mut Vec<u8>,
@@ -69,7 +69,7 @@ fn push_others(
     Ok(())
 }
 
-/// A reference, written at the end. Want of memory is its only error.
+/// A reference, written at the end.
 fn push_access(
     alloc: Global,
     text: &mut Vec<u8>,
@@ -93,7 +93,7 @@ fn name_of(program: &Program, array: u16) -> &Name
     name
 }
 
-/// Subscripts, each in brackets, written at the end. Want of memory is its only error.
+/// Subscripts, each in brackets, written at the end.
 fn push_subscripts(
     alloc: Global,
     text: &mut Vec<u8>,

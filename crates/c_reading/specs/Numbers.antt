@@ -1,7 +1,8 @@
 -- The numbers of affine expressions over all variables that a text may have: the constant, the coefficients of six
 -- parameters, and those of four loops, outermost first.
-use Rattle.std.specs.Prelude.{◌≡◌, ◌++◌, ℕ, ◌+◌, ◌*◌, ◌-◌, ◌^◌, ◌==◌, ◌&&◌, nat_lt, nat_le, Bool, true, false, not, if◌then◌else◌, ℤ, pos, ◌+ℤ◌, ◌-ℤ◌, ◌*ℤ◌, unsigned_abs, List, [], ◌∷◌, replicate, slice_set, min, Option, Some, None, option_map}
+use Rattle.std.specs.Prelude.{◌≡◌, ◌++◌, ℕ, ◌+◌, ◌*◌, ◌-◌, ◌^◌, ◌==◌, ◌&&◌, nat_lt, Bool, true, false, not, if◌then◌else◌, ℤ, pos, ◌+ℤ◌, ◌-ℤ◌, ◌*ℤ◌, unsigned_abs, List, [], ◌∷◌, replicate, slice_set, min, Option, Some, None, option_map}
 use Rattle.std.specs.List.{list_all}
+use Rattle.c_tokens.specs.Bytes.{is_digit}
 
 -- how many parameters and how many loops around a statement there may be
 abbrev pub most_parameters : ℕ
@@ -67,9 +68,6 @@ zeros = replicate width (pos 0)
 abbrev pub constant_of : List ℤ → ℤ
 constant_of [] = pos 0
 constant_of (x ∷ xs) = x
-
-abbrev pub is_digit : ℕ → Bool
-is_digit b = nat_le 48 b && nat_le b 57
 
 -- the value of digits behind this one, up to the first that isn't small
 abbrev pub value_from : ℕ → List ℕ → ℕ

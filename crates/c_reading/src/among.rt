@@ -7,7 +7,7 @@ use crate::named::Kind;
 use affine_form::{Memory, Name};
 use std::alloc::Global;
 
-/// The parameters among these names, by their numbers. Want of memory is its only error.
+/// The parameters among these names, by their numbers.
 pub(crate) fn parameters_among(
     alloc: Global,
     names: &[Name],
@@ -33,7 +33,7 @@ pub(crate) fn parameters_among(
     }
 }
 
-/// The arrays among these names, by their numbers, each with its number of subscripts. Want of memory is its only error.
+/// The arrays among these names, by their numbers, each with its number of subscripts.
 pub(crate) fn arrays_among(
     alloc: Global,
     names: &[Name],

@@ -84,7 +84,7 @@ impl Row {
         self.numbers.as_slice()
     }
 
-    /// A copy. Want of memory is its only error.
+    /// A copy.
     pub fn try_clone(&self, alloc: Global) -> Result<Row, AllocError>
         ensures { IfOk result (λ row. row ≡ self.now) }
     {
@@ -116,7 +116,7 @@ impl Access {
         self.subscripts.as_slice()
     }
 
-    /// A copy. Want of memory is its only error.
+    /// A copy.
     pub fn try_clone(&self, alloc: Global) -> Result<Access, AllocError>
         ensures { IfOk result (λ access. access ≡ self.now) }
     {

@@ -2,7 +2,8 @@
 
 ghost use Rattle.std.specs.Prelude.{◌≡◌, ◌≤◌, ◌^◌, ◌+ℤ◌, ◌*ℤ◌, ◌-ℤ◌, unsigned_abs, IfOk, option_map};
 ghost use Rattle.std.specs.List.{list_all};
-ghost use Rattle.c_reading.specs.Numbers.{if_small, single, zeros, small_number, plus_times, pushed, combined, constant_of, is_digit, value_from, is_integer};
+ghost use Rattle.c_tokens.specs.Bytes.{is_digit};
+ghost use Rattle.c_reading.specs.Numbers.{if_small, single, zeros, small_number, plus_times, pushed, combined, constant_of, value_from, is_integer};
 
 use std::alloc::{AllocError, Global};
 

@@ -52,7 +52,7 @@ impl Rows {
         Ok(())
     }
 
-    /// A copy. Want of memory is its only error.
+    /// A copy.
     pub fn try_clone(&self, alloc: Global) -> Result<Rows, AllocError>
         ensures { IfOk result (λ rows. rows ≡ self.now) }
     {
@@ -62,7 +62,7 @@ impl Rows {
     }
 }
 
-/// Copies of the rows. Want of memory is its only error.
+/// Copies of the rows.
 fn copies(alloc: Global, rows: &[Row]) -> Result<Vec<Row>, AllocError>
     ensures { IfOk result (λ copies. copies.items ≡ rows.now) }
 {

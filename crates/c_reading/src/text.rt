@@ -67,14 +67,14 @@ impl Reading {
         self.kinds.as_slice()
     }
 
-    /// The parameters, in order of first sight. Want of memory is its only error.
+    /// The parameters, in order of first sight.
     pub fn parameters(&self, alloc: Global) -> Result<Vec<Name>, Memory>
         ensures { IfOk result (λ names. names.items ≡ parameters_among self.now.names self.now.kinds) }
     {
         parameters_among(alloc, self.names.as_slice(), self.kinds.as_slice())
     }
 
-    /// The arrays with their numbers of subscripts, in order of first sight. Want of memory is its only error.
+    /// The arrays with their numbers of subscripts, in order of first sight.
     pub fn arrays(&self, alloc: Global) -> Result<Vec<(Name, usize)>, Memory>
         ensures { IfOk result (λ arrays. arrays.items ≡ arrays_among self.now.names self.now.kinds) }
     {

@@ -1,7 +1,8 @@
 -- Words at the head of a line, and in its compared form.
 use Rattle.std.proofs.Common.{◌≡◌, ℕ, suc, ◌+◌, List, [], ◌∷◌, refl, ap, sym, ◌∙◌, arith, Bool, true, false, subst}
-use Rattle.std.specs.Prelude.{◌==◌, ◌&&◌, ◌||◌, not, if◌then◌else◌, Option, Some, None, is_some, option_and_then}
+use Rattle.std.specs.Prelude.{◌==◌, ◌&&◌, not, if◌then◌else◌, Option, Some, None, is_some, option_and_then}
 use Rattle.std.specs.List.{prefix_len, list_all}
+use Rattle.std.proofs.lemmas.Bool.{and_parts, not-true, or_parts}
 use Rattle.std.proofs.lemmas.Bool.Decides.{nat_tests}
 use Rattle.c_tokens.specs.Bytes.{is_blank, is_space}
 use Rattle.c_tokens.specs.Words.{past_blanks, past_spaces, past_words, past_head, is_spaces}
@@ -11,22 +12,6 @@ use Rattle.c_tokens.specs.Compared.{is_empty, before_end, without_end, has_space
 abbrev pub so : (List ℕ → Bool) → Option (List ℕ) → Bool
 so passes None = false
 so passes (Some rest) = passes rest
-
-and_left : (a b : Bool) → (a && b) ≡ true → a ≡ true
-and_left true b both = refl
-and_left false b both = cc
-
-and_right : (a b : Bool) → (a && b) ≡ true → b ≡ true
-and_right true b both = both
-and_right false b both = cc
-
-not_true : (a : Bool) → not a ≡ true → a ≡ false
-not_true true h = cc
-not_true false h = refl
-
-or_left : (a b : Bool) → (a || b) ≡ false → a ≡ false
-or_left true b none = cc
-or_left false b none = refl
 
 same_byte : (b c : ℕ) → (b == c) ≡ true → b ≡ c
 same_byte b c is = grind (arith, nat_tests)
@@ -38,10 +23,10 @@ swapped : (b c : ℕ) → (b == c) ≡ false → (c == b) ≡ false
 swapped b c other = grind (arith, nat_tests)
 
 no_blank : (b : ℕ) → is_space b ≡ false → is_blank b ≡ false
-no_blank b other = or_left (is_blank b) (b == 13) other
+no_blank b other = (or_parts (is_blank b) (b == 13) other).0
 
 no_32 : (b : ℕ) → is_blank b ≡ false → (b == 32) ≡ false
-no_32 b other = or_left (b == 32) (b == 9) other
+no_32 b other = (or_parts (b == 32) (b == 9) other).0
 
 blank_space : (b : ℕ) → is_blank b ≡ true → is_space b ≡ true
 blank_space b is = rw is refl
@@ -142,14 +127,15 @@ pub so-past_words : (passes keeps : List ℕ → Bool) → ((x : List ℕ) → p
 so-past_words passes keeps base [] x proper = base x
 so-past_words passes keeps base (w ∷ []) [] proper = refl
 so-past_words passes keeps base (w ∷ v ∷ words) [] proper = refl
-so-past_words passes keeps base (w ∷ []) (b ∷ x) proper = step_byte passes keeps w [] b x (not_true (is_space w) proper) (base x)
+so-past_words passes keeps base (w ∷ []) (b ∷ x) proper = step_byte passes keeps w [] b x (not-true (is_space w) proper) (base x)
 so-past_words passes keeps base (w ∷ v ∷ words) (b ∷ x) proper =
     elim (w == 32) as (λ u. (w == 32) ≡ u → (if u then not (is_space v) && are_words (v ∷ words) else not (is_space w) && are_words (v ∷ words)) ≡ true → so passes (past_words (w ∷ v ∷ words) (b ∷ x)) ≡ begins_so keeps (w ∷ v ∷ words) (squeezed (without_end (b ∷ x)))) [
       | true ↦ λ is good.
           subst (λ (k : ℕ). so passes (past_words (k ∷ v ∷ words) (b ∷ x)) ≡ begins_so keeps (k ∷ v ∷ words) (squeezed (without_end (b ∷ x)))) (sym (same_byte w 32 is))
-          (step_space passes keeps v words b x (so-past_words passes keeps base (v ∷ words) (past_blanks x) (and_right (not (is_space v)) (are_words (v ∷ words)) good)))
+          (step_space passes keeps v words b x (so-past_words passes keeps base (v ∷ words) (past_blanks x) (and_parts (not (is_space v)) (are_words (v ∷ words)) good).1))
       | false ↦ λ _ good.
-          step_byte passes keeps w (v ∷ words) b x (not_true (is_space w) (and_left (not (is_space w)) (are_words (v ∷ words)) good)) (so-past_words passes keeps base (v ∷ words) x (and_right (not (is_space w)) (are_words (v ∷ words)) good))
+          let both = and_parts (not (is_space w)) (are_words (v ∷ words)) good in
+          step_byte passes keeps w (v ∷ words) b x (not-true (is_space w) both.0) (so-past_words passes keeps base (v ∷ words) x both.1)
     ] refl proper
 
 -- ---- whole lines

@@ -5,6 +5,7 @@ use Rattle.std.proofs.lemmas.Bool.{eqb-true}
 use Rattle.dep_quast.specs.Levels.{writers, writers_from, IsWriter}
 use Rattle.std.specs.List.{AllByRecursion}
 use Rattle.std.proofs.lemmas.List.{length-map, get_or-map}
+use Rattle.integer_laws.proofs.Lists.{All-append}
 use Rattle.iolb_model.specs.Form.{AffineForm}
 use Rattle.iolb_model.specs.Path.{PathStep, row_path}
 use Rattle.iolb_model.specs.Program.{Array, AccessFits, IsOver, StatementFits, AffineProgram, IsWellFormed, statement_at, no_statement, Statement as ModelStatement}
@@ -13,7 +14,7 @@ use Rattle.execution_laws.proofs.Domains.{way-there, statements-rise}
 use Rattle.execution_laws.proofs.Orders.{row_common-within, row_common-turn}
 use Rattle.affine_form.specs.Form.{variables, IsSmallForm}
 use Rattle.affine_form.specs.System.{AllOver}
-use Rattle.affine_rows.proofs.RowLemmas.{All-append, length-widened}
+use Rattle.affine_rows.proofs.RowLemmas.{length-widened}
 use Rattle.affine_form.proofs.Lists.{All-at}
 use Rattle.affine_rows.specs.Rows.{IsSmallOver, widened, equality_rows, put_in}
 use Rattle.affine_form.specs.Substitution.{substitution}

@@ -7,6 +7,7 @@ use lib.Signed.{◌≤ℤ◌}
 use Rattle.std.proofs.lemmas.Int.{ints}
 use Rattle.std.proofs.lemmas.Bool.{eq-eqb, lt-ltb}
 use Rattle.std.proofs.lemmas.List.{append_assoc, append-nil, length-append, length-map, map-append}
+use Rattle.integer_laws.proofs.Lists.{All-append}
 use Rattle.iolb_model.specs.Form.{AffineForm, form_value}
 use Rattle.iolb_model.specs.Path.{row_path}
 use Rattle.iolb_model.specs.Program.{Statement, AffineProgram, IsWellFormed, statement_at, no_statement}
@@ -27,7 +28,7 @@ use Rattle.affine_form.specs.Substitution.{values_at, substitution}
 use Rattle.affine_form.specs.System.{AffineSystem, IsMet}
 use Rattle.affine_form.proofs.ShownLemmas.{Shows-none}
 use Rattle.affine_rows.specs.Rows.{widened, within_rows, equality_rows, put_in, order_rows, IsSmallOver}
-use Rattle.affine_rows.proofs.RowLemmas.{All-append, length-variables}
+use Rattle.affine_rows.proofs.RowLemmas.{length-variables}
 use Rattle.affine_rows.proofs.Meaning.{form_value-difference, within_rows-says, within_rows-met, equality_rows-say, equality_rows-met, values_at-put_in, HasLevel, order_rows-say, order_rows-met}
 use Rattle.affine_c.specs.Domain.{path_of, depth_of, domain_of}
 use Rattle.dep_quast.specs.Tree.{SourceClaim, Leaf, source, input, empty, blank, SelectionTree, leaf, test, leaf_at}

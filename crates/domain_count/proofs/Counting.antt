@@ -7,6 +7,7 @@ use Rattle.std.proofs.Math.Seq.{take-append_seam, get_or-append_seam}
 use lib.Signed.{◌≤ℤ◌}
 use Rattle.std.proofs.lemmas.Int.{ints}
 use Rattle.std.proofs.lemmas.List.{append_assoc, append-nil, length-append, length-map, map-append}
+use Rattle.integer_laws.proofs.Lists.{All-append}
 use Rattle.iolb_model.specs.Form.{AffineForm, dot, form_value}
 use Rattle.iolb_model.specs.Path.{PathStep, rises}
 use Rattle.iolb_model.specs.Program.{AffineProgram, IsOver, IsWellFormed}
@@ -18,7 +19,6 @@ use Rattle.affine_form.specs.System.{IsMet}
 use Rattle.affine_form.proofs.ShownLemmas.{Shows-follows}
 use Rattle.affine_rows.specs.Rows.{BoundsFit, widened, variables_from, within_rows, step_of}
 use Rattle.affine_rows.proofs.Meaning.{form_value-widened, form_value-difference, values_at-variables, within_rows-met}
-use Rattle.affine_rows.proofs.RowLemmas.{All-append}
 use Rattle.poly_tree.specs.Expansion.{at, put, value}
 use Rattle.poly_tree.specs.Poly.{Quotient, numerator_at}
 use Rattle.domain_count.specs.Points.{points}

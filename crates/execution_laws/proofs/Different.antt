@@ -1,34 +1,15 @@
 -- Lists whose members differ from each other, and what holds of each member.
 use Rattle.std.proofs.Common.{◌≡◌, ℕ, zero, suc, List, [], ◌∷◌, ◌++◌, map, arith}
-use Rattle.std.specs.Prelude.{ℤ, pos, ◌+ℤ◌, ◌<ℤ◌, flat_map}
+use Rattle.std.specs.Prelude.{ℤ, pos, ◌+ℤ◌, ◌<ℤ◌}
 use Rattle.std.specs.List.{AllByRecursion}
 use Rattle.std.proofs.lemmas.Int.{ints}
+use Rattle.integer_laws.proofs.Lists.{All-append, All-weaken, All-map}
 use Rattle.iolb_model.specs.Execution.{rising}
 
 -- no two members are equal
 abbrev pub Differ : {A : Type 0} → List A → Type 0
 Differ [] = Unit {0}
 Differ (x ∷ xs) = AllByRecursion (λ y. x ≡ y → ⊥) xs × Differ xs
-
-pub All-append : {A : Type 0} (P : A → Type 0) (xs ys : List A) → AllByRecursion P xs → AllByRecursion P ys → AllByRecursion P (xs ++ ys)
-All-append P [] ys h k = k
-All-append P (x ∷ xs) ys h k = (h.0, All-append P xs ys h.1 k)
-
-pub All-weaker : {A : Type 0} (P Q : A → Type 0) → ((x : A) → P x → Q x) → (xs : List A) → AllByRecursion P xs → AllByRecursion Q xs
-All-weaker P Q f [] h = tt
-All-weaker P Q f (x ∷ xs) h = (f x h.0, All-weaker P Q f xs h.1)
-
-pub All-map : {A B : Type 0} (P : B → Type 0) (f : A → B) (xs : List A) → AllByRecursion (λ x. P (f x)) xs → AllByRecursion P (map f xs)
-All-map P f [] h = tt
-All-map P f (x ∷ xs) h = (h.0, All-map P f xs h.1)
-
-pub All-every : {A : Type 0} (P : A → Type 0) → ((x : A) → P x) → (xs : List A) → AllByRecursion P xs
-All-every P f [] = tt
-All-every P f (x ∷ xs) = (f x, All-every P f xs)
-
-pub All-flat_map : {A B : Type 0} (P : B → Type 0) (f : A → List B) (xs : List A) → AllByRecursion (λ x. AllByRecursion P (f x)) xs → AllByRecursion P (flat_map f xs)
-All-flat_map P f [] h = tt
-All-flat_map P f (x ∷ xs) h = All-append P (f x) (flat_map f xs) h.0 (All-flat_map P f xs h.1)
 
 pub Differ-append : {A : Type 0} (xs ys : List A) → Differ xs → Differ ys → AllByRecursion (λ x. AllByRecursion (λ y. x ≡ y → ⊥) ys) xs → Differ (xs ++ ys)
 Differ-append [] ys h k apart = k
@@ -37,7 +18,7 @@ Differ-append (x ∷ xs) ys h k apart = (All-append (λ y. x ≡ y → ⊥) xs y
 pub Differ-map : {A B : Type 0} (f : A → B) → ((x y : A) → f x ≡ f y → x ≡ y) → (xs : List A) → Differ xs → Differ (map f xs)
 Differ-map f injective [] h = tt
 Differ-map f injective (x ∷ xs) h =
-    (All-map (λ w. f x ≡ w → ⊥) f xs (All-weaker (λ y. x ≡ y → ⊥) (λ y. f x ≡ f y → ⊥) (λ y apart e. apart (injective x y e)) xs h.0), Differ-map f injective xs h.1)
+    (All-map (λ w. f x ≡ w → ⊥) f xs (All-weaken (λ y. x ≡ y → ⊥) (λ y. f x ≡ f y → ⊥) xs (λ y apart e. apart (injective x y e)) h.0), Differ-map f injective xs h.1)
 
 -- numbers that rise from a first are not below it
 rising_above : (low first : ℤ) (count : ℕ) → low <ℤ first → AllByRecursion (λ (y : ℤ). low ≡ y → ⊥) (rising first count)

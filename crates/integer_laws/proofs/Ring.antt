@@ -4,9 +4,6 @@ use Rattle.std.proofs.lemmas.Int.{ints}
 use Rattle.std.proofs.Math.IntN.{ℤ, pos, negsuc, ◌+ℤ◌, ◌-ℤ◌, ◌*ℤ◌, neg_ℤ, suc_ℤ-*ℤ, pred_ℤ-*ℤ, *ℤ_comm, suc_ℤ-+ℤ, pred_ℤ-+ℤ, +ℤ_one, -ℤ_one, zero-*ℤ, *ℤ-zero, ℤ_ind, +ℤ_idl}
 use lib.Signed.{◌≤ℤ◌}
 
-pub add_assoc : (x y z : ℤ) → (x +ℤ y) +ℤ z ≡ x +ℤ (y +ℤ z)
-add_assoc x y z = omega (arith, ints)
-
 pub add_comm : (x y : ℤ) → x +ℤ y ≡ y +ℤ x
 add_comm x y = omega (arith, ints)
 
@@ -90,10 +87,6 @@ mul_assoc_ℤ a b c = ℤ_ind (λ (x : ℤ). (x *ℤ b) *ℤ c ≡ x *ℤ (b *�
 
   down : (n : ℕ) → (neg_ℤ (pos n) *ℤ b) *ℤ c ≡ neg_ℤ (pos n) *ℤ (b *ℤ c) → ((neg_ℤ (pos n) +ℤ neg_ℤ (pos 1)) *ℤ b) *ℤ c ≡ (neg_ℤ (pos n) +ℤ neg_ℤ (pos 1)) *ℤ (b *ℤ c)
   down n h = step (neg_ℤ (pos n)) (neg_ℤ (pos 1)) h minus
-
--- the second and the third factor of four change places
-pub mul_pairs : (a b c d : ℤ) → (a *ℤ b) *ℤ (c *ℤ d) ≡ (a *ℤ c) *ℤ (b *ℤ d)
-mul_pairs a b c d = mul_assoc_ℤ a b (c *ℤ d) ∙ ap (λ (z : ℤ). a *ℤ z) (sym (mul_assoc_ℤ b c d) ∙ ap (λ (z : ℤ). z *ℤ d) (*ℤ_comm b c) ∙ mul_assoc_ℤ c b d) ∙ sym (mul_assoc_ℤ a c (b *ℤ d))
 
 -- the last of three factors goes before the second
 pub mul_turn : (a b c : ℤ) → (a *ℤ b) *ℤ c ≡ (a *ℤ c) *ℤ b

@@ -1,5 +1,5 @@
 //! A plain slow program that says what the definitions say: the execution list and the computation graph of a small
-//! program at given parameter values. Tests run it on small programs.
+//! program at given parameter values.
 #![tactic(auto)]
 
 pub mod cells;
@@ -7,5 +7,3 @@ pub mod graphs;
 pub mod runs;
 pub mod sources;
 pub mod stopped;
-#[cfg(test)]
-mod tests;

@@ -1,4 +1,3 @@
 pub mod IntLaws
 pub mod Polynomials
 pub mod Table
-mod Samples

@@ -1,13 +1,14 @@
 -- Operations on lists of coefficients, and the values that they give.
-use Rattle.std.specs.Prelude.{◌≡◌, ℕ, ℤ, pos, ◌+ℤ◌, ◌-ℤ◌, ◌*ℤ◌, neg_ℤ, Bool, true, false, ◌&&◌, List, [], ◌∷◌}
+use Rattle.std.specs.Prelude.{◌≡◌, ℕ, ℤ, pos, ◌+ℤ◌, ◌-ℤ◌, ◌*ℤ◌, neg_ℤ, Bool, true, List, [], ◌∷◌}
 use Rattle.std.proofs.Common.{arith, ap, sym, refl, ◌∙◌, zero, suc}
 use Rattle.std.specs.List.{list_all}
 use Rattle.std.specs.Ordering.{int_eq}
-use Rattle.std.proofs.lemmas.Bool.{false≢true}
+use Rattle.std.proofs.lemmas.Bool.{and_parts}
 use Rattle.std.proofs.lemmas.Bool.Decides.{Decides-int_eq}
 use Rattle.std.proofs.lemmas.Int.{ints}
+use Rattle.integer_laws.proofs.Ring.{mul-sub, sub-mul}
 use Rattle.power_sums.specs.Polynomial.{value, coefficient, power}
-use Rattle.power_sums.proofs.IntLaws.{mul-sub, sub-mul, mul_left_comm}
+use Rattle.power_sums.proofs.IntLaws.{mul_left_comm}
 
 abbrev pub difference : List ℤ → List ℤ → List ℤ
 difference [] [] = []
@@ -76,11 +77,6 @@ value-monomial (suc d) c n =
   where
     plain : (a : ℤ) → pos 0 +ℤ a ≡ a
     plain a = omega (arith, ints)
-
--- both parts of an `&&` that holds
-pub and_parts : (t s : Bool) → (t && s) ≡ true → (t ≡ true) × (s ≡ true)
-and_parts true s h = (refl, h)
-and_parts false s h = absurd (false≢true h)
 
 zero_step : (c n v : ℤ) → c ≡ pos 0 → v ≡ pos 0 → c +ℤ (n *ℤ v) ≡ pos 0
 zero_step c n v is none = ap (λ z. z +ℤ (n *ℤ v)) is ∙ ap (λ z. pos 0 +ℤ (n *ℤ z)) none ∙ nothing n

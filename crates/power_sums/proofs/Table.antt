@@ -4,18 +4,19 @@ use Rattle.std.proofs.Common.{arith, ap, sym, refl, ◌∙◌, subst, zero, suc}
 use Rattle.std.specs.Int.{◌∣◌}
 use Rattle.std.specs.List.{list_all, list_any}
 use Rattle.std.specs.Ordering.{int_eq}
-use Rattle.std.proofs.lemmas.Bool.{false≢true}
+use Rattle.std.proofs.lemmas.Bool.{false≢true, and_parts}
 use Rattle.std.proofs.lemmas.Bool.Decides.{Decides-int_eq, Decides-eqb, Decides-ltb}
 use Rattle.std.proofs.lemmas.Int.{ints}
 use Rattle.std.proofs.lemmas.List.{get_or-drop}
 use Rattle.std.proofs.lemmas.Nat.Gcd.{dvd_antisymm}
 use Rattle.std.proofs.Math.Nat.{one-dvd}
+use Rattle.integer_laws.proofs.Ring.{mul-add}
 use Rattle.power_sums.specs.Polynomial.{value, coefficient, power}
 use Rattle.power_sums.specs.PowerSum.{IsPowerSum, total_of_powers}
 use Rattle.power_sums.specs.declared.row.Row.{Row}
 use Rattle.power_sums.specs.declared.row.TheConstants.{ROWS}
-use Rattle.power_sums.proofs.IntLaws.{mul-add, power_pos}
-use Rattle.power_sums.proofs.Polynomials.{difference, shift, monomial, all_zero, and_parts, value-difference, value-shift, value-monomial, value-all_zero, coefficient-all_zero, value_at_zero}
+use Rattle.power_sums.proofs.IntLaws.{power_pos}
+use Rattle.power_sums.proofs.Polynomials.{difference, shift, monomial, all_zero, value-difference, value-shift, value-monomial, value-all_zero, coefficient-all_zero, value_at_zero}
 
 -- the difference from the shift is den n^d, coefficient by coefficient
 abbrev pub meets_rule : ℕ → List ℤ → ℤ → Bool

@@ -2,13 +2,13 @@
 use Rattle.std.proofs.Common.{◌≡◌, refl, sym, ap, ◌∙◌, ℕ, zero, suc, ◌+◌, ◌≤◌, Bool, true, false, cond, List, [], ◌∷◌, length, arith}
 use Rattle.std.specs.Prelude.{bytes_eq, ⊤, Some, None, option_map, slice_get, position, map, nat_lt, IsSomeAnd}
 use Rattle.std.specs.List.{AllByRecursion, list_any, position_or_len}
+use Rattle.std.proofs.lemmas.Bool.{or_parts}
 use Rattle.iolb_model.specs.Program as program
 use Rattle.c_reading.specs.declared.named.Kind.{Kind}
 use Rattle.c_reading.specs.declared.named.Kind.TheVariants.{Parameter, OpenLoop, ClosedLoop, Array}
 use Rattle.c_reading.specs.Names.{parameters_among, arrays_among}
 use Rattle.printed_texts.specs.Same.{array_of}
 use Rattle.printed_texts.specs.Printable.{IsName}
-use Rattle.printed_texts.proofs.Bytes.{or_false}
 use Rattle.printed_texts.proofs.Dictionary.{place_of, bytes_same, bytes_are, first_below, same_below, one_more}
 use Rattle.printed_texts.proofs.State.{among_differ}
 use Rattle.printed_texts.proofs.Later.{AreDistinct}
@@ -81,7 +81,7 @@ among_any : (test : Kind → Bool) (n : List ℕ) (names : List (List ℕ)) (kin
 among_any test n [] kinds h = refl
 among_any test n (m ∷ names) [] h = refl
 among_any test n (m ∷ names) (k ∷ kinds) h =
-    let both = or_false (bytes_eq n m) (list_any (bytes_eq n) names) h in
+    let both = or_parts (bytes_eq n m) (list_any (bytes_eq n) names) h in
     let here : bytes_eq n m ≡ false = both.0 in
     let rest : list_any (bytes_eq n) (among test names kinds) ≡ false = among_any test n names kinds both.1 in
     elim (test k) as (λ v. test k ≡ v → list_any (bytes_eq n) (among test (m ∷ names) (k ∷ kinds)) ≡ false) [ true ↦ λ e. rw e (rw here rest) | false ↦ λ e. rw e rest ] refl
@@ -103,7 +103,7 @@ among_all P test (m ∷ names) (k ∷ kinds) h =
 -- a name that isn't there has no place
 place_absent : (name : List ℕ) (names : List (List ℕ)) → list_any (bytes_eq name) names ≡ false → place_of name names ≡ None
 place_absent name [] h = refl
-place_absent name (n ∷ names) h = let both = or_false (bytes_eq name n) (list_any (bytes_eq name) names) h in let here : bytes_eq name n ≡ false = both.0 in rw here (ap (option_map suc) (place_absent name names both.1))
+place_absent name (n ∷ names) h = let both = or_parts (bytes_eq name n) (list_any (bytes_eq name) names) h in let here : bytes_eq name n ≡ false = both.0 in rw here (ap (option_map suc) (place_absent name names both.1))
 
 -- a name is at its place
 pub place_there : (names : List (List ℕ)) (k : ℕ) (name : List ℕ) → Differ names → slice_get names k ≡ Some name → place_of name names ≡ Some k

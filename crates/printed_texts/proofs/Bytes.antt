@@ -1,6 +1,6 @@
 -- Kinds of bytes, and what stands in front of a text.
-use Rattle.std.proofs.Common.{◌≡◌, refl, ℕ, Bool, true, false, not, List, [], ◌∷◌, arith}
-use Rattle.std.specs.Prelude.{◌==◌, ◌||◌, ◌&&◌}
+use Rattle.std.proofs.Common.{◌≡◌, ℕ, Bool, true, false, not, List, [], ◌∷◌, arith}
+use Rattle.std.specs.Prelude.{◌==◌, ◌||◌}
 use Rattle.std.proofs.lemmas.Bool.Decides.{nat_tests}
 use Rattle.c_tokens.specs.Bytes.{is_space, is_in_line, is_sign, is_name_start, is_name_byte}
 
@@ -25,26 +25,6 @@ ends_name b = not (is_name_byte b)
 -- a byte that ends a number
 abbrev pub ends_number : ℕ → Bool
 ends_number b = not (is_name_byte b || b == 46 || is_sign b)
-
--- both tests hold
-pub and_parts : (a b : Bool) → (a && b) ≡ true → (a ≡ true) × (b ≡ true)
-and_parts true b e = (refl, e)
-and_parts false b e = absurd cc
-
--- two tests that hold
-pub and_true : (a b : Bool) → a ≡ true → b ≡ true → (a && b) ≡ true
-and_true true b e f = f
-and_true false b e f = absurd cc
-
--- a test whose opposite holds
-pub not_true : (a : Bool) → not a ≡ true → a ≡ false
-not_true true e = absurd cc
-not_true false e = refl
-
--- neither test holds
-pub or_false : (a b : Bool) → (a || b) ≡ false → (a ≡ false) × (b ≡ false)
-or_false true b e = absurd cc
-or_false false b e = (refl, e)
 
 -- a byte that begins a name is no space
 pub name_start-no_space : (b : ℕ) → is_name_start b ≡ true → is_space b ≡ false

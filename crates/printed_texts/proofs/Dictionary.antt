@@ -1,9 +1,10 @@
 -- The kinds of names: what one name more, or another kind, changes.
 use Rattle.std.proofs.Common.{◌≡◌, refl, sym, ap, ◌∙◌, ℕ, zero, suc, ◌+◌, Bool, true, false, cond, List, [], ◌∷◌, ◌++◌, length, arith}
-use Rattle.std.specs.Prelude.{bytes_eq, position, ⊤, Some, None, Option, option_map, option_and_then, slice_get, set, nat_lt}
+use Rattle.std.specs.Prelude.{bytes_eq, position, Some, None, Option, option_map, option_and_then, slice_get, set, nat_lt}
 use Rattle.std.specs.List.{position_or_len}
 use Rattle.std.proofs.lemmas.Bool.Decides.{nat_tests}
 use Rattle.std.proofs.lemmas.Slice.Eq.{bytes_eq-Decides}
+use Rattle.reading_laws.proofs.NameKinds.{IsLoop}
 use Rattle.c_reading.specs.declared.named.Kind.{Kind}
 use Rattle.c_reading.specs.declared.named.Kind.TheVariants.{Parameter, OpenLoop, ClosedLoop, Array}
 use Rattle.c_reading.specs.Input.{Input}
@@ -214,13 +215,6 @@ arrays-new name k [] [] same = refl
 arrays-new name k [] (l ∷ kinds) same = absurd (omega arith)
 arrays-new name k (n ∷ names) [] same = absurd (omega arith)
 arrays-new name k (n ∷ names) (l ∷ kinds) same = ap (if_array l n) (arrays-new name k names kinds (omega arith)) ∙ if_array-append l n (arrays_among names kinds) (if_array k name [])
-
--- a loop's kind
-abbrev pub IsLoop : Kind → Type 0
-IsLoop (Parameter n) = ⊥
-IsLoop (OpenLoop depth) = ⊤
-IsLoop ClosedLoop = ⊤
-IsLoop (Array n count) = ⊥
 
 -- a loop is no parameter
 loop-no_parameter : (k : Kind) (name : List ℕ) (names : List (List ℕ)) → IsLoop k → if_parameter k name names ≡ names

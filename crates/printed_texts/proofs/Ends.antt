@@ -12,10 +12,13 @@ use Rattle.c_reading.specs.Affine.{Affine, affine}
 use Rattle.c_reading.specs.Compare.{Rows, Compared, row_count, comparison, if_row, with_row, with_both, with_compare, comparison_by, compare_from, compare}
 use Rattle.c_reading.specs.Head.{Head, is_line_end, is_parameters, is_assumptions, parameter_names, all_parameter_names, closed_line, compares, all_compares, directives, head}
 use Rattle.c_reading.specs.Items.{all_items}
-use Rattle.c_reading.specs.Text.{Reading, at_least_one, all_at_least_one, assumptions_of, text_rule, start_of, reading_from, reading_by, reading_of}
+use Rattle.c_reading.specs.Text.{Reading, all_at_least_one, assumptions_of, text_rule, start_of, reading_from, reading_by, reading_of}
+use Rattle.c_reading.proofs.TokenKinds.{name_kind_is}
 use Rattle.reading_laws.proofs.Rows.{IsWhereSome}
 use Rattle.reading_laws.proofs.States.{Gives, err, ok, chained, weaken, either, IsWhereGood}
-use Rattle.printed_texts.proofs.Later.{Sound, Quiet, quiet_both, quiet_self, quiet_next, Quietly, quiet_bind, passes, name_kind_is, slot_quiet, affine_quiet, IsSpelled}
+use Rattle.reading_laws.proofs.HeadRules.{some_if, option_cases}
+use Rattle.reading_laws.proofs.Whole.{rows-length}
+use Rattle.printed_texts.proofs.Later.{Sound, Quiet, quiet_both, quiet_self, quiet_next, Quietly, quiet_bind, passes, slot_quiet, affine_quiet, IsSpelled}
 use Rattle.printed_texts.proofs.Order.{IsOrdered}
 use Rattle.printed_texts.proofs.Spelled.{tokens_spelled}
 use Rattle.printed_texts.proofs.Adds.{line_numbers, Nests, IsLoopLine, all_items_add}
@@ -39,11 +42,6 @@ both_grow : (start : ℕ) (a b : List ℤ) (r : Result Rows ReadFault) → IsWhe
 both_grow start a b (Err e) = tt
 both_grow start a b (Ok rows) = row_grows start rows (pos 0) b a
 
--- one of two values
-some_if : {X : Type 0} (P : X → Type 0) (b : Bool) (x : X) (o : Option X) → P x → IsWhereSome P o → IsWhereSome P (if b then Some x else o)
-some_if P true x o p h = p
-some_if P false x o p h = h
-
 -- each comparison adds a row
 comparison_grows : (i : Input) → IsWhereSome (Grows with_compare) (comparison i)
 unfolding comparison with_compare
@@ -53,11 +51,6 @@ comparison_grows i =
     (some_if (Grows with_compare) (sees (codes "<=") i) _ _ (λ start rows a b. row_grows start rows (pos 0) b a)
     (some_if (Grows with_compare) (sees (codes "<") i) _ _ (λ start rows a b. row_grows start rows (pos 1) b a)
     (some_if (Grows with_compare) (sees (codes "==") i) _ None (λ start rows a b. both_grow start a b (with_row start rows (pos 0) a b)) tt))))
-
--- no value, or a value
-option_cases : {X : Type 0} (o : Option X) (P : Option X → Type 0) → P None → ((x : X) → P (Some x)) → P o
-option_cases None P p f = p
-option_cases (Some x) P p f = f x
 
 -- a comparison that is taken adds a row
 taken_grows : (start count : ℕ) (a : Affine) (i : Input) → Gives (comparison_by start count a (comparison i) i) (λ c j. Quiet i j × Grows with_compare c)
@@ -189,11 +182,6 @@ reading_sound (Ok p) r g h =
 by_tokens : (bytes : List ℕ) (o : Option (List Token)) (r : Reading) → ((tokens : List Token) → o ≡ Some tokens → AllByRecursion (IsSpelled bytes) tokens) → reading_by bytes o ≡ Ok r → IsSound r
 by_tokens bytes None r spelled h = cc
 by_tokens bytes (Some tokens) r spelled h = reading_sound (text_rule (start_of bytes tokens)) r (text_ends bytes tokens (spelled tokens refl)) h
-
--- the assumptions are some where there are parameters
-rows-length : (k : ℕ) → length (all_at_least_one k) ≡ k
-rows-length zero = refl
-rows-length (suc k) = omega (arith, length-append (all_at_least_one k) (at_least_one k ∷ []), rows-length k)
 
 -- something is assumed where there is a parameter
 pub some_rows : (h : Head) (i : Input) → Ends h i → 0 < length (parameters_among i.names i.kinds) → 0 < length (assumptions_of h i)

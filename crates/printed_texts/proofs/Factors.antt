@@ -4,20 +4,19 @@ use Rattle.std.specs.Prelude.{codes, bytes_eq, Ok, Some, None, Option, ◌==◌,
 use Rattle.std.specs.List.{list_all}
 use Rattle.std.proofs.lemmas.Bool.Decides.{nat_tests}
 use Rattle.std.proofs.lemmas.Int.{ints}
-use Rattle.std.proofs.lemmas.Bool.{eqb-true}
+use Rattle.std.proofs.lemmas.Bool.{and_parts, eqb-true}
 use Rattle.std.proofs.lemmas.List.{get_or-replicate}
-use Rattle.c_tokens.specs.Bytes.{is_name_byte}
+use Rattle.c_tokens.specs.Bytes.{is_name_byte, is_digit}
 use Rattle.c_tokens.specs.declared.token.Token.{Token}
 use Rattle.c_tokens.specs.declared.token.TokenKind.{TokenKind}
 use Rattle.c_tokens.specs.declared.token.TokenKind.TheVariants as token
 use Rattle.c_reading.specs.declared.named.Kind.{Kind}
 use Rattle.c_reading.specs.declared.named.Kind.TheVariants.{Parameter, OpenLoop, ClosedLoop, Array}
 use Rattle.c_reading.specs.Input.{Input, Outcome, Rule, first_of, kind, spelling, next, sees, left, place}
-use Rattle.c_reading.specs.Numbers.{is_digit, single, zeros, combined, constant_of, value_from, is_integer, parameter_slot, loop_slot}
+use Rattle.c_reading.specs.Numbers.{single, zeros, combined, constant_of, value_from, is_integer, parameter_slot, loop_slot}
 use Rattle.c_reading.specs.Affine.{Affine, kind_of, slot_by, slot, one_name, one_number, atom, signs, all_signs, sign_of, signed, product, small, factor, products, star_of, term}
 use Rattle.printed_texts.specs.Words.{Bit, space, newline, passed, word, end, AreTokens, symbol, size_bits}
 use Rattle.printed_texts.specs.Printable.{IsName, IsSmall}
-use Rattle.printed_texts.proofs.Bytes.{and_parts}
 use Rattle.printed_texts.proofs.Fits.{Writes, writes_decimal}
 use Rattle.printed_texts.proofs.Terms.{IsTerm}
 use Rattle.printed_texts.proofs.Numbers.{combined_single, replicate_small}

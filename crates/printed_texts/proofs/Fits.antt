@@ -7,14 +7,14 @@ use Rattle.std.proofs.lemmas.List.Folds.{list_all-append}
 use Rattle.std.proofs.lemmas.Fmt.{decimal_by_steps}
 use Rattle.std.proofs.Math.Seq.{take-append_seam}
 use Rattle.std.proofs.Math.Numerals.{one-add}
-use Rattle.c_tokens.specs.Bytes.{is_blank, is_space, is_in_line, is_letter, is_exponent, is_sign, is_name_start, is_name_byte, is_number_byte}
-use Rattle.c_tokens.specs.Bytes as bytes
+use Rattle.std.proofs.lemmas.Bool.{and_from, and_parts, not-true, or_parts}
+use Rattle.c_tokens.specs.Bytes.{is_space, is_in_line, is_letter, is_sign, is_name_start, is_name_byte, is_number_byte, is_digit}
 use Rattle.c_tokens.specs.Pieces.{piece_of, piece_length, name_at, name_kind, is_keyword, number_rest, begins_pair, is_among}
 use Rattle.c_tokens.specs.Tokens.{token_at, piece_tokens}
 use Rattle.c_tokens.specs.declared.token.TokenKind.TheVariants.{Name, Number, Symbol}
-use Rattle.c_reading.specs.Numbers.{value_from, is_integer, is_digit}
+use Rattle.c_reading.specs.Numbers.{value_from, is_integer}
 use Rattle.printed_texts.specs.Printable.{IsName}
-use Rattle.printed_texts.proofs.Bytes.{is_safe, begins_so, goes_on, ends_name, ends_number, and_parts, and_true, not_true, or_false, name_start-no_space, name_start-in_line, name_start-safe, name_byte-in_line}
+use Rattle.printed_texts.proofs.Bytes.{is_safe, begins_so, goes_on, ends_name, ends_number, name_start-no_space, name_start-in_line, name_start-safe, name_byte-in_line}
 use Rattle.printed_texts.proofs.Lexed.{Region, IsWordAt}
 
 -- ---- names
@@ -22,7 +22,7 @@ use Rattle.printed_texts.proofs.Lexed.{Region, IsWordAt}
 -- the run of bytes of a kind up to one of another
 run : (p : ℕ → Bool) (xs rest : List ℕ) → list_all p xs ≡ true → goes_on (λ b. not (p b)) rest ≡ true → prefix_len p (xs ++ rest) ≡ length xs
 run p [] [] all ends = refl
-run p [] (b ∷ rest) all ends = let stops : p b ≡ false = not_true (p b) ends in rw stops refl
+run p [] (b ∷ rest) all ends = let stops : p b ≡ false = not-true (p b) ends in rw stops refl
 run p (x ∷ xs) rest all ends =
     let both = and_parts (p x) (list_all p xs) all in
     let here : p x ≡ true = both.0 in
@@ -33,10 +33,10 @@ all_in_line : (bytes : List ℕ) → list_all is_name_byte bytes ≡ true → li
 all_in_line [] h = refl
 all_in_line (b ∷ bytes) h =
     let both = and_parts (is_name_byte b) (list_all is_name_byte bytes) h in
-    and_true (is_in_line b) (list_all is_in_line bytes) (name_byte-in_line b both.0) (all_in_line bytes both.1)
+    and_from (is_in_line b) (list_all is_in_line bytes) (name_byte-in_line b both.0) (all_in_line bytes both.1)
 
 -- a name stands there
-name_piece : (region : Region) (b : ℕ) (rest : List ℕ) → is_space b ≡ false → (b == 10) ≡ false → is_name_start b ≡ true → piece_of region (b ∷ rest) ≡ name_at (b ∷ rest)
+pub name_piece : (region : Region) (b : ℕ) (rest : List ℕ) → is_space b ≡ false → (b == 10) ≡ false → is_name_start b ≡ true → piece_of region (b ∷ rest) ≡ name_at (b ∷ rest)
 name_piece region b rest no_space in_line start = rw (no_space, in_line, start) refl
 
 -- a name is one token in front of what ends it
@@ -84,12 +84,12 @@ digit-number_byte before b h = elim (is_letter b) as (λ v. is_letter b ≡ v �
 -- what ends a number doesn't go on with it
 ends-number_byte : (before b : ℕ) → ends_number b ≡ true → is_number_byte before b ≡ false
 ends-number_byte before b h =
-    let apart = or_false (is_name_byte b || b == 46) (is_sign b) (not_true _ h) in
-    let name = or_false (is_name_byte b) (b == 46) apart.0 in
-    let start = or_false (is_name_start b) (bytes.is_digit b) name.0 in
-    let letter = or_false (is_letter b) (b == 95) start.0 in
+    let apart = or_parts (is_name_byte b || b == 46) (is_sign b) (not-true _ h) in
+    let name = or_parts (is_name_byte b) (b == 46) apart.0 in
+    let start = or_parts (is_name_start b) (is_digit b) name.0 in
+    let letter = or_parts (is_letter b) (b == 95) start.0 in
     let a : is_letter b ≡ false = letter.0 in
-    let d : bytes.is_digit b ≡ false = start.1 in
+    let d : is_digit b ≡ false = start.1 in
     let p : (b == 46) ≡ false = name.1 in
     let s : is_sign b ≡ false = apart.1 in
     rw (a, d, p, s) refl
@@ -97,7 +97,7 @@ ends-number_byte before b h =
 -- digits have no newline
 digits_in_line : (ds : List ℕ) → list_all is_digit ds ≡ true → list_all is_in_line ds ≡ true
 digits_in_line [] h = refl
-digits_in_line (d ∷ ds) h = let both = and_parts (is_digit d) (list_all is_digit ds) h in and_true (is_in_line d) (list_all is_in_line ds) (digit-in_line d both.0) (digits_in_line ds both.1)
+digits_in_line (d ∷ ds) h = let both = and_parts (is_digit d) (list_all is_digit ds) h in and_from (is_in_line d) (list_all is_in_line ds) (digit-in_line d both.0) (digits_in_line ds both.1)
 
 -- a number goes on up to what ends it
 number_run : (before : ℕ) (ds rest : List ℕ) → list_all is_digit ds ≡ true → goes_on ends_number rest ≡ true → number_rest before (ds ++ rest) ≡ length ds
@@ -115,7 +115,7 @@ number_fits (d ∷ ds) rest some all ends =
     let both = and_parts (is_digit d) (list_all is_digit ds) all in
     let digit : is_digit d ≡ true = both.0 in
     let no_space : is_space d ≡ false = digit-no_space d digit in
-    let in_line : (d == 10) ≡ false = not_true (d == 10) (digit-in_line d digit) in
+    let in_line : (d == 10) ≡ false = not-true (d == 10) (digit-in_line d digit) in
     let no_start : is_name_start d ≡ false = digit-no_name_start d digit in
     let long : 1 + number_rest d (ds ++ rest) ≡ length (d ∷ ds) = ap (λ n. 1 + n) (number_run d ds rest both.1 ends) ∙ one-add (length ds) in
     record {
@@ -135,17 +135,17 @@ is_symbol b = not (is_space b || b == 10 || b == 35 || is_name_byte b || b == 46
 pub single_fits : (b : ℕ) (rest : List ℕ) → is_symbol b ≡ true → begins_pair b rest ≡ false → IsWordAt Symbol (b ∷ []) rest
 single_fits b rest is pair =
     let both = and_parts _ (is_among (codes "()[]{};,=+-*/%<>!&|?:.") b) is in
-    let apart5 = or_false (is_space b || b == 10 || b == 35 || is_name_byte b || b == 46) (b == 47) (not_true _ both.0) in
-    let apart4 = or_false (is_space b || b == 10 || b == 35 || is_name_byte b) (b == 46) apart5.0 in
-    let apart3 = or_false (is_space b || b == 10 || b == 35) (is_name_byte b) apart4.0 in
-    let apart2 = or_false (is_space b || b == 10) (b == 35) apart3.0 in
-    let apart1 = or_false (is_space b) (b == 10) apart2.0 in
-    let name = or_false (is_name_start b) (bytes.is_digit b) apart3.1 in
+    let apart5 = or_parts (is_space b || b == 10 || b == 35 || is_name_byte b || b == 46) (b == 47) (not-true _ both.0) in
+    let apart4 = or_parts (is_space b || b == 10 || b == 35 || is_name_byte b) (b == 46) apart5.0 in
+    let apart3 = or_parts (is_space b || b == 10 || b == 35) (is_name_byte b) apart4.0 in
+    let apart2 = or_parts (is_space b || b == 10) (b == 35) apart3.0 in
+    let apart1 = or_parts (is_space b) (b == 10) apart2.0 in
+    let name = or_parts (is_name_start b) (is_digit b) apart3.1 in
     let a : is_space b ≡ false = apart1.0 in
     let n : (b == 10) ≡ false = apart1.1 in
     let h : (b == 35) ≡ false = apart2.1 in
     let s : is_name_start b ≡ false = name.0 in
-    let d : bytes.is_digit b ≡ false = name.1 in
+    let d : is_digit b ≡ false = name.1 in
     let p : (b == 46) ≡ false = apart4.1 in
     let c : (b == 47) ≡ false = apart5.1 in
     let among : is_among (codes "()[]{};,=+-*/%<>!&|?:.") b ≡ true = both.1 in
@@ -219,7 +219,7 @@ digit_lead n h = grind (arith, nat_tests)
 writes_one : (n : ℕ) → n < 10 → Writes n ((48 + n) ∷ [])
 writes_one n h = record {
   some = omega arith;
-  digits = and_true (is_digit (48 + n)) true (digit_is n h) refl;
+  digits = and_from (is_digit (48 + n)) true (digit_is n h) refl;
   lead = λ some. digit_lead n some;
   is_integer = digit_is n h;
   value = omega arith;
@@ -228,8 +228,8 @@ writes_one n h = record {
 -- digits with one more are an integer
 longer_integer : (ds : List ℕ) (c : ℕ) → begins_so (λ b. not (b == 48)) ds ≡ true → list_all is_digit (ds ++ c ∷ []) ≡ true → is_integer (ds ++ c ∷ []) ≡ true
 longer_integer [] c lead all = absurd cc
-longer_integer (b ∷ []) c lead all = and_true (not (b == 48)) _ lead all
-longer_integer (b ∷ d ∷ ds) c lead all = and_true (not (b == 48)) _ lead all
+longer_integer (b ∷ []) c lead all = and_from (not (b == 48)) _ lead all
+longer_integer (b ∷ d ∷ ds) c lead all = and_from (not (b == 48)) _ lead all
 
 -- what stands first stays first
 leads_longer : (p : ℕ → Bool) (ds more : List ℕ) → begins_so p ds ≡ true → begins_so p (ds ++ more) ≡ true
@@ -240,7 +240,7 @@ leads_longer p (d ∷ ds) more h = h
 writes_more : (n : ℕ) (ds : List ℕ) → 10 ≤ n → n < 2 ^ 20 → Writes (n / 10) ds → Writes n (ds ++ (48 + n % 10) ∷ [])
 writes_more n ds long small is =
     let lead : begins_so (λ b. not (b == 48)) ds ≡ true = is.lead (omega arith) in
-    let all : list_all is_digit (ds ++ (48 + n % 10) ∷ []) ≡ true = list_all-append is_digit ds ((48 + n % 10) ∷ []) ∙ and_true (list_all is_digit ds) (is_digit (48 + n % 10) && true) is.digits (and_true (is_digit (48 + n % 10)) true (digit_is (n % 10) (omega arith)) refl) in
+    let all : list_all is_digit (ds ++ (48 + n % 10) ∷ []) ≡ true = list_all-append is_digit ds ((48 + n % 10) ∷ []) ∙ and_from (list_all is_digit ds) (is_digit (48 + n % 10) && true) is.digits (and_from (is_digit (48 + n % 10)) true (digit_is (n % 10) (omega arith)) refl) in
     record {
       some = omega (arith, length-append ds ((48 + n % 10) ∷ []));
       digits = all;

@@ -4,6 +4,7 @@ use Rattle.std.specs.Prelude.{bytes_eq, codes, Ok, Some, None, Option, option_ma
 use Rattle.std.specs.List.{AllByRecursion, list_any}
 use Rattle.std.proofs.lemmas.Bool.Decides.{nat_tests}
 use Rattle.std.proofs.lemmas.Int.{ints}
+use Rattle.std.proofs.lemmas.Bool.{or_parts}
 use Rattle.iolb_model.specs.Form.{AffineForm}
 use Rattle.iolb_model.specs.Program.{AffineProgram}
 use Rattle.c_tokens.specs.Pieces.{is_keyword}
@@ -20,7 +21,6 @@ use Rattle.c_reading.specs.Items.{new_loop, loop_name_by, loop_name, comparison,
 use Rattle.printed_texts.specs.Words.{Bit, space, newline, word, AreTokens, symbol, form_bits, step_bits, header_bits}
 use Rattle.printed_texts.specs.Same.{padded, widened}
 use Rattle.printed_texts.specs.Printable.{IsName, IsSmall, other, role, IsPrintable, IsPrintableHeader}
-use Rattle.printed_texts.proofs.Bytes.{or_false}
 use Rattle.printed_texts.proofs.Numbers.{small_number_is, combined-plus}
 use Rattle.printed_texts.proofs.Steps.{at, Next, word_next, next-at, spelling-at, sees-at}
 use Rattle.printed_texts.proofs.Factors.{IsEnd, Reading, HasNumbers, kind_of-at}
@@ -123,10 +123,10 @@ lookup-place name (n ∷ names) (l ∷ kinds) k same e =
 -- a name is none of C's words
 pub keyword_apart : (name : List ℕ) → is_keyword name ≡ false → (bytes_eq name (codes "for") ≡ false) × (bytes_eq name (codes "if") ≡ false) × (bytes_eq name (codes "int") ≡ false)
 keyword_apart name h =
-    let first = or_false (bytes_eq name (codes "for")) _ h in
-    let second = or_false (bytes_eq name (codes "if")) _ first.1 in
-    let third = or_false (bytes_eq name (codes "else")) _ second.1 in
-    let fourth = or_false (bytes_eq name (codes "int")) _ third.1 in
+    let first = or_parts (bytes_eq name (codes "for")) _ h in
+    let second = or_parts (bytes_eq name (codes "if")) _ first.1 in
+    let third = or_parts (bytes_eq name (codes "else")) _ second.1 in
+    let fourth = or_parts (bytes_eq name (codes "int")) _ third.1 in
     (first.0, second.0, fourth.0)
 
 module _ (p : AffineProgram) (around : List (List ℕ)) (is : IsPrintable p) (loops : AreLoops p around) where

@@ -15,10 +15,11 @@ use Rattle.c_reading.specs.Names.{parameters_among, arrays_among}
 use Rattle.c_reading.specs.Text.{Reading, reading_of}
 use Rattle.reading_laws.specs.Well.{IsRowOver, IsAccessIn, IsStatementIn, AreLinesIn, statement_count, IsWellRead}
 use Rattle.reading_laws.proofs.Whole.{readings_are_well_read}
+use Rattle.reading_laws.proofs.NameKinds.{IsLoop}
 use Rattle.printed_texts.specs.Same.{widened, widened_access, widened_statement, IsLine, ends, TreeLine, item_lines, row_lines, array_of, IsReadingOf}
 use Rattle.printed_texts.specs.Printable.{IsName, IsSmall, IsSmallForm, parameter, array, other, role, role_by, array_role, access_seen, accesses_seen, IsPrintableAccess, ArePrintableAccesses, IsPrintableStatement, statement_seen, IsPrintableHeader, IsPrintableItem, IsPrintableRow, item_seen, row_seen, IsPrintable}
 use Rattle.printed_texts.proofs.Terms.{All_both}
-use Rattle.printed_texts.proofs.Dictionary.{place_of, position-place, bytes_are, IsLoop}
+use Rattle.printed_texts.proofs.Dictionary.{place_of, position-place, bytes_are}
 use Rattle.printed_texts.proofs.Accesses.{get_all}
 use Rattle.printed_texts.proofs.Later.{AreDistinct}
 use Rattle.printed_texts.proofs.Order.{IsOrdered, numbers_of}

@@ -2,10 +2,10 @@
 use Rattle.std.proofs.Common.{◌≡◌, refl, sym, ap, ◌∙◌, ℕ, zero, suc, ◌+◌, ◌<◌, ◌≤◌, Bool, true, false, cond, not, List, [], ◌∷◌, ◌++◌, length, take, drop, arith, length-append, ⊎_elim, leb-true}
 use Rattle.std.specs.Prelude.{bytes_eq, codes, ⊤, Ok, Err, Some, None, Option, Result, slice_get, ◌&&◌, nat_le, nat_lt}
 use Rattle.std.specs.List.{AllByRecursion, list_all}
+use Rattle.std.proofs.lemmas.Bool.{and_parts}
 use Rattle.c_tokens.specs.Bytes.{is_name_byte}
 use Rattle.c_tokens.specs.Pieces.{is_keyword}
 use Rattle.c_tokens.specs.declared.token.Token.{Token}
-use Rattle.c_tokens.specs.declared.token.TokenKind.{TokenKind}
 use Rattle.c_tokens.specs.declared.token.TokenKind.TheVariants as token
 use Rattle.c_reading.specs.declared.named.Kind.{Kind}
 use Rattle.c_reading.specs.declared.named.Kind.TheVariants.{Parameter, OpenLoop, ClosedLoop, Array}
@@ -14,9 +14,9 @@ use Rattle.c_reading.specs.Input.{Input, Outcome, Rule, and_then, given, first_o
 use Rattle.c_reading.specs.Names.{if_parameter, if_array, parameters_among, arrays_among}
 use Rattle.c_reading.specs.Numbers.{value_from, is_integer}
 use Rattle.c_reading.specs.Affine.{Affine, kind_of, with_name, is_short, new_parameter, slot_by, slot, name_by, number, atom, signs, all_signs, signed, product, sum, factor, star_of, products, term, sums, affine_by, closed_by, bracketed, affine}
+use Rattle.c_reading.proofs.TokenKinds.{name_kind_is}
 use Rattle.reading_laws.proofs.States.{Gives, err, ok, chained, weaken, either}
 use Rattle.printed_texts.specs.Printable.{IsName, begins_name}
-use Rattle.printed_texts.proofs.Bytes.{and_parts}
 use Rattle.printed_texts.proofs.Terms.{All_both}
 use Rattle.printed_texts.proofs.Dictionary.{lookup, kind_of-lookup, bytes_same, parameters-new, arrays-new}
 use Rattle.printed_texts.proofs.State.{at_end}
@@ -85,11 +85,6 @@ quiet_self i = record { later = later_self i; arrays = refl }
 All_drop : {X : Type 0} (P : X → Type 0) (xs : List X) → AllByRecursion P xs → AllByRecursion P (drop 1 xs)
 All_drop P [] h = tt
 All_drop P (x ∷ xs) h = h.1
-
--- names behind the next token
-pub sound_next : (i : Input) → Sound i → Sound (next i)
-unfolding next
-sound_next i s = record { same = s.same; names = s.names; distinct = s.distinct; parameters = s.parameters; arrays = s.arrays; numbers = s.numbers; spelled = All_drop (IsSpelled i.text) i.tokens s.spelled }
 
 -- the next token changes no name
 pub quiet_next : (i : Input) → Quiet i (next i)
@@ -246,19 +241,6 @@ slot_by_quiet i (Some (Array n rank)) named e = err
 pub slot_quiet : (i : Input) → kind i ≡ token.Name → Quietly i (slot i)
 unfolding slot
 slot_quiet i named = slot_by_quiet i (kind_of (spelling i) i) named refl
-
--- a token of the kind of names
-pub name_kind_is : (k : TokenKind) → is_name_kind k ≡ true → k ≡ token.Name
-name_kind_is token.Name h = refl
-name_kind_is token.Parameters h = cc
-name_kind_is token.Assumptions h = cc
-name_kind_is token.Word h = cc
-name_kind_is token.Number h = cc
-name_kind_is token.Symbol h = cc
-name_kind_is token.LineEnd h = cc
-name_kind_is token.Directive h = cc
-name_kind_is token.End h = cc
-name_kind_is token.Bad h = cc
 
 -- ---- expressions
 

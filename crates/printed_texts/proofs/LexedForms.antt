@@ -3,17 +3,17 @@ use Rattle.std.proofs.Common.{◌≡◌, refl, sym, subst, ℕ, zero, suc, ◌<�
 use Rattle.std.specs.Prelude.{ℤ, codes, ◌==◌, unsigned_abs, decimal, slice_get, slice_index_or, IsSomeAnd}
 use Rattle.std.specs.List.{AllByRecursion, list_all}
 use Rattle.std.proofs.lemmas.Bool.Decides.{nat_tests}
+use Rattle.std.proofs.lemmas.Bool.{and_parts}
 use Rattle.iolb_model.specs.Form.{AffineForm}
 use Rattle.iolb_model.specs.Program.{Access, Statement, Item, assign, loop, Row, done, next, Array, AffineProgram, statement_at}
 use Rattle.iolb_model.specs.Printed.{is_below_zero}
-use Rattle.c_tokens.specs.Bytes.{is_name_byte}
+use Rattle.c_tokens.specs.Bytes.{is_name_byte, is_digit}
 use Rattle.c_tokens.specs.declared.token.TokenKind.{TokenKind}
 use Rattle.c_tokens.specs.declared.token.TokenKind.TheVariants.{Name, Word, Number, Symbol, End}
-use Rattle.c_reading.specs.Numbers.{is_digit}
 use Rattle.c_printing.specs.Text.{array_name}
 use Rattle.printed_texts.specs.Words.{Bit, space, newline, word, bits_text, symbol, size_bits, sign_bytes, later_bits, minus_bits, terms_bits, form_terms, form_bits, subscripts_bits, access_bits, others_bits, reads_bits, statement_bits, step_bits, header_bits, item_bits, row_bits}
 use Rattle.printed_texts.specs.Printable.{IsName, IsSmallForm, IsPrintable, IsPrintableAccess, ArePrintableAccesses, access_seen, IsPrintableStatement, IsPrintableHeader, IsPrintableItem, IsPrintableRow, item_seen}
-use Rattle.printed_texts.proofs.Bytes.{begins_so, goes_on, ends_name, ends_number, and_parts}
+use Rattle.printed_texts.proofs.Bytes.{begins_so, goes_on, ends_name, ends_number}
 use Rattle.printed_texts.proofs.Lexed.{IsWordAt, AreLexed}
 use Rattle.printed_texts.proofs.Fits.{name_fits, number_fits, single_fits, plain_fits, minus_before, star_before, Writes, writes_decimal}
 use Rattle.printed_texts.proofs.Terms.{IsTerm, AreTerms, form_terms-are, All_both}

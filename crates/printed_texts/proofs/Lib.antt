@@ -22,6 +22,7 @@ pub mod Heads
 pub mod Meaning
 pub mod Later
 pub mod Order
+pub mod AddsHeaders
 pub mod Adds
 pub mod Ends
 pub mod Spelled

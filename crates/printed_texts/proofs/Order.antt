@@ -4,6 +4,7 @@ use Rattle.std.specs.Prelude.{codes, ℤ, Ok, Some, None, Option, slice_get, set
 use Rattle.std.specs.List.{AllByRecursion}
 use Rattle.std.proofs.lemmas.Bool.Decides.{nat_tests}
 use Rattle.std.proofs.lemmas.Option.{slice_get_within}
+use Rattle.std.proofs.lemmas.Bool.{and_parts}
 use Rattle.c_tokens.specs.declared.token.TokenKind.TheVariants as token
 use Rattle.c_reading.specs.declared.named.Kind.{Kind}
 use Rattle.c_reading.specs.declared.named.Kind.TheVariants.{Parameter, OpenLoop, ClosedLoop, Array}
@@ -13,9 +14,9 @@ use Rattle.c_reading.specs.Names.{if_parameter, if_array, parameters_among, arra
 use Rattle.c_reading.specs.Affine.{kind_of, with_name, is_short}
 use Rattle.c_reading.specs.Refs.{new_array, array_by, array, subscript, subscripts, all_subscripts, with_kind, access_by, access_from, access}
 use Rattle.c_reading.specs.Values.{Accesses, expect, open_bracket, plain, one_read, name_by, arguments, all_arguments, called, call, named, grouped, primary, unary, is_operator, operands, value_by, inside, value}
+use Rattle.c_reading.proofs.TokenKinds.{name_kind_is}
 use Rattle.reading_laws.proofs.States.{Gives, err, ok, chained, weaken, either, kind_found}
-use Rattle.printed_texts.proofs.Bytes.{and_parts}
-use Rattle.printed_texts.proofs.Later.{Sound, Later, Quiet, later_both, quiet_self, quiet_next, Quietly, quiet_bind, stays, passes, behind, name_there, IsBelow, sound_more, kinds_more, lines_more, name_kind_is, all_signs_quiet, closed_quiet, affine_quiet}
+use Rattle.printed_texts.proofs.Later.{Sound, Later, Quiet, later_both, quiet_self, quiet_next, Quietly, quiet_bind, stays, passes, behind, name_there, IsBelow, sound_more, kinds_more, lines_more, all_signs_quiet, closed_quiet, affine_quiet}
 
 -- ---- subscripts
 
@@ -231,10 +232,6 @@ reads_both g h = record { later = later_both g.later h.later; order = λ s seen 
 -- a rule behind one that reads nothing
 reads_behind : {i j k : Input} {a b : Accesses} → Quiet i j → MoreReads j a b k → MoreReads i a b k
 reads_behind {a = a} q h = record { later = later_both q.later h.later; order = λ s seen o. h.order (q.later.sound s) seen (subst (λ n. IsOrdered seen (numbers_of a) n) (sym q.arrays) o) }
-
--- a rule that reads nothing behind one
-reads_then : {i j k : Input} {a b : Accesses} → MoreReads i a b j → Quiet j k → MoreReads i a b k
-reads_then {b = b} g q = record { later = later_both g.later q.later; order = λ s seen o. subst (λ n. IsOrdered seen (numbers_of b) n) (sym q.arrays) (g.order s seen o) }
 
 -- one rule behind another reads more
 more_bind : {i : Input} {before : Accesses} {o : Outcome Accesses} {f : Accesses → Rule Accesses} → ReadsMore i before o → ((a : Accesses) (j : Input) → ReadsMore j a (f a j)) → ReadsMore i before (and_then o f)

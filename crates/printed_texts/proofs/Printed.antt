@@ -3,9 +3,9 @@ use Rattle.std.proofs.Common.{◌≡◌, refl, sym, ap, ◌∙◌, ℕ, true, fa
 use Rattle.std.specs.Prelude.{ℤ, unsigned_abs, codes, flat_map, ◌==◌}
 use Rattle.iolb_model.specs.Form.{AffineForm}
 use Rattle.iolb_model.specs.Program.{Access, Statement, Item, assign, loop, Row, done, next, AffineProgram, statement_at}
-use Rattle.iolb_model.specs.Printed.{is_below_zero, size_text, later_terms_text, terms_text, form_text}
+use Rattle.iolb_model.specs.Printed.{is_below_zero, size_text, later_terms_text, terms_text}
 use Rattle.c_printing.specs.Text.{subscript_text, access_text, reads_text, statement_text, header_text, item_text, row_text, parameters_text, assumption_text, program_text}
-use Rattle.printed_texts.specs.Words.{Bit, bits_text, size_bits, later_bits, terms_bits, form_bits, form_terms, subscripts_bits, access_bits, others_bits, reads_bits, statement_bits, header_bits, item_bits, row_bits, names_bits, parameters_bits, assumptions_bits, program_bits}
+use Rattle.printed_texts.specs.Words.{Bit, bits_text, size_bits, later_bits, terms_bits, subscripts_bits, others_bits, reads_bits, statement_bits, header_bits, item_bits, row_bits, names_bits, parameters_bits, assumptions_bits, program_bits}
 
 -- the text of a term
 size_bits-text : (c : ℤ) (name : List ℕ) (more : List Bit) → bits_text (size_bits c name more) ≡ size_text c name ++ bits_text more
@@ -34,18 +34,10 @@ terms_bits-text (t ∷ ts) more =
       | false ↦ λ e. rw e (simp (size_bits-text, later_bits-text ts, append_assoc))
     ] refl
 
--- the text of a form
-pub form_bits-text : (names : List (List ℕ)) (form : AffineForm) (more : List Bit) → bits_text (form_bits names form more) ≡ form_text names form ++ bits_text more
-form_bits-text names form more = terms_bits-text (form_terms names form) more
-
 -- the text of subscripts
 subscripts_bits-text : (names : List (List ℕ)) (forms : List AffineForm) (more : List Bit) → bits_text (subscripts_bits names forms more) ≡ flat_map (subscript_text names) forms ++ bits_text more
 subscripts_bits-text names [] more = refl
 subscripts_bits-text names (f ∷ fs) more = simp (terms_bits-text, subscripts_bits-text names fs, append_assoc)
-
--- the text of a reference
-access_bits-text : (p : AffineProgram) (names : List (List ℕ)) (a : Access) (more : List Bit) → bits_text (access_bits p names a more) ≡ access_text p names a ++ bits_text more
-access_bits-text p names a more = simp (subscripts_bits-text, append_assoc)
 
 -- the text of the reads after the first
 others_bits-text : (p : AffineProgram) (names : List (List ℕ)) (reads : List Access) (more : List Bit) → bits_text (others_bits p names reads more) ≡ flat_map (λ r. codes ", " ++ access_text p names r) reads ++ bits_text more

@@ -5,6 +5,7 @@ use Rattle.std.specs.List.{AllByRecursion, list_all, prefix_len}
 use Rattle.std.proofs.lemmas.List.{take-append-drop, take-append-le}
 use Rattle.std.proofs.lemmas.List.Folds.{list_all-append}
 use Rattle.std.proofs.Math.Numerals.{one-add}
+use Rattle.std.proofs.lemmas.Bool.{and_from, and_parts, not-true}
 use Rattle.c_tokens.specs.Bytes.{is_blank, is_space, is_name_start, is_name_byte, first_line}
 use Rattle.c_tokens.specs.Words.{begins_with, past_blanks, past_spaces, past_byte, past_words, past_head, pragma_words, directive_words, parameters_words, assumptions_words}
 use Rattle.c_tokens.specs.Lines.{Line, in_front, lines, lines_from, line_end}
@@ -15,9 +16,9 @@ use Rattle.c_tokens.specs.declared.token.Token.{Token}
 use Rattle.c_tokens.specs.declared.token.TokenKind.{TokenKind}
 use Rattle.c_tokens.specs.declared.token.TokenKind.TheVariants as token
 use Rattle.c_reading.specs.Input.{is_name_kind}
-use Rattle.printed_texts.proofs.Bytes.{and_parts, and_true, not_true}
 use Rattle.printed_texts.proofs.Lexed.{Region, drop_next}
 use Rattle.printed_texts.proofs.Later.{IsWord, IsSpelled}
+use Rattle.printed_texts.proofs.Fits.{name_piece}
 
 -- ---- tests
 
@@ -36,7 +37,7 @@ word_is [] h = cc
 word_is (b ∷ bytes) h =
     let both = and_parts (is_name_start b && list_all is_name_byte (b ∷ bytes)) (not (is_keyword (b ∷ bytes))) h in
     let first = and_parts (is_name_start b) (list_all is_name_byte (b ∷ bytes)) both.0 in
-    record { begins = first.0; bytes = first.1; no_word = not_true (is_keyword (b ∷ bytes)) both.1 }
+    record { begins = first.0; bytes = first.1; no_word = not-true (is_keyword (b ∷ bytes)) both.1 }
 
 -- a token that passes the test is spelled so
 fits_spelled : (text : List ℕ) (t : Token) → token_fits text t ≡ true → IsSpelled text t
@@ -53,7 +54,7 @@ all_spelled text (t ∷ tokens) h = let both = and_parts (token_fits text t) (li
 prefix_all : (p : ℕ → Bool) (bytes : List ℕ) → list_all p (take (prefix_len p bytes) bytes) ≡ true
 prefix_all p [] = refl
 prefix_all p (b ∷ bytes) = elim (p b) as (λ v. p b ≡ v → list_all p (take (prefix_len p (b ∷ bytes)) (b ∷ bytes)) ≡ true) [
-  | true ↦ λ e. rw e (ap (λ n. list_all p (take n (b ∷ bytes))) (one-add (prefix_len p bytes)) ∙ and_true (p b) (list_all p (take (prefix_len p bytes) bytes)) e (prefix_all p bytes))
+  | true ↦ λ e. rw e (ap (λ n. list_all p (take n (b ∷ bytes))) (one-add (prefix_len p bytes)) ∙ and_from (p b) (list_all p (take (prefix_len p bytes) bytes)) e (prefix_all p bytes))
   | false ↦ λ e. rw e refl
 ] refl
 
@@ -72,13 +73,9 @@ name_word b bytes start no_word =
     let here : is_name_byte b ≡ true = name_start_byte b start in
     let longer : prefix_len is_name_byte (b ∷ bytes) ≡ suc (prefix_len is_name_byte bytes) = ap (λ v. cond v (1 + prefix_len is_name_byte bytes) 0) here ∙ one-add (prefix_len is_name_byte bytes) in
     let word : take (prefix_len is_name_byte (b ∷ bytes)) (b ∷ bytes) ≡ b ∷ take (prefix_len is_name_byte bytes) bytes = ap (λ n. take n (b ∷ bytes)) longer in
-    ap is_word word ∙ and_true (is_name_start b && list_all is_name_byte (b ∷ take (prefix_len is_name_byte bytes) bytes)) (not (is_keyword (b ∷ take (prefix_len is_name_byte bytes) bytes)))
-    (and_true (is_name_start b) (list_all is_name_byte (b ∷ take (prefix_len is_name_byte bytes) bytes)) start (and_true (is_name_byte b) (list_all is_name_byte (take (prefix_len is_name_byte bytes) bytes)) here (prefix_all is_name_byte bytes)))
+    ap is_word word ∙ and_from (is_name_start b && list_all is_name_byte (b ∷ take (prefix_len is_name_byte bytes) bytes)) (not (is_keyword (b ∷ take (prefix_len is_name_byte bytes) bytes)))
+    (and_from (is_name_start b) (list_all is_name_byte (b ∷ take (prefix_len is_name_byte bytes) bytes)) start (and_from (is_name_byte b) (list_all is_name_byte (take (prefix_len is_name_byte bytes) bytes)) here (prefix_all is_name_byte bytes)))
     (ap not (ap is_keyword (sym word) ∙ no_word))
-
--- a name stands there
-name_piece : (region : Region) (b : ℕ) (rest : List ℕ) → is_space b ≡ false → (b == 10) ≡ false → is_name_start b ≡ true → piece_of region (b ∷ rest) ≡ name_at (b ∷ rest)
-name_piece region b rest no_space in_line start = rw (no_space, in_line, start) refl
 
 module _ (text : List ℕ) (place : ℕ) where
   -- a symbol is no name
@@ -128,7 +125,7 @@ module _ (text : List ℕ) (place : ℕ) where
       let spelled : take n (drop place text) ≡ word = ap (take n) here ∙ take-append-le n (b ∷ rest) more (prefix_within is_name_byte (b ∷ rest)) in
       elim (is_keyword word) as (λ v. is_keyword word ≡ v → list_all (token_fits text) (token_at (name_kind word) place n ∷ []) ≡ true) [
         | true ↦ λ e. ap (λ v. list_all (token_fits text) (token_at (if v then token.Word else token.Name) place n ∷ [])) e
-        | false ↦ λ e. ap (λ v. list_all (token_fits text) (token_at (if v then token.Word else token.Name) place n ∷ [])) e ∙ and_true (is_word (take n (drop place text))) true (ap is_word spelled ∙ name_word b rest start e) refl
+        | false ↦ λ e. ap (λ v. list_all (token_fits text) (token_at (if v then token.Word else token.Name) place n ∷ [])) e ∙ and_from (is_word (take n (drop place text))) true (ap is_word spelled ∙ name_word b rest start e) refl
       ] refl
 
   -- a comment or a symbol
@@ -171,7 +168,7 @@ part_fits text region skip place [] more last here = rw last refl
 part_fits text region (suc skip) place (b ∷ bytes) more last here = part_fits text region skip (place + 1) bytes more last (drop_next place text (b ∷ []) (bytes ++ more) here)
 part_fits text region zero place (b ∷ bytes) more last here =
     list_all-append (token_fits text) (piece_tokens place (piece_of region (b ∷ bytes))) _
-    ∙ and_true (list_all (token_fits text) (piece_tokens place (piece_of region (b ∷ bytes)))) _ (piece_fits text place region b bytes more here)
+    ∙ and_from (list_all (token_fits text) (piece_tokens place (piece_of region (b ∷ bytes)))) _ (piece_fits text place region b bytes more here)
     (rest_fits text (piece_length (piece_of region (b ∷ bytes))) (λ n. tokens_in region (n - 1) (place + 1) bytes) (λ n. part_fits text region (n - 1) (place + 1) bytes more last (drop_next place text (b ∷ []) (bytes ++ more) here)))
 
 -- where a line stands
@@ -284,7 +281,7 @@ head_fits text [] h = refl
 head_fits text (l ∷ ls) h = which (opens l) (head_fits text ls h.1) where
   which : (v : Bool) → list_all (token_fits text) (head_tokens ls) ≡ true → list_all (token_fits text) (if v then [] else line_tokens l ++ head_tokens ls) ≡ true
   which true e = refl
-  which false e = list_all-append (token_fits text) (line_tokens l) (head_tokens ls) ∙ and_true (list_all (token_fits text) (line_tokens l)) (list_all (token_fits text) (head_tokens ls)) (line_fits text l h.0) e
+  which false e = list_all-append (token_fits text) (line_tokens l) (head_tokens ls) ∙ and_from (list_all (token_fits text) (line_tokens l)) (list_all (token_fits text) (head_tokens ls)) (line_fits text l h.0) e
 
 -- the tokens of the program
 scop_fits : (text : List ℕ) (from : ℕ) (closing : Line) → list_all (token_fits text) (scop_tokens text from closing) ≡ true
@@ -300,7 +297,7 @@ behind_fits text from (Some closing) tokens e =
     let same : head_tokens (lines_from text 0) ++ scop_tokens text from closing ≡ tokens = cc in
     let stand : AllByRecursion (Stands text) (lines_from text 0) = all_of text 0 (lines_from text 0) (lines_stand text 0 text refl) in
     ap (list_all (token_fits text)) (sym same) ∙ list_all-append (token_fits text) (head_tokens (lines_from text 0)) (scop_tokens text from closing)
-    ∙ and_true (list_all (token_fits text) (head_tokens (lines_from text 0))) (list_all (token_fits text) (scop_tokens text from closing)) (head_fits text (lines_from text 0) stand) (scop_fits text from closing)
+    ∙ and_from (list_all (token_fits text) (head_tokens (lines_from text 0))) (list_all (token_fits text) (scop_tokens text from closing)) (head_fits text (lines_from text 0) stand) (scop_fits text from closing)
 
 -- each token of a text that is a name is spelled as one
 pub tokens_spelled : (text : List ℕ) (tokens : List Token) → tokens_of text ≡ Some tokens → AllByRecursion (IsSpelled text) tokens

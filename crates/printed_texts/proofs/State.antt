@@ -1,8 +1,9 @@
 -- What the reader knows of a printed program, and how it changes.
 use Rattle.std.proofs.Common.{◌≡◌, refl, sym, ap, subst, ◌∙◌, ℕ, zero, suc, ◌+◌, ◌<◌, ◌≤◌, Bool, true, false, List, [], ◌∷◌, ◌++◌, append-nil, length, take, arith, length-append, length-set, ⊎_elim, inl, inr}
-use Rattle.std.specs.Prelude.{bytes_eq, Some, None, slice_get, slice_set, set, map, ◌⊎◌, ◌||◌}
+use Rattle.std.specs.Prelude.{bytes_eq, Some, None, slice_get, slice_set, set, map, ◌⊎◌}
 use Rattle.std.specs.List.{AllByRecursion, list_any}
 use Rattle.std.proofs.str.Laws.{order}
+use Rattle.std.proofs.lemmas.Bool.{or_parts}
 use Rattle.iolb_model.specs.Program.{AffineProgram}
 use Rattle.iolb_model.specs.Program as program
 use Rattle.c_reading.specs.declared.named.Kind.{Kind}
@@ -14,7 +15,6 @@ use Rattle.printed_texts.specs.Same.{array_of}
 use Rattle.printed_texts.specs.Printable.{IsName, Role, parameter, array, other, role, IsPrintable}
 use Rattle.c_tokens.specs.declared.token.Token.{Token}
 use Rattle.c_reading.specs.declared.lines.Line.{Line}
-use Rattle.printed_texts.proofs.Bytes.{or_false}
 use Rattle.printed_texts.proofs.Factors.{kind_slot}
 use Rattle.printed_texts.proofs.Forms.{HaveSlots, KnowsVariables}
 use Rattle.printed_texts.proofs.Dictionary.{place_of, lookup, kind_of-lookup, bytes_same, bytes_are, lookup-new, lookup-other, lookup-set, lookup-set_other, parameters-new, arrays-new, parameters-set, arrays-set, lookup-get}
@@ -55,17 +55,11 @@ among_differ name (n ∷ names) zero m none e =
     elim (bytes_eq m name) as (λ v. bytes_eq m name ≡ v → bytes_eq m name ≡ false) [
       | true ↦ λ is.
           let found : bytes_eq name n ≡ true = ap (bytes_eq name) (same ∙ bytes_are m name is) ∙ bytes_same name in
-          let no : bytes_eq name n ≡ false = first_no (bytes_eq name n) _ none in
+          let no : bytes_eq name n ≡ false = (or_parts (bytes_eq name n) _ none).0 in
           absurd cc
       | false ↦ λ no. no
-    ] refl where
-      first_no : (a b : Bool) → (a || b) ≡ false → a ≡ false
-      first_no true b e = cc
-      first_no false b e = refl
-among_differ name (n ∷ names) (suc k) m none e = among_differ name names k m (second_no (bytes_eq name n) _ none) e where
-  second_no : (a b : Bool) → (a || b) ≡ false → b ≡ false
-  second_no true b e = cc
-  second_no false b e = e
+    ] refl
+among_differ name (n ∷ names) (suc k) m none e = among_differ name names k m (or_parts (bytes_eq name n) _ none).1 e
 
 -- ---- places of coefficients
 
@@ -213,9 +207,9 @@ module _ (p : AffineProgram) (around : List (List ℕ)) (seen count : ℕ) (i : 
 
 -- a name that is neither among these nor the last
 any_append : (t : List ℕ → Bool) (names : List (List ℕ)) (name : List ℕ) → list_any t (names ++ name ∷ []) ≡ false → (list_any t names ≡ false) × (t name ≡ false)
-any_append t [] name e = (refl, (or_false (t name) false e).0)
+any_append t [] name e = (refl, (or_parts (t name) false e).0)
 any_append t (n ∷ names) name e =
-    let both = or_false (t n) (list_any t (names ++ name ∷ [])) e in
+    let both = or_parts (t n) (list_any t (names ++ name ∷ [])) e in
     let rest = any_append t names name both.1 in
     let here : t n ≡ false = both.0 in
     (rw here rest.0, rest.1)
@@ -224,7 +218,7 @@ any_append t (n ∷ names) name e =
 any_more : (t : List ℕ → Bool) (names : List (List ℕ)) (name : List ℕ) → list_any t names ≡ false → t name ≡ false → list_any t (names ++ name ∷ []) ≡ false
 any_more t [] name e f = rw f refl
 any_more t (n ∷ names) name e f =
-    let both = or_false (t n) (list_any t names) e in
+    let both = or_parts (t n) (list_any t names) e in
     let here : t n ≡ false = both.0 in
     rw here (any_more t names name both.1 f)
 

@@ -5,6 +5,7 @@ use Rattle.std.specs.List.{list_all}
 use Rattle.std.proofs.lemmas.List.{drop-drop}
 use Rattle.std.proofs.lemmas.List.Folds.{list_all-append}
 use Rattle.std.proofs.Math.Seq.{drop-append_seam, take-append_seam}
+use Rattle.std.proofs.lemmas.Bool.{and_from, and_parts, not-true}
 use Rattle.c_tokens.specs.Bytes.{is_in_line, is_space}
 use Rattle.c_tokens.specs.Lines.{in_front, lines, lines_from, line_end}
 use Rattle.c_tokens.specs.Words.{reads_as, closing_words}
@@ -14,7 +15,7 @@ use Rattle.c_tokens.specs.declared.token.Token.{Token}
 use Rattle.c_tokens.specs.declared.token.TokenKind.{TokenKind}
 use Rattle.c_tokens.specs.declared.token.TokenKind.TheVariants.{Parameters, Assumptions, LineEnd, End}
 use Rattle.printed_texts.specs.Words.{Bit, space, newline, passed, word, end, bit_text, bits_text, bits_tokens, with_token}
-use Rattle.printed_texts.proofs.Bytes.{is_safe, begins_so, and_parts, and_true, not_true}
+use Rattle.printed_texts.proofs.Bytes.{is_safe, begins_so}
 use Rattle.printed_texts.proofs.Lexed.{Region, AreLexed, lexed, safe-not_space, safe-not_hash, drop_next}
 
 -- ---- lines
@@ -24,7 +25,7 @@ pub line_front : (place : ℕ) (line rest : List ℕ) → list_all is_in_line li
 line_front place [] rest all = ap (λ n. record { place = place; bytes = [] } ∷ lines n rest) (omega arith)
 line_front place (b ∷ line) rest all =
     let both = and_parts (is_in_line b) (list_all is_in_line line) all in
-    let other : (b == 10) ≡ false = not_true (b == 10) both.0 in
+    let other : (b == 10) ≡ false = not-true (b == 10) both.0 in
     let after : place + 1 + length line + 1 ≡ place + length (b ∷ line) + 1 = omega arith in
     rw other (ap (in_front place b) (line_front (place + 1) line rest both.1) ∙ ap (λ n. record { place = place; bytes = b ∷ line } ∷ lines n rest) after)
 
@@ -57,7 +58,7 @@ lexed-in_line inside [] h = absurd h
 lexed-in_line inside (space ∷ bits) h = lexed-in_line true bits h.1
 lexed-in_line inside (newline ∷ bits) h = absurd (let e : ◌≡◌ {A = TokenKind} LineEnd End = h.0 in cc)
 lexed-in_line inside (passed bytes ∷ bits) h = absurd h
-lexed-in_line inside (word kind bytes ∷ bits) h = list_all-append is_in_line bytes (bits_text bits) ∙ and_true (list_all is_in_line bytes) (list_all is_in_line (bits_text bits)) h.0.in_line (lexed-in_line true bits h.1)
+lexed-in_line inside (word kind bytes ∷ bits) h = list_all-append is_in_line bytes (bits_text bits) ∙ and_from (list_all is_in_line bytes) (list_all is_in_line (bits_text bits)) h.0.in_line (lexed-in_line true bits h.1)
 lexed-in_line inside (end kind ∷ bits) h = ap (λ bits. list_all is_in_line (bits_text bits)) h.1
 
 -- ---- the lines before the program
@@ -142,7 +143,7 @@ passes_line kind head segment more place is h =
     let front : List Token = bits_tokens place (word kind head ∷ segment) in
     let whole : bits_text ((word kind head ∷ segment) ++ newline ∷ more) ++ tail ≡ line ++ (10 ∷ rest) =
     ap (λ bytes. bytes ++ tail) (bits_text-append (word kind head ∷ segment) (newline ∷ more)) ∙ append_assoc line (10 ∷ bits_text more) tail in
-    let all : list_all is_in_line line ≡ true = list_all-append is_in_line head (bits_text segment) ∙ and_true (list_all is_in_line head) (list_all is_in_line (bits_text segment)) is.in_line (lexed-in_line true segment h) in
+    let all : list_all is_in_line line ≡ true = list_all-append is_in_line head (bits_text segment) ∙ and_from (list_all is_in_line head) (list_all is_in_line (bits_text segment)) is.in_line (lexed-in_line true segment h) in
     let after : place + length line + 1 ≡ place + (length line + 1) = omega arith in
     let split : lines place (bits_text ((word kind head ∷ segment) ++ newline ∷ more) ++ tail) ≡ record { place = place; bytes = line } ∷ lines (place + (length line + 1)) rest =
     ap (lines place) whole ∙ line_front place line rest all ∙ ap (λ n. record { place = place; bytes = line } ∷ lines n rest) after in
@@ -198,7 +199,7 @@ none_closes inside line (space ∷ bits) rest place begun all h =
     let still : begins_so is_safe line ≡ true = subst (λ b. IsBegun b line) h.0 begun in
     let same : place + length (line ++ 32 ∷ []) + length (bits_text bits) ≡ place + length line + length (32 ∷ bits_text bits) = omega (arith, length-append line (32 ∷ [])) in
     ap (λ bytes. find closes (lines place bytes)) (sym (append_assoc line (32 ∷ []) (bits_text bits ++ rest)))
-    ∙ none_closes true (line ++ 32 ∷ []) bits rest place (begun_space line still) (list_all-append is_in_line line (32 ∷ []) ∙ and_true (list_all is_in_line line) true all refl) h.1
+    ∙ none_closes true (line ++ 32 ∷ []) bits rest place (begun_space line still) (list_all-append is_in_line line (32 ∷ []) ∙ and_from (list_all is_in_line line) true all refl) h.1
     ∙ ap (λ n. find closes (lines n rest)) same
 none_closes inside line (newline ∷ bits) rest place begun all h =
     let same : place + length line + 1 + 0 + length (bits_text bits) ≡ place + length line + length (10 ∷ bits_text bits) = omega arith in
@@ -211,7 +212,7 @@ none_closes inside line (word kind bytes ∷ bits) rest place begun all h =
     let same : place + length (line ++ bytes) + length (bits_text bits) ≡ place + length line + length (bytes ++ bits_text bits) = omega (arith, length-append line bytes, length-append bytes (bits_text bits)) in
     ap (λ b. find closes (lines place (line ++ b))) (append_assoc bytes (bits_text bits) rest)
     ∙ ap (λ b. find closes (lines place b)) (sym (append_assoc line bytes (bits_text bits ++ rest)))
-    ∙ none_closes true (line ++ bytes) bits rest place (begun_more inside line bytes begun h.0.begins) (list_all-append is_in_line line bytes ∙ and_true (list_all is_in_line line) (list_all is_in_line bytes) all h.0.in_line) h.1
+    ∙ none_closes true (line ++ bytes) bits rest place (begun_more inside line bytes begun h.0.begins) (list_all-append is_in_line line bytes ∙ and_from (list_all is_in_line line) (list_all is_in_line bytes) all h.0.in_line) h.1
     ∙ ap (λ n. find closes (lines n rest)) same
 none_closes inside line (end kind ∷ bits) rest place begun all h =
     let begin : line ≡ [] = subst (λ b. IsBegun b line) (h.2 refl) begun in

@@ -3,13 +3,13 @@ use Rattle.std.proofs.Common.{◌≡◌, refl, sym, ◌∙◌, ap, subst, ℕ, z
 use Rattle.std.specs.Prelude.{Some, option_map, option_and_then, slice_get}
 use Rattle.std.proofs.lemmas.List.{drop_more}
 use Rattle.std.proofs.lemmas.List.{length-map}
+use Rattle.integer_laws.proofs.Lists.{All-append}
 use Rattle.iolb_model.specs.Program.{AffineProgram, Statement as ModelStatement}
 use Rattle.affine_c.specs.Parts.{ProgramParts, IsProgram, access_of, statement_of, meaning}
 use Rattle.affine_c.proofs.Bounds.{limits-at}
 use Rattle.dep_quast.proofs.Fits.{statement-is}
 use Rattle.affine_form.specs.declared.refused.Refused.{Refused}
 use Rattle.affine_form.specs.declared.refused.Refused.TheVariants.{No as not_so, Memory}
-use Rattle.affine_rows.proofs.RowLemmas.{All-append}
 use Rattle.dep_quast.specs.declared.quast.Quast.{Quast}
 use Rattle.dep_quast.specs.Claims.{PlacedClaim, Holds, AllHold}
 use Rattle.dep_quast.specs.Found.{IsRefusalOf}

@@ -1,18 +1,18 @@
 -- What a printed text says of a program is the program's own form.
-use Rattle.std.proofs.Common.{◌≡◌, refl, sym, ◌∙◌, ap, subst, ℕ, zero, suc, ◌+◌, ◌-◌, ◌<◌, ◌≤◌, List, [], ◌∷◌, ◌++◌, map, length, append_assoc, append-nil, length-append, arith, ℤ}
+use Rattle.std.proofs.Common.{◌≡◌, refl, sym, ◌∙◌, ap, subst, ℕ, zero, suc, ◌+◌, ◌-◌, ◌≤◌, List, [], ◌∷◌, ◌++◌, map, length, append_assoc, append-nil, length-append, arith}
 use Rattle.std.proofs.lemmas.List.{map-append}
 use Rattle.std.proofs.lemmas.List.FromFn.{length-range_with_len}
 use Rattle.std.specs.Prelude.{slice_get, slice_index_or, Some}
 use Rattle.std.specs.List.{AllByRecursion, AllZip, range_with_len}
+use Rattle.integer_laws.proofs.Lists.{All-weaken}
 use Rattle.iolb_model.specs.Form.{AffineForm}
-use Rattle.iolb_model.specs.Program.{Item, assign, loop, Row, done, next, Access, Statement, AffineProgram, statement_at, no_statement, IsOver, AccessFits, StatementFits, ItemFits, RowFits, item_statements, row_statements, IsWellFormed}
+use Rattle.iolb_model.specs.Program.{Item, assign, loop, Row, done, next, Statement, AffineProgram, statement_at, no_statement, IsOver, AccessFits, StatementFits, ItemFits, RowFits, item_statements, row_statements, IsWellFormed}
 use Rattle.c_reading.specs.declared.lines.Line.{Line}
 use Rattle.c_reading.specs.declared.lines.Line.TheVariants.{Begin, Does, End}
 use Rattle.c_reading.specs.Text.{Reading}
 use Rattle.reading_laws.specs.Well.{parameters_of}
 use Rattle.affine_text.specs.Meaning.{narrowed, narrowed_statement, statements_among, tree_lines}
 use Rattle.affine_text.specs.Meaning as text
-use Rattle.reading_laws.proofs.Rows.{All-weaken}
 use Rattle.affine_text.proofs.TreeFits.{ItemIsSmall, RowIsSmall}
 use Rattle.printed_texts.specs.Same.{widened, widened_statement, IsLine, IsReadingOf}
 use Rattle.printed_texts.specs.Same as printed

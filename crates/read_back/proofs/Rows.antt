@@ -1,11 +1,10 @@
 -- Rows of numbers and forms, there and back.
-use Rattle.std.proofs.Common.{◌≡◌, refl, sym, ◌∙◌, ap, subst, ℕ, zero, suc, ◌+◌, ◌-◌, ◌<◌, ◌≤◌, List, [], ◌∷◌, ◌++◌, map, length, take, drop, replicate, arith, ℤ, pos}
+use Rattle.std.proofs.Common.{◌≡◌, refl, sym, ◌∙◌, ap, ℕ, zero, suc, ◌+◌, ◌-◌, ◌≤◌, List, [], ◌∷◌, ◌++◌, map, length, take, drop, replicate, arith, ℤ, pos}
 use Rattle.std.specs.List.{AllByRecursion}
 use Rattle.std.proofs.lemmas.List.{take-append-le, take-append-drop, take_all, drop_at, drop_all, drop-take, length-take-le, length-drop}
 use Rattle.iolb_model.specs.Form.{AffineForm}
 use Rattle.iolb_model.specs.Program.{Access as ModelAccess, Statement as ModelStatement, IsOver}
 use Rattle.c_reading.specs.Access.{Access, Statement}
-use Rattle.c_reading.specs.Numbers.{constant_of}
 use Rattle.reading_laws.specs.Well.{IsRowOver}
 use Rattle.printed_texts.specs.Same.{padded, widened, widened_access, widened_statement}
 use Rattle.affine_text.specs.Meaning.{narrowed, narrowed_access, narrowed_statement}

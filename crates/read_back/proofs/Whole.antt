@@ -1,8 +1,6 @@
 -- The text that prints a program means the program.
-use Rattle.std.proofs.Common.{◌≡◌, ap, ℕ, List, length, arith, ◌≤◌}
-use Rattle.iolb_model.specs.Program.{AffineProgram}
+use Rattle.std.proofs.Common.{ap, ℕ, List, length, arith, ◌≤◌}
 use Rattle.reading_laws.proofs.Whole.{readings_are_well_read}
-use Rattle.affine_text.specs.Meaning.{Means}
 use Rattle.affine_text.proofs.TreeFits.{program_fits}
 use Rattle.printed_texts.proofs.Inverse.{program_printable}
 use Rattle.printed_texts.proofs.Meaning.{printed_text_says}

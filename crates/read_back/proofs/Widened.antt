@@ -1,17 +1,17 @@
 -- What a text says, as the text of a program that is printed has it.
-use Rattle.std.proofs.Common.{◌≡◌, refl, sym, ◌∙◌, ap, subst, ℕ, zero, suc, ◌+◌, ◌-◌, ◌<◌, ◌≤◌, List, [], ◌∷◌, ◌++◌, map, length, drop, append_assoc, append-nil, arith, ℤ}
+use Rattle.std.proofs.Common.{◌≡◌, sym, ◌∙◌, ap, subst, ℕ, zero, suc, ◌+◌, ◌-◌, ◌<◌, ◌≤◌, List, [], ◌∷◌, ◌++◌, map, length, drop, append_assoc, append-nil, arith}
 use Rattle.std.specs.Prelude.{slice_get, slice_index_or, Some}
 use Rattle.std.specs.List.{AllByRecursion, AllZip}
+use Rattle.integer_laws.proofs.Lists.{All-weaken}
 use Rattle.iolb_model.specs.Form.{AffineForm}
-use Rattle.iolb_model.specs.Program.{Item, assign, loop, Row, done, next, Statement, AffineProgram, statement_at, no_statement}
-use Rattle.c_reading.specs.Access.{Access as ReadAccess, Statement as ReadStatement}
+use Rattle.iolb_model.specs.Program.{Item, assign, loop, Row, done, next, AffineProgram, statement_at, no_statement}
+use Rattle.c_reading.specs.Access.{Access as ReadAccess}
 use Rattle.c_reading.specs.declared.lines.Line.{Line}
 use Rattle.c_reading.specs.declared.lines.Line.TheVariants.{Begin, Does, End}
 use Rattle.c_reading.specs.Text.{Reading}
-use Rattle.reading_laws.specs.Well.{IsRowOver, IsAccessIn, IsStatementIn, AreLinesIn, IsWellRead, parameters_of}
+use Rattle.reading_laws.specs.Well.{IsRowOver, IsAccessIn, AreLinesIn, IsWellRead, parameters_of}
 use Rattle.affine_text.specs.Meaning.{narrowed, narrowed_statement, statements_among, tree_lines}
 use Rattle.affine_text.specs.Meaning as text
-use Rattle.reading_laws.proofs.Rows.{All-weaken}
 use Rattle.affine_text.proofs.TreeFits.{at_front, drop_next}
 use Rattle.printed_texts.specs.Same.{widened, widened_statement, IsLine, IsReadingOf}
 use Rattle.printed_texts.specs.Same as printed

@@ -1,12 +1,14 @@
 -- Affine expressions are read as rows.
 use Rattle.std.proofs.Common.{◌≡◌, refl, ◌∙◌, ap, ℕ, zero, suc, ◌+◌, ◌<◌, ◌^◌, List, [], ◌∷◌, length, arith, Bool, true, false, lit<, ltb-true, length-append}
 use Rattle.std.specs.Prelude.{⊤, ℤ, pos, nat_lt, Option, Some, None, Ok, if◌then◌else◌, ◌&&◌, ◌||◌, not, codes}
+use Rattle.std.proofs.lemmas.Bool.{and_parts}
+use Rattle.integer_laws.proofs.Lists.{All-append, All-weaken}
 use Rattle.c_reading.specs.declared.named.Kind.{Kind}
 use Rattle.c_reading.specs.declared.named.Kind.TheVariants.{Parameter, OpenLoop, ClosedLoop, Array}
 use Rattle.c_reading.specs.Input.{Input, Rule, spelling, kind, next, place, left, sees, is_name_kind, is_number_kind}
 use Rattle.c_reading.specs.Numbers.{combined, zeros, constant_of, value_from, is_integer, single}
 use Rattle.c_reading.specs.Affine.{Affine, kind_of, with_name, is_short, new_parameter, slot_by, slot, name_by, number, atom, signs, all_signs, small, sign_of, signed, product, sum, factor, star_of, products, term, sums, affine_by, closed_by, bracketed, affine}
-use Rattle.reading_laws.proofs.Rows.{All-append, All-weaken, IsWhereSome, IsAbsent, IsRow, combined_row, zeros_row, single_row, first_there, parameter_there, loop_there}
+use Rattle.reading_laws.proofs.Rows.{IsWhereSome, IsAbsent, IsRow, combined_row, zeros_row, single_row, first_there, parameter_there, loop_there}
 use Rattle.reading_laws.proofs.NameKinds.{KindFits, ranks, more_fits, count-append, ranks-append, numbered-append}
 use Rattle.reading_laws.proofs.States.{State, Kept, kept-trans, kept_next, next_state, row-grown, kind_fits, Reads, err, ok, either, bind, stays, passes, behind, IsWhereGood, gives}
 
@@ -15,11 +17,6 @@ use Rattle.reading_laws.proofs.States.{State, Kept, kept-trans, kept_next, next_
 -- a place that has a variable
 abbrev pub IsThere : ℕ → ℕ → Input → Type 0
 IsThere depth at i = IsAbsent i.parameters depth at → ⊥
-
--- the second of two tests that both hold
-pub and_second : (a b : Bool) → (a && b) ≡ true → b ≡ true
-and_second true b h = h
-and_second false b h = cc
 
 -- one parameter more
 more_parameters : {depth : ℕ} (i : Input) (name : List ℕ) → State depth i → i.parameters < 6
@@ -66,7 +63,7 @@ new_parameter_there : (depth : ℕ) (i : Input) → State depth i → Reads dept
 unfolding new_parameter
 new_parameter_there depth i s = either (is_short (spelling i) && nat_lt i.parameters 6)
     (λ h.
-    let few : i.parameters < 6 = ltb-true _ _ (and_second (is_short (spelling i)) (nat_lt i.parameters 6) h) in
+    let few : i.parameters < 6 = ltb-true _ _ (and_parts (is_short (spelling i)) (nat_lt i.parameters 6) h).1 in
     let more = more_parameters i (spelling i) s few in
     passed more.0 more.1 (next_there depth (1 + i.parameters) _ (parameter_there (i.parameters + 1) depth i.parameters (omega arith) (omega arith))))
     (λ _. err)

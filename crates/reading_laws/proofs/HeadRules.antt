@@ -2,13 +2,14 @@
 use Rattle.std.proofs.Common.{ℕ, zero, suc, ◌+◌, ◌≤◌, List, [], ◌∷◌, ◌++◌, length, arith, Bool, true, false, length-append, leb-true}
 use Rattle.std.specs.Prelude.{⊤, ℤ, pos, negsuc, nat_le, Option, Some, None, Result, Ok, Err, if◌then◌else◌, codes}
 use Rattle.std.specs.List.{AllByRecursion}
+use Rattle.integer_laws.proofs.Lists.{All-append}
 use Rattle.c_reading.specs.declared.error.ReadFault.{ReadFault}
 use Rattle.c_reading.specs.Input.{Input, next, place, left, kind, sees, is_name_kind}
 use Rattle.c_reading.specs.Numbers.{combined}
 use Rattle.c_reading.specs.Affine.{Affine}
 use Rattle.c_reading.specs.Compare.{Rows, Compared, most_brackets, comparison, row_count, if_row, with_row, with_both, with_compare, comparison_by, compare_from, compare}
 use Rattle.c_reading.specs.Head.{Head, is_line_end, is_parameters, is_assumptions, parameter_names, all_parameter_names, closed_line, compares, all_compares, directives, head}
-use Rattle.reading_laws.proofs.Rows.{All-append, IsWhereSome, IsRow, combined_row}
+use Rattle.reading_laws.proofs.Rows.{IsWhereSome, IsRow, combined_row}
 use Rattle.reading_laws.proofs.States.{State, Kept, kept-trans, kept_next, next_state, row-grown, rows-grown, Reads, err, either, bind, stays, passes, behind, IsWhereGood, gives}
 use Rattle.reading_laws.proofs.AffineRules.{slot_there, affine_form}
 
@@ -63,12 +64,12 @@ IsFine count add c =
     → IsWhereGood (AreFew parameters 32) (add start rows c a b)
 
 -- what holds of each of two values holds of the one that a test picks
-some_if : {X : Type 0} (P : X → Type 0) (b : Bool) (x : X) (o : Option X) → P x → IsWhereSome P o → IsWhereSome P (if b then Some x else o)
+pub some_if : {X : Type 0} (P : X → Type 0) (b : Bool) (x : X) (o : Option X) → P x → IsWhereSome P o → IsWhereSome P (if b then Some x else o)
 some_if P true x o p h = p
 some_if P false x o p h = h
 
 -- what holds of no value and of each value
-option_cases : {X : Type 0} (o : Option X) (P : Option X → Type 0) → P None → ((x : X) → P (Some x)) → P o
+pub option_cases : {X : Type 0} (o : Option X) (P : Option X → Type 0) → P None → ((x : X) → P (Some x)) → P o
 option_cases None P p f = p
 option_cases (Some x) P p f = f x
 

@@ -1,6 +1,7 @@
 -- The header of a loop names a loop that isn't open, and has rows for its bounds.
 use Rattle.std.proofs.Common.{◌≡◌, refl, sym, ◌∙◌, ap, subst, ℕ, ◌-◌, List, [], ◌∷◌, ◌++◌, length, arith, Bool, true, false, length-append}
 use Rattle.std.specs.Prelude.{⊤, ℤ, pos, ◌||◌, slice_get, Option, Some, None, if◌then◌else◌, codes}
+use Rattle.integer_laws.proofs.Lists.{All-append}
 use Rattle.c_reading.specs.declared.named.Kind.{Kind}
 use Rattle.c_reading.specs.declared.named.Kind.TheVariants.{Parameter, OpenLoop, ClosedLoop, Array}
 use Rattle.c_reading.specs.declared.lines.Loop.{Loop}
@@ -8,7 +9,7 @@ use Rattle.c_reading.specs.Input.{Input, spelling, kind, next, place, sees, is_n
 use Rattle.c_reading.specs.Numbers.{combined, zeros}
 use Rattle.c_reading.specs.Affine.{number_of, kind_of, with_name, is_short}
 use Rattle.c_reading.specs.Items.{new_loop, loop_name_by, loop_name, comparison, bound_of, bound, expect_in_step, step_behind_name, step, skip_int, lower_bound, upper_from, upper_bound, header_of, for_bracket, header}
-use Rattle.reading_laws.proofs.Rows.{All-append, IsWhereSome, IsRow, combined_row, zeros_row}
+use Rattle.reading_laws.proofs.Rows.{IsWhereSome, IsRow, combined_row, zeros_row}
 use Rattle.reading_laws.proofs.NameKinds.{KindFits, ranks, count-append, ranks-append, numbered-append, get-append}
 use Rattle.reading_laws.proofs.States.{State, Grown, Kept, kept-trans, kept_self, kept_next, next_state, row-grown, kind_found, Reads, err, ok, either, bind, stays, passes, behind, behind_kept, IsWhereGood, gives}
 use Rattle.reading_laws.proofs.AffineRules.{affine_form, closed_form}

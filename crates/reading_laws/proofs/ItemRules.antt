@@ -4,6 +4,7 @@ use Rattle.std.specs.Prelude.{⊤, ◌||◌, not, nat_le, slice_get, slice_set, 
 use Rattle.std.specs.List.{AllByRecursion}
 use Rattle.std.proofs.lemmas.List.{length-set}
 use Rattle.std.proofs.lemmas.Option.{slice_get_within}
+use Rattle.integer_laws.proofs.Lists.{All-append, All-weaken}
 use Rattle.c_reading.specs.declared.named.Kind.{Kind}
 use Rattle.c_reading.specs.declared.named.Kind.TheVariants.{OpenLoop, ClosedLoop}
 use Rattle.c_reading.specs.declared.lines.Loop.{Loop}
@@ -15,7 +16,6 @@ use Rattle.c_reading.specs.Affine.{kind_of}
 use Rattle.c_reading.specs.Refs.{with_kind}
 use Rattle.c_reading.specs.Items.{with_line, operator, first_reads, add_statement, count_statements, assign, is_array, statement, opened, closed, for_loop, block_items, all_block_items, item_by, block, item_over, loops, item, is_end, items, all_items}
 use Rattle.reading_laws.specs.Well.{statement_count}
-use Rattle.reading_laws.proofs.Rows.{All-append, All-weaken}
 use Rattle.reading_laws.proofs.NameKinds.{KindFits, more_fits, loop-set, All-set, get-set, set-back}
 use Rattle.reading_laws.proofs.States.{State, Grown, grown-same, grown-trans, Kept, kept-trans, next_state, AccessIn, Wider, access-grown, After, Gives, Reads, err, ok, chained, either, stays, passes}
 use Rattle.reading_laws.proofs.References.{access_in}

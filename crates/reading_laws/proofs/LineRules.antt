@@ -2,13 +2,14 @@
 use Rattle.std.proofs.Common.{◌≡◌, refl, sym, ◌∙◌, ap, subst, ℕ, zero, suc, ◌+◌, ◌<◌, ◌≤◌, List, [], ◌∷◌, ◌++◌, length, arith, append_assoc, append-nil}
 use Rattle.std.specs.Prelude.{⊤}
 use Rattle.std.specs.List.{AllByRecursion}
+use Rattle.integer_laws.proofs.Lists.{All-weaken}
 use Rattle.c_reading.specs.Access.{Statement}
 use Rattle.c_reading.specs.declared.lines.Loop.{Loop}
 use Rattle.c_reading.specs.declared.lines.Line.{Line}
 use Rattle.c_reading.specs.declared.lines.Line.TheVariants.{Begin, Does, End}
 use Rattle.c_reading.specs.Input.{Input, Rule, Outcome, and_then, next}
 use Rattle.reading_laws.specs.Well.{statement_count}
-use Rattle.reading_laws.proofs.Rows.{All-weaken, IsRow, more_row}
+use Rattle.reading_laws.proofs.Rows.{IsRow, more_row}
 use Rattle.reading_laws.proofs.States.{State, Grown, grown-trans, Kept, kept_next, AccessIn, Wider, wider, access-wider, After, Gives, Reads, chained, weaken}
 
 -- ---- lines

@@ -3,15 +3,17 @@ use Rattle.std.proofs.Common.{◌≡◌, refl, sym, ◌∙◌, ap, subst, ℕ, z
 use Rattle.std.specs.Prelude.{ℤ, ◌==◌, ◌&&◌, not, nat_lt, nat_le, slice_get, slice_set, Option, Some, None, if◌then◌else◌, codes}
 use Rattle.std.specs.List.{AllByRecursion}
 use Rattle.std.proofs.lemmas.List.{length-set}
+use Rattle.std.proofs.lemmas.Bool.{and_parts}
+use Rattle.integer_laws.proofs.Lists.{All-append}
 use Rattle.c_reading.specs.declared.named.Kind.{Kind}
 use Rattle.c_reading.specs.declared.named.Kind.TheVariants.{Parameter, OpenLoop, ClosedLoop, Array}
 use Rattle.c_reading.specs.Input.{Input, Rule, Outcome, and_then, ◌>>=◌, spelling, next, place, left, sees}
 use Rattle.c_reading.specs.Affine.{kind_of, with_name, is_short}
 use Rattle.c_reading.specs.Refs.{new_array, array_by, array, subscript, subscripts, all_subscripts, with_kind, access_by, access_from, access}
-use Rattle.reading_laws.proofs.Rows.{All-append, IsRow}
+use Rattle.reading_laws.proofs.Rows.{IsRow}
 use Rattle.reading_laws.proofs.NameKinds.{KindFits, parameter_count, ranks, AreNumbered, count-append, ranks-append, numbered-append, rank_at, get-behind, set-behind, count-rank, ranks-rank, numbered-rank, fits-rank}
 use Rattle.reading_laws.proofs.States.{State, Kept, kept-trans, kept_next, next_state, rows-grown, rank-grown, AccessIn, kind_rank, Gives, Reads, err, ok, chained, either, bind, stays, behind}
-use Rattle.reading_laws.proofs.AffineRules.{and_second, affine_form, closed_form}
+use Rattle.reading_laws.proofs.AffineRules.{affine_form, closed_form}
 
 -- ---- subscripts
 
@@ -154,7 +156,7 @@ access_by_kind : (depth brackets there : ℕ) (o : Option Kind) (i : Input) → 
 unfolding new_array access_by
 access_by_kind depth brackets there None i e s = either_then (is_short (spelling i) && nat_lt i.arrays 128) _ _ _
     (λ h.
-    let few : i.arrays < 128 = ltb-true _ _ (and_second (is_short (spelling i)) (nat_lt i.arrays 128) h) in
+    let few : i.arrays < 128 = ltb-true _ _ (and_parts (is_short (spelling i)) (nat_lt i.arrays 128) h).1 in
     let t = with_array depth i (spelling i) s few in
     chained _ (all_subscripts_are depth brackets _ (next_state t)) (λ rows k after.
     let b = is_behind i k (spelling i) (kept-trans (kept_next _) after.kept) in

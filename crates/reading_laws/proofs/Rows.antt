@@ -1,24 +1,13 @@
 -- Rows: how many numbers they have, how big these are, and which of them are 0.
-use Rattle.std.proofs.Common.{◌≡◌, refl, ◌∙◌, ap, subst, inl, inr, ℕ, zero, suc, ◌+◌, ◌-◌, ◌^◌, ◌<◌, ◌≤◌, List, [], ◌∷◌, ◌++◌, length, replicate, take, drop, arith, lit<, true, false, ltb-true}
+use Rattle.std.proofs.Common.{◌≡◌, refl, ◌∙◌, ap, subst, inl, inr, ℕ, zero, suc, ◌+◌, ◌-◌, ◌^◌, ◌<◌, ◌≤◌, List, [], ◌∷◌, length, replicate, take, drop, arith, lit<, true, false, ltb-true}
 use Rattle.std.specs.Prelude.{◌⊎◌, ⊤, ℤ, pos, negsuc, ◌+ℤ◌, ◌-ℤ◌, ◌*ℤ◌, unsigned_abs, slice_set, Option, Some, None, if◌then◌else◌}
 use Rattle.std.specs.List.{AllByRecursion}
 use Rattle.std.proofs.lemmas.Int.{ints}
 use Rattle.std.proofs.lemmas.List.{length-set, length-drop}
+use Rattle.integer_laws.proofs.Lists.{All-append}
 use Rattle.c_reading.specs.Numbers.{is_small, small_number, number_before, plus_times, combined, single, zeros}
 use Rattle.c_reading.specs.Text.{at_least_one, all_at_least_one}
 use Rattle.reading_laws.specs.Well.{IsRowOver}
-
--- ---- what holds of each member
-
--- what holds of each member of two lists holds of each of both together
-pub All-append : {X : Type 0} (P : X → Type 0) (xs ys : List X) → AllByRecursion P xs → AllByRecursion P ys → AllByRecursion P (xs ++ ys)
-All-append P [] ys h g = g
-All-append P (x ∷ xs) ys h g = (h.0, All-append P xs ys h.1 g)
-
--- what follows for each member
-pub All-weaken : {X : Type 0} (P Q : X → Type 0) (xs : List X) → ((x : X) → P x → Q x) → AllByRecursion P xs → AllByRecursion Q xs
-All-weaken P Q [] f h = tt
-All-weaken P Q (x ∷ xs) f h = (f x h.0, All-weaken P Q xs f h.1)
 
 -- ---- what holds of a value, where there is one
 

@@ -2,13 +2,14 @@
 use Rattle.std.proofs.Common.{◌≡◌, refl, sym, ◌∙◌, ap, subst, ℕ, ◌≤◌, List, [], ◌++◌, length, arith, append_assoc, append-nil, Bool, true, false}
 use Rattle.std.specs.Prelude.{⊤, ℤ, slice_get, option_and_then, Option, Some, None, Result, Ok, Err, if◌then◌else◌}
 use Rattle.std.specs.List.{AllByRecursion}
+use Rattle.integer_laws.proofs.Lists.{All-append, All-weaken}
 use Rattle.c_reading.specs.declared.named.Kind.{Kind}
 use Rattle.c_reading.specs.declared.named.Kind.TheVariants.{Array}
 use Rattle.c_reading.specs.declared.error.ReadFault.{ReadFault}
 use Rattle.c_reading.specs.Input.{Input, Outcome, Rule, and_then, given, next}
 use Rattle.c_reading.specs.Affine.{kind_of, number_of}
 use Rattle.c_reading.specs.Access.{Access}
-use Rattle.reading_laws.proofs.Rows.{All-append, All-weaken, IsRow, more_row}
+use Rattle.reading_laws.proofs.Rows.{IsRow, more_row}
 use Rattle.reading_laws.proofs.NameKinds.{KindFits, parameter_count, ranks, AreNumbered, more_fits, ranks-append, All-get, get-append, rank_at}
 
 -- ---- states

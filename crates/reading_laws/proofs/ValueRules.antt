@@ -2,12 +2,12 @@
 use Rattle.std.proofs.Common.{ℕ, zero, suc, ◌<◌, ◌≤◌, List, [], ◌∷◌, length, arith, length-append, leb-false}
 use Rattle.std.specs.Prelude.{⊤, ◌==◌, not, nat_le, Option, Some, None, codes}
 use Rattle.std.specs.List.{AllByRecursion}
+use Rattle.integer_laws.proofs.Lists.{All-append}
 use Rattle.c_reading.specs.declared.named.Kind.{Kind}
 use Rattle.c_reading.specs.declared.named.Kind.TheVariants.{Parameter, OpenLoop, ClosedLoop, Array}
 use Rattle.c_reading.specs.Input.{Input, Rule, spelling, kind, next, left, sees, is_name_kind, is_number_kind, ◌>>◌, pure}
 use Rattle.c_reading.specs.Affine.{kind_of, is_short}
 use Rattle.c_reading.specs.Values.{Accesses, expect, open_bracket, plain, one_read, name_by, arguments, all_arguments, called, call, named, grouped, primary, unary, is_operator, operands, value_by, inside, value}
-use Rattle.reading_laws.proofs.Rows.{All-append}
 use Rattle.reading_laws.proofs.States.{State, Kept, kept_next, next_state, AccessIn, accesses-grown, Reads, err, either, bind, stays, passes, behind}
 use Rattle.reading_laws.proofs.AffineRules.{all_signs_read}
 use Rattle.reading_laws.proofs.References.{access_in}

@@ -2,6 +2,7 @@
 use Rattle.std.proofs.Common.{◌≡◌, refl, sym, ◌∙◌, ap, subst, ℕ, zero, suc, ◌≤◌, List, [], ◌∷◌, ◌++◌, length, length-append, arith, Bool, true, false}
 use Rattle.std.specs.Prelude.{ℤ, slice_get, IsSomeAnd, Option, Some, None, Ok, Err, if◌then◌else◌}
 use Rattle.std.specs.List.{AllByRecursion}
+use Rattle.integer_laws.proofs.Lists.{All-weaken}
 use Rattle.c_tokens.specs.declared.token.Token.{Token}
 use Rattle.c_tokens.specs.Text.{tokens_of}
 use Rattle.c_reading.specs.declared.named.Kind.{Kind}
@@ -15,7 +16,7 @@ use Rattle.c_reading.specs.Compare.{Rows}
 use Rattle.c_reading.specs.Head.{Head}
 use Rattle.c_reading.specs.Text.{Reading, at_least_one, all_at_least_one, assumptions_of, text_rule, start_of, reading_from, reading_by}
 use Rattle.reading_laws.specs.Well.{IsRowOver, parameters_of, IsAccessIn, AreLinesIn, statement_count, IsWellRead, ReadingsAreWellRead}
-use Rattle.reading_laws.proofs.Rows.{All-weaken, IsRow, stated_row, all_rows}
+use Rattle.reading_laws.proofs.Rows.{IsRow, stated_row, all_rows}
 use Rattle.reading_laws.proofs.NameKinds.{ranks, AreNumbered, parameters-length}
 use Rattle.reading_laws.proofs.States.{State, rows-grown, AccessIn, Gives, ok, chained}
 use Rattle.reading_laws.proofs.HeadRules.{AreFew, head_few}
@@ -147,7 +148,7 @@ text_ends bytes tokens =
     })))
 
 -- one row for each parameter
-rows-length : (k : ℕ) → length (all_at_least_one k) ≡ k
+pub rows-length : (k : ℕ) → length (all_at_least_one k) ≡ k
 rows-length zero = refl
 rows-length (suc k) = omega (arith, length-append (all_at_least_one k) (at_least_one k ∷ []), rows-length k)
 

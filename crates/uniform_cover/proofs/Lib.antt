@@ -6,4 +6,3 @@ pub mod Members
 pub mod CoverLemmas
 pub mod WeightLemmas
 pub mod ProjectionLemmas
-mod Samples

@@ -1,5 +1,5 @@
 -- Membership of a list by recursion, and where it leads to and from.
-use Rattle.std.proofs.Common.{◌≡◌, ℕ, zero, suc, ◌<◌, Bool, true, false, not, cond, ◌||◌, ◌&&◌, List, [], ◌∷◌, length, get_or, arith, sym, refl, inl, inr, ◌⊎◌, ap, ◌∙◌}
+use Rattle.std.proofs.Common.{◌≡◌, ℕ, zero, suc, ◌<◌, Bool, true, false, not, cond, ◌||◌, List, [], ◌∷◌, length, get_or, arith, sym, refl, inl, inr, ◌⊎◌, ap, ◌∙◌}
 use Rattle.std.proofs.lemmas.Bool.{false≢true}
 use Rattle.std.specs.List.{Contains, filter, list_any}
 
@@ -32,11 +32,6 @@ not_true false h = refl
 pub true_and_not : (b : Bool) → b ≡ true → not b ≡ true → ⊥
 true_and_not true is isn't = false≢true isn't
 true_and_not false is isn't = false≢true is
-
--- both parts of an `&&` that holds
-pub and_parts : (t s : Bool) → (t && s) ≡ true → (t ≡ true) × (s ≡ true)
-and_parts true s h = (refl, h)
-and_parts false s h = absurd (false≢true h)
 
 module _ {X : Type 0} (p : X → Bool) where
   from_cond : (x y : X) (ys : List X) (t : Bool) → p y ≡ t → (IsIn x (filter p ys) → IsIn x ys × (p x ≡ true))

@@ -6,14 +6,14 @@ use Rattle.std.specs.Cmp.Lexicographic.{pointwise}
 use Rattle.std.specs.List.{AllByRecursion, Contains}
 use Rattle.std.specs.Ordering.{int_eq}
 use Rattle.std.specs.Set.{unique_keys, is_member}
-use Rattle.std.proofs.lemmas.Bool.{false≢true}
+use Rattle.std.proofs.lemmas.Bool.{false≢true, and_parts}
 use Rattle.std.proofs.lemmas.Bool.Decides.{Decides-int_eq}
 use Rattle.std.proofs.lemmas.List.{ext_get_or}
 use Rattle.std.proofs.lemmas.List.Sums.{sum_by-cons}
 use Rattle.uniform_cover.specs.Products.{product_by}
 use Rattle.uniform_cover.specs.Cover.{Family, Agree, FixesSet, HasLabels, weight_at}
 use Rattle.uniform_cover.specs.Projection.{CoordinateSet, same_point, restrict, projection, ProjectionInequality}
-use Rattle.uniform_cover.proofs.Members.{IsIn, and_parts, IsIn-from_Contains, Contains-from_IsIn, IsIn-from_list_any}
+use Rattle.uniform_cover.proofs.Members.{IsIn, IsIn-from_Contains, Contains-from_IsIn, IsIn-from_list_any}
 use Rattle.uniform_cover.proofs.ProductLemmas.{product_by-map}
 use Rattle.uniform_cover.proofs.WeightLemmas.{cover_inequality}
 

@@ -3,7 +3,7 @@ use Rattle.std.proofs.Common.{◌≡◌, ℕ, zero, suc, ◌+◌, ◌*◌, ◌^�
 use Rattle.std.specs.Bool.{Decides}
 use Rattle.std.specs.List.{AllByRecursion, IsDistinct}
 use Rattle.std.proofs.Math.ListN.{replicate}
-use Rattle.std.proofs.lemmas.Bool.{false≢true}
+use Rattle.std.proofs.lemmas.Bool.{false≢true, and_parts}
 use Rattle.std.proofs.lemmas.Bool.Decides.{Decides-ltb}
 use Rattle.std.proofs.lemmas.List.Folds.{sum_by-replicate}
 use Rattle.std.proofs.lemmas.List.Sums.{sum_by-cons, sum_by-append}
@@ -11,7 +11,7 @@ use Rattle.std.proofs.Math.Nat.{mul-le-mul, mul-le-mul_left, pow-le-pow_left, po
 use Rattle.std.proofs.lemmas.Nat.{pow-add}
 use Rattle.uniform_cover.specs.Products.{product_by}
 use Rattle.uniform_cover.specs.Cover.{Family, Agree, FixesSet, HasLabels, weight_at, CoverInequality, CoverInequalityEach, CoverInequalitySum, CoverBoundEach, CoverBoundSum}
-use Rattle.uniform_cover.proofs.Members.{IsIn, and_parts, IsIn-from_Contains, Contains-from_IsIn}
+use Rattle.uniform_cover.proofs.Members.{IsIn, IsIn-from_Contains, Contains-from_IsIn}
 use Rattle.uniform_cover.proofs.ProductLemmas.{product_by-append, product_by-replicate}
 use Rattle.uniform_cover.proofs.MeanLemmas.{weighted_by}
 use Rattle.uniform_cover.proofs.CoverLemmas.{label_count, AreApart, IsSound, cover}

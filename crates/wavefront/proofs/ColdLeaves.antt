@@ -5,6 +5,7 @@ use Rattle.std.proofs.Math.IntN.{ℤ, pos, negsuc, ◌+ℤ◌, ◌-ℤ◌}
 use lib.Signed.{◌≤ℤ◌}
 use Rattle.std.proofs.lemmas.Int.{ints}
 use Rattle.std.proofs.lemmas.List.{length-append, length-drop}
+use Rattle.integer_laws.proofs.Lists.{All-append}
 use Rattle.iolb_model.specs.Form.{AffineForm, form_value}
 use Rattle.iolb_model.specs.Program.{AffineProgram}
 use Rattle.iolb_model.specs.Printed.{is_below_zero}
@@ -17,7 +18,6 @@ use Rattle.affine_form.specs.System.{IsMet}
 use Rattle.affine_form.proofs.ShownLemmas.{Shows-none}
 use Rattle.affine_form.proofs.SubstitutionLemmas.{form_value-substitution}
 use Rattle.affine_rows.proofs.Meaning.{form_value-widened, form_value-difference}
-use Rattle.affine_rows.proofs.RowLemmas.{All-append}
 use Rattle.dep_quast.specs.Claims.{AllHold, Holds, PlacedClaim, few}
 use Rattle.dep_quast.proofs.Shown.{AllHold-left, AllHold-right}
 use Rattle.dep_quast.specs.Context.{ReadOf}

@@ -3,6 +3,7 @@ use Rattle.std.proofs.Common.{◌≡◌, refl, sym, ◌∙◌, ap, subst, ℕ, �
 use Rattle.std.specs.List.{AllByRecursion, IsDistinct}
 use Rattle.std.proofs.Math.IntN.{ℤ}
 use Rattle.std.proofs.lemmas.List.{length-map}
+use Rattle.integer_laws.proofs.Lists.{All-weaken, All-map}
 use Rattle.iolb_model.specs.Form.{AffineForm}
 use Rattle.iolb_model.specs.Path.{PathStep, row_path}
 use Rattle.iolb_model.specs.Program.{AffineProgram, IsWellFormed}
@@ -13,7 +14,6 @@ use Rattle.execution_laws.specs.Cold.{read_cell, ReadsInput}
 use Rattle.execution_laws.specs.Domain.{IsWithin, IsAt}
 use Rattle.execution_laws.proofs.Domains.{domains_executed, way-there}
 use Rattle.execution_laws.proofs.InputVertices.{input_reads_loaded, input_reads_vertices}
-use Rattle.execution_laws.proofs.Different.{All-weaker, All-map}
 use Rattle.affine_form.specs.declared.place.Step.{Step}
 use Rattle.affine_form.specs.declared.place.Step.TheVariants.{Key}
 use Rattle.affine_form.specs.declared.key.TheConstants.{INSIDE, LEAVES}
@@ -65,14 +65,13 @@ module _ (program : AffineProgram) (place : List Step) (tree : SelectionTree) (t
 
   pub all-read : AllByRecursion (ReadsInput program values term.reader.statement term.reader.read) (all_instances term values)
   all-read = All-map (ReadsInput program values term.reader.statement term.reader.read) (instance_values term values) (points term.nest values)
-      (All-weaker (λ (u : List ℤ). IsWithin (map step_of term.nest) values u) (λ (u : List ℤ). ReadsInput program values term.reader.statement term.reader.read (instance_values term values u)) reads
-      (points term.nest values) (points-within term.nest values))
+      (All-weaken (λ (u : List ℤ). IsWithin (map step_of term.nest) values u) (λ (u : List ℤ). ReadsInput program values term.reader.statement term.reader.read (instance_values term values u)) (points term.nest values) reads (points-within term.nest values))
 
   pub all-differ : IsDistinct same_cell (map (read_cell program values term.reader.statement term.reader.read) (all_instances term values))
   all-differ = subst (IsDistinct same_cell) (sym (map-map (instance_values term values) (read_cell program values term.reader.statement term.reader.read) (points term.nest values)))
       (cells-differ program term values admitted.each fits.parts.scale holds.undone (points term.nest values) (points-differ term.nest values)
-      (All-weaker (λ (u : List ℤ). IsWithin (map step_of term.nest) values u) (λ (u : List ℤ). length u ≡ length term.nest)
-      (λ u h. within-length (map step_of term.nest) values u h ∙ length-map term.nest step_of) (points term.nest values) (points-within term.nest values)))
+      (All-weaken (λ (u : List ℤ). IsWithin (map step_of term.nest) values u) (λ (u : List ℤ). length u ≡ length term.nest) (points term.nest values)
+      (λ u h. within-length (map step_of term.nest) values u h ∙ length-map term.nest step_of) (points-within term.nest values)))
 
 pub cold-terms-loaded : ColdTermsAreLoaded
 cold-terms-loaded program place tree term formed fits true_tree holds = (

@@ -5,6 +5,7 @@ use Rattle.std.specs.List.{AllByRecursion}
 use Rattle.std.proofs.Math.IntN.{ℤ, pos, ◌+ℤ◌, ◌-ℤ◌}
 use lib.Signed.{◌≤ℤ◌}
 use Rattle.std.proofs.lemmas.List.{length-map}
+use Rattle.integer_laws.proofs.Lists.{All-append, All-weaken, All-map, All-every, All-flat_map}
 use Rattle.iolb_model.specs.Form.{AffineForm, form_value}
 use Rattle.iolb_model.specs.Program.{AffineProgram, IsWellFormed}
 use Rattle.iolb_model.specs.Bound.{IsAdmitted}
@@ -12,12 +13,11 @@ use Rattle.iolb_model.specs.Execution.{natural, range}
 use Rattle.execution_laws.specs.Domain.{IsWithin}
 use Rattle.execution_laws.proofs.Ordered.{All-from}
 use Rattle.execution_laws.proofs.Ranges.{range-within}
-use Rattle.execution_laws.proofs.Different.{Differ, All-weaker, All-map, All-every, All-flat_map, Differ-append, Differ-map, Differ-rising, same_head, same_tail}
+use Rattle.execution_laws.proofs.Different.{Differ, Differ-append, Differ-map, Differ-rising, same_head, same_tail}
 use Rattle.affine_form.specs.Substitution.{values_at}
 use Rattle.affine_form.specs.System.{IsMet}
 use Rattle.affine_rows.specs.Rows.{widened, variables_from, within_rows, step_of}
 use Rattle.affine_rows.proofs.Meaning.{within_rows-met}
-use Rattle.affine_rows.proofs.RowLemmas.{All-append}
 use Rattle.dep_quast.proofs.Points.{within-length, widened-met, values-front, values-end}
 use Rattle.domain_count.specs.Points.{points}
 use Rattle.domain_count.specs.Count.{rows_before}
@@ -32,15 +32,15 @@ points-within (bounds ∷ nest) before =
     (All-from (λ (v : ℤ). AllByRecursion inside (map (λ (u : List ℤ). v ∷ u) (points nest (before ++ v ∷ [])))) (range lower upper) (λ v m.
     let there : (lower ≤ℤ v) × (v ≤ℤ upper) = range-within lower upper v m in
     All-map inside (λ (u : List ℤ). v ∷ u) (points nest (before ++ v ∷ []))
-    (All-weaker (λ (u : List ℤ). IsWithin (map step_of nest) (before ++ v ∷ []) u) (λ (u : List ℤ). inside (v ∷ u)) (λ u h. (there.0, there.1, h)) (points nest (before ++ v ∷ [])) (points-within nest (before ++ v ∷ [])))))
+    (All-weaken (λ (u : List ℤ). IsWithin (map step_of nest) (before ++ v ∷ []) u) (λ (u : List ℤ). inside (v ∷ u)) (points nest (before ++ v ∷ [])) (λ u h. (there.0, there.1, h)) (points-within nest (before ++ v ∷ [])))))
 
 -- a point with another first value stands in none of the other parts
 apart : (v : ℤ) (u : List ℤ) (f : ℤ → List (List ℤ)) (values : List ℤ) → AllByRecursion (λ (w : ℤ). v ≡ w → ⊥) values
     → AllByRecursion (λ (q : List ℤ). v ∷ u ≡ q → ⊥) (flat_map (λ (w : ℤ). map (λ (x : List ℤ). w ∷ x) (f w)) values)
 apart v u f values h =
     All-flat_map (λ (q : List ℤ). v ∷ u ≡ q → ⊥) (λ (w : ℤ). map (λ (x : List ℤ). w ∷ x) (f w)) values
-    (All-weaker (λ (w : ℤ). v ≡ w → ⊥) (λ (w : ℤ). AllByRecursion (λ (q : List ℤ). v ∷ u ≡ q → ⊥) (map (λ (x : List ℤ). w ∷ x) (f w)))
-    (λ w other. All-map (λ (q : List ℤ). v ∷ u ≡ q → ⊥) (λ (x : List ℤ). w ∷ x) (f w) (All-every (λ (x : List ℤ). v ∷ u ≡ w ∷ x → ⊥) (λ x e. other (same_head v w u x e)) (f w))) values h)
+    (All-weaken (λ (w : ℤ). v ≡ w → ⊥) (λ (w : ℤ). AllByRecursion (λ (q : List ℤ). v ∷ u ≡ q → ⊥) (map (λ (x : List ℤ). w ∷ x) (f w))) values
+    (λ w other. All-map (λ (q : List ℤ). v ∷ u ≡ q → ⊥) (λ (x : List ℤ). w ∷ x) (f w) (All-every (λ (x : List ℤ). v ∷ u ≡ w ∷ x → ⊥) (λ x e. other (same_head v w u x e)) (f w))) h)
 
 differ-parts : (f : ℤ → List (List ℤ)) → ((v : ℤ) → Differ (f v)) → (values : List ℤ) → Differ values → Differ (flat_map (λ (v : ℤ). map (λ (x : List ℤ). v ∷ x) (f v)) values)
 differ-parts f each [] h = tt

@@ -1,7 +1,8 @@
 use Rattle.std.proofs.Common.{◌-◌, ◌^◌, sym, ◌∙◌, subst, arith, length, replicate, pos, lit<}
 use Rattle.std.specs.List.{AllByRecursion}
+use Rattle.integer_laws.proofs.Lists.{All-append, All-replicate}
 use Rattle.affine_form.specs.Form.{IsSmall}
-use Rattle.affine_rows.proofs.RowLemmas.{All-append, All-replicate, zeros-more}
+use Rattle.affine_rows.proofs.RowLemmas.{zeros-more}
 use Rattle.affine_rows.proofs.differences.widened.Goals as goal
 
 pub loop-place-preserved : goal.loop-place-preserved

@@ -1,6 +1,6 @@
 use Rattle.std.proofs.Common.{◌≡◌, drop}
 use Rattle.std.specs.List.{list_all}
-use Rattle.c_reading.specs.Numbers.{is_digit}
+use Rattle.c_tokens.specs.Bytes.{is_digit}
 use Rattle.c_reading.proofs.numbers.are_digits.Given as goal
 
 abbrev pub invariant-loop-b : goal.invariant-loop-b

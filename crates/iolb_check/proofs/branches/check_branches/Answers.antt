@@ -1,9 +1,9 @@
 use Rattle.std.proofs.Common.{◌≡◌, refl, sym, ◌∙◌, ap, subst, inr, ℕ, suc, ◌+◌, ◌≤◌, List, [], ◌∷◌, ◌++◌, drop, length, append_assoc, append-nil, Vec, Global, arith}
 use Rattle.std.specs.List.{AllByRecursion}
 use Rattle.std.proofs.lemmas.List.{drop_all, map-append}
+use Rattle.integer_laws.proofs.Lists.{All-append}
 use Rattle.affine_c.specs.Parts.{meaning}
 use Rattle.affine_form.specs.declared.place.Step.{Step}
-use Rattle.affine_rows.proofs.RowLemmas.{All-append}
 use Rattle.certificates.specs.declared.term.Branch.{Branch}
 use Rattle.certificates.specs.declared.term.Term.{Term}
 use Rattle.cert_fits.specs.Fit.{BranchesFit}

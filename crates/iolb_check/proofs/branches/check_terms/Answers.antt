@@ -1,7 +1,7 @@
 use Rattle.std.proofs.Common.{◌≡◌, refl, sym, ap, subst, inr, ℕ, suc, ◌+◌, List, [], ◌∷◌, ◌++◌, drop, append_assoc, append-nil, arith}
 use Rattle.std.specs.List.{AllByRecursion}
 use Rattle.std.proofs.lemmas.List.{drop_all}
-use Rattle.affine_rows.proofs.RowLemmas.{All-append}
+use Rattle.integer_laws.proofs.Lists.{All-append}
 use Rattle.affine_c.specs.Parts.{meaning}
 use Rattle.certificates.specs.declared.term.Term.{Term}
 use Rattle.cert_fits.specs.Fit.{TermFits}
