@@ -135,11 +135,11 @@ values_one : (request : Request) (s : ℕ) (program : AffineProgram) (values : L
 values_one request s program values sizes = phase_one _ _ _ _
     (λ n m unmet again. ap (λ number. stop_end request (Assumption number)) (first_one program.assumptions sizes n m unmet again))
     (λ n _ unmet met. met-first program.assumptions sizes n met unmet)
-    (λ _ _ one other _ _. phase_one _ _ _ _ (λ _ _ _ _. refl) (λ _ _ wide narrow. narrow wide) (λ _ _ one other _ _ is as. is ∙ sym as) one other)
+    (λ _ _ one other _ _. phase_one _ _ _ _ (λ _ _ _ _. refl) (λ _ _ wide narrow. narrow wide) (λ _ _ one other _ _ is does. is ∙ sym does) one other)
 
 task_one : (task : Task) (request : Request) (program : AffineProgram) (values : List (List Value)) (one other : CallEnd)
     → TaskEnds task request program values one → TaskEnds task request program values other → one ≡ other
-task_one checks request program values one other is as = is ∙ sym as
+task_one checks request program values one other is does = is ∙ sym does
 task_one (evaluates s named) request program values one other (sizes, given, ends) (others, gives, end) =
     values_one request s program values sizes one other ends
     (subst (λ (z : List ℤ). ValueEnds request s program values z other) (same_some others sizes (sym gives ∙ given)) end)

@@ -250,8 +250,12 @@ passes : (request : Request) (map : FileMap) (words : List (List ℕ)) (program 
     → CallEnds map words (done_end text)
 passes request map words program claim values text asked holds held valid answer =
     let ends = answer_ends request.task request program values text answer in
-    inr (request, asked, to_names map request program (done_end text) holds
-    (to_task map request program values (done_end text) ends.0 (record { certificate = claim; held = held; valid = valid }) ends.1))
+    inr (
+      request,
+      asked,
+      to_names map request program (done_end text) holds
+          (to_task map request program values (done_end text) ends.0 (record { certificate = claim; held = held; valid = valid }) ends.1),
+    )
 
 pub valid_pass : AreExact → ValidCertificatesPass
 valid_pass exact call request program claim values left status reads valid has outcome calm =
@@ -261,8 +265,8 @@ valid_pass exact call request program claim values left status reads valid has o
           let so = ends_so reads.map call.words status left (told call reads.map status left reads.told outcome) calm no in
           let answer = has_text request.task program values has in
           let passed = passes request reads.map call.words program claim values answer.0 reads.asked
-              (subst (λ (files : Option FileMap). HoldsProgram files request.program program) reads.told reads.holds_program)
-              (subst (λ (files : Option FileMap). HoldsCertificate files request.certificate claim) reads.told reads.holds_certificate) valid answer.1 in
+          (subst (λ (files : Option FileMap). HoldsProgram files request.program program) reads.told reads.holds_program)
+          (subst (λ (files : Option FileMap). HoldsCertificate files request.certificate claim) reads.told reads.holds_certificate) valid answer.1 in
           sym so.status_is ∙ ap (λ (e : CallEnd). e.status) (calls_one exact reads.map call.words so.end (done_end answer.0) so.ends passed)
 
 same_program : AreExact → (map : FileMap) (name : List ℕ) (p q : AffineProgram) → HoldsProgram (Some map) name p → HoldsProgram (Some map) name q → p ≡ q

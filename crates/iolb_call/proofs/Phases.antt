@@ -10,7 +10,7 @@ pub phase_one : {X Y E : Type 0} (Cause : X → Type 0) (ends : X → E) (Found 
     → ((x z : X) → Cause x → Cause z → ends x ≡ ends z) → ((x : X) (y : Y) → Cause x → Found y → ⊥)
     → ((y z : Y) (one other : E) → Found y → Found z → Onward y one → Onward z other → one ≡ other)
     → (one other : E) → Phase Cause ends Found Onward one → Phase Cause ends Found Onward other → one ≡ other
-phase_one Cause ends Found Onward alike apart onward one other (inl (x, cause, is)) (inl (z, reason, as)) = is ∙ alike x z cause reason ∙ sym as
+phase_one Cause ends Found Onward alike apart onward one other (inl (x, cause, is)) (inl (z, reason, does)) = is ∙ alike x z cause reason ∙ sym does
 phase_one Cause ends Found Onward alike apart onward one other (inl (x, cause, is)) (inr (y, found, on)) = absurd (apart x y cause found)
 phase_one Cause ends Found Onward alike apart onward one other (inr (y, found, on)) (inl (x, cause, is)) = absurd (apart x y cause found)
 phase_one Cause ends Found Onward alike apart onward one other (inr (y, found, on)) (inr (z, seen, off)) = onward y z one other found seen on off
