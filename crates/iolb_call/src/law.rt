@@ -4,7 +4,7 @@ ghost use Rattle.iolb_call.specs.Laws.{OthersNeverPass, OutcomesAreOne, ValidCer
 
 use affine_text::texts_mean_one_program;
 use cert_reading::{texts_have_one_answer, texts_have_one_certificate};
-use iolb_check::answers_are_exact;
+use iolb_check::law::answers_are_exact;
 
 /// A law of `run`'s outcomes, over files that tell what they hold. Two outcomes of one call in which no read and no write
 /// failed, and that aren't want of memory, have the same status, and the output and the standard error have gained the
