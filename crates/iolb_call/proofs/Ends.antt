@@ -135,7 +135,9 @@ values_one : (request : Request) (s : ℕ) (program : AffineProgram) (values : L
 values_one request s program values sizes = phase_one _ _ _ _
     (λ n m unmet again. ap (λ number. stop_end request (Assumption number)) (first_one program.assumptions sizes n m unmet again))
     (λ n _ unmet met. met-first program.assumptions sizes n met unmet)
-    (λ _ _ one other _ _. phase_one _ _ _ _ (λ _ _ _ _. refl) (λ _ _ wide narrow. narrow wide) (λ _ _ one other _ _ is does. is ∙ sym does) one other)
+    (λ _ _ one other _ _. phase_one {X = ⊤} {Y = ⊤} {E = CallEnd} (λ _. HasWideBranch sizes s values) (λ _. stop_end request Wide)
+    (λ _. ¬ HasWideBranch sizes s values) (λ _ end. end ≡ done_end (values_text (bound_with program values) sizes s))
+    (λ _ _ _ _. refl) (λ _ _ wide narrow. narrow wide) (λ _ _ one other _ _ is does. is ∙ sym does) one other)
 
 task_one : (task : Task) (request : Request) (program : AffineProgram) (values : List (List Value)) (one other : CallEnd)
     → TaskEnds task request program values one → TaskEnds task request program values other → one ≡ other
@@ -214,7 +216,9 @@ names_one exact map request program = phase_one _ _ _ _ (λ _ _ _ _. refl)
     (certificate_one exact request program) one other)
 
 same_fault : (source : List ℕ) (f g : ProgramFault) → HasFault source f → HasFault source g → f ≡ g
-same_fault source f g has again = cc
+same_fault source f g has again = ap (λ read. let fault : ProgramFault = record { number = read.number; place = read.place } in fault) (injective _ _ (sym has ∙ again)) where
+  injective : {A E : Type 0} (a b : E) → Err {A = A} a ≡ Err b → a ≡ b
+  injective a b e = cc
 
 program_or_fault : (source : List ℕ) (fault : ProgramFault) (program : AffineProgram) → HasFault source fault → Means source program → ⊥
 program_or_fault source fault program has means = differ _ has means.reads where

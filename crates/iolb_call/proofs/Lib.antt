@@ -1,4 +1,3 @@
-pub mod Sinks
 pub mod Keys
 pub mod Words
 pub mod Stops
@@ -7,3 +6,4 @@ pub mod Legal
 pub mod Phases
 pub mod Ends
 pub mod One
+pub mod Given

@@ -1,5 +1,5 @@
 -- That a call has one outcome.
-use Rattle.std.proofs.Common.{◌≡◌, ◌≢◌, ◌⊎◌, refl, sym, ◌∙◌, ap, subst, inl, inr, ℕ, ◌+◌, ◌≤◌, true, List, [], ◌∷◌, ◌++◌, arith}
+use Rattle.std.proofs.Common.{◌≡◌, ◌≢◌, ◌⊎◌, refl, sym, ◌∙◌, ap, subst, inl, inr, ℕ, ◌+◌, ◌≤◌, add_assoc, Bool, true, cond, List, [], ◌∷◌, ◌++◌, arith}
 use Rattle.std.specs.Prelude.{⊤, ℤ, Option, Some, None, count_by}
 use Rattle.std.specs.Io.KnownBytes.{append_known}
 use Rattle.std.proofs.lemmas.List.{append-nil}
@@ -47,34 +47,35 @@ IsPlain (Assumption number) = ⊤
 IsPlain Wide = ⊤
 IsPlain Memory = ⊥
 
-one_more : (faults : List NamedFault) (named : NamedFault) → is_failure named.fault ≡ true → failure_count (faults ++ named ∷ []) ≡ failure_count faults + 1
-one_more [] named is = rw is refl
-one_more (first ∷ faults) named is = grind (arith, one_more faults named is)
+one_more : {X : Type 0} (test : X → Bool) (xs : List X) (x : X) → test x ≡ true → count_by test (xs ++ x ∷ []) ≡ count_by test xs + 1
+one_more test [] x is = rw is refl
+one_more test (y ∷ xs) x is =
+    ap (λ n. cond (test y) 1 0 + n) (one_more test xs x is) ∙ sym (add_assoc (cond (test y) 1 0) (count_by test xs) 1)
 
 no_more : (faults after : List NamedFault) (name : List ℕ) → after ≡ after_fault faults name Failed → failure_count after ≡ failure_count faults → ⊥
 no_more faults after name noted calm =
-    let more = ap failure_count noted ∙ one_more faults (record { name = name; fault = Failed }) refl in omega (arith, more, calm)
+    let more = ap failure_count noted ∙ one_more (λ (named : NamedFault). is_failure named.fault) faults (record { name = name; fault = Failed }) refl in omega (arith, more, calm)
 
 plain_fault : (faults after : List NamedFault) (name : List ℕ) (fault : FileFault) → after ≡ after_fault faults name fault → failure_count after ≡ failure_count faults
     → (fault ≡ NoMemoryForFile → ⊥) → IsPlainFault fault
-plain_fault faults after name Missing noted calm no = tt
-plain_fault faults after name TooLong noted calm no = tt
-plain_fault faults after name Failed noted calm no = no_more faults after name noted calm
-plain_fault faults after name NoMemoryForFile noted calm no = no refl
+plain_fault faults after name Missing noted calm differs = tt
+plain_fault faults after name TooLong noted calm differs = tt
+plain_fault faults after name Failed noted calm differs = no_more faults after name noted calm
+plain_fault faults after name NoMemoryForFile noted calm differs = differs refl
 
 plain : (request : Request) (stop : Stop) (faults after : List NamedFault) → after ≡ faults_at request stop faults → failure_count after ≡ failure_count faults
     → stop_status stop ≢ NoMemory → IsPlain stop
-plain request Words faults after noted calm no = tt
-plain request (ProgramFile fault) faults after noted calm no =
-    plain_fault faults after request.program fault noted calm (λ is. no (ap (λ f. stop_status (ProgramFile f)) is))
-plain request (ProgramText fault) faults after noted calm no = tt
-plain request (CertificateFile fault) faults after noted calm no =
-    plain_fault faults after request.certificate fault noted calm (λ is. no (ap (λ f. stop_status (CertificateFile f)) is))
-plain request (CertificateText fault) faults after noted calm no = tt
-plain request (Condition failed) faults after noted calm no = tt
-plain request (Assumption number) faults after noted calm no = tt
-plain request Wide faults after noted calm no = tt
-plain request Memory faults after noted calm no = no refl
+plain request Words faults after noted calm differs = tt
+plain request (ProgramFile fault) faults after noted calm differs =
+    plain_fault faults after request.program fault noted calm (λ is. differs (ap (λ f. stop_status (ProgramFile f)) is))
+plain request (ProgramText fault) faults after noted calm differs = tt
+plain request (CertificateFile fault) faults after noted calm differs =
+    plain_fault faults after request.certificate fault noted calm (λ is. differs (ap (λ f. stop_status (CertificateFile f)) is))
+plain request (CertificateText fault) faults after noted calm differs = tt
+plain request (Condition failed) faults after noted calm differs = tt
+plain request (Assumption number) faults after noted calm differs = tt
+plain request Wide faults after noted calm differs = tt
+plain request Memory faults after noted calm differs = differs refl
 
 -- ---- what a request comes to, from what it is stopped or answered by
 
@@ -125,9 +126,9 @@ program_file_ends map request Failed cause ok = absurd ok
 program_file_ends map request NoMemoryForFile cause ok = absurd ok
 
 certificate_file_ends : (map : FileMap) (request : Request) (fault : FileFault) → RequestStop (Some map) request (CertificateFile fault) → IsPlainFault fault → RequestEnds map request (stop_end request (CertificateFile fault))
-certificate_file_ends map request Missing (program, holds, sizes, cause) ok =
+certificate_file_ends map request Missing (program, holds, (sizes, cause)) ok =
     to_names map request program (stop_end request (CertificateFile Missing)) holds (inr (tt, sizes, inl (Missing, cause, refl)))
-certificate_file_ends map request TooLong (program, holds, sizes, cause) ok =
+certificate_file_ends map request TooLong (program, holds, (sizes, cause)) ok =
     to_names map request program (stop_end request (CertificateFile TooLong)) holds (inr (tt, sizes, inl (TooLong, cause, refl)))
 certificate_file_ends map request Failed cause ok = absurd ok
 certificate_file_ends map request NoMemoryForFile cause ok = absurd ok
@@ -137,14 +138,14 @@ stop_ends map request Words (program, holds, lacks) ok = to_names map request pr
 stop_ends map request (ProgramFile fault) cause ok = program_file_ends map request fault cause ok
 stop_ends map request (ProgramText fault) (source, content, has) ok = inr (source, (content.told, content.few), inl (fault, has, refl))
 stop_ends map request (CertificateFile fault) cause ok = certificate_file_ends map request fault cause ok
-stop_ends map request (CertificateText fault) (program, holds, sizes, bytes, content, has) ok =
+stop_ends map request (CertificateText fault) (program, holds, (sizes, bytes, content, has)) ok =
     to_names map request program (stop_end request (CertificateText fault)) holds (to_text map request program bytes (stop_end request (CertificateText fault)) sizes content (inl (fault, has, refl)))
-stop_ends map request (Condition failed) (program, holds, sizes, claim, held, fails) ok =
+stop_ends map request (Condition failed) (program, holds, (sizes, claim, held, fails)) ok =
     to_names map request program (stop_end request (Condition failed)) holds (to_conditions map request program claim (stop_end request (Condition failed)) sizes held (inl (failed, fails, refl)))
-stop_ends map request (Assumption number) (program, holds, values, valid, outside) ok =
+stop_ends map request (Assumption number) (program, holds, (values, valid, outside)) ok =
     let ends = outside_ends request.task request program values number outside in
     to_names map request program (stop_end request (Assumption number)) holds (to_task map request program values (stop_end request (Assumption number)) ends.0 valid ends.1)
-stop_ends map request Wide (program, holds, values, valid, beyond) ok =
+stop_ends map request Wide (program, holds, (values, valid, beyond)) ok =
     let ends = beyond_ends request.task request program values beyond in
     to_names map request program (stop_end request Wide) holds (to_task map request program values (stop_end request Wide) ends.0 valid ends.1)
 stop_ends map request Memory cause ok = absurd ok
@@ -177,38 +178,38 @@ done_so map words left (text, done, gains, stays) = record {
 
 stopped_so : (map : FileMap) (words : List (List ℕ)) (status : Status) (left : CallUse) (stop : Stop) (line : List ℕ) → Stops (record { words = words; files = Some map }) left.files stop line
     → stop_status stop ≡ status → Stays left.output → Gains left.error line → IsUndisturbed left → status ≢ NoMemory → EndsSo map words status left
-stopped_so map words status left stop line (inl at_words) is stays gains calm no = record {
+stopped_so map words status left stop line (inl at_words) is stays gains calm differs = record {
   end = words_end;
   ends = inl (tt, at_words.cause, refl);
   status_is = ap stop_status (sym at_words.words) ∙ is;
   output = nothing left.output stays;
   error = subst (λ (l : List ℕ). Gains left.error l) at_words.says gains;
 }
-stopped_so map words status left stop line (inr (inl want)) is stays gains calm no = absurd (no (sym is ∙ ap stop_status want.memory))
-stopped_so map words status left stop line (inr (inr stops)) is stays gains calm no =
+stopped_so map words status left stop line (inr (inl want)) is stays gains calm differs = absurd (differs (sym is ∙ ap stop_status want.memory))
+stopped_so map words status left stop line (inr (inr stops)) is stays gains calm differs =
     let request = stops.request in record {
       end = stop_end request stop;
-      ends = inr (request, stops.asked, stop_ends map request stop stops.cause (plain request stop left.files.before left.files.after stops.noted calm.files (λ e. no (sym is ∙ e))));
+      ends = inr (request, stops.asked, stop_ends map request stop stops.cause (plain request stop left.files.before left.files.after stops.noted calm.files (λ e. differs (sym is ∙ e))));
       status_is = is;
       output = nothing left.output stays;
       error = subst (λ (l : List ℕ). Gains left.error l) stops.says gains;
     }
 
 stopped : (map : FileMap) (words : List (List ℕ)) (status : Status) (left : CallUse) → IsStopped status (record { words = words; files = Some map }) left → IsUndisturbed left → status ≢ NoMemory → EndsSo map words status left
-stopped map words status left is calm no = stopped_so map words status left is.stop is.line is.stops is.status_is is.output_stays is.error_gains calm no
+stopped map words status left is calm differs = stopped_so map words status left is.stop is.line is.stops is.status_is is.output_stays is.error_gains calm differs
 
 ends_so : (map : FileMap) (words : List (List ℕ)) (status : Status) (left : CallUse) → Outcome status (record { words = words; files = Some map }) left → IsUndisturbed left → status ≢ NoMemory → EndsSo map words status left
-ends_so map words Done left outcome calm no = done_so map words left outcome
-ends_so map words Refused left outcome calm no = stopped map words Refused left outcome calm no
-ends_so map words WordsRefused left outcome calm no = stopped map words WordsRefused left outcome calm no
-ends_so map words ProgramRefused left outcome calm no = stopped map words ProgramRefused left outcome calm no
-ends_so map words OtherText left outcome calm no = stopped map words OtherText left outcome calm no
-ends_so map words FileAbsent left outcome calm no = stopped map words FileAbsent left outcome calm no
-ends_so map words ReadFault left outcome calm no = stopped map words ReadFault left outcome calm no
-ends_so map words WriteFault left (inl (text, done, fails, stays)) calm no = absurd (calm.output fails.0)
-ends_so map words WriteFault left (inr (line, due, stays, fails)) calm no = absurd (calm.error fails.0)
-ends_so map words WideValue left outcome calm no = stopped map words WideValue left outcome calm no
-ends_so map words NoMemory left outcome calm no = absurd (no refl)
+ends_so map words Done left outcome calm differs = done_so map words left outcome
+ends_so map words Refused left outcome calm differs = stopped map words Refused left outcome calm differs
+ends_so map words WordsRefused left outcome calm differs = stopped map words WordsRefused left outcome calm differs
+ends_so map words ProgramRefused left outcome calm differs = stopped map words ProgramRefused left outcome calm differs
+ends_so map words OtherText left outcome calm differs = stopped map words OtherText left outcome calm differs
+ends_so map words FileAbsent left outcome calm differs = stopped map words FileAbsent left outcome calm differs
+ends_so map words ReadFault left outcome calm differs = stopped map words ReadFault left outcome calm differs
+ends_so map words WriteFault left (inl (text, done, fails, stays)) calm differs = absurd (calm.output fails.0)
+ends_so map words WriteFault left (inr (line, due, stays, fails)) calm differs = absurd (calm.error fails.0)
+ends_so map words WideValue left outcome calm differs = stopped map words WideValue left outcome calm differs
+ends_so map words NoMemory left outcome calm differs = absurd (differs refl)
 
 told : (call : Call) (map : FileMap) (status : Status) (left : CallUse) → call.files ≡ Some map → Outcome status call left → Outcome status (record { words = call.words; files = Some map }) left
 told call map status left e outcome = subst (λ (files : Option FileMap). Outcome status (record { words = call.words; files = files }) left) e outcome
@@ -216,9 +217,9 @@ told call map status left e outcome = subst (λ (files : Option FileMap). Outcom
 -- ---- the laws
 
 pub outcomes_one : AreExact → OutcomesAreOne
-outcomes_one exact call map one other status another tells outcome also calm quiet no nor =
-    let first = ends_so map call.words status one (told call map status one tells outcome) calm no in
-    let second = ends_so map call.words another other (told call map another other tells also) quiet nor in
+outcomes_one exact call map one other status another tells outcome also calm quiet differs apart =
+    let first = ends_so map call.words status one (told call map status one tells outcome) calm differs in
+    let second = ends_so map call.words another other (told call map another other tells also) quiet apart in
     let same = calls_one exact map call.words second.end first.end second.ends first.ends in (
       sym first.status_is ∙ ap (λ (e : CallEnd). e.status) (sym same) ∙ second.status_is,
       (first.end.output, first.output, subst (λ (e : CallEnd). Gains other.output e.output) same second.output),
@@ -259,10 +260,10 @@ passes request map words program claim values text asked holds held valid answer
 
 pub valid_pass : AreExact → ValidCertificatesPass
 valid_pass exact call request program claim values left status reads valid has outcome calm =
-    elim (memory_or status) [ inl is ↦ inr is | inr no ↦ inl (ends no) ] where
+    elim (memory_or status) [ inl is ↦ inr is | inr differs ↦ inl (ends differs) ] where
       ends : status ≢ NoMemory → status ≡ Done
-      ends no =
-          let so = ends_so reads.map call.words status left (told call reads.map status left reads.told outcome) calm no in
+      ends differs =
+          let so = ends_so reads.map call.words status left (told call reads.map status left reads.told outcome) calm differs in
           let answer = has_text request.task program values has in
           let passed = passes request reads.map call.words program claim values answer.0 reads.asked
           (subst (λ (files : Option FileMap). HoldsProgram files request.program program) reads.told reads.holds_program)

@@ -259,7 +259,7 @@ at_least (evaluates s named) program values text answer holds = λ sizes moves g
       same a b p = cc
 
 -- what status 0 says
-pub headline : (call : Call) (left : CallUse) (status : Status) → Outcome status call left → status ≡ Done → IsLowerBoundPrinted call left
+headline : (call : Call) (left : CallUse) (status : Status) → Outcome status call left → status ≡ Done → IsLowerBoundPrinted call left
 headline call left status outcome e = said_bound (subst (λ (s : Status). Outcome s call left) e outcome) where
   said_bound : (text : List ℕ) × IsDone call left.files text × Gains left.output text × Stays left.error → IsLowerBoundPrinted call left
   said_bound (text, done, gains, stays) = let good = done.accepted.good in record {
@@ -279,3 +279,7 @@ headline call left status outcome e = said_bound (subst (λ (s : Status). Outcom
     error_stays = stays;
     read = done.read;
   }
+
+-- what a call says that is done, if its status is 0
+pub done_headline : (call : Call) (left : CallUse) (text : List ℕ) (status : Status) → IsDone call left.files text → OutputWritten left.output left.error text status → status ≡ Done → IsLowerBoundPrinted call left
+done_headline call left text status done written = headline call left status (done_outcome call left text status done written)

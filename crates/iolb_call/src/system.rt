@@ -19,10 +19,17 @@ use std::process::ExitCode;
 use std::{env, io};
 
 /// The words behind the program's name, of all the words of a call. Want of memory is its only error.
-fn behind_name(alloc: Global, words: Args) -> Result<Vec<String>, Memory>
+fn behind_name(alloc: Global, mut words: Args) -> Result<Vec<String>, Memory>
     ensures { IfOk result (λ behind. behind.items ≡ drop 1 (into_iter_items words)) }
 {
-    Ok(words.skip(1).collect(alloc)?)
+    let _name = words.next();
+    let mut behind = Vec::new(alloc);
+    while let Some(word) = words.next() {
+        let Ok(()) = behind.push(word) else {
+            return Err(Memory);
+        };
+    }
+    Ok(behind)
 }
 
 /// Calls the program with the words that the system gave. A word that is no text is refused as no words are.
