@@ -216,9 +216,10 @@ names_one exact map request program = phase_one _ _ _ _ (λ _ _ _ _. refl)
     (certificate_one exact request program) one other)
 
 same_fault : (source : List ℕ) (f g : ProgramFault) → HasFault source f → HasFault source g → f ≡ g
-same_fault source f g has again = ap (λ read. let fault : ProgramFault = record { number = read.number; place = read.place } in fault) (injective _ _ (sym has ∙ again)) where
-  injective : {A E : Type 0} (a b : E) → Err {A = A} a ≡ Err b → a ≡ b
-  injective a b e = cc
+same_fault source f g has again =
+    ap (λ read. let fault : ProgramFault = record { number = read.number; place = read.place } in fault) (injective _ _ _ has again) where
+      injective : {T E : Type 0} (r : Result T E) (a b : E) → r ≡ Err a → r ≡ Err b → a ≡ b
+      injective r a b e f = cc
 
 program_or_fault : (source : List ℕ) (fault : ProgramFault) (program : AffineProgram) → HasFault source fault → Means source program → ⊥
 program_or_fault source fault program has means = differ _ has means.reads where

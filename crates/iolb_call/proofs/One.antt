@@ -1,8 +1,9 @@
 -- That a call has one outcome.
-use Rattle.std.proofs.Common.{◌≡◌, ◌≢◌, ◌⊎◌, refl, sym, ◌∙◌, ap, subst, inl, inr, ℕ, ◌+◌, ◌≤◌, add_assoc, Bool, true, cond, List, [], ◌∷◌, ◌++◌, arith}
+use Rattle.std.proofs.Common.{◌≡◌, ◌≢◌, ◌⊎◌, refl, sym, ◌∙◌, ap, subst, inl, inr, ℕ, ◌+◌, ◌≤◌, Bool, true, cond, List, [], ◌∷◌, ◌++◌, arith}
 use Rattle.std.specs.Prelude.{⊤, ℤ, Option, Some, None, count_by}
 use Rattle.std.specs.Io.KnownBytes.{append_known}
 use Rattle.std.proofs.lemmas.List.{append-nil}
+use Rattle.std.proofs.lemmas.List.Sums.{sum_by-append}
 use Rattle.iolb_model.specs.Printed.{bound_text}
 use Rattle.iolb_model.specs.Program.{AffineProgram}
 use Rattle.affine_text.specs.Meaning.{Means}
@@ -48,9 +49,7 @@ IsPlain Wide = ⊤
 IsPlain Memory = ⊥
 
 one_more : {X : Type 0} (test : X → Bool) (xs : List X) (x : X) → test x ≡ true → count_by test (xs ++ x ∷ []) ≡ count_by test xs + 1
-one_more test [] x is = rw is refl
-one_more test (y ∷ xs) x is =
-    ap (λ n. cond (test y) 1 0 + n) (one_more test xs x is) ∙ sym (add_assoc (cond (test y) 1 0) (count_by test xs) 1)
+one_more test xs x is = sum_by-append (λ y. cond (test y) 1 0) xs (x ∷ []) ∙ ap (λ n. count_by test xs + n) (rw is refl)
 
 no_more : (faults after : List NamedFault) (name : List ℕ) → after ≡ after_fault faults name Failed → failure_count after ≡ failure_count faults → ⊥
 no_more faults after name noted calm =

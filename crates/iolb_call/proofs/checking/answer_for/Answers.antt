@@ -20,4 +20,4 @@ returns-clause-stop g c =
 
 pub returns-in_err-bound-clause-stop : goal.returns-in_err-bound-clause-stop
 returns-in_err-bound-clause-stop g c =
-    let h = c.in_err-bound in ?
+    let a = c.from_residual.ensures in let b = c.in_err-bound.ensures.stop in let d = c.in_err-bound.was in let e = c.in_err-bound.field-0 in ?
