@@ -1,20 +1,19 @@
 -- What a request comes to over files that tell what they hold, phase by phase, and that this is one.
-use Rattle.std.proofs.Common.{◌≡◌, ◌≢◌, ◌⊎◌, refl, sym, ◌∙◌, ap, subst, inl, inr, ℕ, zero, suc, ◌<◌, ◌≤◌, List, [], ◌∷◌, length, arith}
-use Rattle.std.specs.Prelude.{⊤, ℤ, pos, ◌≤ℤ◌, Option, Some, None, Result, Ok, Err, IfSome, IsSomeAnd}
+use Rattle.std.proofs.Common.{◌≡◌, refl, sym, ◌∙◌, ap, subst, ℕ, zero, suc, ◌<◌, ◌≤◌, List, [], ◌∷◌, length, arith}
+use Rattle.std.specs.Prelude.{⊤, ℤ, Option, Some, None, Result, Ok, Err, IsSomeAnd}
 use Rattle.iolb_model.specs.Bound.{AreMet}
-use Rattle.iolb_model.specs.Form.{AffineForm, form_value}
+use Rattle.iolb_model.specs.Form.{AffineForm}
 use Rattle.iolb_model.specs.Printed.{bound_text}
 use Rattle.iolb_model.specs.Program.{AffineProgram}
 use Rattle.affine_form.specs.declared.refused.No.{No as FailedCondition}
 use Rattle.affine_text.specs.declared.fault.ProgramFault.{ProgramFault}
 use Rattle.affine_text.specs.Laws.{TextsMeanOneProgram}
 use Rattle.affine_text.specs.Meaning.{Means, HasFault}
-use Rattle.cert_parts.specs.declared.error.CertFault.{CertFault}
 use Rattle.cert_reading.specs.Laws.{HasCertificate, TextsHaveOneCertificate, TextsHaveOneAnswer}
 use Rattle.cert_reading.specs.Texts.{IsTextFault}
 use Rattle.certificates.specs.Claims.{CertificateClaim}
 use Rattle.command_words.specs.Requests.{Request, Task, checks, evaluates, request_of}
-use Rattle.command_words.specs.Sizes.{NamedSize, values_for}
+use Rattle.command_words.specs.Sizes.{values_for}
 use Rattle.iolb_check.specs.declared.bound.Value.{Value}
 use Rattle.iolb_check.specs.Bounds.{HasWideBranch, IsFirstUnmet}
 use Rattle.iolb_check.specs.Exact.{IsLegalCertificate, RefusalsAreOne, ValidCertificatesGiveOne, ValidCertificatesStand}
@@ -24,7 +23,7 @@ use Rattle.iolb_host.specs.Files.{FileMap, content_of}
 use Rattle.iolb_call.specs.declared.status.Status.{Status}
 use Rattle.iolb_call.specs.declared.status.Status.TheVariants.{Done, Words as WordsRefused}
 use Rattle.iolb_call.specs.declared.stop.Stop.{Stop}
-use Rattle.iolb_call.specs.declared.stop.Stop.TheVariants.{Words, ProgramFile, ProgramText, CertificateFile, CertificateText, Condition, Assumption, Wide, Memory}
+use Rattle.iolb_call.specs.declared.stop.Stop.TheVariants.{Words, ProgramFile, ProgramText, CertificateFile, CertificateText, Condition, Assumption, Wide}
 use Rattle.iolb_call.specs.Lines.{usage}
 use Rattle.iolb_call.specs.Stop.{program_most, certificate_most, stop_line, stop_status}
 use Rattle.iolb_call.specs.Task.{HasSizes, LacksSizes, bound_with}

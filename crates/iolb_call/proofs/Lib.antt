@@ -6,4 +6,3 @@ pub mod Legal
 pub mod Phases
 pub mod Ends
 pub mod One
-pub mod Given

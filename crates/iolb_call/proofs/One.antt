@@ -1,6 +1,6 @@
 -- That a call has one outcome.
-use Rattle.std.proofs.Common.{◌≡◌, ◌≢◌, ◌⊎◌, refl, sym, ◌∙◌, ap, subst, inl, inr, ℕ, ◌+◌, ◌≤◌, Bool, true, cond, List, [], ◌∷◌, ◌++◌, arith}
-use Rattle.std.specs.Prelude.{⊤, ℤ, Option, Some, None, count_by}
+use Rattle.std.proofs.Common.{◌≡◌, ◌≢◌, ◌⊎◌, refl, sym, ◌∙◌, ap, subst, inl, inr, ℕ, ◌+◌, Bool, true, cond, List, [], ◌∷◌, ◌++◌, arith}
+use Rattle.std.specs.Prelude.{⊤, Option, Some, None, count_by}
 use Rattle.std.specs.Io.KnownBytes.{append_known}
 use Rattle.std.proofs.lemmas.List.{append-nil}
 use Rattle.std.proofs.lemmas.List.Sums.{sum_by-append}
@@ -14,13 +14,13 @@ use Rattle.iolb_check.specs.declared.bound.Value.{Value}
 use Rattle.iolb_host.specs.declared.files.FileFault.{FileFault}
 use Rattle.iolb_host.specs.declared.files.FileFault.TheVariants.{Missing, TooLong, Failed, Memory as NoMemoryForFile}
 use Rattle.iolb_host.specs.Faults.{NamedFault, after_fault, failure_count, is_failure}
-use Rattle.iolb_host.specs.Files.{FileMap, content_of}
+use Rattle.iolb_host.specs.Files.{FileMap}
 use Rattle.iolb_call.specs.declared.status.Status.{Status}
 use Rattle.iolb_call.specs.declared.status.Status.TheVariants.{Done, Refused, Words as WordsRefused, ProgramText as ProgramRefused, OtherText, FileAbsent, ReadFault, WriteFault, Wide as WideValue, NoMemory}
 use Rattle.iolb_call.specs.declared.stop.Stop.{Stop}
 use Rattle.iolb_call.specs.declared.stop.Stop.TheVariants.{Words, ProgramFile, ProgramText, CertificateFile, CertificateText, Condition, Assumption, Wide, Memory}
-use Rattle.iolb_call.specs.Laws.{IsUndisturbed, GainSame, OutcomesAreOne, Reads, HasAnswer, ValidCertificatesPass, OthersNeverPass}
-use Rattle.iolb_call.specs.Outcome.{IsDone, IsStopped, Outcome}
+use Rattle.iolb_call.specs.Laws.{IsUndisturbed, OutcomesAreOne, HasAnswer, ValidCertificatesPass, OthersNeverPass}
+use Rattle.iolb_call.specs.Outcome.{IsStopped, Outcome}
 use Rattle.iolb_call.specs.Reading.{IsContent}
 use Rattle.iolb_call.specs.Stop.{certificate_most, HoldsProgram, HoldsCertificate, HoldsValid, IsAccepted, RequestStop, faults_at, stop_status, Call, Stops}
 use Rattle.iolb_call.specs.Task.{HasSizes, IsAnswer, IsOutside, IsBeyond, bound_with}

@@ -1,6 +1,6 @@
 -- From a request about two files to what the call leaves.
 use Rattle.std.proofs.Common.{◌≡◌, refl, sym, ◌∙◌, ap, subst, inl, inr, ℕ, ◌≤◌, List, length}
-use Rattle.std.specs.Prelude.{◌⊎◌, ℤ, Option, Some, None, Result, Ok, Err, IfOk, IfErr, IfSome, Vec}
+use Rattle.std.specs.Prelude.{ℤ, Option, Some, None, Result, Ok, Err, IfOk, IfErr, IfSome, Vec}
 use Rattle.std.specs.declared.alloc.Global.{Global}
 use Rattle.iolb_model.specs.Bound.{IsAdmitted}
 use Rattle.iolb_model.specs.Headline.{BoundHolds}
@@ -8,7 +8,7 @@ use Rattle.iolb_model.specs.Program.{AffineProgram}
 use Rattle.affine_form.specs.System.{AffineSystem}
 use Rattle.affine_c.specs.Parts.{ProgramParts, meaning}
 use Rattle.affine_text.specs.Meaning.{Means}
-use Rattle.certificates.specs.Claims.{CertificateClaim, claim_of_certificate}
+use Rattle.certificates.specs.Claims.{claim_of_certificate}
 use Rattle.certificates.specs.Limits.{CertificateParts}
 use Rattle.cert_reading.specs.Texts.{IsTextOf}
 use Rattle.cert_reading.specs.Written.{WrittenCertificate, IsCertificate}
@@ -16,23 +16,21 @@ use Rattle.command_words.specs.Requests.{Request, Task, checks, evaluates}
 use Rattle.iolb_check.specs.declared.bound.Value.{Value}
 use Rattle.iolb_check.specs.Bounds.{BoundParts, bound_of}
 use Rattle.iolb_check.specs.Conditions.{MeetsConditions}
-use Rattle.iolb_host.specs.declared.files.FileFault.{FileFault}
 use Rattle.iolb_host.specs.declared.files.FileFault.TheVariants.{Missing, TooLong, Failed, Memory as NoMemoryForFile}
-use Rattle.iolb_host.specs.Faults.{NamedFault}
 use Rattle.iolb_host.specs.Files.{FileMap, content_of, Answers}
 use Rattle.iolb_call.specs.declared.status.Status.{Status}
-use Rattle.iolb_call.specs.declared.status.Status.TheVariants.{Done, WriteFault, NoMemory, Words as WordsRefused}
+use Rattle.iolb_call.specs.declared.status.Status.TheVariants.{Done, NoMemory, Words as WordsRefused}
 use Rattle.iolb_call.specs.declared.stop.Stop.{Stop}
 use Rattle.iolb_call.specs.declared.stop.Stop.TheVariants.{Words, ProgramFile, ProgramText, CertificateFile, CertificateText, Condition, Assumption, Wide, Memory}
 use Rattle.iolb_call.specs.Reading.{IsContent}
 use Rattle.iolb_call.specs.Lines.{out_of_memory}
-use Rattle.iolb_call.specs.Stop.{program_most, certificate_most, HoldsProgram, HoldsCertificate, HoldsValid, IsAccepted, IsGoodFor, CertificateStop, RequestStop, faults_at, stop_line, stop_status, Call, Stops}
+use Rattle.iolb_call.specs.Stop.{program_most, certificate_most, HoldsProgram, HoldsCertificate, HoldsValid, IsGoodFor, CertificateStop, RequestStop, faults_at, stop_line, stop_status, Call, Stops}
 use Rattle.iolb_call.specs.Task.{HasSizes, IsAnswer, LoadsAtLeast, bound_with}
 use Rattle.iolb_call.specs.Answers.{AnswerStop}
 use Rattle.iolb_call.specs.Judged.{JudgeStop}
 use Rattle.iolb_call.specs.Outcome.{IsDone, IsStopped, Outcome}
 use Rattle.iolb_call.specs.Headline.{IsLowerBoundPrinted}
-use Rattle.iolb_call.specs.Use.{CallUse, FilesUse, HasOneFaultAtMost, SinkUse, Gains, Stays}
+use Rattle.iolb_call.specs.Use.{CallUse, FilesUse, HasOneFaultAtMost, Gains, Stays}
 use Rattle.iolb_call.specs.Written.{LineWritten, OutputWritten, WantSaid}
 
 -- ---- requests
@@ -54,20 +52,6 @@ pub stop_result : (r : Result (Vec ℕ Global) Stop) (files told : Option FileMa
 stop_result (Ok text) files told request program t there cause = tt
 stop_result (Err stop) files told request program t there cause =
     placed files request program stop there (subst (λ (o : Option FileMap). CertificateStop o request program stop) t cause)
-
--- the read of the second file begins with the faults that the first left
-pub noted_result : (r : Result (Vec ℕ Global) Stop) (request : Request) (old between new : List NamedFault) → between ≡ old
-    → IfErr r (λ stop. new ≡ faults_at request stop between) → IfErr r (λ stop. new ≡ faults_at request stop old)
-noted_result r request old between new e noted = subst (λ (faults : List NamedFault). IfErr r (λ stop. new ≡ faults_at request stop faults)) e noted
-
-pub accepted_result : (r : Result (Vec ℕ Global) Stop) (files told : Option FileMap) (request : Request) (program : AffineProgram) → told ≡ files
-    → HoldsProgram files request.program program → IfOk r (λ text. IsGoodFor told request program text.items) → IfOk r (λ text. IsAccepted files request text.items)
-accepted_result (Err stop) files told request program t there good = tt
-accepted_result (Ok text) files told request program t there good = record {
-  program = program;
-  holds_program = there;
-  good = subst (λ (o : Option FileMap). IsGoodFor o request program text.items) t good;
-}
 
 told_from : (files : Option FileMap) (name : List ℕ) (most : ℕ) (bytes : Vec ℕ Global) → IfSome files (λ map. Answers (content_of map name) most (Ok bytes)) → IfSome files (λ map. content_of map name ≡ Some bytes.items)
 told_from None name most bytes h = tt
@@ -130,20 +114,6 @@ unanswered (Err (Assumption number)) files request program bound certificate hel
 unanswered (Err Wide) files request program bound certificate held meets stop = (bound.branches, valid files request.certificate program bound certificate held meets, stop)
 unanswered (Err Memory) files request program bound certificate held meets stop = tt
 
--- and then no read had a fault
-pub unanswered_notes : (r : Result (Vec ℕ Global) Stop) (request : Request) (program : AffineProgram) (values : List (List Value)) (old new : List NamedFault) → new ≡ old
-    → IfErr r (λ stop. AnswerStop request.task program values stop) → IfErr r (λ stop. new ≡ faults_at request stop old)
-unanswered_notes (Ok text) request program values old new e stop = tt
-unanswered_notes (Err Words) request program values old new e stop = e
-unanswered_notes (Err (ProgramFile fault)) request program values old new e stop = absurd stop
-unanswered_notes (Err (ProgramText fault)) request program values old new e stop = e
-unanswered_notes (Err (CertificateFile fault)) request program values old new e stop = absurd stop
-unanswered_notes (Err (CertificateText fault)) request program values old new e stop = e
-unanswered_notes (Err (Condition failed)) request program values old new e stop = e
-unanswered_notes (Err (Assumption number)) request program values old new e stop = e
-unanswered_notes (Err Wide) request program values old new e stop = e
-unanswered_notes (Err Memory) request program values old new e stop = e
-
 -- why a certificate that was read isn't valid
 pub refused : (stop : Stop) (files : Option FileMap) (request : Request) (program : AffineProgram) (certificate : CertificateParts) → HasSizes request.task program.parameters
     → HoldsCertificate files request.certificate (claim_of_certificate certificate) → JudgeStop program certificate stop → CertificateStop files request program stop
@@ -157,18 +127,6 @@ refused (Condition failed) files request program certificate sizes held cause =
 refused (Assumption number) files request program certificate sizes held cause = absurd cause
 refused Wide files request program certificate sizes held cause = absurd cause
 refused Memory files request program certificate sizes held cause = tt
-
-pub refused_notes : (stop : Stop) (request : Request) (program : AffineProgram) (certificate : CertificateParts) (old new : List NamedFault) → new ≡ old
-    → JudgeStop program certificate stop → new ≡ faults_at request stop old
-refused_notes Words request program certificate old new e cause = e
-refused_notes (ProgramFile fault) request program certificate old new e cause = absurd cause
-refused_notes (ProgramText fault) request program certificate old new e cause = e
-refused_notes (CertificateFile fault) request program certificate old new e cause = absurd cause
-refused_notes (CertificateText fault) request program certificate old new e cause = e
-refused_notes (Condition failed) request program certificate old new e cause = e
-refused_notes (Assumption number) request program certificate old new e cause = e
-refused_notes Wide request program certificate old new e cause = e
-refused_notes Memory request program certificate old new e cause = e
 
 pub one_fault : (request : Request) (stop : Stop) (files : FilesUse) → files.after ≡ faults_at request stop files.before → HasOneFaultAtMost files
 one_fault request Words files noted = inl noted

@@ -1,6 +1,6 @@
 use Rattle.affine_c.specs.Parts.{meaning}
 use Rattle.command_words.specs.Requests.{asked}
-use Rattle.iolb_call.proofs.Stops.{program_there, stop_result, accepted_result}
+use Rattle.iolb_call.proofs.Stops.{program_there, stop_result}
 use Rattle.iolb_call.proofs.checking.run_command.Goals as goal
 
 pub returns-in-Ok-read_program-clause-stop : goal.returns-in-Ok-read_program-clause-stop
