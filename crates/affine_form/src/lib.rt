@@ -31,6 +31,3 @@ pub use shown::{empty, entails};
 pub use system::System;
 pub use terms_text::TermsText;
 pub use uni_pair::{NotInverse, UniPair};
-
-#[cfg(test)]
-mod tests;

@@ -15,8 +15,6 @@ mod numbers;
 mod refs;
 mod rows;
 mod seen;
-#[cfg(test)]
-mod tests;
 mod text;
 mod values;
 

@@ -8,8 +8,6 @@ mod law;
 mod lines;
 mod piece;
 mod scan;
-#[cfg(test)]
-mod tests;
 mod text;
 mod token;
 mod words;

@@ -8,3 +8,4 @@ pub mod TermLoop
 pub mod LoopBy
 pub mod Members
 pub mod Nested
+pub mod ApartLists

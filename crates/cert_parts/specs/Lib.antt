@@ -3,6 +3,7 @@ pub mod Json
 pub mod Parts
 pub mod Rows
 pub mod Polynomials
+pub mod Apart
 pub mod Nests
 pub mod Trees
 pub mod Leaves

@@ -42,6 +42,16 @@ impl<T: Drop> From<AllocFailed<T>> for CertError {
     }
 }
 
+impl From<Memory> for CertError {
+    ghost use Rattle.cert_parts.specs.declared.error.CertError.TheVariants.{Memory};
+
+    ghost from_gives = { λ _ e. e ≡ Memory };
+
+    fn from(_error: Memory) -> CertError {
+        CertError::Memory
+    }
+}
+
 /// The fault of this number at the value that is read.
 pub fn fault(alloc: Global, number: u8) -> CertError
     ensures { IsFault number result }

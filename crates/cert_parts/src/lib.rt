@@ -7,6 +7,7 @@
 //! the value at fault from the value that is read.
 #![tactic(auto)]
 
+mod apart;
 mod error;
 mod forms;
 mod json;

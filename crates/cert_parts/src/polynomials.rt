@@ -1,20 +1,23 @@
 //! The texts of polynomials.
 
-ghost use Rattle.std.specs.Prelude.{◌≡◌, ◌<◌, ◌≤◌, ◌^◌, length, map, true, IfOk};
+ghost use Rattle.std.specs.Prelude.{◌≡◌, ◌<◌, ◌≤◌, ◌^◌, ◌∷◌, [], ◌++◌, length, map, true, IfOk};
 ghost use Rattle.std.specs.List.{AllByRecursion};
 ghost use Rattle.poly_tree.specs.Terms.{term_of, terms_of, HasExponents, AreApart};
 ghost use Rattle.serde_json.specs.View.{view};
 ghost use Rattle.cert_parts.specs.Outcome.{Gives, GivesBy};
+ghost use Rattle.cert_parts.specs.Apart.{HasLists, exponent_lists};
 ghost use Rattle.cert_parts.specs.Json.{each, reads_natural};
 ghost use Rattle.cert_parts.specs.Polynomials.{reads_coefficient, reads_term, stands_apart as do_stand_apart, reads_term_behind, reads_terms, reads_quotient, reads_polynomial, reads_polynomials};
 ghost use Rattle.cert_parts.specs.Read.{IsPolynomial, ArePolynomials};
 
+use crate::apart::stands_apart;
 use crate::error::{CertError, fault, under};
 use crate::json::{has_keys, integer, list, natural, short_list};
 use affine_form::{Step, key};
 use poly_tree::{Poly, PolyFault};
 use serde_json::Value;
 use std::alloc::Global;
+use std::collections::BTreeSet;
 
 /// A coefficient.
 #[tactic(auto, unfolding(crate::specs::Polynomials::reads_coefficient))]
@@ -67,34 +70,26 @@ fn term(alloc: Global, value: &Value) -> Result<(i128, Vec<u8>), CertError>
     }
 }
 
-/// Whether exponents are as many as those of each earlier term, and others.
-fn stands_apart(earlier: &[(i128, Vec<u8>)], exponents: &[u8]) -> bool
-    ensures { result ≡ do_stand_apart (terms_of earlier.now) exponents.now }
-{
-    for (_, others) in earlier {
-        if others.len() != exponents.len() || others.as_slice() == exponents {
-            return false;
-        }
-    }
-    true
-}
-
-/// A term behind earlier ones.
+/// A term behind earlier ones, whose exponent lists are kept beside them.
 #[tactic(auto, unfolding(crate::specs::Polynomials::reads_term_behind))]
 fn term_behind(
     alloc: Global,
     earlier: &[(i128, Vec<u8>)],
+    lists: &mut BTreeSet<Vec<u8>>,
     value: &Value,
 ) -> Result<(i128, Vec<u8>), CertError>
+    requires apart { AreApart (terms_of earlier.now) }
+    requires lists { HasLists lists.old (exponent_lists (terms_of earlier.now)) }
     ensures read { Gives term_of result (reads_term_behind (terms_of earlier.now) (view value.now)) }
     ensures fit { IfOk result (λ term. HasExponents (term_of term)) }
     ensures apart { IfOk result (λ term. do_stand_apart (terms_of earlier.now) term.1.items ≡ true) }
+    ensures lists { IfOk result (λ term. HasLists lists.new (exponent_lists (terms_of earlier.now) ++ term.1.items ∷ [])) }
 {
     let (coefficient, exponents) = match term(alloc, value) {
         Ok(term) => term,
         Err(error) => return Err(error),
     };
-    if stands_apart(earlier, exponents.as_slice()) {
+    if stands_apart(alloc, earlier, lists, exponents.as_slice())? {
         Ok((coefficient, exponents))
     } else {
         Err(fault(alloc, 2))
@@ -113,8 +108,9 @@ fn terms(alloc: Global, value: &Value) -> Result<Vec<(i128, Vec<u8>)>, CertError
         Err(error) => return Err(error),
     };
     let mut terms = Vec::new(alloc);
+    let mut lists = BTreeSet::new(alloc);
     for (i, value) in values.iter().enumerate() {
-        match term_behind(alloc, terms.as_slice(), value) {
+        match term_behind(alloc, terms.as_slice(), &mut lists, value) {
             Ok(term) => terms.push(term)?,
             Err(error) => return Err(under(alloc, Step::Index(i as u64), error)),
         }

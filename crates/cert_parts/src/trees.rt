@@ -192,7 +192,7 @@ fn trees(alloc: Global, value: &Value) -> Result<Vec<Quast>, CertError>
         Ok(values) => values,
         Err(error) => return Err(error),
     };
-    let mut row = Vec::new(alloc);
+    let mut row = Vec::with_capacity(alloc, values.len())?;
     for (i, value) in values.iter().enumerate() {
         match tree(alloc, value) {
             Ok(found) => row.push(found)?,
@@ -211,7 +211,7 @@ pub fn all_trees(alloc: Global, value: &Value) -> Result<Vec<Vec<Quast>>, CertEr
         Ok(values) => values,
         Err(error) => return Err(error),
     };
-    let mut rows = Vec::new(alloc);
+    let mut rows = Vec::with_capacity(alloc, values.len())?;
     for (i, value) in values.iter().enumerate() {
         match trees(alloc, value) {
             Ok(row) => rows.push(row)?,

@@ -9,7 +9,6 @@ use Rattle.domain_count.proofs.Determined.{crossed}
 use Rattle.dep_quast.specs.Tree.{SelectionTree}
 use Rattle.certificates.specs.Claims.{ColdClaim, TermClaim, cold, BranchClaim, CertificateClaim}
 use Rattle.serde_json.specs.Data.{Data}
-use Rattle.serde_json.specs.Read.{read}
 use Rattle.cert_parts.specs.declared.error.CertFault.{CertFault}
 use Rattle.cert_parts.specs.Outcome.{Outcome}
 use Rattle.cert_parts.specs.Read.{AreAll, IsPolynomial}

@@ -16,7 +16,6 @@ use Rattle.cert_parts.specs.Json.{has_keys, part, reads_natural}
 use Rattle.cert_parts.specs.Parts.{reads_form, reads_forms, reads_multipliers, reads_all_multipliers}
 use Rattle.reuse_paths.specs.Rows.{row_trees}
 use Rattle.cert_parts.specs.Trees.{source_keys, test_keys, is_true, reads_source, reads_input, reads_empty, reads_true, reads_tree_leaf, reads_test, reads_nested, leaf_count as written_leaves, reads_tree, reads_trees, reads_all_trees}
-
 use Rattle.cert_reading.proofs.Given.{given_then, given_behind, given_if, given_part, given_list}
 use Rattle.cert_reading.proofs.PartLimits.{form_small, forms_small, multipliers_small, all_multipliers_small}
 

@@ -8,4 +8,4 @@ pub mod ReadPolynomials
 pub mod ReadLeaves
 pub mod ReadTrees
 pub mod ReadCertificates
-pub mod Same
+pub mod ReadBack

@@ -1,5 +1,5 @@
 -- Terms, branches and certificates that are written, read.
-use Rattle.std.proofs.Common.{◌≡◌, ◌≤◌, ◌^◌, List, length, map, Ok, refl, arith}
+use Rattle.std.proofs.Common.{◌≡◌, ◌≤◌, ◌^◌, List, [], ◌∷◌, length, map, Ok, refl, subst, arith}
 use Rattle.std.specs.List.{AllByRecursion}
 use Rattle.std.proofs.lemmas.Bool.{le-leb}
 use Rattle.std.proofs.lemmas.List.{length-map}
@@ -8,16 +8,19 @@ use Rattle.certificates.specs.Limits.{IsSmallCold, IsSmallBranch, CertificatePar
 use Rattle.certificates.specs.declared.term.Term.{Term}
 use Rattle.certificates.specs.declared.term.Branch.{Branch}
 use Rattle.cert_parts.specs.Json.{has_keys, with_keys}
-use Rattle.cert_reading.specs.Written.{WrittenCold, WrittenBranch}
+use Rattle.cert_reading.specs.Written.{WrittenCold, WrittenBranch, IsTerm, IsBranch}
+use Rattle.cert_parts.specs.Read.{AreAll}
+use Rattle.certificates.specs.Claims.{claim_of_term, claim_of_branch}
+use Rattle.certificates.specs.declared.term.Term.TheVariants as terms
 use Rattle.cert_reading.specs.Terms.{reads_inverse, reads_cold_front, reads_cold_middle, reads_cold_members, reads_cold, reads_term, reads_terms}
 use Rattle.cert_reading.specs.Certificates.{reads_branch, reads_branches, reads_version, reads_certificate}
-use Rattle.cert_writing.specs.Certificates.{inverse_data, cold_data, cold_term_data, branch_data, branches_data, certificate_data}
+use Rattle.cert_writing.specs.Certificates.{inverse_data, cold_term_data, branch_data, branches_data}
 use Rattle.cert_writing.specs.Parts.{list}
-use Rattle.cert_writing.specs.ReadBack.{FormIsRead, AreMultipliersRead, MatrixIsRead, PairIsRead, PolynomialIsRead, LeafIsRead, TreesAreRead, ColdIsRead, TermIsRead, BranchIsRead}
-use Rattle.cert_writing.specs.Written.{written_term, written_branch, written_of}
+use Rattle.cert_writing.specs.ReadBack.{FormIsRead, AreMultipliersRead, MatrixIsRead, PairIsRead, PolynomialIsRead, LeafIsRead, TreesAreRead, ColdIsRead, TermIsRead, BranchIsRead, CertificateIsRead}
+use Rattle.cert_writing.specs.Written.{written_term, written_branch}
 use Rattle.cert_writing.proofs.ReadLists.{natural-read, short_list-read, each-read, all-map}
 use Rattle.cert_writing.proofs.ReadParts.{forms-read, all_multipliers-read, nest-read}
-use Rattle.cert_writing.proofs.ReadPolynomials.{polynomials-read}
+use Rattle.cert_writing.proofs.ReadPolynomials.{are-polynomials, polynomials-read}
 use Rattle.cert_writing.proofs.ReadLeaves.{leaves-read}
 use Rattle.cert_writing.proofs.ReadTrees.{all_trees-read}
 
@@ -39,22 +42,29 @@ inverse-read cold small h = rw (h, natural-read 1 (2 ^ 20) cold.inverse.scale sm
 
 pub cold-read : (cold : Cold) → IsSmallCold cold → AreMembersRead cold → ColdIsRead cold
 unfolding reads_cold with_keys has_keys reads_cold_members reads_cold_front reads_cold_middle
-cold-read cold small h =
-    rw (
-      all_multipliers-read cold.inside.items h.inside small.inside,
-      inverse-read cold small h.matrix,
-      leaves-read cold.leaves.items h.leaves small.leaves,
-      nest-read cold.nest h.nest small.variables small.bounds,
-      forms-read cold.point.items h.point small.point,
-      natural-read 0 65535 cold.read (omega arith) h.read,
-      all_multipliers-read cold.sums.shown h.shown small.shown,
-      natural-read 0 65535 cold.statement (omega arith) h.statement,
-      polynomials-read cold.sums.sums h.sums,
-    ) refl
+cold-read cold small h = record {
+  says = rw (
+    all_multipliers-read cold.inside.items h.inside small.inside,
+    inverse-read cold small h.matrix,
+    leaves-read cold.leaves.items h.leaves small.leaves,
+    nest-read cold.nest h.nest small.variables small.bounds,
+    forms-read cold.point.items h.point small.point,
+    natural-read 0 65535 cold.read (omega arith) h.read,
+    all_multipliers-read cold.sums.shown h.shown small.shown,
+    natural-read 0 65535 cold.statement (omega arith) h.statement,
+    polynomials-read cold.sums.sums h.sums,
+  ) refl;
+  is = (refl, are-polynomials cold.sums.sums h.sums);
+}
 
-pub term-read : (term : Term) (cold : WrittenCold) → reads_cold (cold_data cold) ≡ Ok cold → written_term term ≡ cold → TermIsRead term
+pub term-read : (term : Term) (cold : Cold) → ColdIsRead cold → terms.Cold cold ≡ term → TermIsRead term
 unfolding reads_term has_keys
-term-read term cold h is = rw (is, h) refl
+term-read term cold h is = subst TermIsRead is (record { says = rw h.says refl; is = h.is })
+
+-- each is what is written of it
+all-related : {A B X : Type 0} (R : A → X → Type 0) (P : B → Type 0) (f : B → A) (g : B → X) → ((b : B) → P b → R (f b) (g b)) → (bs : List B) → AllByRecursion P bs → AreAll R (map f bs) (map g bs)
+all-related R P f g each_one [] all = tt
+all-related R P f g each_one (b ∷ bs) all = (each_one b all.0, all-related R P f g each_one bs all.1)
 
 terms-read : (found : List Term) → length found ≤ 1 → AllByRecursion TermIsRead found → reads_terms (list (map cold_term_data (map written_term found))) ≡ Ok (map written_term found)
 unfolding reads_terms
@@ -62,12 +72,14 @@ terms-read found few h =
     let written : List WrittenCold = map written_term found in
     let count : length (map cold_term_data written) ≤ 1 = omega (arith, few, length-map written cold_term_data, length-map found written_term) in
     rw (short_list-read 16 (map cold_term_data written) (omega (arith, count)), le-leb (length (map cold_term_data written)) 1 count)
-    (each-read reads_term cold_term_data 0 written (all-map TermIsRead (λ (cold : WrittenCold). reads_term (cold_term_data cold) ≡ Ok cold) written_term found (λ term k. k) h))
+    (each-read reads_term cold_term_data 0 written (all-map TermIsRead (λ (cold : WrittenCold). reads_term (cold_term_data cold) ≡ Ok cold) written_term found (λ term k. k.says) h))
 
 pub branch-read : (branch : Branch) → IsSmallBranch branch → AllByRecursion AreMultipliersRead branch.disjoint.items → AllByRecursion TermIsRead branch.terms.items → BranchIsRead branch
 unfolding reads_branch with_keys has_keys
-branch-read branch small h k =
-    rw (all_multipliers-read branch.disjoint.items h small.disjoint, terms-read branch.terms.items small.few k) refl
+branch-read branch small h k = record {
+  says = rw (all_multipliers-read branch.disjoint.items h small.disjoint, terms-read branch.terms.items small.few k) refl;
+  is = (all-related IsTerm TermIsRead written_term claim_of_term (λ term here. here.is) branch.terms.items k, refl);
+}
 
 branches-read : (branches : List Branch) → length branches ≤ 8 → AllByRecursion BranchIsRead branches → reads_branches (branches_data (map written_branch branches)) ≡ Ok (map written_branch branches)
 unfolding reads_branches
@@ -75,10 +87,12 @@ branches-read branches few h =
     let written : List WrittenBranch = map written_branch branches in
     let count : length (map branch_data written) ≤ 8 = omega (arith, few, length-map written branch_data, length-map branches written_branch) in
     rw (short_list-read 8 (map branch_data written) count)
-    (each-read reads_branch branch_data 0 written (all-map BranchIsRead (λ (branch : WrittenBranch). reads_branch (branch_data branch) ≡ Ok branch) written_branch branches (λ branch k. k) h))
+    (each-read reads_branch branch_data 0 written (all-map BranchIsRead (λ (branch : WrittenBranch). reads_branch (branch_data branch) ≡ Ok branch) written_branch branches (λ branch k. k.says) h))
 
 pub certificate-read : (parts : CertificateParts) → IsWithinLimits parts → AllByRecursion BranchIsRead parts.branches → AllByRecursion TreesAreRead parts.quasts.rows.items
-    → reads_certificate (certificate_data (written_of parts)) ≡ Ok (written_of parts)
+    → CertificateIsRead parts
 unfolding reads_certificate with_keys has_keys reads_version
-certificate-read parts limits h k =
-    rw (branches-read parts.branches limits.few h, all_trees-read parts.quasts.rows.items k limits.trees) refl
+certificate-read parts limits h k = record {
+  says = rw (branches-read parts.branches limits.few h, all_trees-read parts.quasts.rows.items k limits.trees) refl;
+  is = (refl, all-related IsBranch BranchIsRead written_branch claim_of_branch (λ branch here. here.is) parts.branches h);
+}

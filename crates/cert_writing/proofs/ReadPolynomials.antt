@@ -1,6 +1,6 @@
 -- Polynomials that are written, read.
 use Rattle.std.proofs.Common.{◌≡◌, ◌≢◌, ℕ, suc, ◌-◌, ◌<◌, ◌≤◌, ◌^◌, true, false, not, List, [], ◌∷◌, ◌++◌, length, map, append_assoc, Ok, refl, sym, subst, ap, arith}
-use Rattle.std.proofs.Math.IntN.{ℤ, pos, negsuc}
+use Rattle.std.proofs.Math.IntN.{ℤ, pos, negsuc, ◌*ℤ◌}
 use Rattle.std.specs.Prelude.{unsigned_abs, bytes_eq, ◌==◌}
 use Rattle.std.specs.List.{AllByRecursion}
 use Rattle.std.proofs.lemmas.Bool.{lt-ltb, ne_eqb, false_from_ne_true}
@@ -8,12 +8,13 @@ use Rattle.std.proofs.lemmas.List.{length-map}
 use Rattle.std.proofs.lemmas.Slice.Eq.{bytes_eq-Decides}
 use Rattle.iolb_model.specs.Polynomial.{Term, Polynomial}
 use Rattle.affine_form.specs.Form.{IsSmall}
-use Rattle.poly_tree.specs.Poly.{Quotient}
+use Rattle.poly_tree.specs.Poly.{Quotient, IsLegal}
 use Rattle.poly_tree.specs.Terms.{HasExponents, AreApart, terms_size}
 use Rattle.poly_tree.specs.Printed.{AreNonzero, AreWritten, written_terms}
 use Rattle.certificates.specs.Limits.{IsSmallPolynomial}
 use Rattle.cert_parts.specs.Json.{has_keys, with_keys, reads_natural}
 use Rattle.cert_parts.specs.Polynomials.{reads_coefficient, term_in, reads_term, stands_apart, reads_term_behind, terms_from, reads_terms, reads_quotient, reads_polynomial, reads_polynomials}
+use Rattle.cert_parts.specs.Read.{ArePolynomials}
 use Rattle.cert_writing.specs.Parts.{whole, natural}
 use Rattle.cert_writing.specs.Polynomials.{term_data, polynomial_data, polynomials_data}
 use Rattle.cert_writing.specs.ReadBack.{PolynomialIsRead}
@@ -72,9 +73,9 @@ terms-behind i earlier (term ∷ terms) small some fit apart =
       terms-behind (suc i) (earlier ++ term ∷ []) terms small.1 some.1 fit.1 (subst AreApart (sym (append_assoc earlier (term ∷ []) terms)) apart),
     ) refl
 
-pub polynomial-read : (q : Quotient) → IsSmallPolynomial q → 1 ≤ q.denominator → AreWritten q → PolynomialIsRead q
+polynomial-reads : (q : Quotient) → IsSmallPolynomial q → 1 ≤ q.denominator → AreWritten q → reads_polynomial (polynomial_data (written_polynomial q)) ≡ Ok (written_polynomial q)
 unfolding reads_polynomial reads_quotient with_keys has_keys reads_terms
-polynomial-read q small some written =
+polynomial-reads q small some written =
     let terms : List Term = written_terms q in
     let coefficients = written.small (2 ^ 62) small.numbers in
     let light : terms_size terms q.denominator < 2 ^ 126 = omega (arith, written.light, small.light) in
@@ -85,8 +86,22 @@ polynomial-read q small some written =
       lt-ltb (terms_size terms q.denominator) (2 ^ 126) light,
     ) refl
 
+pub polynomial-read : (q : Quotient) → IsSmallPolynomial q → IsLegal q → AreWritten q → PolynomialIsRead q
+polynomial-read q small legal written = record {
+  says = polynomial-reads q small legal.positive written;
+  is = record {
+    value = λ point. ap (λ (z : ℤ). z *ℤ pos q.denominator) (sym (written.value point));
+    legal = legal;
+    within = written.within small.variables;
+  };
+}
+
+pub are-polynomials : (qs : List Quotient) → AllByRecursion PolynomialIsRead qs → ArePolynomials (map written_polynomial qs) qs
+are-polynomials [] h = tt
+are-polynomials (q ∷ qs) h = (h.0.is, are-polynomials qs h.1)
+
 pub polynomials-read : (qs : List Quotient) → AllByRecursion PolynomialIsRead qs → reads_polynomials (polynomials_data (map written_polynomial qs)) ≡ Ok (map written_polynomial qs)
 unfolding reads_polynomials
 polynomials-read qs h =
     list-of-read reads_polynomial polynomial_data (map written_polynomial qs)
-    (all-map PolynomialIsRead (λ (p : Polynomial). reads_polynomial (polynomial_data p) ≡ Ok p) written_polynomial qs (λ q k. k) h)
+    (all-map PolynomialIsRead (λ (p : Polynomial). reads_polynomial (polynomial_data p) ≡ Ok p) written_polynomial qs (λ q k. k.says) h)

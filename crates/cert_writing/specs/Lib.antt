@@ -5,4 +5,4 @@ pub mod Trees
 pub mod Certificates
 pub mod Written
 pub mod ReadBack
-pub mod Same
+pub mod Laws

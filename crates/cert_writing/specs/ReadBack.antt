@@ -11,7 +11,8 @@ use Rattle.dep_quast.specs.declared.quast.Quast.{Quast}
 use Rattle.dep_quast.specs.Tree.{tree_of}
 use Rattle.reuse_paths.specs.declared.leaf.Leaf.{Leaf}
 use Rattle.wavefront.specs.declared.cold.Cold.{Cold}
-use Rattle.certificates.specs.Limits.{NamesRows, IsNestedTree, IsSmallLeaf}
+use Rattle.certificates.specs.Claims.{claim_of_term, claim_of_branch, claim_of_certificate}
+use Rattle.certificates.specs.Limits.{NamesRows, IsNestedTree, IsSmallLeaf, CertificateParts}
 use Rattle.certificates.specs.declared.term.Term.{Term}
 use Rattle.certificates.specs.declared.term.Branch.{Branch}
 use Rattle.reuse_paths.specs.LeafClaims.{claim_of}
@@ -19,15 +20,18 @@ use Rattle.cert_parts.specs.Leaves.{reads_leaf}
 use Rattle.cert_parts.specs.Nests.{reads_pair}
 use Rattle.cert_parts.specs.Parts.{reads_form, reads_multipliers, reads_matrix}
 use Rattle.cert_parts.specs.Polynomials.{reads_polynomial}
+use Rattle.cert_parts.specs.Read.{IsPolynomial}
 use Rattle.cert_parts.specs.Trees.{reads_nested}
 use Rattle.cert_reading.specs.Terms.{reads_cold, reads_term}
-use Rattle.cert_reading.specs.Certificates.{reads_branch}
+use Rattle.cert_reading.specs.Certificates.{reads_branch, reads_certificate}
+use Rattle.cert_reading.specs.Views.{cold_term}
+use Rattle.cert_reading.specs.Written.{IsTerm, IsBranch, IsCertificate}
 use Rattle.cert_writing.specs.Parts.{form_data, multipliers_data, matrix_data, pair_data}
 use Rattle.cert_writing.specs.Polynomials.{polynomial_data}
 use Rattle.cert_writing.specs.Leaves.{leaf_data}
 use Rattle.cert_writing.specs.Trees.{tree_data}
-use Rattle.cert_writing.specs.Certificates.{cold_data, cold_term_data, branch_data}
-use Rattle.cert_writing.specs.Written.{written_polynomial, written_cold, written_term, written_branch}
+use Rattle.cert_writing.specs.Certificates.{cold_data, cold_term_data, branch_data, certificate_data}
+use Rattle.cert_writing.specs.Written.{written_polynomial, written_cold, written_term, written_branch, written_of}
 
 -- ---- parts within the limits of certificates
 
@@ -43,8 +47,9 @@ MatrixIsRead matrix = reads_matrix (matrix_data matrix) ≡ Ok matrix
 abbrev pub PairIsRead : AffineForm × AffineForm → Type 0
 PairIsRead bounds = IsSmallForm (2 ^ 20) bounds.0 → IsSmallForm (2 ^ 20) bounds.1 → reads_pair (pair_data bounds) ≡ Ok bounds
 
-abbrev pub PolynomialIsRead : Quotient → Type 0
-PolynomialIsRead q = reads_polynomial (polynomial_data (written_polynomial q)) ≡ Ok (written_polynomial q)
+pub record PolynomialIsRead (q : Quotient) : Type 0 where
+  pub says : reads_polynomial (polynomial_data (written_polynomial q)) ≡ Ok (written_polynomial q)
+  pub is : IsPolynomial (written_polynomial q) q
 
 abbrev pub LeafIsRead : Leaf → Type 0
 LeafIsRead leaf = IsSmallLeaf leaf → reads_leaf (leaf_data (claim_of leaf)) ≡ Ok (claim_of leaf)
@@ -58,11 +63,18 @@ TreesAreRead row = AllByRecursion TreeIsRead row.items
 
 -- ---- terms and branches
 
-abbrev pub ColdIsRead : Cold → Type 0
-ColdIsRead cold = reads_cold (cold_data (written_cold cold)) ≡ Ok (written_cold cold)
+pub record ColdIsRead (cold : Cold) : Type 0 where
+  pub says : reads_cold (cold_data (written_cold cold)) ≡ Ok (written_cold cold)
+  pub is : IsTerm (written_cold cold) (cold_term cold)
 
-abbrev pub TermIsRead : Term → Type 0
-TermIsRead term = reads_term (cold_term_data (written_term term)) ≡ Ok (written_term term)
+pub record TermIsRead (term : Term) : Type 0 where
+  pub says : reads_term (cold_term_data (written_term term)) ≡ Ok (written_term term)
+  pub is : IsTerm (written_term term) (claim_of_term term)
 
-abbrev pub BranchIsRead : Branch → Type 0
-BranchIsRead branch = reads_branch (branch_data (written_branch branch)) ≡ Ok (written_branch branch)
+pub record BranchIsRead (branch : Branch) : Type 0 where
+  pub says : reads_branch (branch_data (written_branch branch)) ≡ Ok (written_branch branch)
+  pub is : IsBranch (written_branch branch) (claim_of_branch branch)
+
+pub record CertificateIsRead (parts : CertificateParts) : Type 0 where
+  pub says : reads_certificate (certificate_data (written_of parts)) ≡ Ok (written_of parts)
+  pub is : IsCertificate (written_of parts) (claim_of_certificate parts)

@@ -9,7 +9,8 @@ use Rattle.certificates.specs.declared.term.Term.{Term}
 use Rattle.certificates.specs.declared.term.Term.TheVariants as terms
 use Rattle.certificates.specs.declared.term.Branch.{Branch}
 use Rattle.reuse_paths.specs.Rows.{row_trees}
-use Rattle.cert_reading.specs.Written.{WrittenCold, WrittenBranch, WrittenCertificate, claim_of_cold}
+use Rattle.certificates.specs.Claims.{claim_of_cold}
+use Rattle.cert_reading.specs.Written.{WrittenCold, WrittenBranch, WrittenCertificate}
 
 -- a polynomial, by its terms in the order in which they are printed
 abbrev pub written_polynomial : Quotient → Polynomial

@@ -1,13 +1,12 @@
 //! Branches and certificates.
 
-ghost use Rattle.std.specs.Prelude.{◌≡◌, Ok, map, IfOk};
+ghost use Rattle.std.specs.Prelude.{◌≡◌, map, IfOk};
 ghost use Rattle.std.specs.List.{AllByRecursion};
 ghost use Rattle.certificates.specs.Limits.{IsSmallTerm, IsSmallBranch, IsWithinLimits};
-ghost use Rattle.cert_reading.specs.Certificates.{reads_certificate};
 ghost use Rattle.serde_json.specs.View.{view};
 ghost use Rattle.cert_writing.specs.Certificates.{cold_term_data, branch_data, branches_data, certificate_data};
 ghost use Rattle.cert_writing.specs.Parts.{list};
-ghost use Rattle.cert_writing.specs.ReadBack.{TermIsRead, BranchIsRead};
+ghost use Rattle.cert_writing.specs.ReadBack.{TermIsRead, BranchIsRead, CertificateIsRead};
 ghost use Rattle.cert_writing.specs.Written.{written_term, written_branch, written_of};
 
 use crate::cold::cold;
@@ -73,7 +72,7 @@ fn branches(alloc: Global, branches: &[Branch]) -> Result<Value, Memory>
 /// A certificate.
 pub(crate) fn certificate(alloc: Global, certificate: &Certificate) -> Result<Value, Memory>
     ensures value { IfOk result (λ value. view value ≡ certificate_data (written_of certificate.now)) }
-    ensures read { IfOk result (λ _. reads_certificate (certificate_data (written_of certificate.now)) ≡ Ok (written_of certificate.now)) }
+    ensures read { IfOk result (λ _. CertificateIsRead certificate.now) }
     ensures limits { IsWithinLimits certificate.now }
 {
     let all = certificate.branches();

@@ -15,7 +15,7 @@ mod polynomials;
 mod text;
 mod trees;
 
-pub use law::{certificates_are_read_back, written_texts_have_no_fault};
+pub use law::certificates_are_read_back;
 pub use text::certificate_text;
 
 #[cfg(test)]

@@ -1,7 +1,8 @@
 //! The text of a certificate.
 
 ghost use Rattle.std.specs.Prelude.{◌≡◌, ◌++◌, codes, IfOk};
-ghost use Rattle.cert_reading.specs.Texts.{IsTextOf};
+ghost use Rattle.certificates.specs.Claims.{claim_of_certificate};
+ghost use Rattle.cert_reading.specs.Laws.{HasCertificate};
 ghost use Rattle.serde_json.specs.View.{view};
 ghost use Rattle.serde_json.specs.Written.{compact_text};
 ghost use Rattle.cert_writing.specs.Certificates.{certificate_data};
@@ -17,7 +18,7 @@ use std::alloc::Global;
 /// to the greatest that the polynomial uses. Want of memory is its only error.
 pub fn certificate_text(alloc: Global, certificate: &Certificate) -> Result<Vec<u8>, Memory>
     ensures text { IfOk result (λ text. text.items ≡ compact_text (certificate_data (written_of certificate.now)) ++ codes "\n") }
-    ensures reads { IfOk result (λ text. IsTextOf text.items (written_of certificate.now)) }
+    ensures reads { IfOk result (λ text. HasCertificate text.items (claim_of_certificate certificate.now)) }
 {
     let value = certificate_value(alloc, certificate)?;
     let text = value.to_vec(alloc)?;

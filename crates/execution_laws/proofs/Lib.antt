@@ -8,3 +8,4 @@ pub mod InputVertices
 pub mod BranchLoads
 pub mod Different
 pub mod Undone
+pub mod Marks

@@ -6,4 +6,4 @@ mod bound_lines;
 pub use bound_lines::bound_text;
 pub use cert_parts::{CertError, CertFault};
 pub use cert_reading::read_certificate;
-//TEMP pub use cert_writing::certificate_text;
+pub use cert_writing::certificate_text;

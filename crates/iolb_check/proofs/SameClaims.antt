@@ -25,7 +25,6 @@ use Rattle.reuse_paths.specs.declared.leaf.Leaf.{Leaf}
 use Rattle.reuse_paths.specs.declared.leaf.Leaf.TheVariants.{Empty, Stop, Credit, Go, Arrive}
 use Rattle.reuse_paths.specs.declared.quasts.Quasts.{Quasts}
 use Rattle.reuse_paths.specs.LeafClaims.{claim_of}
-use Rattle.reuse_paths.specs.Rows.{row_trees}
 use Rattle.reuse_paths.specs.Quasts.{tree_at}
 use Rattle.quasts_check.specs.Trees.{read_of, row_claims, rows_claims, tree_place}
 use Rattle.wavefront.specs.declared.cold.Cold.{Cold}
@@ -38,6 +37,7 @@ use Rattle.certificates.specs.declared.term.Branch.{Branch}
 use Rattle.certificates.specs.declared.term.Term.{Term}
 use Rattle.certificates.specs.declared.term.Term.TheVariants as terms
 use Rattle.certificates.specs.Claims.{ColdClaim, BranchClaim, CertificateClaim, claim_of_cold, claim_of_term, claim_of_branch, claim_of_certificate}
+use Rattle.reuse_paths.specs.Rows.{row_trees}
 use Rattle.certificates.specs.Limits.{CertificateParts}
 use Rattle.cert_fits.specs.FitClaims.{PlacedFit, AllFit, FirstMisfit, names, numbered}
 use Rattle.cert_fits.specs.Parts.{so_many, shown_fit, forms_fit}

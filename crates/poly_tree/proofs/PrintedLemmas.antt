@@ -12,7 +12,7 @@ use Rattle.integer_laws.proofs.Ring.{mul-zero, one-mul, mul-one, mul_assoc_ℤ, 
 use Rattle.iolb_model.specs.Polynomial.{Term, int_power, monomial, terms_value}
 use Rattle.poly_tree.specs.Expansion.{Expansion, Parts, number, over, none, part, at, value, parts_value, powers_from, IsCanonical, AreCanonical}
 use Rattle.poly_tree.specs.Printed.{with_exponent, with_power, named_term, AreNonzero, expansion_terms, parts_terms, is_printed_before, insert_term, in_print_order, TermsHaveTheValue}
-use Rattle.poly_tree.proofs.TermLemmas.{powers-monomial}
+use Rattle.poly_tree.proofs.TermLemmas.{powers-monomial, terms_value-append}
 
 insert-value : (t : Term) (ts : List Term) (point : List ℤ) → terms_value (insert_term t ts) point ≡ (t.coefficient *ℤ monomial t.exponents point) +ℤ terms_value ts point
 insert-value t [] point = refl
@@ -27,13 +27,6 @@ insert-value t (s ∷ ts) point = by (is_printed_before t s) (insert-value t ts 
 order-value : (ts : List Term) (point : List ℤ) → terms_value (in_print_order ts) point ≡ terms_value ts point
 order-value [] point = refl
 order-value (t ∷ ts) point = insert-value t (in_print_order ts) point ∙ ap (λ (z : ℤ). (t.coefficient *ℤ monomial t.exponents point) +ℤ z) (order-value ts point)
-
-append-value : (ts us : List Term) (point : List ℤ) → terms_value (ts ++ us) point ≡ terms_value ts point +ℤ terms_value us point
-append-value [] us point = omega (arith, ints)
-append-value (t ∷ ts) us point = ap (λ (z : ℤ). (t.coefficient *ℤ monomial t.exponents point) +ℤ z) (append-value ts us point)
-    ∙ regroup (t.coefficient *ℤ monomial t.exponents point) (terms_value ts point) (terms_value us point) where
-      regroup : (a b c : ℤ) → a +ℤ (b +ℤ c) ≡ (a +ℤ b) +ℤ c
-      regroup a b c = omega (arith, ints)
 
 powers-append : (es fs : List ℕ) (v : ℕ) (p : ℕ → ℤ) → powers_from (es ++ fs) v p ≡ powers_from es v p *ℤ powers_from fs (v + length es) p
 powers-append [] fs v p = ap (λ (n : ℕ). powers_from fs n p) (plus v) ∙ sym (one-mul (powers_from fs (v + 0) p)) where
@@ -129,7 +122,7 @@ mutual
   parts-value v e none point c = sym (mul-zero (int_power (at point v) e))
   parts-value v e (part t ps) point c =
       let x = at point v in
-      append-value (map (with_power v e) (expansion_terms t)) (parts_terms v (suc e) ps) point
+      terms_value-append (map (with_power v e) (expansion_terms t)) (parts_terms v (suc e) ps) point
       ∙ ap (λ (z : ℤ). z +ℤ terms_value (parts_terms v (suc e) ps) point) (mapped-value v e (expansion_terms t) point (short v t c.0) ∙ ap (λ (z : ℤ). int_power x e *ℤ z) (terms-value v t point c.0))
       ∙ ap (λ (z : ℤ). (int_power x e *ℤ value t (at point)) +ℤ z) (parts-value v (suc e) ps point c.1 ∙ ap (λ (z : ℤ). z *ℤ parts_value ps x (at point)) (mul_comm x (int_power x e)) ∙ mul_assoc_ℤ (int_power x e) x (parts_value ps x (at point)))
       ∙ sym (mul-add (int_power x e) (value t (at point)) (x *ℤ parts_value ps x (at point)))

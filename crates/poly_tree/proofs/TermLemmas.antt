@@ -104,7 +104,7 @@ powers-monomial (f ∷ es) front (p ∷ ps) v e =
     ∙ ap (λ (ys : List ℤ). int_power p f *ℤ powers_from es (suc v) (at ys)) (sym (append_assoc front (p ∷ []) ps))
     ∙ ap (λ (z : ℤ). int_power p f *ℤ z) (powers-monomial es (front ++ p ∷ []) ps (suc v) (omega (arith, length_push front p)))
 
-terms_value-append : (ts us : List Term) (point : List ℤ) → terms_value (ts ++ us) point ≡ terms_value ts point +ℤ terms_value us point
+pub terms_value-append : (ts us : List Term) (point : List ℤ) → terms_value (ts ++ us) point ≡ terms_value ts point +ℤ terms_value us point
 terms_value-append [] us point = none (terms_value us point) where
   none : (a : ℤ) → a ≡ pos 0 +ℤ a
   none a = omega (arith, ints)
@@ -113,7 +113,7 @@ terms_value-append (t ∷ ts) us point = ap (λ (z : ℤ). (t.coefficient *ℤ m
       regroup : (a b c : ℤ) → a +ℤ (b +ℤ c) ≡ (a +ℤ b) +ℤ c
       regroup a b c = omega (arith, ints)
 
-terms_weight-append : (ts us : List Term) → terms_weight (ts ++ us) ≡ terms_weight ts + terms_weight us
+pub terms_weight-append : (ts us : List Term) → terms_weight (ts ++ us) ≡ terms_weight ts + terms_weight us
 terms_weight-append [] us = omega arith
 terms_weight-append (t ∷ ts) us = omega (arith, terms_weight-append ts us)
 

@@ -288,7 +288,7 @@ sum-terms (t ∷ ts) point low =
     ap (λ (z : ℤ). (t.coefficient *ℤ z) +ℤ sum_below 24 ts (at point)) (ap (λ (es : List ℕ). powers_from es 0 (at point)) (take_all 24 t.exponents low.0.0) ∙ powers-monomial t.exponents [] point 0 refl)
     ∙ ap (λ (z : ℤ). (t.coefficient *ℤ monomial t.exponents point) +ℤ z) (sum-terms ts point low.1)
 
-small-sum : (limit : ℕ) (t : Expansion) (ts : List Term) → 1 ≤ limit → AllByRecursion HasExponents ts → AreApart ts → AllByRecursion (λ (term : Term). IsSmall limit term.coefficient) ts → IsTermsSum ts 24 t → AllByRecursion (IsSmall limit) (coefficients t)
+pub small-sum : (limit : ℕ) (t : Expansion) (ts : List Term) → 1 ≤ limit → AllByRecursion HasExponents ts → AreApart ts → AllByRecursion (λ (term : Term). IsSmall limit term.coefficient) ts → IsTermsSum ts 24 t → AllByRecursion (IsSmall limit) (coefficients t)
 unfolding Covers IsSmallTerm
 small-sum limit t ts some low h small is =
     covers limit 24 some t ts is.canonical (apart ts low h) small

@@ -8,11 +8,12 @@ use Rattle.integer_laws.proofs.Ring.{one-mul}
 use Rattle.iolb_model.specs.Polynomial.{Term, int_power, monomial, terms_value}
 use Rattle.affine_form.specs.Form.{IsSmall}
 use Rattle.poly_tree.specs.Expansion.{Expansion, Parts, number, over, none, part, weight, parts_weight, coefficients, parts_coefficients, parts_count, IsCanonical, AreCanonical, DegreesAtMost, PartsDegreesAtMost}
-use Rattle.poly_tree.specs.Terms.{terms_weight, HasExponents, AreApart}
-use Rattle.poly_tree.specs.Poly.{Quotient, IsLegal, numerator_at}
+use Rattle.poly_tree.specs.Terms.{terms_weight, terms_size, HasExponents, AreApart, IsNoGreater, IsTermsSum}
+use Rattle.poly_tree.specs.Poly.{Quotient, IsLegal, numerator_at, size}
 use Rattle.poly_tree.specs.Printed.{with_exponent, with_power, expansion_terms, parts_terms, is_printed_before, insert_term, in_print_order, polynomial_of, width, widened, widened_term, written_terms, AreWritten}
 use Rattle.poly_tree.proofs.PrintedLemmas.{Short, short, nonzero-printed, printed-value}
-use Rattle.poly_tree.proofs.TermNumbers.{exponent, Differ, Apart}
+use Rattle.poly_tree.proofs.TermLemmas.{terms_weight-append}
+use Rattle.poly_tree.proofs.TermNumbers.{exponent, small-sum, Differ, Apart}
 
 -- ---- what holds of all terms
 
@@ -100,10 +101,6 @@ mutual
       all-joined (SmallTerm limit) (map (with_power v e) (expansion_terms t)) (parts_terms v (suc e) ps)
       (all-mapped (SmallTerm limit) (SmallTerm limit) (with_power v e) (expansion_terms t) (λ s k. k) (small-terms limit t both.0)) (small-parts limit v (suc e) ps both.1)
 
-weight-append : (ts us : List Term) → terms_weight (ts ++ us) ≡ terms_weight ts + terms_weight us
-weight-append [] us = omega arith
-weight-append (t ∷ ts) us = omega (arith, weight-append ts us)
-
 weight-powers : (v e : ℕ) (ts : List Term) → terms_weight (map (with_power v e) ts) ≡ terms_weight ts
 weight-powers v e [] = refl
 weight-powers v e (t ∷ ts) = ap (λ (n : ℕ). unsigned_abs t.coefficient + n) (weight-powers v e ts)
@@ -118,7 +115,7 @@ mutual
   weight-parts : (v e : ℕ) (ps : Parts) → terms_weight (parts_terms v e ps) ≡ parts_weight ps
   weight-parts v e none = refl
   weight-parts v e (part t ps) =
-      omega (arith, weight-append (map (with_power v e) (expansion_terms t)) (parts_terms v (suc e) ps), weight-powers v e (expansion_terms t), weight-terms t, weight-parts v (suc e) ps)
+      omega (arith, terms_weight-append (map (with_power v e) (expansion_terms t)) (parts_terms v (suc e) ps), weight-powers v e (expansion_terms t), weight-terms t, weight-parts v (suc e) ps)
 
 weight-insert : (t : Term) (ts : List Term) → terms_weight (insert_term t ts) ≡ unsigned_abs t.coefficient + terms_weight ts
 weight-insert t [] = refl
@@ -347,17 +344,37 @@ low-printed q legal = all-ordered (Low 8) (expansion_terms q.tree) (low-terms 8 
 pub written-value : (bound : ℕ) (q : Quotient) (point : List ℤ) → IsCanonical bound q.tree → terms_value (written_terms q) point ≡ numerator_at q point
 written-value bound q point c = widened-value (width (polynomial_of q).terms) (polynomial_of q).terms point ∙ printed-value bound q.tree point c
 
+-- the polynomial's numbers are no greater than theirs
+written-within : (q : Quotient) → IsLegal q → IsCanonical 24 q.tree → AllByRecursion HasExponents (written_terms q) → AreApart (written_terms q) → terms_weight (written_terms q) ≡ weight q.tree
+    → IsNoGreater (written_terms q) q.denominator q
+written-within q legal few fit apart heavy =
+    let sum : IsTermsSum (written_terms q) 24 q.tree
+    = record { sum = λ point. sym (written-value 24 q point few); light = omega (arith, heavy); canonical = few; degrees = legal.degrees } in
+    record {
+      numbers = λ limit some small. small-sum limit q.tree (written_terms q) some fit apart small sum;
+      over = omega arith;
+      light = at_most (size q) (terms_size (written_terms q) q.denominator) (ap (λ (m : ℕ). max 1 m * q.denominator) heavy);
+      variables = few;
+    } where
+      at_most : (m n : ℕ) → n ≡ m → m ≤ n
+      at_most m n e = omega arith
+
 pub are-written : (q : Quotient) → IsLegal q → AreWritten q
 unfolding Low LowList SmallTerm
 are-written q legal =
     let tree = q.tree in
     let terms = in_print_order (expansion_terms tree) in
     let n = width terms in
+    let fit : IsCanonical 24 tree → AllByRecursion HasExponents (written_terms q)
+    = λ few. fit-widened n terms (width-short 24 terms (short-ordered 24 (expansion_terms tree) (short 24 tree few))) (short-width terms) (low-printed q legal) in
+    let apart : AreApart (written_terms q) = apart-widened (2 ^ 16) n terms (short-width terms) (apart-ordered (2 ^ 16) (expansion_terms tree) (apart-terms (2 ^ 16) tree legal.canonical)) in
+    let heavy : terms_weight (written_terms q) ≡ weight tree = weight-widened n terms ∙ weight-ordered (expansion_terms tree) ∙ weight-terms tree in
     record {
-      fit = λ few. fit-widened n terms (width-short 24 terms (short-ordered 24 (expansion_terms tree) (short 24 tree few))) (short-width terms) (low-printed q legal);
-      apart = apart-widened (2 ^ 16) n terms (short-width terms) (apart-ordered (2 ^ 16) (expansion_terms tree) (apart-terms (2 ^ 16) tree legal.canonical));
+      fit = fit;
+      apart = apart;
       nonzero = all-mapped (λ (term : Term). term.coefficient ≢ pos 0) (λ (term : Term). term.coefficient ≢ pos 0) (widened_term n) terms (λ t h. h) (nonzero-printed tree);
       small = λ limit h. all-mapped (SmallTerm limit) (SmallTerm limit) (widened_term n) terms (λ t k. k) (all-ordered (SmallTerm limit) (expansion_terms tree) (small-terms limit tree h));
-      light = ap (λ (m : ℕ). max 1 m * q.denominator) (weight-widened n terms ∙ weight-ordered (expansion_terms tree) ∙ weight-terms tree);
+      within = λ few. written-within q legal few (fit few) apart heavy;
+      light = ap (λ (m : ℕ). max 1 m * q.denominator) heavy;
       value = λ point. written-value (2 ^ 16) q point legal.canonical;
     }

@@ -6,7 +6,7 @@ use Rattle.iolb_model.specs.Printed.{product_text}
 use Rattle.affine_form.specs.Form.{IsSmall}
 use Rattle.poly_tree.specs.Expansion.{Expansion, Parts, number, over, none, part, coefficients, IsCanonical}
 use Rattle.poly_tree.specs.Poly.{Quotient, IsLegal, numerator_at, size}
-use Rattle.poly_tree.specs.Terms.{HasExponents, AreApart, terms_size}
+use Rattle.poly_tree.specs.Terms.{HasExponents, AreApart, IsNoGreater, terms_size}
 
 -- exponents of variables below one, and then its own
 abbrev pub with_exponent : ℕ → ℕ → List ℕ → List ℕ
@@ -97,13 +97,15 @@ abbrev pub written_terms : Quotient → List Term
 written_terms q = map (widened_term (width (polynomial_of q).terms)) (polynomial_of q).terms
 
 -- What is known of them, where the polynomial has at most 24 variables: they are terms of which polynomials are made,
--- none is 0, their coefficients are numbers of the tree, and they have the polynomial's size.
+-- none is 0, their coefficients are numbers of the tree, as its numbers are theirs or 0, and they have the polynomial's
+-- size.
 pub record AreWritten (q : Quotient) : Type 0 where
   pub fit : IsCanonical 24 q.tree → AllByRecursion HasExponents (written_terms q)
   pub apart : AreApart (written_terms q)
   pub nonzero : AreNonzero (written_terms q)
   pub small : (limit : ℕ) → AllByRecursion (IsSmall limit) (coefficients q.tree)
       → AllByRecursion (λ (term : Term). IsSmall limit term.coefficient) (written_terms q)
+  pub within : IsCanonical 24 q.tree → IsNoGreater (written_terms q) q.denominator q
   pub light : terms_size (written_terms q) q.denominator ≡ size q
   pub value : (point : List ℤ) → terms_value (written_terms q) point ≡ numerator_at q point
 

@@ -3,11 +3,11 @@ use Rattle.std.proofs.Common.{◌≡◌, refl, sym, ap, ◌∙◌, ℕ, zero, su
 use Rattle.std.specs.Prelude.{bytes_eq, ⊤, Some, None, option_map, slice_get, position, map, nat_lt, IsSomeAnd}
 use Rattle.std.specs.List.{AllByRecursion, list_any, position_or_len}
 use Rattle.std.proofs.lemmas.Bool.{or_parts}
+use Rattle.affine_c.specs.Parts.{array_of}
 use Rattle.iolb_model.specs.Program as program
 use Rattle.c_reading.specs.declared.named.Kind.{Kind}
 use Rattle.c_reading.specs.declared.named.Kind.TheVariants.{Parameter, OpenLoop, ClosedLoop, Array}
 use Rattle.c_reading.specs.Names.{parameters_among, arrays_among}
-use Rattle.printed_texts.specs.Same.{array_of}
 use Rattle.printed_texts.specs.Printable.{IsName}
 use Rattle.printed_texts.proofs.Dictionary.{place_of, bytes_same, bytes_are, first_below, same_below, one_more}
 use Rattle.printed_texts.proofs.State.{among_differ}

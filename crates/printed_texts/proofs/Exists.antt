@@ -4,6 +4,7 @@ use Rattle.std.specs.Prelude.{Ok, Some, slice_get, slice_index_or}
 use Rattle.std.specs.List.{AllByRecursion, AllZip}
 use Rattle.std.proofs.lemmas.List.{take-append-drop, drop-drop, take_all}
 use Rattle.std.proofs.Math.Seq.{drop-append_seam, take-append_seam}
+use Rattle.affine_c.specs.Parts.{array_of}
 use Rattle.iolb_model.specs.Form.{AffineForm}
 use Rattle.iolb_model.specs.Program.{Item, assign, loop, Row, done, next, AffineProgram, statement_at, no_statement}
 use Rattle.iolb_model.specs.Program as program
@@ -15,7 +16,7 @@ use Rattle.c_reading.specs.Names.{arrays_among}
 use Rattle.c_reading.specs.Text.{Reading, reading_of}
 use Rattle.reading_laws.specs.Well.{IsRowOver, parameters_of, IsAccessIn, IsStatementIn, AreLinesIn, IsWellRead}
 use Rattle.reading_laws.proofs.Whole.{readings_are_well_read}
-use Rattle.printed_texts.specs.Same.{padded, widened, widened_access, widened_statement, IsLine, ends, TreeLine, row_lines, array_of, IsReadingOf}
+use Rattle.printed_texts.specs.Same.{padded, widened, widened_access, widened_statement, IsLine, ends, TreeLine, row_lines, IsReadingOf}
 use Rattle.printed_texts.proofs.Forms.{padded_none}
 use Rattle.printed_texts.proofs.Accesses.{get_index}
 

@@ -4,6 +4,7 @@ use Rattle.std.specs.Prelude.{bytes_eq, codes, Ok, Some, None, Option, slice_get
 use Rattle.std.specs.List.{AllByRecursion}
 use Rattle.std.proofs.lemmas.Bool.Decides.{nat_tests}
 use Rattle.std.proofs.str.Laws.{order}
+use Rattle.affine_c.specs.Parts.{array_of}
 use Rattle.iolb_model.specs.Form.{AffineForm}
 use Rattle.iolb_model.specs.Program.{AffineProgram}
 use Rattle.c_tokens.specs.declared.token.Token.{Token}
@@ -17,7 +18,7 @@ use Rattle.c_reading.specs.Affine.{Affine, kind_of, with_name, is_short, new_par
 use Rattle.c_reading.specs.Compare.{Rows, Compared, comparison, comparison_by, with_row, with_compare, compare_from, compare}
 use Rattle.c_reading.specs.Head.{Head, is_parameters, is_assumptions, parameter_names, all_parameter_names, closed_line, compares, all_compares, directives}
 use Rattle.printed_texts.specs.Words.{Bit, space, newline, word, end, AreTokens, symbol, form_terms, form_bits, names_bits, assumptions_bits}
-use Rattle.printed_texts.specs.Same.{widened, array_of}
+use Rattle.printed_texts.specs.Same.{widened}
 use Rattle.printed_texts.specs.Printable.{IsName, IsSmall, IsSmallForm, parameter, array, other, role, IsPrintable}
 use Rattle.printed_texts.proofs.Numbers.{plus_none, combined-plus}
 use Rattle.printed_texts.proofs.Steps.{at, Next, word_next, end_next, next-at, spelling-at, sees-at, length-words}

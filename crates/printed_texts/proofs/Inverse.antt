@@ -3,6 +3,7 @@ use Rattle.std.proofs.Common.{◌≡◌, refl, sym, ap, subst, ◌∙◌, ℕ, s
 use Rattle.std.specs.Prelude.{bytes_eq, ℤ, Ok, Some, slice_get, map, position, IsSomeAnd}
 use Rattle.std.specs.List.{AllByRecursion, AllZip, list_any}
 use Rattle.std.proofs.lemmas.List.{length-map}
+use Rattle.affine_c.specs.Parts.{array_of}
 use Rattle.iolb_model.specs.Form.{AffineForm}
 use Rattle.iolb_model.specs.Program.{Item, assign, loop, Row, done, next, AffineProgram, statement_at, item_statements, row_statements}
 use Rattle.iolb_model.specs.Program as program
@@ -16,7 +17,7 @@ use Rattle.c_reading.specs.Text.{Reading, reading_of}
 use Rattle.reading_laws.specs.Well.{IsRowOver, IsAccessIn, IsStatementIn, AreLinesIn, statement_count, IsWellRead}
 use Rattle.reading_laws.proofs.Whole.{readings_are_well_read}
 use Rattle.reading_laws.proofs.NameKinds.{IsLoop}
-use Rattle.printed_texts.specs.Same.{widened, widened_access, widened_statement, IsLine, ends, TreeLine, item_lines, row_lines, array_of, IsReadingOf}
+use Rattle.printed_texts.specs.Same.{widened, widened_access, widened_statement, IsLine, ends, TreeLine, item_lines, row_lines, IsReadingOf}
 use Rattle.printed_texts.specs.Printable.{IsName, IsSmall, IsSmallForm, parameter, array, other, role, role_by, array_role, access_seen, accesses_seen, IsPrintableAccess, ArePrintableAccesses, IsPrintableStatement, statement_seen, IsPrintableHeader, IsPrintableItem, IsPrintableRow, item_seen, row_seen, IsPrintable}
 use Rattle.printed_texts.proofs.Terms.{All_both}
 use Rattle.printed_texts.proofs.Dictionary.{place_of, position-place, bytes_are}

@@ -4,6 +4,7 @@ use Rattle.std.specs.Prelude.{bytes_eq, Some, None, slice_get, slice_set, set, m
 use Rattle.std.specs.List.{AllByRecursion, list_any}
 use Rattle.std.proofs.str.Laws.{order}
 use Rattle.std.proofs.lemmas.Bool.{or_parts}
+use Rattle.affine_c.specs.Parts.{array_of}
 use Rattle.iolb_model.specs.Program.{AffineProgram}
 use Rattle.iolb_model.specs.Program as program
 use Rattle.c_reading.specs.declared.named.Kind.{Kind}
@@ -11,7 +12,6 @@ use Rattle.c_reading.specs.declared.named.Kind.TheVariants.{Parameter, OpenLoop,
 use Rattle.c_reading.specs.Input.{Input}
 use Rattle.c_reading.specs.Names.{parameters_among, arrays_among}
 use Rattle.c_reading.specs.Affine.{kind_of}
-use Rattle.printed_texts.specs.Same.{array_of}
 use Rattle.printed_texts.specs.Printable.{IsName, Role, parameter, array, other, role, IsPrintable}
 use Rattle.c_tokens.specs.declared.token.Token.{Token}
 use Rattle.c_reading.specs.declared.lines.Line.{Line}

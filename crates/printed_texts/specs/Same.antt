@@ -1,6 +1,7 @@
 -- When a reading of a text is that of a program.
 use Rattle.std.specs.Prelude.{◌≡◌, ℕ, zero, suc, ℤ, pos, List, [], ◌∷◌, ◌++◌, length, map, take, drop, slice_get, Some}
 use Rattle.std.specs.List.{AllZip}
+use Rattle.affine_c.specs.Parts.{array_of}
 use Rattle.iolb_model.specs.Form.{AffineForm}
 use Rattle.iolb_model.specs.Program.{Item, assign, loop, Row, done, next, Array, AffineProgram, statement_at}
 use Rattle.iolb_model.specs.Program as program
@@ -61,10 +62,6 @@ IsLine names (Does statement) ends = ⊥
 IsLine names End (begins name lower upper) = ⊥
 IsLine names End (does statement) = ⊥
 IsLine names End ends = Unit {0}
-
--- an array with its name and its number of subscripts
-abbrev pub array_of : List ℕ × ℕ → Array
-array_of a = record { name = a.0; rank = a.1 }
 
 -- A reading is that of a program: it has the program's parameters and arrays, by their numbers, its assumptions, and the
 -- lines of its tree.

@@ -5,3 +5,5 @@ pub mod NestPoints
 pub mod ColdLeaves
 pub mod ColdCells
 pub mod ColdLoads
+pub mod WaveLoads
+pub mod Kept

@@ -6,3 +6,4 @@ pub mod Loads
 pub mod View
 pub mod Found
 pub mod Columns
+pub mod Waves

@@ -10,6 +10,7 @@ mod inverse;
 pub mod law;
 mod leaves_shown;
 mod open_leaves;
+pub mod waves;
 
 pub use checker::check_cold;
 pub use cold::{Cold, Inverse};

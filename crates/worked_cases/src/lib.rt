@@ -1,5 +1,5 @@
-//! Worked cases: programs, counts, source trees, cold terms and texts whose answers are known, and a plain slow program
-//! that lists the points of a nest at given sizes.
+//! Worked cases: tokens, texts, programs, counts, source trees and cold terms whose answers are known, and a plain slow
+//! program that lists the points of a nest at given sizes.
 #![tactic(auto)]
 
 #[cfg(test)]
@@ -7,10 +7,18 @@ mod count_tests;
 #[cfg(test)]
 mod counts;
 #[cfg(test)]
+mod cover_tests;
+#[cfg(test)]
+mod fault_tests;
+#[cfg(test)]
+mod form_tests;
+#[cfg(test)]
 mod graph_tests;
 #[cfg(test)]
 mod kernels;
 pub mod points;
+#[cfg(test)]
+mod reading_tests;
 #[cfg(test)]
 mod scanned;
 #[cfg(test)]
@@ -23,6 +31,8 @@ mod terms;
 mod text_tests;
 #[cfg(test)]
 mod texts;
+#[cfg(test)]
+mod token_tests;
 #[cfg(test)]
 mod tree_tests;
 #[cfg(test)]

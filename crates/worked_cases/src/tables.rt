@@ -1,7 +1,8 @@
 //! Forms, multipliers and polynomials as they stand in tables.
 
-ghost use Rattle.std.specs.Prelude.{◌≡◌, ◌≤◌, true};
+ghost use Rattle.std.specs.Prelude.{◌≡◌, ◌≤◌, ◌+◌, true, length, IfOk};
 ghost use Rattle.std.specs.List.{AllByRecursion};
+ghost use Rattle.affine_form.specs.Form.{variables};
 
 use affine_form::{Form, Multipliers};
 use poly_tree::Poly;
@@ -15,7 +16,9 @@ pub type Shown = (u32, &'static [(u8, u8)]);
 pub type Terms = (u8, &'static [(i64, &'static [u8])]);
 
 /// A form, of its coefficients and its constant.
-pub fn form(alloc: Global, row: &[i32]) -> Result<Form, Fail> {
+pub fn form(alloc: Global, row: &[i32]) -> Result<Form, Fail>
+    ensures { IfOk result (λ form. variables form + 1 ≡ length row.now) }
+{
     let Some((constant, coefficients)) = row.split_last() else {
         return Err(Fail::new("a form has a constant"));
     };

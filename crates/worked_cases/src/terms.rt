@@ -9,18 +9,29 @@ use std::alloc::Global;
 use std::test::Fail;
 use wavefront::{Cold, Inverse};
 
-/// The lists of a cold term of the matrix product's read of C.
+/// What shows a cold term of the matrix product's read of C.
 #[derive(Clone, Copy)]
-pub struct Lists {
-    pub shown: &'static [Shown],
-    pub last_sum: &'static [i32],
-    pub inside: &'static [Shown],
-    pub first_leaf: Option<Shown>,
-    pub turned: bool,
+struct Lists {
+    shown: &'static [Shown],
+    last_sum: &'static [i32],
+    inside: &'static [Shown],
+    first_leaf: Option<Shown>,
+    turned: bool,
+}
+
+/// A part of a cold term of the matrix product's read of C, in place of the right one.
+pub enum Change {
+    Shown(&'static [Shown]),
+    LastSum(&'static [i32]),
+    Inside(&'static [Shown]),
+    /// A walk is said to stop where the source is an instance.
+    Stop,
+    /// The matrix exchanges the two variables.
+    Turned,
 }
 
 /// The lists that show the cold term of the matrix product's read of C.
-pub const RIGHT_TERM: Lists = Lists {
+const RIGHT_TERM: Lists = Lists {
     shown: &[(1, &[(0, 1)]), (1, &[(0, 1)])],
     last_sum: &[0, 0, 1, 0],
     inside: &[
@@ -67,8 +78,26 @@ fn first_leaf(alloc: Global, shown: Option<Shown>) -> Result<Leaf, Fail> {
     }
 }
 
+/// The right cold term of the matrix product's read of C.
+pub fn right_term(alloc: Global) -> Result<Cold, Fail> {
+    cold_of_c(alloc, &RIGHT_TERM)
+}
+
+/// The cold term with one part in place of the right one.
+pub fn changed_term(alloc: Global, change: &Change) -> Result<Cold, Fail> {
+    let mut lists = RIGHT_TERM;
+    match change {
+        Change::Shown(list) => lists.shown = list,
+        Change::LastSum(row) => lists.last_sum = row,
+        Change::Inside(list) => lists.inside = list,
+        Change::Stop => lists.first_leaf = None,
+        Change::Turned => lists.turned = true,
+    }
+    cold_of_c(alloc, &lists)
+}
+
 /// A cold term of the matrix product's read of C: for each i and j the instance with k = 0.
-pub fn cold_of_c(alloc: Global, lists: &Lists) -> Result<Cold, Fail> {
+fn cold_of_c(alloc: Global, lists: &Lists) -> Result<Cold, Fail> {
     let nest = vec![in alloc;
         bounds(alloc, &[0, 0], &[1, -1])?,
         bounds(alloc, &[0, 0, 0], &[1, 0, -1])?,

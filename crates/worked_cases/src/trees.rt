@@ -7,16 +7,16 @@ use std::test::Fail;
 
 /// The lists of multipliers of a tree of the matrix product's read of C.
 #[derive(Clone, Copy)]
-pub struct Lists {
-    pub domain: &'static [Shown],
-    pub cell: &'static [Shown],
-    pub before: &'static [Shown],
-    pub between: &'static [Shown],
-    pub input: &'static [Shown],
+struct Lists {
+    domain: &'static [Shown],
+    cell: &'static [Shown],
+    before: &'static [Shown],
+    between: &'static [Shown],
+    input: &'static [Shown],
 }
 
 /// The lists that show the tree of the matrix product's read of C.
-pub const RIGHT_TREE: Lists = Lists {
+const RIGHT_TREE: Lists = Lists {
     domain: &[
         (0, &[(1, 1)]),
         (0, &[(2, 1)]),
@@ -45,9 +45,34 @@ pub const RIGHT_TREE: Lists = Lists {
     ],
 };
 
+/// One of the lists of a tree of the matrix product's read of C, in place of the right one.
+pub enum Change {
+    Domain(&'static [Shown]),
+    Cell(&'static [Shown]),
+    Before(&'static [Shown]),
+    Input(&'static [Shown]),
+}
+
+/// The right tree of the matrix product's read of C.
+pub fn right_tree(alloc: Global) -> Result<Quast, Fail> {
+    product_tree(alloc, &RIGHT_TREE)
+}
+
+/// The tree with one list in place of the right one.
+pub fn changed_tree(alloc: Global, change: &Change) -> Result<Quast, Fail> {
+    let mut lists = RIGHT_TREE;
+    match change {
+        Change::Domain(list) => lists.domain = list,
+        Change::Cell(list) => lists.cell = list,
+        Change::Before(list) => lists.before = list,
+        Change::Input(list) => lists.input = list,
+    }
+    product_tree(alloc, &lists)
+}
+
 /// The tree of the matrix product's read of C: from the second step of the innermost loop on the step before wrote the cell,
 /// and before it nothing did.
-pub fn product_tree(alloc: Global, lists: &Lists) -> Result<Quast, Fail> {
+fn product_tree(alloc: Global, lists: &Lists) -> Result<Quast, Fail> {
     let source = Quast::Source {
         statement: 0,
         level: 2,

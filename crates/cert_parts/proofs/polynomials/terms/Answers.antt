@@ -1,9 +1,10 @@
-use Rattle.std.proofs.Common.{◌≡◌, List, [], ◌∷◌, ◌++◌, Ok, subst, true}
+use Rattle.std.proofs.Common.{◌≡◌, List, [], ◌∷◌, ◌++◌, Ok, subst, sym, true}
 use Rattle.std.proofs.lemmas.List.{map_push}
 use Rattle.iolb_model.specs.Polynomial.{Term}
 use Rattle.affine_form.proofs.Lists.{All-push}
 use Rattle.poly_tree.specs.Terms.{term_of, terms_of, HasExponents}
 use Rattle.serde_json.specs.View.{view}
+use Rattle.cert_parts.specs.Apart.{HasLists, exponent_lists}
 use Rattle.cert_parts.specs.Outcome.{Fails}
 use Rattle.cert_parts.specs.Polynomials.{reads_term_behind, reads_terms, stands_apart}
 use Rattle.cert_parts.proofs.TermLoop.{goes_on, ends, is_done, AreApart-push}
@@ -25,11 +26,14 @@ loop-i-preserved c =
     subst (λ ts. reads_term_behind (terms_of ts) (view c.index-values-i.result) ≡ Ok term) c.as_slice.ensures.value c.in-Ok-term_behind.ensures.read in
     let apart : stands_apart front term.exponents ≡ true =
     subst (λ ts. stands_apart (terms_of ts) term.exponents ≡ true) c.as_slice.ensures.value c.in-Ok-term_behind.ensures.apart in
+    let lists : HasLists c.term_behind.new.lists (exponent_lists front ++ term.exponents ∷ []) =
+    subst (λ ts. HasLists c.term_behind.new.lists (exponent_lists (terms_of ts) ++ term.exponents ∷ [])) c.as_slice.ensures.value c.in-Ok-term_behind.ensures.lists in
     let items : terms_of c.push.new.self.items ≡ front ++ term ∷ [] = rw c.in_ok-push-in-Ok-term_behind.ensures.items (map_push term_of c.loop-i.terms.items c.in-Ok-term_behind.term) in
     record {
       read = rw items (goes_on front c.in-Ok.values.now c.loop-i.i c.index-values-i.result term (reads_terms (view c.args.value.now)) c.loop-i-test.true c.index-values-i.is read c.loop-i.invariant.read);
       fit = rw items (All-push HasExponents front term c.loop-i.invariant.fit c.in-Ok-term_behind.ensures.fit);
       apart = rw items (AreApart-push front term c.loop-i.invariant.apart apart);
+      lists = subst (λ ts. HasLists c.term_behind.new.lists (exponent_lists ts)) (sym items) (subst (HasLists c.term_behind.new.lists) (sym (map_push (λ (t : Term). t.exponents) front term)) lists);
     }
 
 pub returns-clause-read : goal.returns-clause-read

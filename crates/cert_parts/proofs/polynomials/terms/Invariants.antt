@@ -2,6 +2,7 @@ use Rattle.std.proofs.Common.{◌≡◌}
 use Rattle.std.specs.List.{AllByRecursion}
 use Rattle.poly_tree.specs.Terms.{terms_of, HasExponents, AreApart}
 use Rattle.serde_json.specs.View.{view}
+use Rattle.cert_parts.specs.Apart.{HasLists, exponent_lists}
 use Rattle.cert_parts.specs.Polynomials.{reads_terms}
 use Rattle.cert_parts.proofs.TermLoop.{left}
 use Rattle.cert_parts.proofs.polynomials.terms.Given as goal
@@ -11,4 +12,5 @@ invariant-loop-i l = record {
   read : left (terms_of l.terms.items) l.values l.i ≡ reads_terms (view l.value);
   fit : AllByRecursion HasExponents (terms_of l.terms.items);
   apart : AreApart (terms_of l.terms.items);
+  lists : HasLists l.lists (exponent_lists (terms_of l.terms.items));
 }

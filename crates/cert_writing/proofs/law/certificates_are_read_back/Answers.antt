@@ -1,4 +1,4 @@
-use Rattle.cert_writing.proofs.Same.{read_back}
+use Rattle.cert_writing.proofs.ReadBack.{read_back}
 use Rattle.cert_writing.proofs.law.certificates_are_read_back.Goals as goal
 
 pub returns : goal.returns

@@ -13,4 +13,4 @@ terms-requires-2 c =
     (c.in_ok-found.ensures.written.small (2 ^ 62) c.requires.numbers)
 
 pub returns-clause-read : goal.returns-clause-read
-returns-clause-read c = polynomial-read c.args.polynomial.now c.requires c.den-den.ensures.legal.positive c.in_ok-found.ensures.written
+returns-clause-read c = polynomial-read c.args.polynomial.now c.requires c.den-den.ensures.legal c.in_ok-found.ensures.written

@@ -1,4 +1,5 @@
 use Rattle.serde_json.specs.View.{view}
+use Rattle.cert_reading.specs.Texts.{IsTextOf}
 use Rattle.cert_writing.specs.Certificates.{certificate_data}
 use Rattle.cert_writing.specs.Written.{written_of}
 use Rattle.cert_writing.proofs.Plain.{certificate-nests, certificate-exact}
@@ -14,5 +15,6 @@ returns-clause-text c =
 pub returns-clause-reads : goal.returns-clause-reads
 returns-clause-reads c =
     let parts = c.args.certificate.now in
-    text-of (view c.in_ok-value.value) (certificate_data (written_of parts)) c.in_ok-text.text.items c.in_ok-all.all.items (written_of parts) c.in_ok-value.ensures.value
-    (certificate-nests parts c.in_ok-value.ensures.limits) c.in_ok-value.ensures.read c.in_ok-text.ensures.utf8 c.in_ok-text.ensures.compact c.in_ok-text.ensures.order c.in_ok-text.ensures.reads_back c.in_ok-all.ensures
+    let says : IsTextOf c.in_ok-all.all.items (written_of parts) = text-of (view c.in_ok-value.value) (certificate_data (written_of parts)) c.in_ok-text.text.items c.in_ok-all.all.items (written_of parts) c.in_ok-value.ensures.value
+    (certificate-nests parts c.in_ok-value.ensures.limits) c.in_ok-value.ensures.read.says c.in_ok-text.ensures.utf8 c.in_ok-text.ensures.compact c.in_ok-text.ensures.order c.in_ok-text.ensures.reads_back c.in_ok-all.ensures in
+    record { written = written_of parts; says = says; is = c.in_ok-value.ensures.read.is }

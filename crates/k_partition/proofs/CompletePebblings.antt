@@ -1,0 +1,179 @@
+-- Complete pebblings keep to the red pebbles, and compute each instance once.
+use Rattle.std.proofs.Common.{◌≡◌, refl, sym, ◌∙◌, ap, subst, inl, inr, ℕ, zero, suc, ◌+◌, ◌-◌, ◌*◌, ◌/◌, ◌<◌, ◌≤◌, ◌≢◌, Bool, true, false, cond, List, [], ◌∷◌, length, replicate, set, arith, IsTrue}
+use Rattle.std.specs.Prelude.{◌⊎◌, ◌||◌, ◌&&◌, nat_eq, filter}
+use Rattle.std.specs.List.{AllByRecursion, IsDistinct}
+use Rattle.std.specs.Set.{is_member}
+use Rattle.std.specs.Cmp.{nat_eq_equiv}
+use Rattle.std.proofs.Math.Nat.{div-mul-le_self, mul_comm, zero-div}
+use Rattle.std.proofs.lemmas.Bool.{eqb-true, ne_eqb, cases_eq}
+use Rattle.std.proofs.lemmas.List.{get_or-set_other, get_or-set_same, length-set, length-replicate}
+use Rattle.std.proofs.lemmas.List.Sums.{sum_by-cons}
+use Rattle.std.proofs.lemmas.Map.Made.{is_member-filter, length-le_from_is_member}
+use Rattle.execution_laws.proofs.Members.{Member}
+use Rattle.iolb_model.specs.declared.game.Move.{Move}
+use Rattle.iolb_model.specs.declared.game.Move.TheVariants.{Load, Store, Compute, Drop, Erase}
+use Rattle.iolb_model.specs.Graph.{ComputationGraph}
+use Rattle.iolb_model.specs.Game.{AreAllowed, Board, IsCompletePebbling, board_after, final_board, first_board, loads_of, loads_one_of, mark_count, marked, stands_in, vertices}
+use Rattle.k_partition.specs.Laws.{AreInstances, PartitionsAreLoadedEach, PartitionsAreLoadedSum, PointsTakeEventsEach, PointsTakeEventsSum}
+use Rattle.k_partition.specs.Reuse.{ReusePartition, words_of}
+use Rattle.k_partition.specs.Runs.{IsRedRun, computed_vertices, events, is_event, points_computed}
+use Rattle.execution_laws.proofs.Marks.{count-put, distinct-filtered, member-stands, unmarked-at}
+
+-- ---- red pebbles
+
+count-cons : (b : Bool) (marks : List Bool) → mark_count (b ∷ marks) ≡ cond b 1 0 + mark_count marks
+count-cons b marks = sum_by-cons (λ (mark : Bool). cond mark 1 0) b marks
+
+count-again : (marks : List Bool) (v : ℕ) → marked marks v ≡ true → mark_count (set marks v true) ≡ mark_count marks
+count-again [] v h = refl
+count-again (b ∷ marks) zero h = ap (λ (c : Bool). mark_count (c ∷ marks)) (sym h)
+count-again (b ∷ marks) (suc v) h = omega (arith, count-cons b (set marks v true), count-cons b marks, count-again marks v h)
+
+count-taken : (marks : List Bool) (v : ℕ) → mark_count (set marks v false) ≤ mark_count marks
+count-taken [] v = omega arith
+count-taken (b ∷ marks) zero = omega (arith, count-cons false marks, count-cons b marks)
+count-taken (b ∷ marks) (suc v) = omega (arith, count-cons b (set marks v false), count-cons b marks, count-taken marks v)
+
+none-marked : (n : ℕ) → mark_count (replicate n false) ≡ 0
+none-marked zero = refl
+none-marked (suc n) = omega (arith, count-cons false (replicate n false), none-marked n)
+
+module _ (graph : ComputationGraph) (s : ℕ) where
+  red-run : (board : Board) (moves : List Move) → mark_count board.red ≤ s → AreAllowed graph s board moves → IsRedRun graph s board.red moves
+  red-run board [] few allowed = few
+  red-run board (Load v ∷ moves) few allowed = (few, tt, red-run (board_after board (Load v)) moves (by allowed.0.1) allowed.1) where
+    by : IsTrue (marked board.red v) ⊎ (mark_count board.red < s) → mark_count (set board.red v true) ≤ s
+    by (inl here) = omega (arith, few, count-again board.red v here)
+    by (inr less) = omega (arith, less, count-put board.red v)
+  red-run board (Store v ∷ moves) few allowed = (few, tt, red-run (board_after board (Store v)) moves few allowed.1)
+  red-run board (Compute v ∷ moves) few allowed =
+      (few, (allowed.0.0, allowed.0.2), red-run (board_after board (Compute v)) moves (omega (arith, allowed.0.3, count-put board.red v)) allowed.1)
+  red-run board (Drop v ∷ moves) few allowed = (few, tt, red-run (board_after board (Drop v)) moves (omega (arith, few, count-taken board.red v)) allowed.1)
+  red-run board (Erase v ∷ moves) few allowed = (few, tt, red-run (board_after board (Erase v)) moves few allowed.1)
+
+  -- ---- instances
+
+  -- what is computed in the end and wasn't at first is computed by a move
+  is-computed : (board : Board) (moves : List Move) (v : ℕ) → marked (final_board board moves).computed v ≡ true → marked board.computed v ≡ false → Member v (computed_vertices moves)
+  is-computed board [] v after before = cc
+  is-computed board (Load w ∷ moves) v after before = is-computed (board_after board (Load w)) moves v after before
+  is-computed board (Store w ∷ moves) v after before = is-computed (board_after board (Store w)) moves v after before
+  is-computed board (Compute w ∷ moves) v after before =
+      by (cases_eq v w) (λ apart. is-computed (board_after board (Compute w)) moves v after (get_or-set_other board.computed w v true false apart ∙ before)) where
+        by : (v ≡ w) ⊎ (v ≢ w) → ((v ≢ w) → Member v (computed_vertices moves)) → Member v (w ∷ computed_vertices moves)
+        by (inl e) later = inl e
+        by (inr apart) later = inr (later apart)
+  is-computed board (Drop w ∷ moves) v after before = is-computed (board_after board (Drop w)) moves v after before
+  is-computed board (Erase w ∷ moves) v after before = is-computed (board_after board (Erase w)) moves v after before
+
+  apart-from-all : (w : ℕ) (xs : List ℕ) → stands_in xs w ≡ false → AllByRecursion (λ (y : ℕ). nat_eq w y ≡ false) xs
+  apart-from-all w [] h = tt
+  apart-from-all w (x ∷ xs) h = let both = neither (nat_eq w x) (stands_in xs w) h in (both.0, apart-from-all w xs both.1) where
+    neither : (a b : Bool) → (a || b) ≡ false → (a ≡ false) × (b ≡ false)
+    neither true b e = absurd cc
+    neither false b e = (refl, e)
+
+  -- no instance is computed again
+  record IsOnce (board : Board) (moves : List Move) : Type 0 where
+    distinct : IsDistinct nat_eq (computed_vertices moves)
+    fresh : (v : ℕ) → marked board.computed v ≡ true → stands_in (computed_vertices moves) v ≡ false
+
+  computed-once : (board : Board) (moves : List Move) → graph.instances ≤ length board.computed → AreAllowed graph s board moves → IsOnce board moves
+  unfolding IsDistinct
+  computed-once board [] wide allowed = record { distinct = tt; fresh = λ v h. refl }
+  computed-once board (Load w ∷ moves) wide allowed = let later = computed-once (board_after board (Load w)) moves wide allowed.1 in record { distinct = later.distinct; fresh = later.fresh }
+  computed-once board (Store w ∷ moves) wide allowed = let later = computed-once (board_after board (Store w)) moves wide allowed.1 in record { distinct = later.distinct; fresh = later.fresh }
+  computed-once board (Compute w ∷ moves) wide allowed =
+      let later = computed-once (board_after board (Compute w)) moves (omega (arith, wide, length-set board.computed w true)) allowed.1 in
+      let here : marked (set board.computed w true) w ≡ true = get_or-set_same board.computed w true false (omega (arith, wide, allowed.0.0)) in record {
+        distinct = (apart-from-all w (computed_vertices moves) (later.fresh w here), later.distinct);
+        fresh = λ v on. let apart : v ≢ w = λ e. other v on e in
+            both (nat_eq v w) (stands_in (computed_vertices moves) v) (ne_eqb v w apart) (later.fresh v (get_or-set_other board.computed w v true false apart ∙ on));
+      } where
+        other : (v : ℕ) → marked board.computed v ≡ true → v ≡ w → ⊥
+        other v on e = let off : marked board.computed v ≡ false = ap (marked board.computed) e ∙ allowed.0.1 in cc
+
+        both : (a b : Bool) → a ≡ false → b ≡ false → (a || b) ≡ false
+        both true b p q = absurd cc
+        both false b p q = q
+  computed-once board (Drop w ∷ moves) wide allowed = let later = computed-once (board_after board (Drop w)) moves wide allowed.1 in record { distinct = later.distinct; fresh = later.fresh }
+  computed-once board (Erase w ∷ moves) wide allowed = let later = computed-once (board_after board (Erase w)) moves wide allowed.1 in record { distinct = later.distinct; fresh = later.fresh }
+
+-- ---- events
+
+module _ (partition : ReusePartition) where
+  longer : (b : Bool) (v : ℕ) (rest : List ℕ) → length (cond b (v ∷ rest) rest) ≡ cond b 1 0 + length rest
+  longer true v rest = omega arith
+  longer false v rest = omega arith
+
+  -- events are loads of words and computations of credited vertices
+  events-are : (moves : List Move) → events partition moves ≡ loads_of (words_of partition) moves + length (filter (stands_in partition.credited) (computed_vertices moves))
+  events-are [] = refl
+  events-are (Load v ∷ moves) =
+      omega (
+        arith,
+        sum_by-cons (λ (move : Move). cond (is_event partition move) 1 0) (Load v) moves,
+        sum_by-cons (λ (move : Move). cond (loads_one_of (words_of partition) move) 1 0) (Load v) moves,
+        events-are moves,
+      )
+  events-are (Store v ∷ moves) = events-are moves
+  events-are (Compute v ∷ moves) =
+      omega (
+        arith,
+        sum_by-cons (λ (move : Move). cond (is_event partition move) 1 0) (Compute v) moves,
+        longer (stands_in partition.credited v) v (filter (stands_in partition.credited) (computed_vertices moves)),
+        events-are moves,
+      )
+  events-are (Drop v ∷ moves) = events-are moves
+  events-are (Erase v ∷ moves) = events-are moves
+
+  -- computations of credited vertices are at most as many as these
+  credits-few : (moves : List Move) → IsDistinct nat_eq (computed_vertices moves) → length (filter (stands_in partition.credited) (computed_vertices moves)) ≤ length partition.credited
+  credits-few moves distinct =
+      length-le_from_is_member nat_eq_equiv (filter (stands_in partition.credited) (computed_vertices moves)) partition.credited
+      (distinct-filtered (stands_in partition.credited) (computed_vertices moves) distinct)
+      (λ v h. second (is_member nat_eq (computed_vertices moves) v) (stands_in partition.credited v)
+      (sym (is_member-filter nat_eq_equiv (stands_in partition.credited) v (λ x e. ap (stands_in partition.credited) (eqb-true v x e)) (computed_vertices moves)) ∙ h)) where
+        second : (a b : Bool) → (a && b) ≡ true → b ≡ true
+        second true b e = e
+        second false b e = cc
+
+all-left : (test : ℕ → Bool) (xs : List ℕ) → ((v : ℕ) → Member v xs → test v ≡ true) → length (filter test xs) ≡ length xs
+all-left test [] h = refl
+all-left test (x ∷ xs) h =
+    ap (λ (b : Bool). length (cond b (x ∷ filter test xs) (filter test xs))) (h x (inl refl)) ∙ ap suc (all-left test xs (λ v m. h v (inr m)))
+
+module _ (graph : ComputationGraph) (s t u : ℕ) (partition : ReusePartition) (moves : List Move) (are : AreInstances graph partition) (game : IsCompletePebbling graph s moves)
+    (some : 1 ≤ u) (takes : (j : ℕ) → j * u < length (points_computed partition moves) → j * t ≤ events partition moves) where
+  all-computed : length (points_computed partition moves) ≡ length partition.points
+  all-computed =
+      all-left (stands_in (computed_vertices moves)) partition.points
+      (λ v m. member-stands (computed_vertices moves) v
+      (is-computed graph s (first_board graph) moves v (game.computed v (are.there v (member-stands partition.points v m))) (unmarked-at (vertices graph) v)))
+
+  once : IsOnce graph s (first_board graph) moves
+  once = computed-once graph s (first_board graph) moves (omega (arith, length-replicate (vertices graph) false)) game.allowed
+
+  few-loads : t * ((length partition.points - 1) / u) ≤ loads_of (words_of partition) moves + length partition.credited
+  few-loads = by (length partition.points) refl where
+    by : (n : ℕ) → n ≡ length partition.points → t * ((length partition.points - 1) / u) ≤ loads_of (words_of partition) moves + length partition.credited
+    by zero e =
+        let none : (length partition.points - 1) / u ≡ 0 = ap (λ (k : ℕ). (k - 1) / u) (sym e) ∙ zero-div u in
+        subst (λ (k : ℕ). t * k ≤ loads_of (words_of partition) moves + length partition.credited) (sym none) (omega arith)
+    by (suc n) e =
+        let j : ℕ = (length partition.points - 1) / u in
+        let within : j * u ≤ length partition.points - 1 = div-mul-le_self (length partition.points - 1) u in
+        let enough : j * t ≤ events partition moves = takes j (omega (arith, within, e, all-computed)) in
+        omega (arith, mul_comm t j, enough, events-are partition moves, credits-few partition moves once.distinct)
+
+pub partitions-loaded-each : PointsTakeEventsEach → PartitionsAreLoadedEach
+partitions-loaded-each take graph q s t u partition moves sound are greatest game =
+    few-loads graph s t u partition moves are game greatest.at_least_one
+    (λ j many. take graph q s t u partition (first_board graph).red moves sound greatest
+    (red-run graph s (first_board graph) moves (omega (arith, none-marked (vertices graph))) game.allowed) j many)
+
+pub partitions-loaded-sum : PointsTakeEventsSum → PartitionsAreLoadedSum
+partitions-loaded-sum take graph q s t u partition moves sound apart are greatest game =
+    few-loads graph s t u partition moves are game greatest.at_least_one
+    (λ j many. take graph q s t u partition (first_board graph).red moves sound apart greatest
+    (red-run graph s (first_board graph) moves (omega (arith, none-marked (vertices graph))) game.allowed) j many)

@@ -1,0 +1,4 @@
+pub mod Held
+pub mod Stretch
+pub mod Cut
+pub mod CompletePebblings

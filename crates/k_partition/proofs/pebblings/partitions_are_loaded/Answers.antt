@@ -1,0 +1,8 @@
+use Rattle.k_partition.proofs.CompletePebblings.{partitions-loaded-each, partitions-loaded-sum}
+use Rattle.k_partition.proofs.pebblings.partitions_are_loaded.Goals as goal
+
+pub returns-clause-each : goal.returns-clause-each
+returns-clause-each c = partitions-loaded-each c.points_take_events.ensures.each
+
+pub returns-clause-sum : goal.returns-clause-sum
+returns-clause-sum c = partitions-loaded-sum c.points_take_events.ensures.sum
