@@ -1,6 +1,6 @@
 pub mod Chunks
 pub mod Count
-pub mod FileCounts
+pub mod Faults
 pub mod Files
 pub mod MemFiles
 pub mod MemSink

@@ -1,7 +1,7 @@
 //! Files as the program sees them.
-ghost use Rattle.std.specs.Prelude.{◌≡◌, ℕ, ◌≤◌, List, length, Option, IfSome, IfOk, IsErrOf};
+ghost use Rattle.std.specs.Prelude.{◌≡◌, ◌≤◌, List, length, Option, IfSome, IfOk};
 ghost use Rattle.iolb_host.specs.declared.files.FileFault.TheVariants.{Memory};
-ghost use Rattle.iolb_host.specs.Count.{Rose};
+ghost use Rattle.iolb_host.specs.Faults.{NamedFault, after_read};
 ghost use Rattle.iolb_host.specs.Files.{FileMap, content_of, Answers};
 
 use std::alloc::AllocError;
@@ -32,29 +32,13 @@ pub trait Files {
     /// The files by their names, where that is told.
     ghost told: { Self → Option FileMap };
 
-    /// How often a file was missing.
-    ghost missing: { Self → ℕ };
-
-    /// How often a file was too long.
-    ghost long: { Self → ℕ };
-
-    /// How often a read failed.
-    ghost faults: { Self → ℕ };
+    /// The faults of reads so far, each with the name of its file.
+    ghost faults: { Self → List NamedFault };
 
     /// Reads the file of this name, of at most `most` bytes.
     fn read(&mut self, name: &str, most: u64) -> Result<Vec<u8>, FileFault>
         ensures told_stays { told self.new ≡ told self.old }
-        ensures missing_never_falls { missing self.old ≤ missing self.new }
-        ensures long_never_falls { long self.old ≤ long self.new }
-        ensures faults_never_fall { faults self.old ≤ faults self.new }
-
-        // Each fault that isn't want of memory comes only where its count rose in this call.
-        ensures missing_cause { IsErrOf result FileFault.Missing →
-            Rose (missing self.old) (missing self.new) }
-        ensures long_cause { IsErrOf result FileFault.TooLong → Rose (long self.old) (long self.new) }
-        ensures failed_cause { IsErrOf result FileFault.Failed →
-            Rose (faults self.old) (faults self.new) }
-
+        ensures faults { faults self.new ≡ after_read (faults self.old) name.now result }
         ensures within { IfOk result (λ bytes. length bytes.items ≤ most) }
         ensures answers { IfSome (told self.old) (λ files.
             Answers (content_of files name.now) most result) };

@@ -1,13 +1,14 @@
 //! The outside of the program: the files that it reads and the sinks that it writes.
 //!
 //! The traits say what a read or a write may answer. Files and sinks in memory tell what they hold, so that a contract
-//! can name it. Those of the system count their faults and tell no bytes.
+//! can name it. Those of the system tell no bytes. All tell their
+//! faults: of a read with the name of the file, of a write by a count.
 #![tactic(auto)]
 
 mod chunks;
 mod count;
 mod failing;
-mod file_counts;
+mod fault_list;
 mod files;
 mod held;
 mod mem_files;

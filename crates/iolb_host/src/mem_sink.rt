@@ -1,7 +1,7 @@
 //! A sink in memory of which some writes fail.
-ghost use Rattle.std.specs.Prelude.{◌≡◌, ◌≤◌, ◌++◌, ◌↔◌, [], Some, OnOk, IsErrOf, Contains};
-ghost use Rattle.iolb_host.specs.Count.{Rose};
+ghost use Rattle.std.specs.Prelude.{◌≡◌, ◌++◌, ◌↔◌, [], Some, OnOk, IsErrOf, Contains};
 ghost use Rattle.iolb_host.specs.MemSink.{after_put};
+ghost use Rattle.iolb_host.specs.Sink.{after_write};
 
 use crate::count::raise;
 use crate::failing::is_listed;
@@ -61,8 +61,7 @@ impl Sink for MemSink {
     ghost faults = { λ sink. sink.faults };
 
     fn put(&mut self, bytes: &[u8]) -> Result<(), SinkFault>
-        ensures faults_never_fall { self.old.faults ≤ self.new.faults }
-        ensures failed_cause { IsErrOf result SinkFault.Failed → Rose self.old.faults self.new.faults }
+        ensures faults { self.new.faults ≡ after_write self.old.faults result }
         ensures ok { OnOk result (self.new.written ≡ self.old.written ++ bytes.now) }
         ensures failed { IsErrOf result SinkFault.Failed → self.new.written ≡ self.old.written }
         ensures memory { IsErrOf result SinkFault.Memory → self.new.written ≡ self.old.written }

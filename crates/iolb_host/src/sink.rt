@@ -1,8 +1,7 @@
 //! Sinks as the program sees them.
-ghost use Rattle.std.specs.Prelude.{◌≡◌, ℕ, ◌≤◌, List, Option, OnOk, IsErrOf};
+ghost use Rattle.std.specs.Prelude.{◌≡◌, ℕ, List, Option, OnOk, IsErrOf};
 ghost use Rattle.iolb_host.specs.declared.sink.SinkFault.TheVariants.{Memory};
-ghost use Rattle.iolb_host.specs.Count.{Rose};
-ghost use Rattle.iolb_host.specs.Sink.{AppendsPiece, AppendsPart};
+ghost use Rattle.iolb_host.specs.Sink.{AppendsPiece, AppendsPart, after_write};
 
 use std::alloc::AllocError;
 
@@ -33,9 +32,8 @@ pub trait Sink {
 
     /// Writes the piece behind what was written before.
     fn put(&mut self, bytes: &[u8]) -> Result<(), SinkFault>
-        ensures faults_never_fall { faults self.old ≤ faults self.new }
-        ensures failed_cause { IsErrOf result SinkFault.Failed →
-            Rose (faults self.old) (faults self.new) }
+        // The count rises where the write fails, and stays else.
+        ensures faults { faults self.new ≡ after_write (faults self.old) result }
 
         ensures ok { OnOk result (AppendsPiece (written self.old) (written self.new) bytes.now) }
         ensures failed { IsErrOf result SinkFault.Failed →

@@ -1,7 +1,7 @@
 //! The standard streams.
-ghost use Rattle.std.specs.Prelude.{◌≡◌, ◌≤◌, if◌then◌else◌, is_ok, ℕ, take, None, OnOk, OnErr, IsErrOf};
+ghost use Rattle.std.specs.Prelude.{◌≡◌, ℕ, take, None, OnOk, OnErr, IsErrOf};
 ghost use Rattle.std.specs.Io.KnownBytes.{Appends};
-ghost use Rattle.iolb_host.specs.Count.{next_count, Rose};
+ghost use Rattle.iolb_host.specs.Sink.{after_write};
 
 use crate::chunks::write_whole;
 use crate::count::raise;
@@ -50,14 +50,8 @@ impl<W: Write> Sink for StdSink<W> {
     ghost faults = { λ sink. fault_count sink };
 
     fn put(&mut self, bytes: &[u8]) -> Result<(), SinkFault>
-        ensures faults_never_fall { fault_count self.old ≤ fault_count self.new }
-        ensures failed_cause { IsErrOf result SinkFault.Failed →
-            Rose (fault_count self.old) (fault_count self.new) }
+        ensures faults { fault_count self.new ≡ after_write (fault_count self.old) result }
         ensures never_memory { ¬ IsErrOf result SinkFault.Memory }
-
-        // The count is one more after a failure, and stays else.
-        ensures counted { fault_count self.new
-            ≡ (if is_ok result then fault_count self.old else next_count (fault_count self.old)) }
 
         // Where it is known what the stream holds, it has gained the piece after Ok, and the piece's first bytes,
         // none, some or all, after a failure.

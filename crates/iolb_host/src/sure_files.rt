@@ -1,8 +1,10 @@
 //! Files in memory of which every read succeeds.
-ghost use Rattle.std.specs.Prelude.{◌≡◌, Some};
+ghost use Rattle.std.specs.Prelude.{◌≡◌, ◌≤◌, [], Some, IfOk, IsErrOf, length};
+ghost use Rattle.iolb_host.specs.Faults.{after_read};
+ghost use Rattle.iolb_host.specs.Files.{content_of, Answers};
 ghost use Rattle.iolb_host.specs.MemFiles.{files_of};
 
-use crate::file_counts::FileCounts;
+use crate::fault_list::noted;
 use crate::held::copy_of;
 use crate::{FileFault, Files};
 use std::alloc::Global;
@@ -14,33 +16,32 @@ use std::marker::Model;
 pub struct SureFiles {
     alloc: Global,
     files: BTreeMap<String, Vec<u8>>,
-    counts: FileCounts,
+    faults: Vec<(String, FileFault)>,
 }
 
 impl Model for SureFiles {
+    ghost use Rattle.iolb_host.specs.Faults.{faults_in};
     ghost use Rattle.iolb_host.specs.MemFiles.{files_of, SureStore};
 
     ghost Value = { SureStore };
 
     ghost view = { λ store. record {
       files = files_of store.files;
-      missing = store.counts.missing;
-      long = store.counts.long;
+      faults = faults_in store.faults.items;
     } };
 }
 
 impl SureFiles {
-    /// The files of this map, by their names. Reads take the memory for their copies from `alloc`.
+    /// The files of this map, by their names. Reads take the memory for their copies, and for the names of their faults, from
+    /// `alloc`.
     pub fn new(alloc: Global, files: BTreeMap<String, Vec<u8>>) -> Self
         ensures told { ⟦<SureFiles as Files>⟧.told result ≡ Some (files_of files) }
-        ensures missing { ⟦<SureFiles as Files>⟧.missing result ≡ 0 }
-        ensures long { ⟦<SureFiles as Files>⟧.long result ≡ 0 }
-        ensures faults { ⟦<SureFiles as Files>⟧.faults result ≡ 0 }
+        ensures faults { ⟦<SureFiles as Files>⟧.faults result ≡ [] }
     {
         SureFiles {
             alloc,
             files,
-            counts: FileCounts::new(),
+            faults: Vec::new(alloc),
         }
     }
 }
@@ -48,14 +49,16 @@ impl SureFiles {
 impl Files for SureFiles {
     ghost told = { λ store. Some store.files };
 
-    ghost missing = { λ store. store.missing };
+    ghost faults = { λ store. store.faults };
 
-    ghost long = { λ store. store.long };
-
-    ghost faults = { λ _. 0 };
-
-    fn read(&mut self, name: &str, most: u64) -> Result<Vec<u8>, FileFault> {
+    fn read(&mut self, name: &str, most: u64) -> Result<Vec<u8>, FileFault>
+        ensures told_stays { self.new.files ≡ self.old.files }
+        ensures faults { self.new.faults ≡ after_read self.old.faults name.now result }
+        ensures within { IfOk result (λ bytes. length bytes.items ≤ most) }
+        ensures answers { Answers (content_of self.old.files name.now) most result }
+        ensures never_fails { ¬ IsErrOf result FileFault.Failed }
+    {
         let outcome = copy_of(self.alloc, &self.files, name, most);
-        self.counts.counted(outcome)
+        noted(self.alloc, &mut self.faults, name, outcome)
     }
 }

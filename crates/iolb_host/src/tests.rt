@@ -1,12 +1,17 @@
 //! What callers can conclude from the traits alone, and the answers of each kind of files and sinks.
-ghost use Rattle.std.specs.Prelude.{◌≡◌, ℕ, ◌≤◌, ◌++◌, List, length, Option, Some, IfOk, OnOk, IfSome, IsErrOf};
+ghost use Rattle.std.specs.Prelude.{◌≡◌, ◌⊎◌, ℕ, ◌≤◌, List, length, Some, IfOk, OnOk, IfSome, IsErrOf};
 ghost use Rattle.std.specs.Io.KnownBytes.{append_known};
-ghost use Rattle.iolb_host.specs.Count.{Rose};
+ghost use Rattle.iolb_host.specs.declared.files.FileFault.TheVariants.{Failed};
+ghost use Rattle.iolb_host.specs.Faults.{after_fault};
+ghost use Rattle.iolb_host.specs.Sink.{after_write};
 ghost use Rattle.iolb_host.specs.Files.{FileMap, content_of};
 
 use super::*;
+use crate::chunks::write_whole;
 use std::alloc::{AllocError, Global};
 use std::collections::BTreeMap;
+use std::io;
+use std::io::Write;
 use std::test::Fail;
 
 // Two files, read one after the other.
@@ -17,13 +22,14 @@ fn read_both<F: Files>(
     most: u64,
 ) -> Result<(Vec<u8>, Vec<u8>), FileFault>
     ensures told_stays { F.told files.new ≡ F.told files.old }
-    ensures missing_cause { IsErrOf result FileFault.Missing →
-        Rose (F.missing files.old) (F.missing files.new) }
-    ensures long_cause { IsErrOf result FileFault.TooLong → Rose (F.long files.old) (F.long files.new) }
-    ensures failed_cause { IsErrOf result FileFault.Failed →
-        Rose (F.faults files.old) (F.faults files.new) }
     ensures exact { IfOk result (λ both. IfSome (F.told files.old) (λ map.
         (content_of map first.now ≡ Some both.0.items) × (content_of map second.now ≡ Some both.1.items))) }
+
+    // The fault is that of the read that gave it, and after Ok there is none.
+    ensures no_fault { OnOk result (F.faults files.new ≡ F.faults files.old) }
+    ensures fault { IsErrOf result FileFault.Failed →
+        (F.faults files.new ≡ after_fault (F.faults files.old) first.now Failed)
+        ⊎ (F.faults files.new ≡ after_fault (F.faults files.old) second.now Failed) }
 
     // Files that are there, and short enough, are neither missing nor too long.
     ensures there { (map : FileMap) (a b : List ℕ) → F.told files.old ≡ Some map
@@ -38,20 +44,12 @@ fn read_both<F: Files>(
 
 // Two pieces, written one after the other.
 fn put_both<O: Sink>(sink: &mut O, first: &[u8], second: &[u8]) -> Result<(), SinkFault>
-    ensures failed_cause { IsErrOf result SinkFault.Failed →
-        Rose (O.faults sink.old) (O.faults sink.new) }
+    ensures faults { O.faults sink.new ≡ after_write (O.faults sink.old) result }
     ensures ok { OnOk result (O.written sink.new
         ≡ append_known (append_known (O.written sink.old) first.now) second.now) }
 {
     sink.put(first)?;
     sink.put(second)
-}
-
-// Over files that never fail, a failure never comes.
-fn read_surely(files: &mut SureFiles, name: &str) -> Result<(Vec<u8>, Vec<u8>), FileFault>
-    ensures { ¬ IsErrOf result FileFault.Failed }
-{
-    read_both(files, name, name, 9)
 }
 
 // Over a sink that never fails, a failure never comes.
@@ -87,10 +85,7 @@ fn files_in_memory_answer_by_their_map(rt: HostRuntime) -> Result<(), Fail> {
     let (first, second) = read_both(&mut files, "a", "b", 3)?;
     assert_eq!(rt; first.as_slice(), b"xyz".as_slice());
     assert_eq!(rt; second.len(), 0);
-    assert_eq!(rt;
-        read_surely(&mut files, "c").err(),
-        Some(FileFault::Missing)
-    );
+    assert_eq!(rt; files.read("c", 3).err(), Some(FileFault::Missing));
     Ok(())
 }
 
@@ -106,6 +101,38 @@ fn sinks_in_memory_append(rt: HostRuntime) -> Result<(), Fail> {
     let mut sink = SureSink::new(alloc);
     put_surely(&mut sink, b"ab")?;
     assert_eq!(rt; sink.bytes(), b"abab".as_slice());
+    Ok(())
+}
+
+// A stream that holds what it is given until it is flushed.
+#[derive(Drop)]
+struct Holding {
+    held: Vec<u8>,
+    flushed: Vec<u8>,
+}
+
+impl Write for Holding {
+    fn write(&mut self, buf: &[u8]) -> io::Result<usize> {
+        self.held.extend_from_slice(buf)?;
+        Ok(buf.len())
+    }
+
+    fn flush(&mut self) -> io::Result<()> {
+        self.flushed.extend_from_slice(self.held.as_slice())?;
+        self.held.clear();
+        Ok(())
+    }
+}
+
+#[test]
+fn a_write_is_flushed(rt: HostRuntime) -> Result<(), Fail> {
+    let alloc = rt.alloc();
+    let mut stream = Holding {
+        held: Vec::new(alloc),
+        flushed: Vec::new(alloc),
+    };
+    write_whole(&mut stream, b"ab")?;
+    assert_eq!(rt; stream.flushed.as_slice(), b"ab".as_slice());
     Ok(())
 }
 

@@ -1,0 +1,241 @@
+-- What a request comes to over files that tell what they hold, phase by phase, and that this is one.
+use Rattle.std.proofs.Common.{◌≡◌, refl, sym, ◌∙◌, ap, subst, ℕ, zero, suc, ◌<◌, ◌≤◌, List, [], ◌∷◌, length, arith}
+use Rattle.std.specs.Prelude.{⊤, ℤ, Option, Some, None, Result, Ok, Err, IsSomeAnd}
+use Rattle.iolb_model.specs.Bound.{AreMet}
+use Rattle.iolb_model.specs.Form.{AffineForm}
+use Rattle.iolb_model.specs.Printed.{bound_text}
+use Rattle.iolb_model.specs.Program.{AffineProgram}
+use Rattle.affine_form.specs.declared.refused.No.{No as FailedCondition}
+use Rattle.affine_text.specs.declared.fault.ProgramFault.{ProgramFault}
+use Rattle.affine_text.specs.Laws.{TextsMeanOneProgram}
+use Rattle.affine_text.specs.Meaning.{Means, HasFault}
+use Rattle.cert_reading.specs.Laws.{HasCertificate, TextsHaveOneCertificate, TextsHaveOneAnswer}
+use Rattle.cert_reading.specs.Texts.{IsTextFault}
+use Rattle.certificates.specs.Claims.{CertificateClaim}
+use Rattle.command_words.specs.Requests.{Request, Task, checks, evaluates, request_of}
+use Rattle.command_words.specs.Sizes.{values_for}
+use Rattle.iolb_check.specs.declared.bound.Value.{Value}
+use Rattle.iolb_check.specs.Bounds.{HasWideBranch, IsFirstUnmet}
+use Rattle.iolb_check.specs.Exact.{IsLegalCertificate, RefusalsAreOne, ValidCertificatesGiveOne, ValidCertificatesStand}
+use Rattle.iolb_host.specs.declared.files.FileFault.{FileFault}
+use Rattle.iolb_host.specs.declared.files.FileFault.TheVariants.{Missing, TooLong, Failed, Memory as NoMemoryForFile}
+use Rattle.iolb_host.specs.Files.{FileMap, content_of}
+use Rattle.iolb_call.specs.declared.status.Status.{Status}
+use Rattle.iolb_call.specs.declared.status.Status.TheVariants.{Done, Words as WordsRefused}
+use Rattle.iolb_call.specs.declared.stop.Stop.{Stop}
+use Rattle.iolb_call.specs.declared.stop.Stop.TheVariants.{Words, ProgramFile, ProgramText, CertificateFile, CertificateText, Condition, Assumption, Wide}
+use Rattle.iolb_call.specs.Lines.{usage}
+use Rattle.iolb_call.specs.Stop.{program_most, certificate_most, stop_line, stop_status}
+use Rattle.iolb_call.specs.Task.{HasSizes, LacksSizes, bound_with}
+use Rattle.iolb_call.specs.Valid.{IsValid, IsInvalid}
+use Rattle.iolb_call.specs.Values.{values_text}
+use Rattle.iolb_call.proofs.Legal.{legal}
+use Rattle.iolb_call.proofs.Phases.{Phase, phase_one}
+use Rattle.iolb_call.proofs.Values.{met-first}
+
+-- What the crates below say: texts and conditions have one answer.
+pub record AreExact : Type 0 where
+  pub one_program : TextsMeanOneProgram
+  pub one_certificate : TextsHaveOneCertificate
+  pub one_answer : TextsHaveOneAnswer
+  pub stand : ValidCertificatesStand
+  pub one_values : ValidCertificatesGiveOne
+  pub one_refusal : RefusalsAreOne
+
+-- how a call ends: its status, and what it writes to the output and to the standard error
+pub record CallEnd : Type 0 where
+  pub status : Status
+  pub output : List ℕ
+  pub error : List ℕ
+
+abbrev pub done_end : List ℕ → CallEnd
+done_end text = record { status = Done; output = text; error = [] }
+
+abbrev pub stop_end : Request → Stop → CallEnd
+stop_end request stop = record { status = stop_status stop; output = []; error = stop_line request.program request.certificate stop }
+
+abbrev pub words_end : CallEnd
+words_end = record { status = WordsRefused; output = []; error = usage }
+
+-- ---- phases, the last first
+
+-- values at sizes
+abbrev pub ValueEnds : Request → ℕ → AffineProgram → List (List Value) → List ℤ → CallEnd → Type 0
+ValueEnds request s program values sizes = Phase {X = ℕ} {Y = ⊤}
+    (λ number. IsFirstUnmet program.assumptions sizes number) (λ number. stop_end request (Assumption number))
+    (λ _. AreMet program.assumptions sizes)
+    (λ _. Phase {X = ⊤} {Y = ⊤} (λ _. HasWideBranch sizes s values) (λ _. stop_end request Wide)
+    (λ _. ¬ HasWideBranch sizes s values) (λ _ end. end ≡ done_end (values_text (bound_with program values) sizes s)))
+
+-- the answer to a task
+abbrev pub TaskEnds : Task → Request → AffineProgram → List (List Value) → CallEnd → Type 0
+TaskEnds checks request program values end = end ≡ done_end (bound_text program.parameters (bound_with program values))
+TaskEnds (evaluates s named) request program values end =
+    (sizes : List ℤ) × (values_for program.parameters named ≡ Some sizes) × ValueEnds request s program values sizes end
+
+-- the conditions
+abbrev pub ConditionEnds : Request → AffineProgram → CertificateClaim → CallEnd → Type 0
+ConditionEnds request program claim = Phase (IsInvalid program claim) (λ failed. stop_end request (Condition failed))
+    (IsValid program claim) (TaskEnds request.task request program)
+
+-- the certificate's text
+abbrev pub CertificateEnds : Request → AffineProgram → List ℕ → CallEnd → Type 0
+CertificateEnds request program bytes = Phase (IsTextFault bytes) (λ fault. stop_end request (CertificateText fault))
+    (HasCertificate bytes) (ConditionEnds request program)
+
+-- a file is missing or too long
+abbrev pub IsAbsent : Option (List ℕ) → ℕ → FileFault → Type 0
+IsAbsent content most Missing = content ≡ None
+IsAbsent content most TooLong = IsSomeAnd content (λ bytes. most < length bytes)
+IsAbsent content most Failed = ⊥
+IsAbsent content most NoMemoryForFile = ⊥
+
+-- a file of at most so many bytes
+abbrev pub FileEnds : Option (List ℕ) → ℕ → (FileFault → CallEnd) → (List ℕ → CallEnd → Type 0) → CallEnd → Type 0
+FileEnds content most ends Onward = Phase (IsAbsent content most) ends
+    (λ bytes. (content ≡ Some bytes) × (length bytes ≤ most)) Onward
+
+-- the names of the parameters, and the certificate's file
+abbrev pub NameEnds : FileMap → Request → AffineProgram → CallEnd → Type 0
+NameEnds map request program = Phase {X = ⊤} {Y = ⊤} (λ _. LacksSizes request.task program.parameters) (λ _. stop_end request Words)
+    (λ _. HasSizes request.task program.parameters)
+    (λ _. FileEnds (content_of map request.certificate) certificate_most (λ fault. stop_end request (CertificateFile fault)) (CertificateEnds request program))
+
+-- the program's text
+abbrev pub ProgramEnds : FileMap → Request → List ℕ → CallEnd → Type 0
+ProgramEnds map request source = Phase (HasFault source) (λ fault. stop_end request (ProgramText fault))
+    (Means source) (NameEnds map request)
+
+-- the program's file
+abbrev pub RequestEnds : FileMap → Request → CallEnd → Type 0
+RequestEnds map request = FileEnds (content_of map request.program) program_most (λ fault. stop_end request (ProgramFile fault)) (ProgramEnds map request)
+
+-- the words
+abbrev pub CallEnds : FileMap → List (List ℕ) → CallEnd → Type 0
+CallEnds map words = Phase {X = ⊤} (λ _. request_of words ≡ None) (λ _. words_end) (λ request. request_of words ≡ Some request) (RequestEnds map)
+
+-- ---- each has one end
+
+pub same_some : {A : Type 0} (a b : A) → Some a ≡ Some b → a ≡ b
+same_some a b e = cc
+
+none_some : {A : Type 0} (o : Option A) (a : A) → o ≡ None → o ≡ Some a → ⊥
+none_some o a e f = cc
+
+first_one : (rows : List AffineForm) (sizes : List ℤ) (n m : ℕ) → IsFirstUnmet rows sizes n → IsFirstUnmet rows sizes m → n ≡ m
+first_one [] sizes n m unmet other = absurd unmet
+first_one (row ∷ rows) sizes zero zero unmet other = refl
+first_one (row ∷ rows) sizes zero (suc m) unmet other = absurd (unmet other.0)
+first_one (row ∷ rows) sizes (suc n) zero unmet other = absurd (other unmet.0)
+first_one (row ∷ rows) sizes (suc n) (suc m) unmet other = ap suc (first_one rows sizes n m unmet.1 other.1)
+
+values_one : (request : Request) (s : ℕ) (program : AffineProgram) (values : List (List Value)) (sizes : List ℤ) (one other : CallEnd)
+    → ValueEnds request s program values sizes one → ValueEnds request s program values sizes other → one ≡ other
+values_one request s program values sizes = phase_one _ _ _ _
+    (λ n m unmet again. ap (λ number. stop_end request (Assumption number)) (first_one program.assumptions sizes n m unmet again))
+    (λ n _ unmet met. met-first program.assumptions sizes n met unmet)
+    (λ _ _ one other _ _. phase_one {X = ⊤} {Y = ⊤} {E = CallEnd} (λ _. HasWideBranch sizes s values) (λ _. stop_end request Wide)
+    (λ _. ¬ HasWideBranch sizes s values) (λ _ end. end ≡ done_end (values_text (bound_with program values) sizes s))
+    (λ _ _ _ _. refl) (λ _ _ wide narrow. narrow wide) (λ _ _ one other _ _ is does. is ∙ sym does) one other)
+
+task_one : (task : Task) (request : Request) (program : AffineProgram) (values : List (List Value)) (one other : CallEnd)
+    → TaskEnds task request program values one → TaskEnds task request program values other → one ≡ other
+task_one checks request program values one other is does = is ∙ sym does
+task_one (evaluates s named) request program values one other (sizes, given, ends) (others, gives, end) =
+    values_one request s program values sizes one other ends
+    (subst (λ (z : List ℤ). ValueEnds request s program values z other) (same_some others sizes (sym gives ∙ given)) end)
+
+same_refusal : AreExact → (program : AffineProgram) (claim : CertificateClaim) (f g : FailedCondition) → IsLegalCertificate claim → IsInvalid program claim f → IsInvalid program claim g → f ≡ g
+same_refusal exact program claim f g legal one other =
+    exact.one_refusal program one.certificate other.certificate f g (one.claims ∙ sym other.claims) (subst IsLegalCertificate (sym one.claims) legal) one.fails other.fails
+
+valid_or_not : AreExact → (program : AffineProgram) (claim : CertificateClaim) (values : List (List Value)) (failed : FailedCondition) → IsValid program claim values → IsInvalid program claim failed → ⊥
+valid_or_not exact program claim values failed valid invalid =
+    exact.stand program valid.certificate invalid.certificate values failed (valid.claims ∙ sym invalid.claims) valid.meets invalid.fails
+
+same_values : AreExact → (program : AffineProgram) (claim : CertificateClaim) (v w : List (List Value)) → IsValid program claim v → IsValid program claim w → v ≡ w
+same_values exact program claim v w one other =
+    exact.one_values program one.certificate other.certificate v w (one.claims ∙ sym other.claims) one.meets other.meets
+
+conditions_one : AreExact → (request : Request) (program : AffineProgram) (claim : CertificateClaim) → IsLegalCertificate claim → (one other : CallEnd)
+    → ConditionEnds request program claim one → ConditionEnds request program claim other → one ≡ other
+conditions_one exact request program claim legal = phase_one _ _ _ _
+    (λ f g fails again. ap (λ failed. stop_end request (Condition failed)) (same_refusal exact program claim f g legal fails again))
+    (λ failed values fails valid. valid_or_not exact program claim values failed valid fails)
+    (λ v w one other valid again ends end. task_one request.task request program v one other ends
+    (subst (λ (z : List (List Value)). TaskEnds request.task request program z other) (same_values exact program claim w v again valid) end))
+
+certificate_one : AreExact → (request : Request) (program : AffineProgram) (bytes : List ℕ) (one other : CallEnd)
+    → CertificateEnds request program bytes one → CertificateEnds request program bytes other → one ≡ other
+certificate_one exact request program bytes = phase_one _ _ _ _
+    (λ f g has again. ap (λ fault. stop_end request (CertificateText fault)) (exact.one_answer.one_fault bytes f g has again))
+    (λ fault claim faulty has. exact.one_answer.either bytes claim fault has faulty)
+    (λ a b one other has again ends end. conditions_one exact request program a (legal bytes a has) one other ends
+    (subst (λ (z : CertificateClaim). ConditionEnds request program z other) (exact.one_certificate bytes b a again has) end))
+
+absent_one : (content : Option (List ℕ)) (most : ℕ) (f g : FileFault) → IsAbsent content most f → IsAbsent content most g → f ≡ g
+absent_one content most Missing Missing absent again = refl
+absent_one content most TooLong TooLong absent again = refl
+absent_one None most Missing TooLong absent again = absurd again
+absent_one (Some bytes) most Missing TooLong absent again = absurd cc
+absent_one None most TooLong Missing absent again = absurd absent
+absent_one (Some bytes) most TooLong Missing absent again = absurd cc
+absent_one content most Failed g absent again = absurd absent
+absent_one content most NoMemoryForFile g absent again = absurd absent
+absent_one content most Missing Failed absent again = absurd again
+absent_one content most Missing NoMemoryForFile absent again = absurd again
+absent_one content most TooLong Failed absent again = absurd again
+absent_one content most TooLong NoMemoryForFile absent again = absurd again
+
+absent_there : (content : Option (List ℕ)) (most : ℕ) (fault : FileFault) (bytes : List ℕ) → IsAbsent content most fault → content ≡ Some bytes → length bytes ≤ most → ⊥
+absent_there content most Missing bytes absent is few = none_some content bytes absent is
+absent_there content most TooLong bytes absent is few =
+    let long : most < length bytes = subst (λ (o : Option (List ℕ)). IsSomeAnd o (λ b. most < length b)) is absent in omega (arith, long, few)
+absent_there content most Failed bytes absent is few = absent
+absent_there content most NoMemoryForFile bytes absent is few = absent
+
+file_one : (content : Option (List ℕ)) (most : ℕ) (ends : FileFault → CallEnd) (Onward : List ℕ → CallEnd → Type 0)
+    → ((bytes : List ℕ) (one other : CallEnd) → Onward bytes one → Onward bytes other → one ≡ other)
+    → (one other : CallEnd) → FileEnds content most ends Onward one → FileEnds content most ends Onward other → one ≡ other
+file_one content most ends Onward onward = phase_one _ _ _ _
+    (λ f g absent again. ap ends (absent_one content most f g absent again))
+    (λ fault bytes absent found. absent_there content most fault bytes absent found.0 found.1)
+    (λ a b one other found again on end. onward a one other on
+    (subst (λ (z : List ℕ). Onward z other) (same_some b a (sym again.0 ∙ found.0)) end))
+
+sizes_apart : (task : Task) (names : List (List ℕ)) → LacksSizes task names → HasSizes task names → ⊥
+sizes_apart checks names lacks has = lacks
+sizes_apart (evaluates s named) names lacks has = none_some (values_for names named) has.0 lacks has.1
+
+names_one : AreExact → (map : FileMap) (request : Request) (program : AffineProgram) (one other : CallEnd)
+    → NameEnds map request program one → NameEnds map request program other → one ≡ other
+names_one exact map request program = phase_one _ _ _ _ (λ _ _ _ _. refl)
+    (λ _ _ lacks has. sizes_apart request.task program.parameters lacks has)
+    (λ _ _ one other _ _. file_one (content_of map request.certificate) certificate_most (λ fault. stop_end request (CertificateFile fault)) (CertificateEnds request program)
+    (certificate_one exact request program) one other)
+
+same_fault : (source : List ℕ) (f g : ProgramFault) → HasFault source f → HasFault source g → f ≡ g
+same_fault source f g has again =
+    ap (λ read. let fault : ProgramFault = record { number = read.number; place = read.place } in fault) (injective _ _ _ has again) where
+      injective : {T E : Type 0} (r : Result T E) (a b : E) → r ≡ Err a → r ≡ Err b → a ≡ b
+      injective r a b e f = cc
+
+program_or_fault : (source : List ℕ) (fault : ProgramFault) (program : AffineProgram) → HasFault source fault → Means source program → ⊥
+program_or_fault source fault program has means = differ _ has means.reads where
+  differ : {A E : Type 0} {e : E} {a : A} (r : Result A E) → r ≡ Err e → r ≡ Ok a → ⊥
+  differ r p q = cc
+
+program_one : AreExact → (map : FileMap) (request : Request) (source : List ℕ) (one other : CallEnd)
+    → ProgramEnds map request source one → ProgramEnds map request source other → one ≡ other
+program_one exact map request source = phase_one _ _ _ _
+    (λ f g has again. ap (λ fault. stop_end request (ProgramText fault)) (same_fault source f g has again))
+    (λ fault program has means. program_or_fault source fault program has means)
+    (λ p q one other means again ends end. names_one exact map request p one other ends
+    (subst (λ (z : AffineProgram). NameEnds map request z other) (exact.one_program source q p again means) end))
+
+pub calls_one : AreExact → (map : FileMap) (words : List (List ℕ)) (one other : CallEnd) → CallEnds map words one → CallEnds map words other → one ≡ other
+calls_one exact map words = phase_one _ _ _ _ (λ _ _ _ _. refl)
+    (λ _ request none some. none_some (request_of words) request none some)
+    (λ p q one other asks again ends end. file_one (content_of map p.program) program_most (λ fault. stop_end p (ProgramFile fault)) (ProgramEnds map p)
+    (program_one exact map p) one other ends
+    (subst (λ (z : Request). RequestEnds map z other) (same_some q p (sym again ∙ asks)) end))

@@ -1,0 +1,32 @@
+use Rattle.iolb_call.proofs.One.{outcomes_one, valid_pass, others_never}
+use Rattle.iolb_call.proofs.law.outcomes_are_one.Goals as goal
+
+pub returns-clause-one : goal.returns-clause-one
+returns-clause-one c = outcomes_one (record {
+  one_program = c.texts_mean_one_program.ensures;
+  one_certificate = c.texts_have_one_certificate.ensures;
+  one_answer = c.texts_have_one_answer.ensures;
+  stand = c.answers_are_exact.ensures.stand;
+  one_values = c.answers_are_exact.ensures.one;
+  one_refusal = c.answers_are_exact.ensures.refused;
+})
+
+pub returns-clause-valid : goal.returns-clause-valid
+returns-clause-valid c = valid_pass (record {
+  one_program = c.texts_mean_one_program.ensures;
+  one_certificate = c.texts_have_one_certificate.ensures;
+  one_answer = c.texts_have_one_answer.ensures;
+  stand = c.answers_are_exact.ensures.stand;
+  one_values = c.answers_are_exact.ensures.one;
+  one_refusal = c.answers_are_exact.ensures.refused;
+})
+
+pub returns-clause-others : goal.returns-clause-others
+returns-clause-others c = others_never (record {
+  one_program = c.texts_mean_one_program.ensures;
+  one_certificate = c.texts_have_one_certificate.ensures;
+  one_answer = c.texts_have_one_answer.ensures;
+  stand = c.answers_are_exact.ensures.stand;
+  one_values = c.answers_are_exact.ensures.one;
+  one_refusal = c.answers_are_exact.ensures.refused;
+})

@@ -1,0 +1,16 @@
+pub mod Status
+pub mod Use
+pub mod Reading
+pub mod PointerText
+pub mod Lines
+pub mod Values
+pub mod Task
+pub mod Valid
+pub mod Answers
+pub mod Judged
+pub mod Stop
+pub mod Outcome
+pub mod Written
+pub mod Headline
+pub mod Called
+pub mod Laws

@@ -1,0 +1,43 @@
+-- The lines that are written to the standard error.
+use Rattle.std.specs.Prelude.{ℕ, ◌==◌, if◌then◌else◌, List, ◌++◌, codes, decimal}
+use Rattle.iolb_host.specs.declared.files.FileFault.{FileFault}
+use Rattle.iolb_host.specs.declared.files.FileFault.TheVariants.{Missing, TooLong, Failed, Memory}
+use Rattle.affine_text.specs.declared.fault.ProgramFault.{ProgramFault}
+use Rattle.affine_form.specs.declared.place.Step.{Step}
+use Rattle.cert_parts.specs.declared.error.CertFault.{CertFault}
+use Rattle.iolb_call.specs.PointerText.{pointer_text}
+
+-- the usage text
+abbrev pub usage : List ℕ
+usage = codes "usage: iolb check PROGRAM CERTIFICATE\n       iolb bound PROGRAM\n       iolb eval PROGRAM CERTIFICATE S NAME=NUMBER...\n       iolb replay PROGRAM SCHEDULE S NAME=NUMBER...\n       iolb sample N\n"
+
+abbrev pub out_of_memory : List ℕ
+out_of_memory = codes "out of memory\n"
+
+-- why the file of this name was not read
+abbrev pub file_line : List ℕ → FileFault → List ℕ
+file_line name Missing = codes "file missing: " ++ name ++ codes "\n"
+file_line name TooLong = codes "file too long: " ++ name ++ codes "\n"
+file_line name Failed = codes "read failed: " ++ name ++ codes "\n"
+file_line name Memory = out_of_memory
+
+abbrev pub program_line : ProgramFault → List ℕ
+program_line fault = codes "program refused: fault " ++ decimal fault.number ++ codes " at byte " ++ decimal fault.place ++ codes "\n"
+
+-- fault 1 has no place
+abbrev pub place_part : CertFault → List ℕ
+place_part fault = if fault.number == 1 then codes "" else codes " at " ++ pointer_text fault.place
+
+abbrev pub certificate_line : CertFault → List ℕ
+certificate_line fault = codes "certificate text refused: fault " ++ decimal fault.number ++ place_part fault ++ codes "\n"
+
+abbrev pub condition_line : ℕ → List Step → List ℕ
+condition_line condition place = codes "certificate refused: condition " ++ decimal condition ++ codes " at " ++ pointer_text place ++ codes "\n"
+
+-- the assumption of this number is false at the sizes
+abbrev pub assumption_line : ℕ → List ℕ
+assumption_line number = codes "assumption " ++ decimal number ++ codes " is false\n"
+
+-- a value is beyond 128 bits
+abbrev pub wide_line : List ℕ
+wide_line = codes "value beyond 128 bits\n"

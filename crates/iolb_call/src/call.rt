@@ -1,0 +1,71 @@
+//! The program's call.
+
+ghost use Rattle.std.specs.Prelude.{◌≡◌, ◌≤◌};
+ghost use Rattle.iolb_call.specs.Stop.{call_of, stop_status, stop_line as line_of_stop};
+ghost use Rattle.iolb_call.specs.Written.{LineWritten};
+ghost use Rattle.iolb_call.specs.Outcome.{Outcome};
+ghost use Rattle.iolb_call.specs.Headline.{IsLowerBoundPrinted};
+ghost use Rattle.iolb_call.specs.Use.{HasOneFaultAtMost, files_use, sink_use};
+
+use crate::checking::run_command;
+use crate::lines::stop_line;
+use crate::status::Status;
+use crate::stop::Stop;
+use crate::writing::{no_memory, write_line, write_output};
+use command_words::command_of;
+use iolb_host::{Files, Sink};
+use std::alloc::Global;
+
+/// Writes why a request about these two files stops.
+fn stopped<E: Sink>(
+    alloc: Global,
+    program: &str,
+    certificate: &str,
+    stop: &Stop,
+    err: &mut E,
+) -> Status
+    ensures { LineWritten (sink_use E.written E.faults err.old err.new) (line_of_stop program.now certificate.now stop.now) (stop_status stop.now) result }
+{
+    match stop_line(alloc, program, certificate, stop) {
+        Ok(line) => write_line(err, line.as_slice(), stop.status()),
+        Err(_) => no_memory(err),
+    }
+}
+
+/// Does what the words after the program's name ask for: `check PROGRAM CERTIFICATE` checks a certificate and prints its
+/// bound, and `eval PROGRAM CERTIFICATE S NAME=NUMBER...` checks it and prints the values of the bound's branches, and its
+/// own, with S red pebbles at these sizes of the program's parameters.
+pub fn run<F: Files, O: Sink, E: Sink>(
+    alloc: Global,
+    words: &Vec<String>,
+    files: &mut F,
+    out: &mut O,
+    err: &mut E,
+) -> Status
+    ensures outcome { Outcome result (call_of words.now.items (F.told files.old)) (record {
+      files = files_use F.faults files.old files.new;
+      output = sink_use O.written O.faults out.old out.new;
+      error = sink_use E.written E.faults err.old err.new;
+    }) }
+    ensures headline { result ≡ Status.Done → IsLowerBoundPrinted (call_of words.now.items (F.told files.old)) (record {
+      files = files_use F.faults files.old files.new;
+      output = sink_use O.written O.faults out.old out.new;
+      error = sink_use E.written E.faults err.old err.new;
+    }) }
+
+    // Whatever the status is: what the files tell stays, one read had a fault, if any, and no count of a sink falls.
+    ensures told_stays { F.told files.new ≡ F.told files.old }
+    ensures reads { HasOneFaultAtMost (files_use F.faults files.old files.new) }
+    ensures output_counts { O.faults out.old ≤ O.faults out.new }
+    ensures error_counts { E.faults err.old ≤ E.faults err.new }
+{
+    let command = match command_of(alloc, words.as_slice()) {
+        Ok(Some(command)) => command,
+        Ok(None) => return stopped(alloc, "", "", &Stop::Words, err),
+        Err(_) => return stopped(alloc, "", "", &Stop::Memory, err),
+    };
+    match run_command(alloc, &command, files) {
+        Ok(text) => write_output(out, err, text.as_slice()),
+        Err(stop) => stopped(alloc, command.program, command.certificate, &stop, err),
+    }
+}

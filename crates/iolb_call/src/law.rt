@@ -1,0 +1,23 @@
+//! That a call has one outcome.
+
+ghost use Rattle.iolb_call.specs.Laws.{OthersNeverPass, OutcomesAreOne, ValidCertificatesPass};
+
+use affine_text::texts_mean_one_program;
+use cert_reading::{texts_have_one_answer, texts_have_one_certificate};
+use iolb_check::law::answers_are_exact;
+
+/// A law of `run`'s outcomes, over files that tell what they hold. Two outcomes of one call in which no read and no write
+/// failed, and that aren't want of memory, have the same status, and the output and the standard error have gained the
+/// same bytes. So where the program and the certificate are readable, and the certificate meets the conditions, `check`
+/// gives 0 or 9, and with sizes that meet the assumptions and no wide value `eval` gives 0 or 9; where it doesn't meet
+/// them, neither gives 0.
+pub fn outcomes_are_one()
+    ensures one { OutcomesAreOne }
+    ensures valid { ValidCertificatesPass }
+    ensures others { OthersNeverPass }
+{
+    texts_mean_one_program();
+    texts_have_one_certificate();
+    texts_have_one_answer();
+    answers_are_exact();
+}

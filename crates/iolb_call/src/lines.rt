@@ -1,0 +1,114 @@
+//! The lines that are written to the standard error.
+
+ghost use Rattle.std.specs.Prelude.{◌≡◌, ◌++◌, ℕ, codes, decimal, IfOk};
+ghost use Rattle.iolb_call.specs.Lines.{usage, out_of_memory, file_line as line_of_file, program_line as line_of_program, place_part as part_of_place, certificate_line as line_of_certificate, condition_line as line_of_condition, assumption_line as line_of_assumption};
+ghost use Rattle.iolb_call.specs.Stop.{stop_line as line_of_stop};
+
+use crate::pointer_text::pointer_text;
+use crate::stop::Stop;
+use affine_form::{Memory, No};
+use affine_text::ProgramFault;
+use iolb_cert::CertFault;
+use iolb_host::FileFault;
+use std::alloc::Global;
+
+const USAGE: &[u8] =
+    b"usage: iolb check PROGRAM CERTIFICATE\n       iolb bound PROGRAM\n       iolb eval PROGRAM CERTIFICATE S NAME=NUMBER...\n       iolb replay PROGRAM SCHEDULE S NAME=NUMBER...\n       iolb sample N\n";
+
+/// The line for a value beyond 128 bits.
+const WIDE: &[u8] = b"value beyond 128 bits\n";
+
+/// The line for want of memory.
+pub(crate) const OUT_OF_MEMORY: &[u8] = b"out of memory\n";
+
+/// Why the file of this name wasn't read.
+fn file_line(alloc: Global, name: &str, fault: FileFault) -> Result<Vec<u8>, Memory>
+    ensures { IfOk result (λ line. line.items ≡ line_of_file name.now fault) }
+{
+    let words: &[u8] = match fault {
+        FileFault::Missing => b"file missing: ",
+        FileFault::TooLong => b"file too long: ",
+        FileFault::Failed => b"read failed: ",
+        FileFault::Memory => return Ok(Vec::from_slice(alloc, OUT_OF_MEMORY)?),
+    };
+    let mut line = Vec::from_slice(alloc, words)?;
+    line.extend_from_slice(name.as_bytes())?;
+    line.push(b'\n')?;
+    Ok(line)
+}
+
+/// The fault of a program's text.
+fn program_line(alloc: Global, fault: ProgramFault) -> Result<Vec<u8>, Memory>
+    ensures { IfOk result (λ line. line.items ≡ line_of_program fault) }
+{
+    let number = fault.number;
+    let place = fault.place;
+    let line = format!(in alloc; "program refused: fault {number} at byte {place}\n")?;
+    Ok(Vec::from_slice(alloc, line.as_bytes())?)
+}
+
+/// The place of a fault of a certificate's text; fault 1 has none.
+fn place_part(alloc: Global, fault: &CertFault) -> Result<Vec<u8>, Memory>
+    ensures { IfOk result (λ text. text.items ≡ part_of_place fault.now) }
+{
+    if fault.number == 1 {
+        return Ok(Vec::new(alloc));
+    }
+    let mut text = Vec::from_slice(alloc, b" at ")?;
+    text.extend_from_slice(pointer_text(alloc, &fault.place)?.as_slice())?;
+    Ok(text)
+}
+
+/// The fault of a certificate's text.
+fn certificate_line(alloc: Global, fault: &CertFault) -> Result<Vec<u8>, Memory>
+    ensures { IfOk result (λ line. line.items ≡ line_of_certificate fault.now) }
+{
+    let number = fault.number;
+    let words = format!(in alloc; "certificate text refused: fault {number}")?;
+    let mut line = Vec::from_slice(alloc, words.as_bytes())?;
+    line.extend_from_slice(place_part(alloc, fault)?.as_slice())?;
+    line.push(b'\n')?;
+    Ok(line)
+}
+
+/// The condition that fails.
+fn condition_line(alloc: Global, failed: &No) -> Result<Vec<u8>, Memory>
+    ensures { IfOk result (λ line. line.items ≡ line_of_condition failed.now.condition failed.now.place) }
+{
+    let condition = failed.condition;
+    let words = format!(in alloc; "certificate refused: condition {condition} at ")?;
+    let mut line = Vec::from_slice(alloc, words.as_bytes())?;
+    line.extend_from_slice(pointer_text(alloc, &failed.place)?.as_slice())?;
+    line.push(b'\n')?;
+    Ok(line)
+}
+
+/// The first assumption that is false.
+fn assumption_line(alloc: Global, number: u16) -> Result<Vec<u8>, Memory>
+    ensures { IfOk result (λ line. line.items ≡ line_of_assumption number) }
+{
+    let line = format!(in alloc; "assumption {number} is false\n")?;
+    Ok(Vec::from_slice(alloc, line.as_bytes())?)
+}
+
+/// The line that says why a request about these two files stops.
+pub(crate) fn stop_line(
+    alloc: Global,
+    program: &str,
+    certificate: &str,
+    stop: &Stop,
+) -> Result<Vec<u8>, Memory>
+    ensures { IfOk result (λ line. line.items ≡ line_of_stop program.now certificate.now stop.now) }
+{
+    match stop {
+        Stop::Words => Ok(Vec::from_slice(alloc, USAGE)?),
+        Stop::ProgramFile(fault) => file_line(alloc, program, *fault),
+        Stop::ProgramText(fault) => program_line(alloc, *fault),
+        Stop::CertificateFile(fault) => file_line(alloc, certificate, *fault),
+        Stop::CertificateText(fault) => certificate_line(alloc, fault),
+        Stop::Condition(failed) => condition_line(alloc, failed),
+        Stop::Assumption(number) => assumption_line(alloc, *number),
+        Stop::Wide => Ok(Vec::from_slice(alloc, WIDE)?),
+        Stop::Memory => Ok(Vec::from_slice(alloc, OUT_OF_MEMORY)?),
+    }
+}

@@ -1,0 +1,62 @@
+//! Why the program stops.
+
+ghost use Rattle.std.specs.Prelude.{◌≡◌};
+ghost use Rattle.iolb_call.specs.Stop.{file_status, stop_status};
+
+use crate::status::Status;
+use affine_form::No;
+use affine_text::ProgramFault;
+use iolb_cert::CertFault;
+use iolb_host::FileFault;
+
+/// Why a call of the program stops before it is done.
+#[derive(Debug, Drop)]
+pub enum Stop {
+    /// The words of the command line ask for nothing that the program does, or don't name the program's parameters.
+    Words,
+    /// The program's file wasn't read.
+    ProgramFile(FileFault),
+    /// The program's text has a fault.
+    ProgramText(ProgramFault),
+    /// The certificate's file wasn't read.
+    CertificateFile(FileFault),
+    /// The certificate's text has a fault.
+    CertificateText(CertFault),
+    /// The certificate fails a condition.
+    Condition(No),
+    /// The assumption of this number is false at the sizes.
+    Assumption(u16),
+    /// A value is beyond 128 bits.
+    Wide,
+    /// There was no memory.
+    Memory,
+}
+
+/// The status of a file that wasn't read.
+fn status_of_file(fault: FileFault) -> Status
+    ensures { result ≡ file_status fault }
+{
+    match fault {
+        FileFault::Missing | FileFault::TooLong => Status::FileAbsent,
+        FileFault::Failed => Status::ReadFault,
+        FileFault::Memory => Status::NoMemory,
+    }
+}
+
+impl Stop {
+    /// The status that the program ends with.
+    pub fn status(&self) -> Status
+        ensures { result ≡ stop_status self.now }
+    {
+        match self {
+            Stop::Words => Status::Words,
+            Stop::ProgramFile(fault) => status_of_file(*fault),
+            Stop::ProgramText(_) => Status::ProgramText,
+            Stop::CertificateFile(fault) => status_of_file(*fault),
+            Stop::CertificateText(_) => Status::OtherText,
+            Stop::Condition(_) | Stop::Assumption(_) => Status::Refused,
+            Stop::Wide => Status::Wide,
+            Stop::Memory => Status::NoMemory,
+        }
+    }
+}

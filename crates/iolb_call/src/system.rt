@@ -1,0 +1,69 @@
+//! The call that the system makes.
+
+ghost use Rattle.std.specs.Prelude.{◌≡◌, drop, IfOk};
+ghost use Rattle.std.specs.Process.{exit_status};
+ghost use Rattle.std.specs.Vec.Iter.{into_iter_items};
+ghost use Rattle.iolb_call.specs.Called.{IsCalled, words_behind};
+ghost use Rattle.iolb_call.specs.Outcome.{Outcome};
+ghost use Rattle.iolb_call.specs.Stop.{call_of};
+ghost use Rattle.iolb_call.specs.Use.{files_use, sink_use};
+
+use crate::call::run;
+use crate::status::Status;
+use crate::writing::no_memory;
+use affine_form::Memory;
+use iolb_host::{Files, Sink, StdFiles, StdSink};
+use std::alloc::Global;
+use std::env::Args;
+use std::process::ExitCode;
+use std::{env, io};
+
+/// The words behind the program's name, of all the words of a call. Want of memory is its only error.
+fn behind_name(alloc: Global, mut words: Args) -> Result<Vec<String>, Memory>
+    ensures { IfOk result (λ behind. behind.items ≡ drop 1 (into_iter_items words)) }
+{
+    let _name = words.next();
+    let mut behind = Vec::new(alloc);
+    while let Some(word) = words.next() {
+        let Ok(()) = behind.push(word) else {
+            return Err(Memory);
+        };
+    }
+    Ok(behind)
+}
+
+/// Calls the program with the words that the system gave. A word that is no text is refused as no words are.
+fn called<F: Files, O: Sink, E: Sink>(
+    alloc: Global,
+    words: io::Result<Args>,
+    files: &mut F,
+    out: &mut O,
+    err: &mut E,
+) -> Status
+    ensures { Outcome result (call_of (words_behind words) (F.told files.old)) (record {
+      files = files_use F.faults files.old files.new;
+      output = sink_use O.written O.faults out.old out.new;
+      error = sink_use E.written E.faults err.old err.new;
+    }) }
+{
+    let behind = match words {
+        Ok(words) => behind_name(alloc, words),
+        Err(error) if error.kind() == io::ErrorKind::InvalidData => Ok(Vec::new(alloc)),
+        Err(_) => Err(Memory),
+    };
+    match behind {
+        Ok(behind) => run(alloc, &behind, files, out, err),
+        Err(Memory) => no_memory(err),
+    }
+}
+
+/// Calls the program over the system's files and streams. The exit code is the number of the status with which it ended.
+pub fn program(rt: &HostRuntime) -> ExitCode
+    ensures { IsCalled (exit_status result) }
+{
+    let mut files = StdFiles::new(rt);
+    let mut out = StdSink::output(rt);
+    let mut err = StdSink::error(rt);
+    let status = called(rt.alloc(), env::args(rt), &mut files, &mut out, &mut err);
+    ExitCode::from(status.number())
+}

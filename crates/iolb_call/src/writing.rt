@@ -1,0 +1,41 @@
+//! The ends of a call: what it writes.
+
+ghost use Rattle.iolb_call.specs.Use.{sink_use};
+ghost use Rattle.iolb_call.specs.Written.{LineWritten, OutputWritten, WantSaid};
+
+use crate::lines::OUT_OF_MEMORY;
+use crate::status::Status;
+use iolb_host::{Sink, SinkFault};
+
+/// Says on the standard error that there was no memory.
+pub(crate) fn no_memory<E: Sink>(err: &mut E) -> Status
+    ensures { WantSaid (sink_use E.written E.faults err.old err.new) result }
+{
+    match err.put(OUT_OF_MEMORY) {
+        Ok(()) => Status::NoMemory,
+        Err(SinkFault::Memory) => Status::NoMemory,
+        Err(SinkFault::Failed) => Status::WriteFault,
+    }
+}
+
+/// Writes a line to the standard error, and ends with the status.
+pub(crate) fn write_line<E: Sink>(err: &mut E, line: &[u8], status: Status) -> Status
+    ensures { LineWritten (sink_use E.written E.faults err.old err.new) line.now status result }
+{
+    match err.put(line) {
+        Ok(()) => status,
+        Err(SinkFault::Failed) => Status::WriteFault,
+        Err(SinkFault::Memory) => no_memory(err),
+    }
+}
+
+/// Writes the text to the output.
+pub(crate) fn write_output<O: Sink, E: Sink>(out: &mut O, err: &mut E, text: &[u8]) -> Status
+    ensures { OutputWritten (sink_use O.written O.faults out.old out.new) (sink_use E.written E.faults err.old err.new) text.now result }
+{
+    match out.put(text) {
+        Ok(()) => Status::Done,
+        Err(SinkFault::Failed) => Status::WriteFault,
+        Err(SinkFault::Memory) => no_memory(err),
+    }
+}

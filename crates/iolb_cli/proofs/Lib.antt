@@ -1,5 +1,0 @@
-pub mod Sinks
-pub mod Keys
-pub mod Words
-pub mod Stops
-pub mod Values
