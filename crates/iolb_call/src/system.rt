@@ -1,6 +1,7 @@
 //! The call that the system makes.
 
-ghost use Rattle.std.specs.Prelude.{◌≡◌, drop, IfOk};
+ghost use Rattle.std.specs.Prelude.{◌≡◌, ◌≢◌, ◌⊎◌, drop, IfOk, IfErr};
+ghost use Rattle.std.specs.IoError.{error_kind};
 ghost use Rattle.std.specs.Process.{exit_status};
 ghost use Rattle.std.specs.Vec.Iter.{into_iter_items};
 ghost use Rattle.iolb_call.specs.Called.{IsCalled, words_behind};
@@ -15,6 +16,7 @@ use affine_form::Memory;
 use iolb_host::{Files, Sink, StdFiles, StdSink};
 use std::alloc::Global;
 use std::env::Args;
+use std::io::ErrorKind;
 use std::process::ExitCode;
 use std::{env, io};
 
@@ -40,20 +42,23 @@ fn called<F: Files, O: Sink, E: Sink>(
     out: &mut O,
     err: &mut E,
 ) -> Status
-    ensures { Outcome result (call_of (words_behind words) (F.told files.old)) (record {
+    ensures outcome { Outcome result (call_of (words_behind words) (F.told files.old)) (record {
       files = files_use F.faults files.old files.new;
       output = sink_use O.written O.faults out.old out.new;
       error = sink_use E.written E.faults err.old err.new;
     }) }
+    ensures want { IfErr words (λ error. error_kind error ≢ ErrorKind.InvalidData → (result ≡ Status.NoMemory) ⊎ (result ≡ Status.WriteFault)) }
 {
-    let behind = match words {
-        Ok(words) => behind_name(alloc, words),
-        Err(error) if error.kind() == io::ErrorKind::InvalidData => Ok(Vec::new(alloc)),
-        Err(_) => Err(Memory),
-    };
-    match behind {
-        Ok(behind) => run(alloc, &behind, files, out, err),
-        Err(Memory) => no_memory(err),
+    match words {
+        Ok(words) => match behind_name(alloc, words) {
+            Ok(behind) => run(alloc, &behind, files, out, err),
+            Err(Memory) => no_memory(err),
+        },
+        Err(error) if error.kind() == ErrorKind::InvalidData => {
+            let none = Vec::new(alloc);
+            run(alloc, &none, files, out, err)
+        }
+        Err(_) => no_memory(err),
     }
 }
 
