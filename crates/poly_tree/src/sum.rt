@@ -29,8 +29,9 @@ fn sum_beside(alloc: Global, zero: &Tree, a: &Tree, b: &Tree) -> Result<Tree, Me
     };
     let first = parts_in(a, var);
     let second = parts_in(b, var);
-    let mut parts = Vec::new(alloc);
-    for power in 0..first.len().max(second.len()) {
+    let count = first.len().max(second.len());
+    let mut parts = Vec::with_capacity(alloc, count)?;
+    for power in 0..count {
         let x = part_or(first, power, zero);
         let y = part_or(second, power, zero);
         parts.push(sum_beside(alloc, zero, x, y)?)?;

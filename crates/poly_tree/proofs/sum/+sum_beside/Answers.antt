@@ -44,8 +44,8 @@ returns t c =
     let ys = expansions c.parts_in-second.result.now in
     let zs = expansions c.loop-power.parts.items in
     let count : length zs ≡ c.loop-power.power = length-map c.loop-power.parts.items expansion ∙ c.loop-power.invariant.count in
-    let first : length xs ≤ length zs = omega (arith, length-map c.parts_in-first.result.now expansion, c.max-power-end.ensures, c.loop-power-test.false, count) in
-    let second : length ys ≤ length zs = omega (arith, length-map c.parts_in-second.result.now expansion, c.max-power-end.ensures, c.loop-power-test.false, count) in
-    let third : length zs ≤ max (length xs) (length ys) = omega (arith, length-map c.parts_in-first.result.now expansion, length-map c.parts_in-second.result.now expansion, c.max-power-end.ensures, c.loop-power.auto.power-end, count) in
+    let first : length xs ≤ length zs = omega (arith, length-map c.parts_in-first.result.now expansion, c.max-count.ensures, c.loop-power-test.false, count) in
+    let second : length ys ≤ length zs = omega (arith, length-map c.parts_in-second.result.now expansion, c.max-count.ensures, c.loop-power-test.false, count) in
+    let third : length zs ≤ max (length xs) (length ys) = omega (arith, length-map c.parts_in-first.result.now expansion, length-map c.parts_in-second.result.now expansion, c.max-count.ensures, c.loop-power.auto.power-end, count) in
     sum-joined v a b (expansion c.join.result) xs ys zs c.parts_in-first.ensures c.parts_in-second.ensures c.in-Some.ensures first second third
     (λ k p. c.loop-power.invariant.sums k (subst (λ (n : ℕ). k < n) count p)) c.join.ensures
