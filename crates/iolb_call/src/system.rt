@@ -4,7 +4,7 @@ ghost use Rattle.std.specs.Prelude.{◌≡◌, ◌≢◌, ◌⊎◌, drop, IfOk,
 ghost use Rattle.std.specs.IoError.{error_kind};
 ghost use Rattle.std.specs.Process.{exit_status};
 ghost use Rattle.std.specs.Vec.Iter.{into_iter_items};
-ghost use Rattle.iolb_call.specs.Called.{IsCalled, words_behind};
+ghost use Rattle.iolb_call.specs.Called.{IsEnded, words_behind};
 ghost use Rattle.iolb_call.specs.Outcome.{Outcome};
 ghost use Rattle.iolb_call.specs.Stop.{call_of};
 ghost use Rattle.iolb_call.specs.Use.{files_use, sink_use};
@@ -17,7 +17,7 @@ use iolb_host::{Files, Sink, StdFiles, StdSink};
 use std::alloc::Global;
 use std::env::Args;
 use std::io::ErrorKind;
-use std::process::ExitCode;
+use std::process::{ExitCode, Termination};
 use std::{env, io};
 
 /// The words behind the program's name, of all the words of a call. Want of memory is its only error.
@@ -62,13 +62,31 @@ fn called<F: Files, O: Sink, E: Sink>(
     }
 }
 
-/// Calls the program over the system's files and streams. The exit code is the number of the status with which it ended.
-pub fn program(rt: &HostRuntime) -> ExitCode
-    ensures { IsCalled (exit_status result) }
+/// How the program ended, with the status of its call. `program` alone makes one, so a `main` that returns it ends with
+/// that status's number.
+#[derive(Drop)]
+pub struct Ended {
+    status: Status,
+}
+
+impl Termination for Ended {
+    ghost use Rattle.iolb_call.specs.Called.{status_of};
+    ghost use Rattle.iolb_call.specs.Status.{status_number};
+
+    fn report<R: Eprint>(self, _rt: &R) -> ExitCode
+        ensures { exit_status result ≡ status_number (status_of self) }
+    {
+        ExitCode::from(self.status.number())
+    }
+}
+
+/// Calls the program over the system's files and streams.
+pub fn program(rt: &HostRuntime) -> Ended
+    ensures { IsEnded result }
 {
     let mut files = StdFiles::new(rt);
     let mut out = StdSink::output(rt);
     let mut err = StdSink::error(rt);
     let status = called(rt.alloc(), env::args(rt), &mut files, &mut out, &mut err);
-    ExitCode::from(status.number())
+    Ended { status }
 }
