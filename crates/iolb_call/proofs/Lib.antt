@@ -2,6 +2,7 @@ pub mod Keys
 pub mod Words
 pub mod Stops
 pub mod Values
+pub mod Asked
 pub mod Legal
 pub mod Phases
 pub mod Ends

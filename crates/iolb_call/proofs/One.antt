@@ -27,6 +27,7 @@ use Rattle.iolb_call.specs.Task.{HasSizes, IsAnswer, IsOutside, IsBeyond, bound_
 use Rattle.iolb_call.specs.Use.{CallUse, SinkUse, Gains, Stays}
 use Rattle.iolb_call.specs.Valid.{IsValid}
 use Rattle.iolb_call.specs.Values.{values_text}
+use Rattle.iolb_call.proofs.Asked.{HasPebbles, pebbles}
 use Rattle.iolb_call.proofs.Ends.{AreExact, CallEnd, CallEnds, CertificateEnds, ConditionEnds, NameEnds, RequestEnds, TaskEnds, calls_one, done_end, same_some, stop_end, words_end}
 
 -- ---- stops that are no failure of a read and no want of memory
@@ -238,9 +239,9 @@ memory_or WideValue = inr (λ e. absurd cc)
 memory_or NoMemory = inl refl
 
 -- the text that answers a task
-has_text : (task : Task) (program : AffineProgram) (values : List (List Value)) → HasAnswer task program values → (text : List ℕ) × IsAnswer task program values text
-has_text checks program values has = (bound_text program.parameters (bound_with program values), refl)
-has_text (evaluates s named) program values (sizes, given, some, admitted, narrow) = (
+has_text : (task : Task) (program : AffineProgram) (values : List (List Value)) → HasPebbles task → HasAnswer task program values → (text : List ℕ) × IsAnswer task program values text
+has_text checks program values some has = (bound_text program.parameters (bound_with program values), refl)
+has_text (evaluates s named) program values some (sizes, given, admitted, narrow) = (
   values_text (bound_with program values) sizes s,
   record { sizes = sizes; given = given; some = some; admitted = admitted; narrow = narrow; printed = refl },
 )
@@ -263,7 +264,7 @@ valid_pass exact call request program claim values left status reads valid has o
       ends : status ≢ NoMemory → status ≡ Done
       ends differs =
           let so = ends_so reads.map call.words status left (told call reads.map status left reads.told outcome) calm differs in
-          let answer = has_text request.task program values has in
+          let answer = has_text request.task program values (pebbles call.words request reads.asked) has in
           let passed = passes request reads.map call.words program claim values answer.0 reads.asked
           (subst (λ (files : Option FileMap). HoldsProgram files request.program program) reads.told reads.holds_program)
           (subst (λ (files : Option FileMap). HoldsCertificate files request.certificate claim) reads.told reads.holds_certificate) valid answer.1 in

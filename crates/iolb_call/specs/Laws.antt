@@ -1,5 +1,5 @@
 -- A call has one outcome.
-use Rattle.std.specs.Prelude.{◌≡◌, ◌≢◌, ◌⊎◌, ⊤, ℕ, ◌≤◌, ℤ, List, Some}
+use Rattle.std.specs.Prelude.{◌≡◌, ◌≢◌, ◌⊎◌, ⊤, ℕ, ℤ, List, Some}
 use Rattle.iolb_model.specs.Bound.{IsAdmitted}
 use Rattle.iolb_model.specs.Program.{AffineProgram}
 use Rattle.certificates.specs.Claims.{CertificateClaim}
@@ -49,7 +49,7 @@ pub record Reads (call : Call) (request : Request) (program : AffineProgram) (ce
 abbrev pub HasAnswer : Task → AffineProgram → List (List Value) → Type 0
 HasAnswer checks program values = ⊤
 HasAnswer (evaluates s named) program values = (sizes : List ℤ) × (values_for program.parameters named ≡ Some sizes)
-    × (1 ≤ s) × IsAdmitted program sizes × (¬ HasWideBranch sizes s values)
+    × IsAdmitted program sizes × (¬ HasWideBranch sizes s values)
 
 -- A call about a certificate that meets the conditions, and that can be answered, ends with 0 or for want of memory, where
 -- it wasn't disturbed.

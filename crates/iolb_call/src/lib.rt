@@ -18,4 +18,4 @@ mod writing;
 pub use call::run;
 pub use law::outcomes_are_one;
 pub use status::Status;
-pub use system::program;
+pub use system::{Ended, program};

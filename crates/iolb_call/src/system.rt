@@ -1,9 +1,10 @@
 //! The call that the system makes.
 
-ghost use Rattle.std.specs.Prelude.{◌≡◌, drop, IfOk};
+ghost use Rattle.std.specs.Prelude.{◌≡◌, ◌≢◌, ◌⊎◌, drop, IfOk, IfErr};
+ghost use Rattle.std.specs.IoError.{error_kind};
 ghost use Rattle.std.specs.Process.{exit_status};
 ghost use Rattle.std.specs.Vec.Iter.{into_iter_items};
-ghost use Rattle.iolb_call.specs.Called.{IsCalled, words_behind};
+ghost use Rattle.iolb_call.specs.Called.{IsEnded, words_behind};
 ghost use Rattle.iolb_call.specs.Outcome.{Outcome};
 ghost use Rattle.iolb_call.specs.Stop.{call_of};
 ghost use Rattle.iolb_call.specs.Use.{files_use, sink_use};
@@ -15,7 +16,8 @@ use affine_form::Memory;
 use iolb_host::{Files, Sink, StdFiles, StdSink};
 use std::alloc::Global;
 use std::env::Args;
-use std::process::ExitCode;
+use std::io::ErrorKind;
+use std::process::{ExitCode, Termination};
 use std::{env, io};
 
 /// The words behind the program's name, of all the words of a call. Want of memory is its only error.
@@ -40,30 +42,51 @@ fn called<F: Files, O: Sink, E: Sink>(
     out: &mut O,
     err: &mut E,
 ) -> Status
-    ensures { Outcome result (call_of (words_behind words) (F.told files.old)) (record {
+    ensures outcome { Outcome result (call_of (words_behind words) (F.told files.old)) (record {
       files = files_use F.faults files.old files.new;
       output = sink_use O.written O.faults out.old out.new;
       error = sink_use E.written E.faults err.old err.new;
     }) }
+    ensures want { IfErr words (λ error. error_kind error ≢ ErrorKind.InvalidData → (result ≡ Status.NoMemory) ⊎ (result ≡ Status.WriteFault)) }
 {
-    let behind = match words {
-        Ok(words) => behind_name(alloc, words),
-        Err(error) if error.kind() == io::ErrorKind::InvalidData => Ok(Vec::new(alloc)),
-        Err(_) => Err(Memory),
-    };
-    match behind {
-        Ok(behind) => run(alloc, &behind, files, out, err),
-        Err(Memory) => no_memory(err),
+    match words {
+        Ok(words) => match behind_name(alloc, words) {
+            Ok(behind) => run(alloc, &behind, files, out, err),
+            Err(Memory) => no_memory(err),
+        },
+        Err(error) if error.kind() == ErrorKind::InvalidData => {
+            let none = Vec::new(alloc);
+            run(alloc, &none, files, out, err)
+        }
+        Err(_) => no_memory(err),
     }
 }
 
-/// Calls the program over the system's files and streams. The exit code is the number of the status with which it ended.
-pub fn program(rt: &HostRuntime) -> ExitCode
-    ensures { IsCalled (exit_status result) }
+/// How the program ended, with the status of its call. `program` alone makes one, so a `main` that returns it ends with
+/// that status's number.
+#[derive(Drop)]
+pub struct Ended {
+    status: Status,
+}
+
+impl Termination for Ended {
+    ghost use Rattle.iolb_call.specs.Called.{status_of};
+    ghost use Rattle.iolb_call.specs.Status.{status_number};
+
+    fn report<R: Eprint>(self, _rt: &R) -> ExitCode
+        ensures { exit_status result ≡ status_number (status_of self) }
+    {
+        ExitCode::from(self.status.number())
+    }
+}
+
+/// Calls the program over the system's files and streams.
+pub fn program(rt: &HostRuntime) -> Ended
+    ensures { IsEnded result }
 {
     let mut files = StdFiles::new(rt);
     let mut out = StdSink::output(rt);
     let mut err = StdSink::error(rt);
     let status = called(rt.alloc(), env::args(rt), &mut files, &mut out, &mut err);
-    ExitCode::from(status.number())
+    Ended { status }
 }

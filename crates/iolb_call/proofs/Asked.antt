@@ -1,0 +1,64 @@
+-- Words that ask for an evaluation name at least one red pebble.
+use Rattle.std.proofs.Common.{◌≡◌, subst, ℕ, zero, suc, ◌-◌, ◌^◌, ◌≤◌, Bool, true, false, List, [], ◌∷◌, arith}
+use Rattle.std.specs.Prelude.{⊤, Option, None, Some, IfSome, option_map, option_and_then, if◌then◌else◌, ◌&&◌, nat_le, codes, bytes_eq}
+use Rattle.std.specs.List.{list_any}
+use Rattle.command_words.specs.Numbers.{if_within, memory_in, natural_in}
+use Rattle.command_words.specs.Requests.{Request, Task, checks, evaluates, begins_with_dash, check_in, eval_in, eval_task, request_in, request_of}
+use Rattle.command_words.specs.Sizes.{sizes_in}
+
+abbrev pub HasPebbles : Task → Type 0
+HasPebbles checks = ⊤
+HasPebbles (evaluates s named) = 1 ≤ s
+
+every : {A : Type 0} (P : Type 0) (o : Option A) → P → IfSome o (λ _. P)
+every P None p = tt
+every P (Some a) p = p
+
+mapped : {A B : Type 0} (f : A → B) (P : B → Type 0) (o : Option A) → IfSome o (λ a. P (f a)) → IfSome (option_map f o) P
+mapped f P None h = tt
+mapped f P (Some a) h = h
+
+chained : {A B : Type 0} (f : A → Option B) (Q : A → Type 0) (P : B → Type 0) (o : Option A) → IfSome o Q → ((a : A) → Q a → IfSome (f a) P)
+    → IfSome (option_and_then f o) P
+chained f Q P None h next = tt
+chained f Q P (Some a) h next = next a h
+
+chosen : {A : Type 0} (test : Bool) (P : A → Type 0) (one other : Option A) → IfSome one P → IfSome other P → IfSome (if test then one else other) P
+chosen true P one other p q = p
+chosen false P one other p q = q
+
+within : (most n : ℕ) → IfSome (if_within 1 most n) (λ s. 1 ≤ s)
+within most zero = tt
+within most (suc n) = chosen (nat_le 1 (suc n) && nat_le (suc n) most) (λ s. 1 ≤ s) (Some (suc n)) None (omega arith) tt
+
+memory : (word : List ℕ) → IfSome (memory_in word) (λ s. 1 ≤ s)
+memory word = chained (if_within 1 (2 ^ 63 - 1)) (λ _. ⊤) (λ s. 1 ≤ s) (natural_in 19 word) (every ⊤ (natural_in 19 word) tt) (λ n _. within (2 ^ 63 - 1) n)
+
+task : (word : List ℕ) (words : List (List ℕ)) → IfSome (eval_task word words) HasPebbles
+task word words = chained (λ s. option_map (evaluates s) (sizes_in words)) (λ s. 1 ≤ s) HasPebbles (memory_in word) (memory word)
+    (λ s some. mapped (evaluates s) HasPebbles (sizes_in words) (every (1 ≤ s) (sizes_in words) some))
+
+evaluation : (words : List (List ℕ)) → IfSome (eval_in words) (λ request. HasPebbles request.task)
+evaluation [] = tt
+evaluation (program ∷ []) = tt
+evaluation (program ∷ certificate ∷ []) = tt
+evaluation (program ∷ certificate ∷ word ∷ words) =
+    mapped (λ t. record { program = program; certificate = certificate; task = t }) (λ (request : Request). HasPebbles request.task) (eval_task word words) (task word words)
+
+check : (words : List (List ℕ)) → IfSome (check_in words) (λ request. HasPebbles request.task)
+check [] = tt
+check (program ∷ []) = tt
+check (program ∷ certificate ∷ []) = tt
+check (program ∷ certificate ∷ more ∷ words) = tt
+
+request : (words : List (List ℕ)) → IfSome (request_in words) (λ r. HasPebbles r.task)
+request [] = tt
+request (command ∷ words) =
+    chosen (bytes_eq command (codes "check")) (λ (r : Request). HasPebbles r.task) (check_in words)
+    (if bytes_eq command (codes "eval") then eval_in words else None) (check words)
+    (chosen (bytes_eq command (codes "eval")) (λ (r : Request). HasPebbles r.task) (eval_in words) None (evaluation words) tt)
+
+pub pebbles : (words : List (List ℕ)) (r : Request) → request_of words ≡ Some r → HasPebbles r.task
+pebbles words r asks =
+    subst (λ (o : Option Request). IfSome o (λ q. HasPebbles q.task)) asks
+    (chosen (list_any begins_with_dash words) (λ (q : Request). HasPebbles q.task) None (request_in words) tt (request words))
