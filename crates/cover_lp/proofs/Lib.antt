@@ -1,0 +1,3 @@
+pub mod Duality
+pub mod Search
+pub mod Pairs

@@ -1,0 +1,13 @@
+//! Least covers of coordinates by sets: the cover's weights and a packing of the same total, in whole numbers over the least
+//! denominator.
+#![tactic(auto)]
+
+mod cover;
+mod least;
+mod packings;
+#[cfg(test)]
+mod tests;
+mod weights;
+
+pub use cover::{CoordSet, Cover, CoverFault};
+pub use least::least_cover;
