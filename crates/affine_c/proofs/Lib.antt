@@ -1,2 +1,11 @@
-pub mod Bounds
-pub mod Decided
+pub mod TreeGrows
+pub mod Lists
+pub mod Rows
+pub mod TreeKept
+pub mod Ways
+pub mod StatementsKept
+pub mod Among
+pub mod TreeFits
+pub mod TreeWays
+pub mod Made
+pub mod OneProgram

@@ -1,5 +1,3 @@
-pub mod Limits
-pub mod Domain
-pub mod Tree
-pub mod Parts
-pub mod Draft
+pub mod Meaning
+pub mod Built
+pub mod Laws

@@ -1,17 +1,18 @@
-//! Affine loop programs.
+//! The affine programs that C texts mean, read and printed.
 #![tactic(auto)]
 
-mod domain;
-mod draft;
-mod item;
-mod limits;
-mod program;
-mod reference;
-mod statement;
-mod well_formed;
+mod bounds;
+mod fault;
+mod forms;
+mod growing;
+mod law;
+mod parts;
+mod read;
+mod statements;
+mod tree;
 
-pub use item::Item;
-pub use limits::is_small_form;
-pub use program::Program;
-pub use reference::Reference;
-pub use statement::Statement;
+pub use affine_program::{Item, Program, Reference, Statement};
+pub use c_printing::program_text;
+pub use fault::{ProgramError, ProgramFault};
+pub use law::texts_mean_one_program;
+pub use read::read_program;

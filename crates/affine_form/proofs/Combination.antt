@@ -2,7 +2,7 @@
 use Rattle.std.proofs.Common.{◌≡◌, ℕ, zero, suc, List, [], ◌∷◌, length, get_or, map, replicate, arith, sym, refl, ◌∙◌, ap}
 use Rattle.std.proofs.Math.IntN.{ℤ, pos, ◌+ℤ◌, ◌*ℤ◌}
 use Rattle.std.proofs.lemmas.Int.{ints}
-use Rattle.integer_laws.proofs.Ring.{mul-add, mul-zero, zero-mul, add-mul, mul_assoc_ℤ, add_pairs}
+use Rattle.base_laws.proofs.Ring.{mul-add, mul-zero, zero-mul, add-mul, mul_assoc_ℤ, add_pairs}
 use Rattle.iolb_model.specs.Form.{AffineForm, dot, form_value}
 use Rattle.affine_form.specs.Combination.{add_lists, add_forms, scale_form, constant_form, combination, coefficient_of}
 

@@ -4,3 +4,6 @@ pub mod ShownLemmas
 pub mod Sizes
 pub mod SubstitutionLemmas
 pub mod UniPairLemmas
+pub mod RowLemmas
+pub mod Steps
+pub mod Meaning

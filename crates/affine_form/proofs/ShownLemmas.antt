@@ -1,12 +1,12 @@
 -- What Farkas multipliers show.
-use Rattle.std.proofs.Common.{◌≡◌, ℕ, zero, suc, ◌+◌, ◌<◌, ◌≤◌, ◌^◌, List, [], ◌∷◌, length, get_or, drop, map, arith, subst, sym, lit<, ◌∙◌, ap}
+use Rattle.std.proofs.Common.{◌≡◌, ℕ, zero, suc, ◌+◌, ◌<◌, ◌≤◌, List, [], ◌∷◌, length, get_or, drop, map, arith, subst, sym, lit<, ◌∙◌, ap}
 use Rattle.std.proofs.Math.IntN.{ℤ, pos, negsuc, ◌+ℤ◌, ◌*ℤ◌}
 use lib.Signed.{◌≤ℤ◌}
 use Rattle.std.specs.Prelude.{unsigned_abs}
 use Rattle.std.proofs.lemmas.Int.{ints}
 use Rattle.std.proofs.lemmas.List.{drop_more, ext_get_or, length-map, length-replicate}
 use Rattle.std.specs.List.{AllByRecursion}
-use Rattle.integer_laws.proofs.Ring.{mul-nonneg}
+use Rattle.base_laws.proofs.Ring.{mul-nonneg}
 use Rattle.iolb_model.specs.Form.{AffineForm, form_value}
 use Rattle.affine_form.specs.Combination.{scale_form, constant_form, combination, coefficient_of}
 use Rattle.affine_form.specs.Form.{variables, IsLegalForm, IsSmall}
@@ -14,7 +14,8 @@ use Rattle.affine_form.specs.Multipliers.{FarkasMultipliers, RowsRise, IsWeight}
 use Rattle.affine_form.specs.Shown.{row_at, weighted_rows, NamesRows, row_sum, Shows, Follows, HasNoPoint, minus_one}
 use Rattle.affine_form.specs.System.{AffineSystem, AllOver, IsMet}
 use Rattle.affine_form.proofs.Combination.{get_or-scale, coefficient_of-combination, length-add_lists, form_value-scale, form_value-add, form_value-constant}
-use Rattle.affine_form.proofs.Lists.{All-at, All-or}
+use Rattle.base_laws.proofs.Lists.{All-at, All-or}
+use Rattle.iolb_model.specs.declared.limits.TheConstants.{MULTIPLIER_SIZE, COEFFICIENT_SIZE}
 
 -- multipliers whose rows rise below a bound are no more than that
 pub rising-few : (low high : ℕ) (ws : List (ℕ × ℕ)) → RowsRise ws → AllByRecursion (λ (w : ℕ × ℕ). w.0 < high) ws
@@ -60,11 +61,6 @@ pub Shows-coefficient : (system : AffineSystem) (goal : AffineForm) (shown : Far
     → Shows system goal shown → (pos shown.scale *ℤ coefficient_of v goal) ≡ coefficient_of v (row_sum system shown)
 Shows-coefficient system goal shown v h =
     sym (get_or-scale (pos shown.scale) goal.coefficients v) ∙ ap (coefficient_of v) h.identity
-
--- and its constant, times the scale, is that of the sum of rows
-pub Shows-constant : (system : AffineSystem) (goal : AffineForm) (shown : FarkasMultipliers)
-    → Shows system goal shown → (pos shown.scale *ℤ goal.constant) ≡ (row_sum system shown).constant
-Shows-constant system goal shown h = ap (λ (f : AffineForm). f.constant) h.identity
 
 -- two forms with the same coefficients and constant are the same
 same_form : (f g : AffineForm) → f.coefficients ≡ g.coefficients → f.constant ≡ g.constant → f ≡ g
@@ -152,9 +148,9 @@ weights-few rows ws vs e named rise few =
 
 -- and each is small
 pub weight-small : (ws vs : List (ℕ × ℕ)) (k : ℕ) (z : ℤ) → ws ≡ vs → AllByRecursion IsWeight vs → k < length ws
-    → z ≡ pos (get_or ws k (0, 0)).1 → unsigned_abs z < 2 ^ 48
+    → z ≡ pos (get_or ws k (0, 0)).1 → unsigned_abs z < MULTIPLIER_SIZE
 weight-small ws vs k z e small below is =
-    subst (λ (y : ℤ). unsigned_abs y < 2 ^ 48) (sym is) (All-at IsWeight ws k (0, 0) (subst (AllByRecursion IsWeight) (sym e) small) below).1
+    subst (λ (y : ℤ). unsigned_abs y < MULTIPLIER_SIZE) (sym is) (All-at IsWeight ws k (0, 0) (subst (AllByRecursion IsWeight) (sym e) small) below).1
 
 -- and names a row that is there
 pub weight-named : (rows : List AffineForm) (ws vs : List (ℕ × ℕ)) (k : ℕ) → ws ≡ vs → NamesRows rows vs → k < length ws
@@ -163,10 +159,10 @@ weight-named rows ws vs k e named below =
     All-at (λ (w : ℕ × ℕ). w.0 < length rows) ws k (0, 0) (subst (NamesRows rows) (sym e) named) below
 
 -- a coefficient of a form of the program is small
-pub coefficient-small : (form : AffineForm) (xs : List ℤ) (v : ℕ) → xs ≡ form.coefficients → IsLegalForm form → unsigned_abs (get_or xs v (pos 0)) < 2 ^ 62
+pub coefficient-small : (form : AffineForm) (xs : List ℤ) (v : ℕ) → xs ≡ form.coefficients → IsLegalForm form → unsigned_abs (get_or xs v (pos 0)) < COEFFICIENT_SIZE
 coefficient-small form xs v e legal =
-    All-or (IsSmall (2 ^ 62)) xs v (pos 0) (subst (AllByRecursion (IsSmall (2 ^ 62))) (sym e) legal.1.0) (lit< tt)
+    All-or (IsSmall COEFFICIENT_SIZE) xs v (pos 0) (subst (AllByRecursion (IsSmall COEFFICIENT_SIZE)) (sym e) legal.1.0) (lit< tt)
 
 -- a constant of a form of the program is small
-pub constant-small : (form : AffineForm) (x : ℤ) → x ≡ form.constant → IsLegalForm form → unsigned_abs x < 2 ^ 62
-constant-small form x e legal = subst (λ (y : ℤ). unsigned_abs y < 2 ^ 62) (sym e) legal.1.1
+pub constant-small : (form : AffineForm) (x : ℤ) → x ≡ form.constant → IsLegalForm form → unsigned_abs x < COEFFICIENT_SIZE
+constant-small form x e legal = subst (λ (y : ℤ). unsigned_abs y < COEFFICIENT_SIZE) (sym e) legal.1.1

@@ -1,9 +1,8 @@
 -- Sizes of whole numbers: of sums and of products.
-use Rattle.std.proofs.Common.{◌≡◌, ℕ, ◌+◌, ◌*◌, ◌<◌, ◌≤◌, ◌^◌, arith, add-mul, sym, ap, ◌∙◌, FitsSigned, to_z, of_z}
+use Rattle.std.proofs.Common.{◌≡◌, ℕ, ◌+◌, ◌*◌, ◌<◌, ◌≤◌, ◌^◌, arith, add-mul, sym, ap, ◌∙◌, FitsSigned, to_z, of_z, mul-le-mul}
 use Rattle.std.proofs.Math.IntN.{ℤ, pos, negsuc, ◌+ℤ◌, ◌*ℤ◌}
 use Rattle.std.specs.Prelude.{unsigned_abs}
 use Rattle.std.proofs.lemmas.Int.{ints, to_z-of_z, unsigned_abs-mul, fits_signed_from_abs}
-use Rattle.std.proofs.Common.{mul-le-mul}
 use mir.Syntax.{w32, w128}
 
 -- a sum is no larger than its parts together

@@ -1,7 +1,8 @@
 -- The limits of affine forms.
-use Rattle.std.specs.Prelude.{ℕ, ◌<◌, ◌≤◌, ◌^◌, unsigned_abs, ℤ, length}
+use Rattle.std.specs.Prelude.{ℕ, ◌<◌, ◌≤◌, unsigned_abs, ℤ, length}
 use Rattle.std.specs.List.{AllByRecursion}
 use Rattle.iolb_model.specs.Form.{AffineForm}
+use Rattle.iolb_model.specs.declared.limits.TheConstants.{COEFFICIENT_SIZE, VARIABLES}
 
 -- a number's size is below a limit
 abbrev pub IsSmall : ℕ → ℤ → Type 0
@@ -17,4 +18,4 @@ variables form = length form.coefficients
 
 -- what holds of each form that a program holds: at most 24 variables, and numbers of size below 2^62
 abbrev pub IsLegalForm : AffineForm → Type 0
-IsLegalForm form = (variables form ≤ 24) × IsSmallForm (2 ^ 62) form
+IsLegalForm form = (variables form ≤ VARIABLES) × IsSmallForm COEFFICIENT_SIZE form

@@ -7,3 +7,4 @@ pub mod Substitution
 pub mod SumText
 pub mod System
 pub mod UniPair
+pub mod Rows

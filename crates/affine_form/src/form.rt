@@ -1,10 +1,11 @@
 //! Affine forms.
 
-ghost use Rattle.std.specs.Prelude.{◌≡◌, ◌≤◌, ◌^◌, length, IfOk};
+ghost use Rattle.std.specs.Prelude.{◌≡◌, ◌≤◌, length, IfOk};
 ghost use Rattle.std.specs.List.{AllByRecursion};
 ghost use Rattle.iolb_model.specs.Form.{form_value};
 ghost use Rattle.iolb_model.specs.Printed.{form_text};
 ghost use Rattle.affine_form.specs.Form.{IsSmall, IsLegalForm};
+ghost use Rattle.iolb_model.specs.declared.limits.TheConstants.{COEFFICIENT_SIZE, VALUE_SIZE, VARIABLES};
 
 use crate::memory::Memory;
 use crate::name::Name;
@@ -22,26 +23,27 @@ pub struct Form {
 }
 
 impl Model for Form {
-    ghost use Rattle.std.specs.Prelude.{◌≤◌, ◌^◌, length};
+    ghost use Rattle.std.specs.Prelude.{◌≤◌, length};
     ghost use Rattle.std.specs.List.{AllByRecursion};
     ghost use Rattle.iolb_model.specs.Form.{AffineForm};
     ghost use Rattle.affine_form.specs.Form.{IsSmall};
+    ghost use Rattle.iolb_model.specs.declared.limits.TheConstants.{COEFFICIENT_SIZE, VARIABLES};
 
     ghost Value = { AffineForm };
 
     ghost view = { λ form. record { coefficients = form.coef.items; constant = form.constant } };
 
-    ghost invariant = { λ form. (length form.coef.items ≤ 24)
-        × AllByRecursion (IsSmall (2 ^ 62)) form.coef.items
-        × IsSmall (2 ^ 62) form.constant };
+    ghost invariant = { λ form. (length form.coef.items ≤ VARIABLES)
+        × AllByRecursion (IsSmall COEFFICIENT_SIZE) form.coef.items
+        × IsSmall COEFFICIENT_SIZE form.constant };
 }
 
 impl Form {
     /// The form with these coefficients and this constant.
     pub fn new(coef: Vec<i128>, constant: i128) -> Form
-        requires few { length coef.items ≤ 24 }
-        requires small { AllByRecursion (IsSmall (2 ^ 62)) coef.items }
-        requires small_constant { IsSmall (2 ^ 62) constant }
+        requires few { length coef.items ≤ VARIABLES }
+        requires small { AllByRecursion (IsSmall COEFFICIENT_SIZE) coef.items }
+        requires small_constant { IsSmall COEFFICIENT_SIZE constant }
         ensures { result ≡ record { coefficients = coef.items; constant = constant } }
     {
         Form { coef, constant }
@@ -66,7 +68,7 @@ impl Form {
     /// The form's value at a point: each coefficient times its variable's value, and the constant.
     pub fn value(&self, point: &[i128]) -> i128
         requires variables { length point.now ≡ length self.now.coefficients }
-        requires small { AllByRecursion (IsSmall (2 ^ 40)) point.now }
+        requires small { AllByRecursion (IsSmall VALUE_SIZE) point.now }
         ensures { result ≡ form_value self.now point.now }
     {
         let mut sum = self.constant;
@@ -77,7 +79,7 @@ impl Form {
     }
 
     /// The form's text: its variables in order by their names, each with its coefficient, then the constant; terms
-    /// are joined by ` + ` and ` - `. Want of memory is its only error.
+    /// are joined by ` + ` and ` - `.
     pub fn text(&self, alloc: Global, names: &[Name]) -> Result<Vec<u8>, Memory>
         requires { length names.now ≡ length self.now.coefficients }
         ensures { IfOk result (λ text. text.items ≡ form_text names.now self.now) }
@@ -89,7 +91,7 @@ impl Form {
         sum.with_term(alloc, self.constant, b"")?.finish()
     }
 
-    /// A copy of the form. Want of memory is its only error.
+    /// A copy of the form.
     pub fn try_clone(&self, alloc: Global) -> Result<Form, Memory>
         ensures { IfOk result (λ form. form ≡ self.now) }
     {

@@ -5,29 +5,32 @@
 //! them all (Farkas 1902; only the sound direction is used).
 #![tactic(auto)]
 
+mod differences;
 mod form;
-pub mod key;
 mod matrix;
 mod memory;
 mod multipliers;
 mod name;
-mod place;
-mod refused;
+mod rows;
 mod shown;
 mod substitution;
 mod system;
+mod systems;
 mod terms_text;
 mod uni_pair;
+mod variables;
 mod wide;
 
+pub use differences::{difference, widened};
 pub use form::Form;
 pub use matrix::Matrix;
 pub use memory::Memory;
 pub use multipliers::Multipliers;
 pub use name::Name;
-pub use place::{Place, Step};
-pub use refused::{No, Refused};
+pub use rows::{cell_rows, order_rows, put, within_rows};
 pub use shown::{empty, entails};
 pub use system::System;
+pub use systems::system_of;
 pub use terms_text::TermsText;
 pub use uni_pair::{NotInverse, UniPair};
+pub use variables::{variable, variables_from};

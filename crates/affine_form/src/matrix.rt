@@ -1,9 +1,10 @@
 //! Matrices of whole numbers.
 
-ghost use Rattle.std.specs.Prelude.{◌≡◌, ◌≤◌, ◌<◌, ◌^◌, IfOk};
+ghost use Rattle.std.specs.Prelude.{◌≡◌, ◌≤◌, ◌<◌, IfOk};
 ghost use Rattle.std.specs.List.{AllByRecursion};
 ghost use Rattle.affine_form.specs.Form.{IsSmall};
 ghost use Rattle.affine_form.specs.Matrix.{HasShape, entry};
+ghost use Rattle.iolb_model.specs.declared.limits.TheConstants.{NUMBER_SIZE};
 
 use crate::memory::Memory;
 use std::alloc::Global;
@@ -22,20 +23,21 @@ impl Model for Matrix {
     ghost use Rattle.std.specs.List.{AllByRecursion};
     ghost use Rattle.affine_form.specs.Form.{IsSmall};
     ghost use Rattle.affine_form.specs.Matrix.{IntegerMatrix, HasShape};
+    ghost use Rattle.iolb_model.specs.declared.limits.TheConstants.{NUMBER_SIZE};
 
     ghost Value = { IntegerMatrix };
 
     ghost view = { λ matrix. record { rows = matrix.rows; columns = matrix.cols; cells = matrix.cells.items } };
 
     ghost invariant = { λ matrix. HasShape matrix.rows matrix.cols matrix.cells.items
-        × AllByRecursion (IsSmall (2 ^ 20)) matrix.cells.items };
+        × AllByRecursion (IsSmall NUMBER_SIZE) matrix.cells.items };
 }
 
 impl Matrix {
     /// The matrix with these entries, row after row.
     pub fn new(rows: usize, cols: usize, cells: Vec<i32>) -> Matrix
         requires shape { HasShape rows cols cells.items }
-        requires small { AllByRecursion (IsSmall (2 ^ 20)) cells.items }
+        requires small { AllByRecursion (IsSmall NUMBER_SIZE) cells.items }
         ensures { result ≡ record { rows = rows; columns = cols; cells = cells.items } }
     {
         Matrix { rows, cols, cells }
@@ -61,7 +63,7 @@ impl Matrix {
     pub fn cells(&self) -> &[i32]
         ensures cells { result.now ≡ self.now.cells }
         ensures shape { HasShape self.now.rows self.now.columns self.now.cells }
-        ensures small { AllByRecursion (IsSmall (2 ^ 20)) self.now.cells }
+        ensures small { AllByRecursion (IsSmall NUMBER_SIZE) self.now.cells }
     {
         self.cells.as_slice()
     }
@@ -75,7 +77,7 @@ impl Matrix {
         self.cells[row * self.cols + col]
     }
 
-    /// A copy of the matrix. Want of memory is its only error.
+    /// A copy of the matrix.
     pub fn try_clone(&self, alloc: Global) -> Result<Matrix, Memory>
         ensures { IfOk result (λ matrix. matrix ≡ self.now) }
     {

@@ -1,8 +1,9 @@
 //! Farkas multipliers.
 
-ghost use Rattle.std.specs.Prelude.{◌≡◌, ◌≤◌, ◌<◌, ◌^◌, IfOk};
+ghost use Rattle.std.specs.Prelude.{◌≡◌, ◌≤◌, ◌<◌, IfOk};
 ghost use Rattle.std.specs.List.{AllByRecursion};
 ghost use Rattle.affine_form.specs.Multipliers.{IsWeight, RowsRise};
+ghost use Rattle.iolb_model.specs.declared.limits.TheConstants.{MULTIPLIER_SIZE};
 
 use crate::memory::Memory;
 use std::alloc::Global;
@@ -18,15 +19,16 @@ pub struct Multipliers {
 }
 
 impl Model for Multipliers {
-    ghost use Rattle.std.specs.Prelude.{◌≤◌, ◌<◌, ◌^◌};
+    ghost use Rattle.std.specs.Prelude.{◌≤◌, ◌<◌};
     ghost use Rattle.std.specs.List.{AllByRecursion};
     ghost use Rattle.affine_form.specs.Multipliers.{FarkasMultipliers, IsWeight, RowsRise};
+    ghost use Rattle.iolb_model.specs.declared.limits.TheConstants.{MULTIPLIER_SIZE};
 
     ghost Value = { FarkasMultipliers };
 
     ghost view = { λ shown. record { scale = shown.c; rest = shown.m0; weights = shown.m.items } };
 
-    ghost invariant = { λ shown. (1 ≤ shown.c) × (shown.c < 2 ^ 48) × (shown.m0 < 2 ^ 48)
+    ghost invariant = { λ shown. (1 ≤ shown.c) × (shown.c < MULTIPLIER_SIZE) × (shown.m0 < MULTIPLIER_SIZE)
         × AllByRecursion IsWeight shown.m.items × RowsRise shown.m.items };
 }
 
@@ -34,8 +36,8 @@ impl Multipliers {
     /// The multipliers with this scale, this number beside the rows, and these rows with a multiplier each.
     pub fn new(c: u64, m0: u64, m: Vec<(u8, u64)>) -> Multipliers
         requires some { 1 ≤ c }
-        requires small_scale { c < 2 ^ 48 }
-        requires small_rest { m0 < 2 ^ 48 }
+        requires small_scale { c < MULTIPLIER_SIZE }
+        requires small_rest { m0 < MULTIPLIER_SIZE }
         requires small { AllByRecursion IsWeight m.items }
         requires rising { RowsRise m.items }
         ensures { result ≡ record { scale = c; rest = m0; weights = m.items } }
@@ -47,7 +49,7 @@ impl Multipliers {
     pub fn c(&self) -> u64
         ensures scale { result ≡ self.now.scale }
         ensures some { 1 ≤ self.now.scale }
-        ensures small { self.now.scale < 2 ^ 48 }
+        ensures small { self.now.scale < MULTIPLIER_SIZE }
     {
         self.c
     }
@@ -55,7 +57,7 @@ impl Multipliers {
     /// The number beside the rows.
     pub fn m0(&self) -> u64
         ensures rest { result ≡ self.now.rest }
-        ensures small { self.now.rest < 2 ^ 48 }
+        ensures small { self.now.rest < MULTIPLIER_SIZE }
     {
         self.m0
     }
@@ -69,7 +71,7 @@ impl Multipliers {
         self.m.as_slice()
     }
 
-    /// A copy of the multipliers. Want of memory is its only error.
+    /// A copy of the multipliers.
     pub fn try_clone(&self, alloc: Global) -> Result<Multipliers, Memory>
         ensures { IfOk result (λ shown. shown ≡ self.now) }
     {

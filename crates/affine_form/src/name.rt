@@ -1,6 +1,7 @@
 //! Names of variables.
 
 ghost use Rattle.std.specs.Prelude.{◌≡◌, ◌≤◌, length, IfOk};
+ghost use Rattle.iolb_model.specs.declared.limits.TheConstants.{NAME_BYTES};
 
 use crate::memory::Memory;
 use std::alloc::Global;
@@ -14,19 +15,20 @@ pub struct Name {
 
 impl Model for Name {
     ghost use Rattle.std.specs.Prelude.{ℕ, List, length, ◌≤◌};
+    ghost use Rattle.iolb_model.specs.declared.limits.TheConstants.{NAME_BYTES};
 
     ghost Value = { List ℕ };
 
     ghost view = { λ name. name.bytes.items };
 
-    ghost invariant = { λ name. (1 ≤ length name.bytes.items) × (length name.bytes.items ≤ 64) };
+    ghost invariant = { λ name. (1 ≤ length name.bytes.items) × (length name.bytes.items ≤ NAME_BYTES) };
 }
 
 impl Name {
     /// The name with these bytes.
     pub fn new(bytes: Vec<u8>) -> Name
         requires some { 1 ≤ length bytes.items }
-        requires few { length bytes.items ≤ 64 }
+        requires few { length bytes.items ≤ NAME_BYTES }
         ensures { result ≡ bytes.items }
     {
         Name { bytes }
@@ -36,12 +38,12 @@ impl Name {
     pub fn bytes(&self) -> &[u8]
         ensures bytes { result.now ≡ self.now }
         ensures some { 1 ≤ length self.now }
-        ensures few { length self.now ≤ 64 }
+        ensures few { length self.now ≤ NAME_BYTES }
     {
         self.bytes.as_slice()
     }
 
-    /// A copy of the name. Want of memory is its only error.
+    /// A copy of the name.
     pub fn try_clone(&self, alloc: Global) -> Result<Name, Memory>
         ensures { IfOk result (λ name. name ≡ self.now) }
     {

@@ -1,8 +1,9 @@
 //! What Farkas multipliers show.
 
-ghost use Rattle.std.specs.Prelude.{◌≡◌, ◌<◌, ◌≤◌, ◌^◌, ◌*ℤ◌, ◌↔◌, IsTrue, pos, unsigned_abs};
+ghost use Rattle.std.specs.Prelude.{◌≡◌, ◌<◌, ◌≤◌, ◌*ℤ◌, ◌↔◌, IsTrue, pos, unsigned_abs};
 ghost use Rattle.affine_form.specs.Combination.{coefficient_of};
 ghost use Rattle.affine_form.specs.Shown.{NamesRows, Shows, Follows, HasNoPoint, minus_one, row_sum};
+ghost use Rattle.iolb_model.specs.declared.limits.TheConstants.{COEFFICIENT_SIZE};
 
 use crate::form::Form;
 use crate::multipliers::Multipliers;
@@ -69,7 +70,7 @@ fn names_rows(system: &System, shown: &Multipliers) -> bool
 
 /// A number of a form times the scale.
 fn scaled(shown: &Multipliers, number: i128) -> i128
-    requires { unsigned_abs number < 2 ^ 62 }
+    requires { unsigned_abs number < COEFFICIENT_SIZE }
     ensures product { result ≡ pos shown.now.scale *ℤ number }
     ensures some { 1 ≤ shown.now.scale }
 {

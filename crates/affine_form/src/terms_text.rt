@@ -36,8 +36,7 @@ impl TermsText {
         }
     }
 
-    /// The text with one term more: a coefficient, and the text of its product of variables. Want of memory is its
-    /// only error.
+    /// The text with one term more: a coefficient, and the text of its product of variables.
     pub fn with_term(
         self,
         alloc: Global,
@@ -59,7 +58,7 @@ impl TermsText {
         })
     }
 
-    /// The whole text. Want of memory is its only error.
+    /// The whole text.
     pub fn finish(self) -> Result<Vec<u8>, Memory>
         ensures { IfOk result (λ text. text.items ≡ followed_by self []) }
     {

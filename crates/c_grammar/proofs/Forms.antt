@@ -1,6 +1,6 @@
 -- The numbers of every form that is meant are small, and signs make them negative.
 use Rattle.std.proofs.Common.{◌≡◌, ℕ, zero, suc, Bool, true, false, List, refl, sym, ap, ◌∙◌, Option, Some, None, subst, arith}
-use Rattle.std.specs.Prelude.{◌&&◌, ◌||◌, ◌^◌, nat_lt, if◌then◌else◌, ℤ, pos, Ok}
+use Rattle.std.specs.Prelude.{◌&&◌, ◌||◌, nat_lt, if◌then◌else◌, ℤ, pos, Ok}
 use Rattle.std.proofs.lemmas.Bool.{and_parts}
 use Rattle.c_reading.specs.Numbers.{is_integer, is_small, value_from, combined, constant_of, zeros}
 use Rattle.c_reading.specs.Affine as rule
@@ -11,6 +11,7 @@ use Rattle.c_grammar.specs.Meaning as mean
 use Rattle.c_grammar.specs.Meaning.{Names, Form, form, given, factor_means, products_means, term_means, sums_means, affine_means}
 use Rattle.c_grammar.proofs.Spelled.{then_some, given_some, given_last, some_if, same_some}
 use Rattle.c_grammar.proofs.Small.{AreSmall, combined_kept, combined_negative, combined_are, single_are, flipped}
+use Rattle.iolb_model.specs.declared.limits.TheConstants.{NUMBER_SIZE}
 
 -- ---- what is meant
 
@@ -21,23 +22,23 @@ form_are h (Some ns) x k e = let same : record { numbers = ns; has_name = h } �
 plus_are : (sign : Bool) (a b c : Form) → AreSmall a.numbers → mean.plus sign a b ≡ Some c → AreSmall c.numbers
 plus_are sign a b c are e = form_are _ _ c (λ ns f. combined_are _ (pos 0) a.numbers b.numbers ns are.few f) e
 
-eleven : (k : ℤ) (ys zs : List ℤ) → combined k (pos 0) zeros ys ≡ Some zs → AreSmall zs
-eleven k ys zs e = combined_are k (pos 0) zeros ys zs (omega arith) e
+from_zeros : (k : ℤ) (ys zs : List ℤ) → combined k (pos 0) zeros ys ≡ Some zs → AreSmall zs
+from_zeros k ys zs e = combined_are k (pos 0) zeros ys zs (omega arith) e
 
 times_are : (a b c : Form) → mean.times a b ≡ Some c → AreSmall c.numbers
 times_are a b c e = cases (a.has_name && b.has_name) b.has_name e where
   cases : (both second : Bool) → (if both then None else form (a.has_name || b.has_name)
       (if second then combined (constant_of a.numbers) (pos 0) zeros b.numbers else combined (constant_of b.numbers) (pos 0) zeros a.numbers)) ≡ Some c → AreSmall c.numbers
   cases true second f = absurd cc
-  cases false true f = form_are _ _ c (λ ns g. eleven _ b.numbers ns g) f
-  cases false false f = form_are _ _ c (λ ns g. eleven _ a.numbers ns g) f
+  cases false true f = form_are _ _ c (λ ns g. from_zeros _ b.numbers ns g) f
+  cases false false f = form_are _ _ c (λ ns g. from_zeros _ a.numbers ns g) f
 
 negated_are : (a c : Form) → mean.negated a ≡ Some c → AreSmall c.numbers
-negated_are a c e = form_are _ _ c (λ ns f. eleven _ a.numbers ns f) e
+negated_are a c e = form_are _ _ c (λ ns f. from_zeros _ a.numbers ns f) e
 
 integer_small : (bytes : List ℕ) (n : ℤ) → mean.integer_means bytes ≡ Some n → is_small n ≡ true
 unfolding mean.integer_means
-integer_small bytes n e = some_if _ _ e (λ both same. ap is_small (sym same) ∙ (and_parts (is_integer bytes) (nat_lt (value_from 0 bytes) (2 ^ 20)) both).1)
+integer_small bytes n e = some_if _ _ e (λ both same. ap is_small (sym same) ∙ (and_parts (is_integer bytes) (nat_lt (value_from 0 bytes) NUMBER_SIZE) both).1)
 
 mutual
   unfolding affine_means sums_means term_means products_means factor_means

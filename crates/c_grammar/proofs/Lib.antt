@@ -1,3 +1,6 @@
+pub mod Rows
+pub mod NameKinds
+pub mod Dictionary
 pub mod Steps
 pub mod Small
 pub mod Forms
@@ -7,6 +10,7 @@ pub mod SoundValues
 pub mod SoundHeaders
 pub mod SoundItems
 pub mod SoundText
+pub mod LexicalTokens
 pub mod Lexical
 pub mod Spelled
 pub mod RunAffine
@@ -15,3 +19,12 @@ pub mod RunValues
 pub mod RunHeaders
 pub mod RunItems
 pub mod RunText
+pub mod Kept
+pub mod KeptForms
+pub mod KeptRefs
+pub mod KeptLines
+pub mod KeptItems
+pub mod Plain
+pub mod KeptText
+pub mod Values
+pub mod ValuesHold

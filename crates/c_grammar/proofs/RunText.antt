@@ -24,6 +24,8 @@ use Rattle.c_grammar.proofs.Spelled.{At, at_kind, at_sees, at_left, at_next, at_
 use Rattle.c_grammar.proofs.RunAffine.{slot_run}
 use Rattle.c_grammar.proofs.RunRefs.{compare_read}
 use Rattle.c_grammar.proofs.RunItems.{UnitRan, all_items_read}
+use Rattle.c_reading.specs.Numbers.{most_loops}
+use Rattle.c_reading.specs.Compare.{most_brackets}
 
 -- ---- lines that name parameters
 
@@ -153,9 +155,9 @@ no_directive (item.item (item.statement a) ts) = record { parameters = refl; ass
 text_rule_run : (t : Text) (i : Input) (x : Head × Names) → At i (text_words t) → whole_means t (bare i) ≡ Some x → (q : Head × Input) × (whole.text_rule i ≡ Ok q) × ◌≡◌ {A = Head × Names} (q.0, bare q.1) x
 unfolding whole.text_rule rule.head whole_means
 text_rule_run t i x at e = then_some _ (lines_mean (record { assumed = false; rows = [] }) t.lines (bare i)) e (λ p e1 e2.
-    then_some _ (items_means 4 64 t.items p.1) e2 (λ r e3 e4.
+    then_some _ (items_means most_loops most_brackets t.items p.1) e2 (λ r e3 e4.
     let l = directives_run t.lines (left i) (record { assumed = false; rows = [] }) (items_words t.items ++ (program_end ∷ [])) i p at (no_directive t.items) e1 (omega arith) in
-    let s = all_items_read t.items l.0.1 r l.2 (ap (λ (y : Head × Names). items_means 4 64 t.items y.1) l.3 ∙ e3) in (
+    let s = all_items_read t.items l.0.1 r l.2 (ap (λ (y : Head × Names). items_means most_loops most_brackets t.items y.1) l.3 ∙ e3) in (
       (l.0.0, s.0.1),
       then_ok _ _ l.1 (then_ok _ _ s.1 refl),
       ap (λ (names : Names). (l.0.0, names)) s.2 ∙ ap (λ (y : Head × Names). (y.0, r.1)) l.3 ∙ same_some e4,

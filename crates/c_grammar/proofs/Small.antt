@@ -4,12 +4,12 @@ use Rattle.std.specs.Prelude.{if◌then◌else◌, ℤ, pos, negsuc, neg_ℤ, �
 use Rattle.std.specs.List.{AllByRecursion}
 use Rattle.std.proofs.lemmas.Int.{ints}
 use Rattle.std.proofs.lemmas.List.{length-set}
-use Rattle.c_reading.specs.Numbers.{is_small, if_small, small_number, number_before, plus_times, combined, zeros, single}
+use Rattle.c_reading.specs.Numbers.{is_small, if_small, small_number, number_before, plus_times, combined, zeros, single, width}
 use Rattle.c_grammar.proofs.Steps.{bool_cases}
 
--- at most eleven numbers, each of size below 2^20
+-- numbers of a row at most, each small
 pub record AreSmall (ns : List ℤ) : Type 0 where
-  pub few : length ns ≤ 11
+  pub few : length ns ≤ width
   pub small : AllByRecursion (λ n. is_small n ≡ true) ns
 
 -- ---- one number
@@ -64,11 +64,11 @@ minus_none (suc n) (y ∷ ys) few small =
 
 pub combined_kept : (ns : List ℤ) → AreSmall ns → combined (pos 1) (pos 0) zeros ns ≡ Some ns
 combined_kept [] are = refl
-combined_kept (y ∷ ys) are = plus_none 11 (y ∷ ys) are.few are.small
+combined_kept (y ∷ ys) are = plus_none width (y ∷ ys) are.few are.small
 
 pub combined_negative : (ns : List ℤ) → AreSmall ns → combined (negsuc 0) (pos 0) zeros ns ≡ Some (map neg_ℤ ns)
 combined_negative [] are = refl
-combined_negative (y ∷ ys) are = minus_none 11 (y ∷ ys) are.few are.small
+combined_negative (y ∷ ys) are = minus_none width (y ∷ ys) are.few are.small
 
 pub negative_are : (ns : List ℤ) → AreSmall ns → AreSmall (map neg_ℤ ns)
 negative_are ns are = record { few = few ns are.few; small = small ns are.small } where
@@ -76,7 +76,7 @@ negative_are ns are = record { few = few ns are.few; small = small ns are.small 
   size [] = refl
   size (y ∷ ys) = ap suc (size ys)
 
-  few : (ns : List ℤ) → length ns ≤ 11 → length (map neg_ℤ ns) ≤ 11
+  few : (ns : List ℤ) → length ns ≤ width → length (map neg_ℤ ns) ≤ width
   few ns h = omega (arith, size ns)
 
   small : (ns : List ℤ) → AllByRecursion (λ n. is_small n ≡ true) ns → AllByRecursion (λ n. is_small n ≡ true) (map neg_ℤ ns)
@@ -118,7 +118,7 @@ combined_behind k less [] ys (z ∷ zs) e = absurd cc
 combined_behind k less (x ∷ xs) [] (z ∷ zs) e = absurd cc
 combined_behind k less (x ∷ xs) (y ∷ ys) zs e = before_are x xs zs (small_number k less x y) (plus_times k xs ys) (number_small k less x y) (plus_times_are k xs ys) e
 
-pub combined_are : (k less : ℤ) (xs ys zs : List ℤ) → length xs ≤ 11 → combined k less xs ys ≡ Some zs → AreSmall zs
+pub combined_are : (k less : ℤ) (xs ys zs : List ℤ) → length xs ≤ width → combined k less xs ys ≡ Some zs → AreSmall zs
 unfolding AreBehind
 combined_are k less xs ys zs few e = let b = combined_behind k less xs ys zs e in record { few = omega (arith, b.0); small = b.1 }
 
@@ -127,8 +127,13 @@ set_small [] at n h small = tt
 set_small (x ∷ xs) zero n h small = (small, h.1)
 set_small (x ∷ xs) (suc at) n h small = (h.0, set_small xs at n h.1 small)
 
+-- zeros are small
+zeros_small : (m : ℕ) → AllByRecursion (λ n. is_small n ≡ true) (replicate m (pos 0))
+zeros_small zero = tt
+zeros_small (suc m) = (refl, zeros_small m)
+
 pub single_are : (at : ℕ) (n : ℤ) → is_small n ≡ true → AreSmall (single at n)
-single_are at n small = record { few = omega (arith, length-set (replicate 11 (pos 0)) at n); small = set_small (replicate 11 (pos 0)) at n (refl, (refl, (refl, (refl, (refl, (refl, (refl, (refl, (refl, (refl, (refl, tt))))))))))) small }
+single_are at n small = record { few = omega (arith, length-set zeros at n); small = set_small zeros at n (zeros_small width) small }
 
 -- a form, or its negative
 abbrev pub flipped : Bool → List ℤ → List ℤ

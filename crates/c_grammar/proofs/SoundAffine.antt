@@ -1,6 +1,6 @@
 -- Affine expressions that are read spell the grammar, and mean what was read.
 use Rattle.std.proofs.Common.{◌≡◌, ℕ, zero, suc, Bool, true, false, not, List, [], ◌∷◌, ◌++◌, refl, sym, ap, ◌∙◌, Option, Some, None, subst}
-use Rattle.std.specs.Prelude.{◌&&◌, ◌||◌, ◌^◌, nat_lt, if◌then◌else◌, ℤ, pos, Ok, codes}
+use Rattle.std.specs.Prelude.{◌&&◌, ◌||◌, nat_lt, if◌then◌else◌, ℤ, pos, Ok, codes}
 use Rattle.c_tokens.specs.declared.token.TokenKind.TheVariants as token
 use Rattle.c_reading.specs.declared.named.Kind.{Kind}
 use Rattle.c_reading.specs.declared.named.Kind.TheVariants.{Parameter, OpenLoop, ClosedLoop, Array}
@@ -16,6 +16,7 @@ use Rattle.c_grammar.specs.Meaning.{Names, Form, form, given, factor_means, prod
 use Rattle.c_grammar.proofs.Small.{AreSmall, flipped_are, flipped_not}
 use Rattle.c_grammar.proofs.Forms.{factor_are, flip, negated_is, signed_is}
 use Rattle.c_grammar.proofs.Steps.{same_ok, words, bare, spelled_kind, AreLexical, Took, took_then, took_none, took_symbol, took_name, took_number, took_as, and_then_ok, given_ok, given_end, if_ok, ok_is, ok_if, means_then, means_given}
+use Rattle.iolb_model.specs.declared.limits.TheConstants.{NUMBER_SIZE}
 
 -- an expression's numbers, and whether it has a name
 abbrev pub form_of : Affine → Form
@@ -63,7 +64,7 @@ name_sound b None i q g is e = and_then_ok _ (rule.slot i) e (λ p e1 e2.
 name_sound b (Some star) i q g is e = absurd cc
 
 -- digits below 2^20 mean a number
-pub integer_is : (bytes : List ℕ) → is_integer bytes ≡ true → nat_lt (value_from 0 bytes) (2 ^ 20) ≡ true → mean.integer_means bytes ≡ Some (pos (value_from 0 bytes))
+pub integer_is : (bytes : List ℕ) → is_integer bytes ≡ true → nat_lt (value_from 0 bytes) NUMBER_SIZE ≡ true → mean.integer_means bytes ≡ Some (pos (value_from 0 bytes))
 unfolding mean.integer_means
 integer_is bytes whole low = rw (whole, low) refl
 

@@ -1,13 +1,14 @@
 -- What a rule of the reading takes from the words that are left, and what it leaves.
 use Rattle.std.proofs.Common.{◌≡◌, ℕ, suc, ◌-◌, arith, Bool, true, false, List, [], ◌∷◌, ◌++◌, length, map, drop, refl, sym, ap, ◌∙◌, Option, Some, subst}
 use Rattle.std.specs.Prelude.{◌==◌, ◌||◌, if◌then◌else◌, Result, Ok, Err}
+use Rattle.std.specs.List.{list_all}
 use Rattle.std.proofs.lemmas.List.{append_assoc, append-nil}
 use Rattle.std.proofs.lemmas.Bool.Decides.{nat_tests}
 use Rattle.std.proofs.lemmas.Slice.Eq.{bytes_eq-Decides}
 use Rattle.c_tokens.specs.declared.token.Token.{Token}
 use Rattle.c_tokens.specs.declared.token.TokenKind.{TokenKind}
 use Rattle.c_tokens.specs.declared.token.TokenKind.TheVariants as token
-use Rattle.c_tokens.specs.Bytes.{is_space, is_name_start}
+use Rattle.c_tokens.specs.Bytes.{is_space, is_name_start, is_name_byte}
 use Rattle.c_tokens.specs.Pieces.{name_kind, is_keyword, begins_number}
 use Rattle.c_reading.specs.declared.error.ReadFault.{ReadFault}
 use Rattle.c_reading.specs.Input.{Input, Rule, Outcome, and_then, given as rule_given, kind, spelling, next, sees, left, is_name_kind, is_number_kind}
@@ -15,6 +16,7 @@ use Rattle.c_reading.specs.Head.{is_line_end, is_parameters, is_assumptions}
 use Rattle.c_reading.specs.Items.{is_end}
 use Rattle.c_reading.proofs.TokenKinds.{name_kind_is}
 use Rattle.c_grammar.specs.Words.{Word, word_of, program_end, line_end, a_name, a_number, a_symbol}
+use Rattle.c_tokens.specs.Names.{IsWord}
 use Rattle.c_grammar.specs.Meaning.{Names, Meaning, then_in, given}
 
 -- the words that are left
@@ -36,7 +38,7 @@ first (w ∷ ws) = w
 unfoldable pub spelled_kind : List ℕ → TokenKind
 spelled_kind [] = token.End
 spelled_kind (b ∷ rest) =
-    if is_name_start b then name_kind (b ∷ rest)
+    if is_name_start b then (if list_all is_name_byte (b ∷ rest) then name_kind (b ∷ rest) else token.Bad)
     else (if begins_number b rest then token.Number
     else (if is_space b || b == 35 then token.Parameters
     else token.Symbol))
@@ -238,13 +240,32 @@ took_assumptions i g is = took_kind token.Assumptions i refl g (assumptions_is (
 no_bytes : (bytes : List ℕ) → token.End ≡ spelled_kind bytes → bytes ≡ []
 unfolding spelled_kind
 no_bytes [] e = refl
-no_bytes (b ∷ rest) e = cases (is_name_start b) (is_keyword (b ∷ rest)) (begins_number b rest) (is_space b || b == 35) e where
-  cases : (n k m h : Bool) → token.End ≡ (if n then (if k then token.Word else token.Name) else (if m then token.Number else (if h then token.Parameters else token.Symbol))) → b ∷ rest ≡ []
-  cases true true m h e = cc
-  cases true false m h e = cc
-  cases false k true h e = cc
-  cases false k false true e = cc
-  cases false k false false e = cc
+no_bytes (b ∷ rest) e = cases (is_name_start b) (list_all is_name_byte (b ∷ rest)) (is_keyword (b ∷ rest)) (begins_number b rest) (is_space b || b == 35) e where
+  cases : (n l k m h : Bool) → token.End ≡ (if n then (if l then (if k then token.Word else token.Name) else token.Bad) else (if m then token.Number else (if h then token.Parameters else token.Symbol))) → b ∷ rest ≡ []
+  cases true true true m h e = cc
+  cases true true false m h e = cc
+  cases true false k m h e = cc
+  cases false l k true h e = cc
+  cases false l k false true e = cc
+  cases false l k false false e = cc
+
+-- bytes that are spelled as a name are one
+word_spelled : (bytes : List ℕ) → token.Name ≡ spelled_kind bytes → IsWord bytes
+unfolding spelled_kind
+word_spelled [] e = absurd cc
+word_spelled (b ∷ rest) e = cases (is_name_start b) (list_all is_name_byte (b ∷ rest)) (is_keyword (b ∷ rest)) (begins_number b rest) (is_space b || b == 35) refl refl refl e where
+  cases : (n l k m h : Bool) → is_name_start b ≡ n → list_all is_name_byte (b ∷ rest) ≡ l → is_keyword (b ∷ rest) ≡ k
+      → token.Name ≡ (if n then (if l then (if k then token.Word else token.Name) else token.Bad) else (if m then token.Number else (if h then token.Parameters else token.Symbol))) → IsWord (b ∷ rest)
+  cases true true true m h p q r e = absurd cc
+  cases true true false m h p q r e = record { begins = p; name = q; no_word = r }
+  cases true false k m h p q r e = absurd cc
+  cases false l k true h p q r e = absurd cc
+  cases false l k false true p q r e = absurd cc
+  cases false l k false false p q r e = absurd cc
+
+-- a lexical word that is a name is spelled as one
+pub named_word : (w : Word) → class w.kind ≡ spelled_kind w.bytes → w.kind ≡ token.Name → IsWord w.bytes
+named_word w spelled name = word_spelled w.bytes (sym (ap class name) ∙ spelled)
 
 -- the end of a line is a word
 pub took_line_end : (i : Input) → AreLexical (words i) → is_line_end (kind i) ≡ true → Took i (line_end ∷ []) (next i)

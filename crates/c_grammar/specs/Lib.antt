@@ -4,4 +4,7 @@ pub mod Value
 pub mod Item
 pub mod Text
 pub mod Meaning
+pub mod Well
+pub mod Program
+pub mod Points
 pub mod Laws

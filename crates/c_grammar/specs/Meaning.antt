@@ -1,6 +1,6 @@
 -- What a tree of the grammar means, with the names seen so far, and whether it is within the limits: None where it isn't,
 -- or where a name is used against its kind.
-use Rattle.std.specs.Prelude.{ℕ, zero, suc, ◌+◌, ◌-◌, ◌^◌, ◌==◌, ◌&&◌, ◌||◌, nat_lt, nat_le, Bool, true, false, not, if◌then◌else◌, ℤ, pos, negsuc, List, [], ◌∷◌, ◌++◌, length, Option, Some, None, option_map, option_and_then}
+use Rattle.std.specs.Prelude.{ℕ, zero, suc, ◌+◌, ◌-◌, ◌==◌, ◌&&◌, ◌||◌, nat_lt, nat_le, Bool, true, false, not, if◌then◌else◌, ℤ, pos, negsuc, List, [], ◌∷◌, ◌++◌, length, Option, Some, None, option_map, option_and_then}
 use Rattle.c_reading.specs.declared.named.Kind.{Kind}
 use Rattle.c_reading.specs.declared.named.Kind.TheVariants as kind
 use Rattle.c_reading.specs.declared.lines.Loop.{Loop}
@@ -19,6 +19,7 @@ use Rattle.c_grammar.specs.Affine as tree
 use Rattle.c_grammar.specs.Value as value
 use Rattle.c_grammar.specs.Item as item
 use Rattle.c_grammar.specs.Text as text
+use Rattle.iolb_model.specs.declared.limits.TheConstants.{NUMBER_SIZE}
 
 -- The names so far in order of first sight with their kinds, how many are parameters and how many arrays, and the lines of
 -- the program so far with how many of them are statements: an input, of which no text and no tokens are left.
@@ -85,7 +86,7 @@ slot name s = slot_by name (kind_of name s) s
 
 -- digits alone, without a leading 0, which mean a number below 2^20
 unfoldable pub integer_means : List ℕ → Option ℤ
-integer_means bytes = if is_integer bytes && nat_lt (value_from 0 bytes) (2 ^ 20) then Some (pos (value_from 0 bytes)) else None
+integer_means bytes = if is_integer bytes && nat_lt (value_from 0 bytes) NUMBER_SIZE then Some (pos (value_from 0 bytes)) else None
 
 -- the negative of a form
 abbrev pub negated : Form → Option Form

@@ -3,4 +3,7 @@
 
 mod law;
 
-pub use law::{accepted_texts_spell, spelled_texts_are_accepted};
+pub use law::{
+    accepted_texts_spell, loops_take_values, readings_are_well_read, rows_have_values,
+    rows_hold_so, spelled_texts_are_accepted,
+};

@@ -1,15 +1,15 @@
 //! Items, printed.
 
-ghost use Rattle.std.specs.Prelude.{◌≡◌, ◌++◌, ◌∷◌, [], length, OnOk, IfOk};
+ghost use Rattle.std.specs.Prelude.{◌≡◌, ◌++◌, length, OnOk};
 ghost use Rattle.iolb_model.specs.Printed.{form_text};
 ghost use Rattle.iolb_model.specs.Program.{IsOver, ItemFits, RowFits};
-ghost use Rattle.affine_c.specs.Parts.{meaning};
-ghost use Rattle.affine_c.specs.Tree.{item_of, row_of};
+ghost use Rattle.affine_program.specs.Parts.{meaning};
+ghost use Rattle.affine_program.specs.Tree.{item_of, row_of};
 ghost use Rattle.c_printing.specs.Text.{header_text, item_text, row_text};
 
 use crate::references::push_statement;
-use affine_c::{Item, Program};
 use affine_form::{Form, Memory, Name};
+use affine_program::{Item, Program, with_name};
 use std::alloc::Global;
 
 /// Items in a row, written at the end.
@@ -57,18 +57,6 @@ fn push_item(
             Ok(())
         }
     }
-}
-
-/// Copies of names, and one more.
-fn with_name(alloc: Global, names: &[Name], last: &Name) -> Result<Vec<Name>, Memory>
-    ensures { IfOk result (λ all. all.items ≡ names.now ++ last.now ∷ []) }
-{
-    let mut all = Vec::new(alloc);
-    for name in names {
-        all.push(name.try_clone(alloc)?)?;
-    }
-    all.push(last.try_clone(alloc)?)?;
-    Ok(all)
 }
 
 /// A loop's header, written on a line at the end.

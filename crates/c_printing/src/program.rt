@@ -4,18 +4,29 @@ ghost use Rattle.std.specs.Prelude.{◌≡◌, ◌++◌, flat_map, length, codes
 ghost use Rattle.std.specs.List.{AllByRecursion};
 ghost use Rattle.iolb_model.specs.Printed.{form_text};
 ghost use Rattle.iolb_model.specs.Program.{IsOver};
-ghost use Rattle.affine_c.specs.Parts.{meaning};
+ghost use Rattle.affine_program.specs.Parts.{meaning};
+ghost use Rattle.c_grammar.specs.Program.{Means};
 ghost use Rattle.c_printing.specs.Text.{assumption_text, parameters_text, program_text as text_of_program};
 
 use crate::items::push_items;
-use affine_c::Program;
 use affine_form::{Form, Memory, Name};
+use affine_program::Program;
 use std::alloc::Global;
 
 /// A program as C text, one item a line without indentation: its parameters, its assumptions, and its loops and
 /// statements between the line that opens the program and the line that closes it. A statement is printed as a function
-/// of its reads.
+/// of its reads. Reading the text gives this program. Want of memory is its only error.
+#[tactic(auto, using(crate::proofs::Readable::printed_means))]
 pub fn program_text(alloc: Global, program: &Program) -> Result<Vec<u8>, Memory>
+    ensures text { IfOk result (λ text. text.items ≡ text_of_program (meaning program.now)) }
+    ensures read_back { IfOk result (λ text. Means text.items (meaning program.now)) }
+{
+    let _params = program.params();
+    printed(alloc, program)
+}
+
+/// The text of a program.
+fn printed(alloc: Global, program: &Program) -> Result<Vec<u8>, Memory>
     ensures { IfOk result (λ text. text.items ≡ text_of_program (meaning program.now)) }
 {
     let names = program.params();

@@ -3,11 +3,11 @@
 ghost use Rattle.std.specs.Prelude.{◌≡◌, ◌<◌, ◌++◌, flat_map, map, length, codes, OnOk};
 ghost use Rattle.std.specs.List.{AllByRecursion};
 ghost use Rattle.iolb_model.specs.Program.{AccessFits, IsOver, StatementFits, statement_at};
-ghost use Rattle.affine_c.specs.Parts.{access_of, meaning};
+ghost use Rattle.affine_program.specs.Parts.{access_of, meaning};
 ghost use Rattle.c_printing.specs.Text.{access_text, array_name, reads_text, statement_text, subscript_text};
 
-use affine_c::{Program, Reference};
 use affine_form::{Form, Memory, Name};
+use affine_program::{Program, Reference};
 use std::alloc::Global;
 
 /// A statement, written on a line at the end.

@@ -1,10 +1,11 @@
 -- Affine expressions: a sum of products of factors, with at most one factor that has a name in each product.
-use Rattle.std.specs.Prelude.{ℕ, zero, suc, ◌+◌, ◌^◌, ◌&&◌, ◌||◌, nat_lt, nat_le, Bool, true, false, not, if◌then◌else◌, ℤ, pos, negsuc, List, [], ◌∷◌, ◌++◌, length, position, slice_get, option_and_then, bytes_eq, Option, Some, None, Result, Ok, Err, codes}
+use Rattle.std.specs.Prelude.{ℕ, zero, suc, ◌+◌, ◌&&◌, ◌||◌, nat_lt, nat_le, Bool, true, false, not, if◌then◌else◌, ℤ, pos, negsuc, List, [], ◌∷◌, ◌++◌, length, position, slice_get, option_and_then, bytes_eq, Option, Some, None, Result, Ok, Err, codes}
 use Rattle.c_reading.specs.declared.named.Kind.{Kind}
 use Rattle.c_reading.specs.declared.named.Kind.TheVariants.{Parameter, OpenLoop, ClosedLoop, Array}
 use Rattle.c_reading.specs.declared.error.ReadFault.{ReadFault}
 use Rattle.c_reading.specs.Input.{Input, Rule, ◌>>=◌, ◌>>◌, pure, given, fault, fault_at, pass, refuse, refusal, sees, spelling, kind, place, next, left, is_name_kind, is_number_kind}
 use Rattle.c_reading.specs.Numbers.{most_parameters, single, parameter_slot, loop_slot, combined, zeros, constant_of, value_from, is_integer}
+use Rattle.iolb_model.specs.declared.limits.TheConstants.{NUMBER_SIZE, NAME_BYTES}
 
 -- an expression that was read: its numbers, whether a name stands in it, and whether its last token is a name
 pub record Affine : Type 0 where
@@ -28,7 +29,7 @@ with_name name kind i = record i { names = i.names ++ name ∷ []; kinds = i.kin
 
 -- a name has 1 to 64 bytes
 abbrev pub is_short : List ℕ → Bool
-is_short name = nat_le 1 (length name) && nat_le (length name) 64
+is_short name = nat_le 1 (length name) && nat_le (length name) NAME_BYTES
 
 -- the place of a new name's coefficient: it becomes a parameter, where it has 1 to 64 bytes and there aren't too many
 unfoldable pub new_parameter : Rule ℕ
@@ -63,7 +64,7 @@ name_by (Some star) = fault_at 4 star
 
 abbrev pub number : Rule Affine
 number i =
-    if is_integer (spelling i) then (if nat_lt (value_from 0 (spelling i)) (2 ^ 20) then Ok (one_number (pos (value_from 0 (spelling i))), next i) else fault 11 i)
+    if is_integer (spelling i) then (if nat_lt (value_from 0 (spelling i)) NUMBER_SIZE then Ok (one_number (pos (value_from 0 (spelling i))), next i) else fault 11 i)
     else fault 4 i
 
 -- a factor without its signs

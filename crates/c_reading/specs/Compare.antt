@@ -6,13 +6,14 @@ use Rattle.c_reading.specs.declared.compare.Comparison.TheVariants.{AtLeast, Abo
 use Rattle.c_reading.specs.Input.{Input, Rule, ◌>>=◌, ◌>>◌, pure, given, fault_at, pass, sees, place}
 use Rattle.c_reading.specs.Numbers.{combined}
 use Rattle.c_reading.specs.Affine.{Affine, affine, refusal_after}
+use Rattle.iolb_model.specs.declared.limits.TheConstants.{ASSUMPTIONS, BRACKETS}
 
 -- how many brackets may be open at once, and how many rows may be assumed
 abbrev pub most_brackets : ℕ
-most_brackets = 64
+most_brackets = BRACKETS
 
 abbrev pub most_rows : ℕ
-most_rows = 32
+most_rows = ASSUMPTIONS
 
 abbrev pub Rows : Type 0
 Rows = List (List ℤ)

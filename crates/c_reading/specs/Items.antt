@@ -15,10 +15,11 @@ use Rattle.c_reading.specs.Numbers.{most_loops, combined, zeros}
 use Rattle.c_reading.specs.Affine.{affine, closed_by, number_of, kind_of, with_name, is_short}
 use Rattle.c_reading.specs.Refs.{access, with_kind}
 use Rattle.c_reading.specs.Values.{Accesses, expect, open_bracket, value}
+use Rattle.iolb_model.specs.declared.limits.TheConstants.{STATEMENTS}
 
 -- how many statements there may be
 abbrev pub most_statements : ℕ
-most_statements = 32
+most_statements = STATEMENTS
 
 -- one line more
 unfoldable pub with_line : Line → Input → Input

@@ -1,22 +1,23 @@
--- The numbers of affine expressions over all variables that a text may have: the constant, the coefficients of six
--- parameters, and those of four loops, outermost first.
-use Rattle.std.specs.Prelude.{◌≡◌, ◌++◌, ℕ, ◌+◌, ◌*◌, ◌-◌, ◌^◌, ◌==◌, ◌&&◌, nat_lt, Bool, true, false, not, if◌then◌else◌, ℤ, pos, ◌+ℤ◌, ◌-ℤ◌, ◌*ℤ◌, unsigned_abs, List, [], ◌∷◌, replicate, slice_set, min, Option, Some, None, option_map}
+-- The numbers of affine expressions over all variables that a text may have: the constant, the coefficients of the
+-- parameters, and those of the loops around, outermost first.
+use Rattle.std.specs.Prelude.{◌≡◌, ◌++◌, ℕ, ◌+◌, ◌*◌, ◌-◌, ◌==◌, ◌&&◌, nat_lt, Bool, true, false, not, if◌then◌else◌, ℤ, pos, ◌+ℤ◌, ◌-ℤ◌, ◌*ℤ◌, unsigned_abs, List, [], ◌∷◌, replicate, slice_set, min, Option, Some, None, option_map}
 use Rattle.std.specs.List.{list_all}
 use Rattle.c_tokens.specs.Bytes.{is_digit}
+use Rattle.iolb_model.specs.declared.limits.TheConstants.{LOOPS, PARAMETERS, NUMBER_SIZE}
 
 -- how many parameters and how many loops around a statement there may be
 abbrev pub most_parameters : ℕ
-most_parameters = 6
+most_parameters = PARAMETERS
 
 abbrev pub most_loops : ℕ
-most_loops = 4
+most_loops = LOOPS
 
 abbrev pub width : ℕ
-width = 11
+width = 1 + PARAMETERS + LOOPS
 
 -- numbers of texts are of size below 2^20
 abbrev pub is_small : ℤ → Bool
-is_small n = nat_lt (unsigned_abs n) (2 ^ 20)
+is_small n = nat_lt (unsigned_abs n) NUMBER_SIZE
 
 -- the numbers of one variable, or of a constant
 abbrev pub single : ℕ → ℤ → List ℤ
@@ -27,7 +28,7 @@ abbrev pub parameter_slot : ℕ → ℕ
 parameter_slot k = 1 + k
 
 abbrev pub loop_slot : ℕ → ℕ
-loop_slot depth = 7 + depth
+loop_slot depth = 1 + PARAMETERS + depth
 
 abbrev pub if_small : ℤ → Option ℤ
 if_small n = if is_small n then Some n else None
@@ -72,7 +73,7 @@ constant_of (x ∷ xs) = x
 -- the value of digits behind this one, up to the first that isn't small
 abbrev pub value_from : ℕ → List ℕ → ℕ
 value_from n [] = n
-value_from n (b ∷ bytes) = value_from (min (10 * n + (b - 48)) (2 ^ 20)) bytes
+value_from n (b ∷ bytes) = value_from (min (10 * n + (b - 48)) NUMBER_SIZE) bytes
 
 -- digits alone, without a leading 0 unless it is 0
 abbrev pub is_integer : List ℕ → Bool

@@ -6,13 +6,14 @@ use Rattle.c_reading.specs.declared.refs.Seen.{Seen}
 use Rattle.c_reading.specs.Access.{Access}
 use Rattle.c_reading.specs.Input.{Input, Rule, ◌>>=◌, ◌>>◌, pure, fault, fault_at, pass, refuse, sees, spelling, place, next, left}
 use Rattle.c_reading.specs.Affine.{affine, closed_by, kind_of, with_name, is_short}
+use Rattle.iolb_model.specs.declared.limits.TheConstants.{ARRAYS, SUBSCRIPTS}
 
 -- how many arrays, and how many subscripts there may be
 abbrev pub most_arrays : ℕ
-most_arrays = 128
+most_arrays = ARRAYS
 
 abbrev pub most_subscripts : ℕ
-most_subscripts = 4
+most_subscripts = SUBSCRIPTS
 
 -- a new name, which becomes an array, where it has 1 to 64 bytes and there aren't too many
 unfoldable pub new_array : Rule Seen

@@ -7,10 +7,11 @@ use Rattle.c_reading.specs.Input.{Input, Rule, ◌>>=◌, ◌>>◌, pure, fault,
 use Rattle.c_reading.specs.Input as input
 use Rattle.c_reading.specs.Affine.{kind_of, is_short, all_signs}
 use Rattle.c_reading.specs.Refs.{access}
+use Rattle.iolb_model.specs.declared.limits.TheConstants.{READS}
 
 -- how many references a statement may read
 abbrev pub most_reads : ℕ
-most_reads = 32
+most_reads = READS
 
 abbrev pub Accesses : Type 0
 Accesses = List Access

@@ -11,6 +11,7 @@ use crate::lines::Row;
 use crate::named::Kind;
 use crate::numbers::{combined, constant_of, is_integer, single, value, zeros};
 use c_tokens::TokenKind;
+use iolb_model::limits::NUMBER_SIZE;
 use std::alloc::{AllocError, Global};
 use std::marker::Model;
 
@@ -209,7 +210,7 @@ impl<'a> Reader<'a> {
             return Err(self.fault(4));
         }
         let n = value(digits);
-        if n >= 1 << 20 {
+        if u128::from(n) >= NUMBER_SIZE {
             return Err(self.fault(11));
         }
         let number = Affine::one_number(self.alloc(), n as i32)?;

@@ -10,14 +10,12 @@ use crate::input::Reader;
 use crate::lines::Row;
 use crate::numbers::combined;
 use crate::rows::Rows;
+use iolb_model::limits::{ASSUMPTIONS, BRACKETS};
 use std::alloc::Global;
 use std::marker::Model;
 
 /// How many brackets may be open at once.
-pub(crate) const MOST_BRACKETS: u8 = 64;
-
-/// How many rows may be assumed.
-const MOST_ROWS: usize = 32;
+pub(crate) const MOST_BRACKETS: u8 = BRACKETS;
 
 /// How two expressions are compared.
 #[derive(Clone, Copy, Debug, PartialEq, Eq)]
@@ -137,7 +135,7 @@ impl<'a> Reader<'a> {
         let Some(comparison) = self.comparison() else {
             return Err(ReadError::Fault(self.refusal_after(a)));
         };
-        if count.saturating_add(row_count(comparison)) > MOST_ROWS {
+        if count.saturating_add(row_count(comparison)) > ASSUMPTIONS {
             return Err(ReadError::Fault(ReadFault {
                 number: 10,
                 place: start,

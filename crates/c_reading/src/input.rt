@@ -7,6 +7,7 @@ ghost use Rattle.c_reading.specs.Refs.{with_kind};
 ghost use Rattle.c_reading.specs.Items.{with_line};
 ghost use Rattle.c_reading.specs.Text.{start_of};
 ghost use Rattle.c_reading.specs.Affine.{number_of, kind_of, with_name, is_short, new_parameter, slot};
+ghost use Rattle.iolb_model.specs.declared.limits.TheConstants.{NAME_BYTES};
 
 use crate::error::{ReadError, ReadFault};
 use crate::lines::Line;
@@ -15,6 +16,7 @@ use crate::rows::Rows;
 use crate::seen::Names;
 use crate::text::Reading;
 use c_tokens::{Token, TokenKind};
+use iolb_model::limits::{NAME_BYTES, PARAMETERS};
 use std::alloc::Global;
 use std::marker::Model;
 
@@ -68,11 +70,11 @@ fn front(bytes: &[u8], count: usize) -> &[u8]
     bytes.get(..count).unwrap_or(bytes)
 }
 
-/// Whether a name has 1 to 64 bytes.
+/// Whether a name has a byte, and not too many.
 pub(crate) fn is_short(name: &[u8]) -> bool
     ensures { result ≡ is_short name.now }
 {
-    !name.is_empty() && name.len() <= 64
+    !name.is_empty() && name.len() <= NAME_BYTES
 }
 
 impl<'a> Reader<'a> {
@@ -212,7 +214,7 @@ impl<'a> Reader<'a> {
     #[tactic(auto, unfolding(crate::specs::Affine::with_name))]
     pub fn add_name(&mut self, name: &'a [u8], kind: Kind) -> Result<(), ReadError>
         requires some { 1 ≤ length name.now }
-        requires few { length name.now ≤ 64 }
+        requires few { length name.now ≤ NAME_BYTES }
         ensures added { OnOk result (self.new ≡ with_name name.now kind self.old) }
         ensures memory { IfErr result (λ e. e ≡ ReadError.Memory) }
     {
@@ -289,7 +291,7 @@ impl<'a> Reader<'a> {
         ensures { Reads (new_parameter self.old) result self.new }
     {
         let name = self.spelling();
-        if !is_short(name) || self.parameters >= 6 {
+        if !is_short(name) || usize::from(self.parameters) >= PARAMETERS {
             return Err(self.fault(10));
         }
         let k = self.parameters;
@@ -312,7 +314,7 @@ impl<'a> Reader<'a> {
             }
             Some(Kind::OpenLoop(depth)) => {
                 self.pass();
-                Ok(7 + usize::from(depth))
+                Ok(1 + PARAMETERS + usize::from(depth))
             }
             Some(Kind::ClosedLoop | Kind::Array(_, _)) => Err(self.fault(6)),
         }

@@ -3,6 +3,7 @@
 ghost use Rattle.std.specs.Prelude.{◌≡◌, ◌≤◌, IfOk, IfErr};
 ghost use Rattle.c_reading.specs.Input.{Reads};
 ghost use Rattle.c_reading.specs.Items as spec;
+ghost use Rattle.iolb_model.specs.declared.limits.TheConstants.{LOOPS};
 
 use crate::compare::MOST_BRACKETS;
 use crate::error::ReadError;
@@ -11,12 +12,10 @@ use crate::lines::{Access, Line, Loop, Statement};
 use crate::named::Kind;
 use crate::values::Accesses;
 use c_tokens::TokenKind;
-
-/// How many statements there may be.
-const MOST_STATEMENTS: u8 = 32;
+use iolb_model::limits::{LOOPS, STATEMENTS};
 
 /// How many loops there may be around a statement.
-const MOST_LOOPS: u8 = 4;
+const MOST_LOOPS: u8 = LOOPS as u8;
 
 /// Whether a name of this kind may be written.
 fn is_array(kind: Option<Kind>) -> bool
@@ -92,7 +91,7 @@ impl<'a> Reader<'a> {
             return Err(self.fault(6));
         }
         let count = self.statements();
-        if count >= MOST_STATEMENTS {
+        if usize::from(count) >= STATEMENTS {
             return Err(self.fault(10));
         }
         self.assign(brackets)?;
@@ -134,7 +133,7 @@ impl<'a> Reader<'a> {
     /// A loop, where so many loops and brackets may still be opened.
     #[cycle(item)]
     fn for_loop(&mut self, loops: u8, brackets: u8) -> Result<(), ReadError>
-        requires { loops ≤ 4 }
+        requires { loops ≤ LOOPS }
         ensures { Reads (spec.loops loops brackets self.old) result self.new }
     {
         if loops == 0 {
@@ -151,7 +150,7 @@ impl<'a> Reader<'a> {
     /// Items up to the bracket that closes their block, behind the one that opens it.
     #[cycle(item)]
     fn block_items(&mut self, loops: u8, brackets: u8) -> Result<(), ReadError>
-        requires { loops ≤ 4 }
+        requires { loops ≤ LOOPS }
         ensures { Reads (spec.all_block_items (spec.item loops brackets) self.old) result self.new }
     {
         for _turn in 0..self.left() {
@@ -167,7 +166,7 @@ impl<'a> Reader<'a> {
     /// A block, where so many loops and brackets may still be opened.
     #[cycle(item)]
     fn block(&mut self, loops: u8, brackets: u8) -> Result<(), ReadError>
-        requires { loops ≤ 4 }
+        requires { loops ≤ LOOPS }
         ensures { Reads (spec.block (spec.loops loops) brackets self.old) result self.new }
     {
         if brackets == 0 {
@@ -180,7 +179,7 @@ impl<'a> Reader<'a> {
     /// An item, where so many loops and brackets may still be opened.
     #[cycle(item)]
     fn item(&mut self, loops: u8, brackets: u8) -> Result<(), ReadError>
-        requires { loops ≤ 4 }
+        requires { loops ≤ LOOPS }
         ensures { Reads (spec.item loops brackets self.old) result self.new }
     {
         if self.sees(b";") {

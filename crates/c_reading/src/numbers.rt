@@ -4,14 +4,13 @@ ghost use Rattle.std.specs.Prelude.{◌≡◌, ◌≤◌, ◌^◌, ◌+ℤ◌, �
 ghost use Rattle.std.specs.List.{list_all};
 ghost use Rattle.c_tokens.specs.Bytes.{is_digit};
 ghost use Rattle.c_reading.specs.Numbers.{if_small, single, zeros, small_number, plus_times, pushed, combined, constant_of, value_from, is_integer};
+ghost use Rattle.iolb_model.specs.declared.limits.TheConstants.{NUMBER_SIZE};
 
+use iolb_model::limits::{LOOPS, NUMBER_SIZE, PARAMETERS};
 use std::alloc::{AllocError, Global};
 
 /// How many numbers an expression has.
-const WIDTH: usize = 11;
-
-/// Numbers of texts are of size below this.
-const LIMIT: u64 = 1 << 20;
+const WIDTH: usize = 1 + PARAMETERS + LOOPS;
 
 /// The numbers of one variable, or of a constant.
 pub(crate) fn single(alloc: Global, slot: usize, n: i32) -> Result<Vec<i32>, AllocError>
@@ -52,7 +51,7 @@ fn offset(x: i32, product: i64, less: i32) -> i64
 fn if_small(n: i64) -> Option<i32>
     ensures { result ≡ if_small n }
 {
-    if n.unsigned_abs() < LIMIT {
+    if u128::from(n.unsigned_abs()) < NUMBER_SIZE {
         Some(n as i32)
     } else {
         None
@@ -160,11 +159,11 @@ pub(crate) fn is_integer(bytes: &[u8]) -> bool
 /// The value of digits, or a number that isn't small.
 pub(crate) fn value(bytes: &[u8]) -> u32
     ensures value { result ≡ value_from 0 bytes.now }
-    ensures limit { result ≤ 2 ^ 20 }
+    ensures limit { result ≤ NUMBER_SIZE }
 {
     let mut n: u32 = 0;
     for b in bytes {
-        n = (10 * n + u32::from(b.saturating_sub(b'0'))).min(1 << 20);
+        n = (10 * n + u32::from(b.saturating_sub(b'0'))).min(NUMBER_SIZE as u32);
     }
     n
 }

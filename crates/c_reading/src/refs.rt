@@ -9,12 +9,7 @@ use crate::input::{Reader, is_short};
 use crate::lines::{Access, Row};
 use crate::named::Kind;
 use crate::rows::Rows;
-
-/// How many arrays there may be.
-const MOST_ARRAYS: u16 = 128;
-
-/// How many subscripts a reference may have.
-const MOST_SUBSCRIPTS: usize = 4;
+use iolb_model::limits::{ARRAYS, SUBSCRIPTS};
 
 /// An array's name that was read: its number, and its subscripts where it was seen before.
 #[derive(Clone, Copy)]
@@ -31,7 +26,7 @@ impl<'a> Reader<'a> {
     {
         let name = self.spelling();
         let array = self.arrays();
-        if !is_short(name) || array >= MOST_ARRAYS {
+        if !is_short(name) || usize::from(array) >= ARRAYS {
             return Err(self.fault(10));
         }
         self.add_name(name, Kind::Array(array, 0))?;
@@ -84,7 +79,7 @@ impl<'a> Reader<'a> {
             if brackets == 0 {
                 return Err(self.fault(9));
             }
-            if rows.len() >= MOST_SUBSCRIPTS {
+            if rows.len() >= usize::from(SUBSCRIPTS) {
                 return Err(self.fault(10));
             }
             rows.push(self.subscript(brackets - 1)?)?;

@@ -1,6 +1,7 @@
 //! The names that were seen, numbered in the order of first sight.
 
 ghost use Rattle.std.specs.Prelude.{◌≡◌, ◌∷◌, ◌++◌, [], ◌≤◌, length, position, bytes_eq, OnOk, IfErr};
+ghost use Rattle.iolb_model.specs.declared.limits.TheConstants.{NAME_BYTES};
 
 use crate::error::ReadError;
 use affine_form::Name;
@@ -56,7 +57,7 @@ impl<'a> Names<'a> {
     /// One name more. One that was seen before keeps its first number.
     pub fn push(&mut self, name: &'a [u8]) -> Result<(), ReadError>
         requires some { 1 ≤ length name.now }
-        requires few { length name.now ≤ 64 }
+        requires few { length name.now ≤ NAME_BYTES }
         ensures added { OnOk result (self.new ≡ self.old ++ name.now ∷ []) }
         ensures memory { IfErr result (λ e. e ≡ ReadError.Memory) }
     {

@@ -10,11 +10,9 @@ use crate::input::{Reader, is_short};
 use crate::lines::Access;
 use crate::named::Kind;
 use c_tokens::TokenKind;
+use iolb_model::limits::READS;
 use std::alloc::{AllocError, Global};
 use std::marker::Model;
-
-/// How many references a statement may read.
-const MOST_READS: usize = 32;
 
 /// References in order.
 #[derive(Debug, Drop)]
@@ -106,7 +104,7 @@ impl<'a> Reader<'a> {
     fn one_read(&mut self, brackets: u8, reads: Accesses) -> Result<Accesses, ReadError>
         ensures { Reads (spec.one_read brackets reads self.old) result self.new }
     {
-        if reads.len() >= MOST_READS {
+        if reads.len() >= READS {
             return Err(self.fault(10));
         }
         let mut reads = reads;

@@ -38,7 +38,7 @@ pub(crate) fn is_name_start(b: u8) -> bool
 }
 
 /// A letter, a digit or `_`.
-fn is_name_byte(b: u8) -> bool
+pub(crate) fn is_name_byte(b: u8) -> bool
     ensures { result ≡ is_name_byte b }
 {
     is_name_start(b) || is_digit(b)

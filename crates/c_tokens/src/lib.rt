@@ -6,6 +6,7 @@ mod directives;
 mod error;
 mod law;
 mod lines;
+mod name;
 mod piece;
 mod scan;
 mod text;
@@ -14,5 +15,6 @@ mod words;
 
 pub use error::TokensError;
 pub use law::lines_are_compared;
+pub use name::is_name;
 pub use text::tokens;
 pub use token::{Token, TokenKind};

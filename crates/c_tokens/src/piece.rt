@@ -2,7 +2,7 @@
 
 ghost use Rattle.std.specs.Prelude.{◌≡◌, ◌≤◌, ◌+◌, length, map, bytes_eq, IfSome};
 ghost use Rattle.std.specs.List.{list_any, prefix_len};
-ghost use Rattle.c_tokens.specs.Pieces.{is_among, name_kind, name_at, has_first, has_digit, begins_number, number_rest, is_pair, begins_pair, symbol_at, ends_comment, comment_end, slash_at, newline_at, hash_line, has_comments, piece_of, IsWithin};
+ghost use Rattle.c_tokens.specs.Pieces.{is_among, is_keyword, name_kind, name_at, has_first, has_digit, begins_number, number_rest, is_pair, begins_pair, symbol_at, ends_comment, comment_end, slash_at, newline_at, hash_line, has_comments, piece_of, IsWithin};
 ghost use Rattle.c_tokens.specs.Bytes.{is_name_byte};
 
 use crate::bytes::{
@@ -70,11 +70,18 @@ fn is_one_of(words: &[&[u8]], word: &[u8]) -> bool
     false
 }
 
+/// Whether C keeps a word for itself.
+pub(crate) fn is_keyword(word: &[u8]) -> bool
+    ensures { result ≡ is_keyword word.now }
+{
+    is_one_of(&KEYWORDS, word)
+}
+
 /// A name, or a word that C keeps for itself.
 fn name_kind(word: &[u8]) -> TokenKind
     ensures { result ≡ name_kind word.now }
 {
-    if is_one_of(&KEYWORDS, word) {
+    if is_keyword(word) {
         TokenKind::Word
     } else {
         TokenKind::Name

@@ -1,6 +1,6 @@
 -- Reading the members of a list one after the other, where what is read stands in a relation to what the text says.
 use Rattle.std.proofs.Common.{◌≡◌, ℕ, ◌+◌, ◌<◌, ◌≤◌, List, [], ◌∷◌, ◌++◌, length, drop, map, get_or, Ok, ◌∙◌}
-use Rattle.affine_form.specs.declared.place.Step.TheVariants.{Index}
+use Rattle.claims.specs.declared.place.Step.TheVariants.{Index}
 use Rattle.serde_json.specs.Data.{Data}
 use Rattle.serde_json.specs.View.{view}
 use Rattle.serde_json.specs.declared.value.Value.{Value}
@@ -21,10 +21,6 @@ AreAll-push R [] [] a x all here = (here, tt)
 AreAll-push R [] (y ∷ found) a x all here = absurd all
 AreAll-push R (b ∷ front) [] a x all here = absurd all
 AreAll-push R (b ∷ front) (y ∷ found) a x all here = (all.0, AreAll-push R front found a x all.1 here)
-
-pub begins_by : {A X : Type 0} (R : A → X → Type 0) (reader : Data → Outcome A) (values : List Value) (total : Outcome (List A))
-    → each reader 0 (map view values) ≡ total → SoFar R reader values 0 [] total
-begins_by R reader values total is = record { front = []; left = with_nothing (each reader 0 (map view values)) ∙ is; holds = tt }
 
 pub goes_on_by : {A X : Type 0} (R : A → X → Type 0) (reader : Data → Outcome A) (values : List Value) (i : ℕ) (found : List X) (total : Outcome (List A)) (value : Value) (x : X)
     → i < length values → value ≡ get_or values i value → ((a : A) × (reader (view value) ≡ Ok a) × R a x)

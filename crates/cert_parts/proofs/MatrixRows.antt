@@ -1,16 +1,18 @@
 -- Matrices by their rows.
-use Rattle.std.proofs.Common.{◌≡◌, ℕ, suc, ◌+◌, ◌*◌, ◌≤◌, ◌^◌, List, [], ◌∷◌, ◌++◌, length, map, Ok, Err, Vec, Global, refl, sym, ap, ◌∙◌, arith}
+use Rattle.std.proofs.Common.{◌≡◌, ℕ, suc, ◌+◌, ◌*◌, ◌≤◌, List, [], ◌∷◌, ◌++◌, length, map, Ok, Err, Vec, Global, refl, sym, ap, ◌∙◌, arith}
 use Rattle.std.specs.Prelude.{ℤ}
 use Rattle.std.specs.List.{AllByRecursion}
 use Rattle.std.proofs.lemmas.List.{length-append, nil_from_length}
+use Rattle.base_laws.proofs.Lists.{All-append}
 use Rattle.affine_form.specs.Form.{IsSmall}
 use Rattle.affine_form.specs.Matrix.{HasShape}
-use Rattle.affine_form.specs.declared.place.Step.TheVariants.{Index}
+use Rattle.claims.specs.declared.place.Step.TheVariants.{Index}
 use Rattle.serde_json.specs.Data.{Data}
 use Rattle.cert_parts.specs.Outcome.{Outcome, ◌>>=◌, under}
 use Rattle.cert_parts.specs.Json.{each}
 use Rattle.cert_parts.specs.Parts.{all_entries, columns_of}
 use Rattle.cert_parts.specs.Rows.{row_items, IsRow}
+use Rattle.iolb_model.specs.declared.limits.TheConstants.{NUMBER_SIZE}
 
 -- the value of a step that didn't fail
 pub bind_ok : {A B : Type 0} (r : Outcome A) (f : A → Outcome B) (b : B) → (r >>= f) ≡ Ok b → (a : A) × (r ≡ Ok a) × (f a ≡ Ok b)
@@ -36,14 +38,10 @@ full columns (row ∷ rows) all =
     length-append row.items (all_entries (map row_items rows)) ∙ ap (λ (n : ℕ). n + length (all_entries (map row_items rows))) all.0.all
     ∙ ap (λ (n : ℕ). columns + n) (full columns rows all.1) ∙ omega arith
 
-All-append : (P : ℤ → Type 0) (xs ys : List ℤ) → AllByRecursion P xs → AllByRecursion P ys → AllByRecursion P (xs ++ ys)
-All-append P [] ys all more = more
-All-append P (x ∷ xs) ys all more = (all.0, All-append P xs ys all.1 more)
-
 -- the entries of the rows are small
-pub entries_small : (columns : ℕ) (rows : List (Vec ℤ Global)) → AllByRecursion (IsRow columns) rows → AllByRecursion (IsSmall (2 ^ 20)) (all_entries (map row_items rows))
+pub entries_small : (columns : ℕ) (rows : List (Vec ℤ Global)) → AllByRecursion (IsRow columns) rows → AllByRecursion (IsSmall NUMBER_SIZE) (all_entries (map row_items rows))
 entries_small columns [] all = tt
-entries_small columns (row ∷ rows) all = All-append (IsSmall (2 ^ 20)) row.items (all_entries (map row_items rows)) all.0.small (entries_small columns rows all.1)
+entries_small columns (row ∷ rows) all = All-append (IsSmall NUMBER_SIZE) row.items (all_entries (map row_items rows)) all.0.small (entries_small columns rows all.1)
 
 few : (columns : ℕ) (rows : List (Vec ℤ Global)) → AllByRecursion (IsRow columns) rows → (length rows ≡ 0 → columns ≡ 0) → columns ≤ 6
 few columns [] all none = omega (arith, none refl)

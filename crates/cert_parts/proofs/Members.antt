@@ -1,13 +1,14 @@
 -- Members of objects, and what follows where reading them fails.
-use Rattle.std.proofs.Common.{◌≡◌, ℕ, List, [], None, Some, Err, sym, ap, ◌∙◌}
-use Rattle.affine_form.specs.declared.place.Step.{Step}
-use Rattle.affine_form.specs.declared.place.Step.TheVariants.{Key}
+use Rattle.std.proofs.Common.{◌≡◌, ℕ, List, [], None, Some, Ok, Err, sym, ap, subst, ◌∙◌}
+use Rattle.std.specs.Prelude.{Result, IsErr, IsErrAnd}
+use Rattle.claims.specs.declared.place.Step.{Step}
+use Rattle.claims.specs.declared.place.Step.TheVariants.{Key}
 use Rattle.serde_json.specs.Data.{Data}
 use Rattle.serde_json.specs.Find.{get}
 use Rattle.cert_parts.specs.declared.error.CertFault.{CertFault}
 use Rattle.cert_parts.specs.declared.error.CertError.{CertError}
 use Rattle.cert_parts.specs.declared.error.CertError.TheVariants.{Fault, Memory}
-use Rattle.cert_parts.specs.Outcome.{Outcome, ◌>>=◌, fault, under, Fails, IsFault, IsUnder}
+use Rattle.cert_parts.specs.Outcome.{Outcome, ◌>>=◌, fault, under, Fails, Gives, GivesBy, IsFault, IsUnder}
 use Rattle.cert_parts.specs.Json.{part, read_member}
 
 pub part_there : {A : Type 0} (name : List ℕ) (number : ℕ) (reader : Data → Outcome A) (d v : Data) → Some v ≡ get name d → part name number reader d ≡ under (Key number) (reader v)
@@ -32,3 +33,8 @@ fails_under step (Fault f) (Fault g) read seen fails = ap (under step) fails ∙
 pub fails_then : {A B : Type 0} (e : CertError) (read : Outcome A) (f : A → Outcome B) → Fails e read → Fails e (read >>= f)
 fails_then Memory read f fails = tt
 fails_then (Fault g) read f fails = ap (λ r. r >>= f) fails
+
+-- an error that is handed on
+pub hands_on : {A X : Type 0} (view : X → A) (r : Result X CertError) (e : CertError) (read : Outcome A) → IsErr r × IsErrAnd r (λ e'. e' ≡ e) → Fails e read → Gives view r read
+hands_on view (Ok x) e read handed fails = absurd handed.1
+hands_on view (Err e') e read handed fails = subst (λ (f : CertError). Fails f read) (sym handed.1) fails

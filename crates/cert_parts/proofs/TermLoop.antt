@@ -1,14 +1,14 @@
 -- Reading the terms of a polynomial one after the other.
 use Rattle.std.proofs.Common.{◌≡◌, ℕ, suc, ◌+◌, ◌<◌, ◌≤◌, Bool, true, false, bytes_eq, List, [], ◌∷◌, ◌++◌, length, drop, map, get_or, Ok, Err, refl, sym, ap, ◌∙◌, arith}
 use Rattle.std.specs.Prelude.{◌&&◌, ◌==◌, not, ◌≢◌}
-use Rattle.std.specs.List.{AllByRecursion}
 use Rattle.std.proofs.Math.ListN.{drop_of_length-le}
 use Rattle.std.proofs.lemmas.List.{append-nil}
-use Rattle.std.proofs.lemmas.Bool.{eqb-true, false≢true}
+use Rattle.std.proofs.lemmas.Bool.{and_parts, eqb-true, false≢true}
 use Rattle.std.proofs.lemmas.Slice.Eq.{bytes_eq-Decides}
 use Rattle.std.specs.Bool.{Decides}
+use Rattle.base_laws.proofs.Lists.{All-push}
 use Rattle.iolb_model.specs.Polynomial.{Term}
-use Rattle.affine_form.specs.declared.place.Step.TheVariants.{Index}
+use Rattle.claims.specs.declared.place.Step.TheVariants.{Index}
 use Rattle.poly_tree.specs.Terms.{AreApart}
 use Rattle.serde_json.specs.Data.{Data}
 use Rattle.serde_json.specs.View.{view}
@@ -56,14 +56,6 @@ is_done front values i total le so_far =
 
 -- ---- terms that stand apart
 
-and_left : (a b : Bool) → (a && b) ≡ true → a ≡ true
-and_left true b e = refl
-and_left false b e = absurd cc
-
-and_right : (a b : Bool) → (a && b) ≡ true → b ≡ true
-and_right true b e = e
-and_right false b e = absurd cc
-
 others : (es fs : List ℕ) → not (bytes_eq es fs) ≡ true → fs ≢ es
 others es fs e same = differs (bytes_eq es fs) (bytes_eq-Decides es fs) e (sym same) where
   differs : (b : Bool) → Decides b (es ≡ fs) → not b ≡ true → es ≡ fs → ⊥
@@ -77,12 +69,7 @@ AreApart-push (first ∷ terms) term apart test =
     let A : Bool = length first.exponents == length term.exponents in
     let B : Bool = not (bytes_eq first.exponents term.exponents) in
     let C : Bool = stands_apart terms term.exponents in
-    let both : (A && B) ≡ true = and_left (A && B) C test in
-    let many : A ≡ true = and_left A B both in
-    let differ : B ≡ true = and_right A B both in
-    let rest : C ≡ true = and_right (A && B) C test in
+    let all = and_parts (A && B) C test in
+    let both = and_parts A B all.0 in
     let P : Term → Type 0 = λ later. (length later.exponents ≡ length first.exponents) × (later.exponents ≢ first.exponents) in
-    (pushed P terms apart.0 (sym (eqb-true _ _ many), others first.exponents term.exponents differ), AreApart-push terms term apart.1 rest) where
-      pushed : (P : Term → Type 0) (ts : List Term) → AllByRecursion P ts → P term → AllByRecursion P (ts ++ term ∷ [])
-      pushed P [] all here = (here, tt)
-      pushed P (t ∷ ts) all here = (all.0, pushed P ts all.1 here)
+    (All-push P terms term apart.0 (sym (eqb-true _ _ both.0), others first.exponents term.exponents both.1), AreApart-push terms term apart.1 all.1)

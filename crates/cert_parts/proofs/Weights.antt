@@ -1,12 +1,13 @@
 -- Reading the weights of multipliers one after the other, and whether their rows rise.
-use Rattle.std.proofs.Common.{◌≡◌, ℕ, suc, ◌+◌, ◌-◌, ◌^◌, ◌<◌, ◌≤◌, List, [], ◌∷◌, ◌++◌, length, drop, map, get_or, Ok, Err, refl, sym, ap, subst, leb, ◌∙◌, arith}
+use Rattle.std.proofs.Common.{◌≡◌, ℕ, suc, ◌+◌, ◌-◌, ◌<◌, ◌≤◌, List, [], ◌∷◌, ◌++◌, length, drop, map, get_or, Ok, Err, refl, sym, ap, subst, leb, ◌∙◌, arith}
 use Rattle.std.proofs.Math.ListN.{drop_of_length-le}
 use Rattle.std.proofs.lemmas.List.{append-nil, length-map, length-drop}
-use Rattle.std.proofs.lemmas.Bool.{leb-true}
+use Rattle.std.proofs.lemmas.Bool.{and_parts, leb-true}
 use Rattle.std.specs.Prelude.{◌&&◌, Bool, true, false}
 use Rattle.std.specs.List.{AllByRecursion}
+use Rattle.base_laws.proofs.Lists.{All-weaken}
 use Rattle.affine_form.specs.Multipliers.{RowsRise}
-use Rattle.affine_form.specs.declared.place.Step.TheVariants.{Index}
+use Rattle.claims.specs.declared.place.Step.TheVariants.{Index}
 use Rattle.serde_json.specs.Data.{Data}
 use Rattle.serde_json.specs.View.{view}
 use Rattle.serde_json.specs.declared.value.Value.{Value}
@@ -16,6 +17,7 @@ use Rattle.cert_parts.specs.Outcome.{Outcome, under, Fails}
 use Rattle.cert_parts.specs.Json.{reads_natural}
 use Rattle.cert_parts.specs.Parts.{reads_weights, rise_from}
 use Rattle.cert_parts.proofs.Loop.{with_front, regroup, next}
+use Rattle.iolb_model.specs.declared.limits.TheConstants.{MULTIPLIER_SIZE}
 
 abbrev Weights : Type 0
 Weights = List (ℕ × ℕ)
@@ -33,7 +35,7 @@ left front values i = with_front front (reads_weights (i + 2) (map view (drop i 
 -- the loop goes on behind a weight that was read
 pub goes_on : (front : Weights) (values : List Value) (i : ℕ) (a b : Value) (row multiplier : ℕ) (total : Outcome Weights)
     → i + 1 < length values → a ≡ get_or values i a → b ≡ get_or values (i + 1) b
-    → under (Index (i + 2)) (reads_natural 0 127 (view a)) ≡ Ok row → under (Index (i + 3)) (reads_natural 1 (2 ^ 48 - 1) (view b)) ≡ Ok multiplier
+    → under (Index (i + 2)) (reads_natural 0 127 (view a)) ≡ Ok row → under (Index (i + 3)) (reads_natural 1 (MULTIPLIER_SIZE - 1) (view b)) ≡ Ok multiplier
     → left front values i ≡ total → left (front ++ (row, multiplier) ∷ []) values (i + 2) ≡ total
 unfolding reads_weights
 goes_on front values i a b row multiplier total lt is is' read read' so_far =
@@ -64,7 +66,7 @@ ends_first front values i a e total lt is read so_far =
 -- it ends at a multiplier that isn't read
 pub ends_second : (front : Weights) (values : List Value) (i : ℕ) (a b : Value) (row : ℕ) (e : CertError) (total : Outcome Weights)
     → i + 1 < length values → a ≡ get_or values i a → b ≡ get_or values (i + 1) b
-    → under (Index (i + 2)) (reads_natural 0 127 (view a)) ≡ Ok row → Fails e (under (Index (i + 3)) (reads_natural 1 (2 ^ 48 - 1) (view b)))
+    → under (Index (i + 2)) (reads_natural 0 127 (view a)) ≡ Ok row → Fails e (under (Index (i + 3)) (reads_natural 1 (MULTIPLIER_SIZE - 1) (view b)))
     → left front values i ≡ total → Fails e total
 unfolding reads_weights
 ends_second front values i a b row Memory total lt is is' read read' so_far = tt
@@ -84,21 +86,13 @@ is_done front values i total le so_far =
 
 -- ---- rows that rise
 
-and_left : (a b : Bool) → (a && b) ≡ true → a ≡ true
-and_left true b e = refl
-and_left false b e = absurd cc
-
-and_right : (a b : Bool) → (a && b) ≡ true → b ≡ true
-and_right true b e = e
-and_right false b e = absurd cc
-
 -- rows from a number on, each behind the one before it, rise
 pub rise_is : (least : ℕ) (weights : Weights) → rise_from least weights ≡ true → AllByRecursion (λ (w : ℕ × ℕ). least ≤ w.0) weights × RowsRise weights
 rise_is least [] e = (tt, tt)
 rise_is least (w ∷ weights) e =
-    let here : least ≤ w.0 = leb-true least w.0 (and_left (leb least w.0) (rise_from (w.0 + 1) weights) e) in
-    let more = rise_is (w.0 + 1) weights (and_right (leb least w.0) (rise_from (w.0 + 1) weights) e) in
+    let both = and_parts (leb least w.0) (rise_from (w.0 + 1) weights) e in
+    let here : least ≤ w.0 = leb-true least w.0 both.0 in
+    let more = rise_is (w.0 + 1) weights both.1 in
     ((here, weaker (w.0 + 1) least weights (omega arith) more.0), (weaker (w.0 + 1) (suc w.0) weights (omega arith) more.0, more.1)) where
       weaker : (m n : ℕ) (ws : Weights) → n ≤ m → AllByRecursion (λ (w : ℕ × ℕ). m ≤ w.0) ws → AllByRecursion (λ (w : ℕ × ℕ). n ≤ w.0) ws
-      weaker m n [] le all = tt
-      weaker m n (v ∷ ws) le all = (omega (arith, all.0), weaker m n ws le all.1)
+      weaker m n ws le = All-weaken (λ (w : ℕ × ℕ). m ≤ w.0) (λ (w : ℕ × ℕ). n ≤ w.0) ws (λ w h. omega arith)

@@ -1,7 +1,7 @@
 -- Looking into JSON values.
 use Rattle.std.specs.Prelude.{ℕ, suc, ◌&&◌, ℤ, pos, negsuc, unsigned_abs, List, [], ◌∷◌, length, Bool, true, false, ◌==◌, is_some, nat_lt, nat_le, if◌then◌else◌, Option, Some, None, option_map, option_and_then, Ok}
-use Rattle.affine_form.specs.declared.place.Step.{Step}
-use Rattle.affine_form.specs.declared.place.Step.TheVariants.{Key, Index}
+use Rattle.claims.specs.declared.place.Step.{Step}
+use Rattle.claims.specs.declared.place.Step.TheVariants.{Key, Index}
 use Rattle.serde_json.specs.Data.{Data, Items, no_items, item, Members, no_members, member}
 use Rattle.serde_json.specs.Find.{get, as_array, as_object, as_number, as_integer}
 use Rattle.cert_parts.specs.Outcome.{Outcome, ◌>>=◌, fault, under}

@@ -1,6 +1,6 @@
 -- The texts of claims at the leaves of source trees.
 use Rattle.std.specs.Prelude.{List, [], ◌∷◌, if◌then◌else◌, codes, Ok}
-use Rattle.affine_form.specs.declared.key.TheConstants.{ARRIVE, CREDIT, EMPTY, LABEL, ROWS, STOP}
+use Rattle.claims.specs.declared.key.TheConstants.{ARRIVE, CREDIT, EMPTY, LABEL, ROWS, STOP}
 use Rattle.reuse_paths.specs.LeafClaims.{LeafClaim, no_point, stops, is_credited, goes_on, arrives}
 use Rattle.serde_json.specs.Data.{Data}
 use Rattle.cert_parts.specs.Outcome.{Outcome, ◌>>=◌, fault}

@@ -1,7 +1,7 @@
 -- The texts of nests.
 use Rattle.std.specs.Prelude.{List, [], ◌∷◌, Ok}
 use Rattle.iolb_model.specs.Form.{AffineForm}
-use Rattle.affine_form.specs.declared.place.Step.TheVariants.{Index}
+use Rattle.claims.specs.declared.place.Step.TheVariants.{Index}
 use Rattle.serde_json.specs.Data.{Data}
 use Rattle.cert_parts.specs.Outcome.{Outcome, ◌>>=◌, fault, under}
 use Rattle.cert_parts.specs.Json.{reads_list, reads_short_list, each}

@@ -1,6 +1,6 @@
 -- What reading gives: a value, or the first fault, its place as steps from the value that is read.
 use Rattle.std.specs.Prelude.{◌≡◌, ⊤, ℕ, [], ◌∷◌, Result, Ok, Err}
-use Rattle.affine_form.specs.declared.place.Step.{Step}
+use Rattle.claims.specs.declared.place.Step.{Step}
 use Rattle.cert_parts.specs.declared.error.CertFault.{CertFault}
 use Rattle.cert_parts.specs.declared.error.CertError.{CertError}
 use Rattle.cert_parts.specs.declared.error.CertError.TheVariants.{Fault, Memory}

@@ -1,12 +1,13 @@
 -- The texts of forms, multipliers and matrices.
-use Rattle.std.specs.Prelude.{ℕ, ◌+◌, ◌-◌, ◌^◌, ◌%◌, ◌==◌, ◌&&◌, ℤ, List, [], ◌∷◌, ◌++◌, length, Bool, true, nat_le, if◌then◌else◌, Option, None, Some, Ok}
+use Rattle.std.specs.Prelude.{ℕ, ◌+◌, ◌-◌, ◌%◌, ◌==◌, ◌&&◌, ℤ, List, [], ◌∷◌, ◌++◌, length, Bool, true, nat_le, if◌then◌else◌, Option, None, Some, Ok}
 use Rattle.iolb_model.specs.Form.{AffineForm}
 use Rattle.affine_form.specs.Matrix.{IntegerMatrix}
 use Rattle.affine_form.specs.Multipliers.{FarkasMultipliers}
-use Rattle.affine_form.specs.declared.place.Step.TheVariants.{Index}
+use Rattle.claims.specs.declared.place.Step.TheVariants.{Index}
 use Rattle.serde_json.specs.Data.{Data}
 use Rattle.cert_parts.specs.Outcome.{Outcome, ◌>>=◌, fault, under}
 use Rattle.cert_parts.specs.Json.{reads_list, reads_short_list, each, reads_integer, reads_natural, elements_of}
+use Rattle.iolb_model.specs.declared.limits.TheConstants.{NUMBER_SIZE, MULTIPLIER_SIZE}
 
 -- ---- forms: the coefficients, then the constant
 
@@ -23,7 +24,7 @@ form_in (number ∷ numbers) = Ok (form_of number numbers)
 unfoldable pub reads_form : Data → Outcome AffineForm
 reads_form d = do
   members ← reads_short_list 25 d
-  numbers ← each (reads_integer (2 ^ 20)) 0 members
+  numbers ← each (reads_integer NUMBER_SIZE) 0 members
   form_in numbers
 
 unfoldable pub reads_forms : Data → Outcome (List AffineForm)
@@ -42,15 +43,15 @@ reads_weights i [] = Ok []
 reads_weights i (d ∷ []) = fault 2
 reads_weights i (d ∷ e ∷ more) = do
   row ← under (Index i) (reads_natural 0 127 d)
-  multiplier ← under (Index (i + 1)) (reads_natural 1 (2 ^ 48 - 1) e)
+  multiplier ← under (Index (i + 1)) (reads_natural 1 (MULTIPLIER_SIZE - 1) e)
   weights ← reads_weights (i + 2) more
   Ok ((row, multiplier) ∷ weights)
 
 -- A scale of at least 1, a number beside the rows, and weights whose rows rise; all numbers are below 2^48.
 unfoldable pub multipliers_of : Data → Data → List Data → Outcome FarkasMultipliers
 multipliers_of d e more = do
-  scale ← under (Index 0) (reads_natural 1 (2 ^ 48 - 1) d)
-  rest ← under (Index 1) (reads_natural 0 (2 ^ 48 - 1) e)
+  scale ← under (Index 0) (reads_natural 1 (MULTIPLIER_SIZE - 1) d)
+  rest ← under (Index 1) (reads_natural 0 (MULTIPLIER_SIZE - 1) e)
   weights ← reads_weights 2 more
   if rise_from 0 weights then Ok (record { scale = scale; rest = rest; weights = weights }) else fault 2
 
@@ -72,7 +73,7 @@ reads_all_multipliers d = reads_list d >>= each reads_multipliers 0
 unfoldable pub reads_row : ℕ → Data → Outcome (List ℤ)
 reads_row columns d = do
   members ← reads_short_list 6 d
-  entries ← each (reads_integer (2 ^ 20)) 0 members
+  entries ← each (reads_integer NUMBER_SIZE) 0 members
   if length entries == columns then Ok entries else fault 2
 
 -- the entries of rows, one after the other

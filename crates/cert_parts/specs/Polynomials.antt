@@ -1,17 +1,18 @@
 -- The texts of polynomials.
-use Rattle.std.specs.Prelude.{ℕ, suc, ◌-◌, ◌^◌, ◌==◌, ◌&&◌, ℤ, List, [], ◌∷◌, ◌++◌, length, Bool, true, not, bytes_eq, unsigned_abs, nat_lt, if◌then◌else◌, codes, Ok}
+use Rattle.std.specs.Prelude.{ℕ, suc, ◌-◌, ◌==◌, ◌&&◌, ℤ, List, [], ◌∷◌, ◌++◌, length, Bool, true, not, bytes_eq, unsigned_abs, nat_lt, if◌then◌else◌, codes, Ok}
 use Rattle.iolb_model.specs.Polynomial.{Term, Polynomial}
-use Rattle.affine_form.specs.declared.place.Step.TheVariants.{Index}
-use Rattle.affine_form.specs.declared.key.TheConstants.{DEN, TERMS}
+use Rattle.claims.specs.declared.place.Step.TheVariants.{Index}
+use Rattle.claims.specs.declared.key.TheConstants.{DEN, TERMS}
 use Rattle.poly_tree.specs.Terms.{terms_size}
 use Rattle.serde_json.specs.Data.{Data}
 use Rattle.cert_parts.specs.Outcome.{Outcome, ◌>>=◌, fault, under}
 use Rattle.cert_parts.specs.Json.{with_keys, part, reads_list, reads_short_list, each, reads_integer, reads_natural}
+use Rattle.iolb_model.specs.declared.limits.TheConstants.{COEFFICIENT_SIZE, MEASURE}
 
 -- A coefficient: a whole number of size below 2^62, and not 0.
 unfoldable pub reads_coefficient : Data → Outcome ℤ
 reads_coefficient d = do
-  coefficient ← reads_integer (2 ^ 62) d
+  coefficient ← reads_integer COEFFICIENT_SIZE d
   if unsigned_abs coefficient == 0 then fault 2 else Ok coefficient
 
 -- A term: its coefficient, then the exponents of at most 24 variables, each at most 8.
@@ -52,7 +53,7 @@ reads_terms d = reads_list d >>= terms_from 0 []
 unfoldable pub reads_quotient : Data → Outcome Polynomial
 reads_quotient d = do
   object ← with_keys (codes "den" ∷ codes "terms" ∷ []) d
-  denominator ← part (codes "den") DEN (reads_natural 1 (2 ^ 62 - 1)) object
+  denominator ← part (codes "den") DEN (reads_natural 1 (COEFFICIENT_SIZE - 1)) object
   terms ← part (codes "terms") TERMS reads_terms object
   Ok (record { terms = terms; denominator = denominator })
 
@@ -60,7 +61,7 @@ reads_quotient d = do
 unfoldable pub reads_polynomial : Data → Outcome Polynomial
 reads_polynomial d = do
   quotient ← reads_quotient d
-  if nat_lt (terms_size quotient.terms quotient.denominator) (2 ^ 126) then Ok quotient else fault 3
+  if nat_lt (terms_size quotient.terms quotient.denominator) MEASURE then Ok quotient else fault 3
 
 unfoldable pub reads_polynomials : Data → Outcome (List Polynomial)
 reads_polynomials d = reads_list d >>= each reads_polynomial 0

@@ -1,7 +1,8 @@
 -- The texts of source trees.
 use Rattle.std.specs.Prelude.{ℕ, zero, suc, ◌+◌, List, [], ◌∷◌, Bool, false, nat_le, if◌then◌else◌, codes, Option, None, Some, Ok}
-use Rattle.affine_form.specs.declared.key.TheConstants.{BEFORE, BETWEEN, BLANK, CELL, DOMAIN, EMPTY, FORM, INPUT, LEVEL, NO, POINT, STATEMENT, YES}
-use Rattle.dep_quast.specs.Tree.{SelectionTree, leaf, test, source, input, empty, blank}
+use Rattle.claims.specs.declared.key.TheConstants.{BEFORE, BETWEEN, BLANK, CELL, DOMAIN, EMPTY, FORM, INPUT, LEVEL, NO, POINT, STATEMENT, YES}
+use Rattle.iolb_model.specs.declared.limits.TheConstants.{TREE_LEAVES}
+use Rattle.dep_quast.specs.Tree.{SelectionTree, leaf, test, leaf_count, source, input, empty, blank}
 use Rattle.serde_json.specs.Data.{Data}
 use Rattle.serde_json.specs.Find.{as_bool}
 use Rattle.cert_parts.specs.Outcome.{Outcome, ◌>>=◌, fault}
@@ -67,15 +68,11 @@ unfoldable pub reads_nested : ℕ → Data → Outcome SelectionTree
 reads_nested zero d = if has_keys test_keys d then fault 3 else reads_tree_leaf d
 reads_nested (suc n) d = if has_keys test_keys d then reads_test (reads_nested n) d else reads_tree_leaf d
 
-abbrev pub leaf_count : SelectionTree → ℕ
-leaf_count (leaf l) = 1
-leaf_count (test form above below) = leaf_count above + leaf_count below
-
 -- A source tree: at most 16 nested tests, and at most 64 leaves.
 unfoldable pub reads_tree : Data → Outcome SelectionTree
 reads_tree d = do
   tree ← reads_nested 16 d
-  if nat_le (leaf_count tree) 64 then Ok tree else fault 3
+  if nat_le (leaf_count tree) TREE_LEAVES then Ok tree else fault 3
 
 -- The source trees of the reads of a statement, and those of all statements.
 unfoldable pub reads_trees : Data → Outcome (List SelectionTree)

@@ -10,7 +10,7 @@ use std::alloc::Global;
 use std::collections::BTreeSet;
 
 /// Whether exponents are as many as those of each earlier term, and others; then their list is put with the earlier
-/// ones. Want of memory is its only error.
+/// ones.
 pub(crate) fn stands_apart(
     alloc: Global,
     earlier: &[(i128, Vec<u8>)],

@@ -3,7 +3,8 @@
 ghost use Rattle.std.specs.Prelude.{◌≡◌, ◌∷◌, [], IfOk};
 ghost use Rattle.cert_parts.specs.Outcome.{IsFault, IsUnder};
 
-use affine_form::{Memory, Place, Step};
+use affine_form::Memory;
+use claims::{Place, Step};
 use std::alloc::{AllocError, AllocFailed, Global};
 
 /// A fault of a certificate's text: its number, and the place of the value at fault.

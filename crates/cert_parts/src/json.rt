@@ -55,10 +55,11 @@ pub fn short_list(alloc: Global, value: &Value, most: usize) -> Result<&[Value],
     ensures read { Gives (λ list. map view list.now) result (reads_short_list most (view value.now)) }
     ensures few { IfOk result (λ list. length list.now ≤ most) }
 {
-    match list(alloc, value) {
-        Ok(list) if list.len() <= most => Ok(list),
-        Ok(_) => Err(fault(alloc, 3)),
-        Err(error) => Err(error),
+    let list = list(alloc, value)?;
+    if list.len() <= most {
+        Ok(list)
+    } else {
+        Err(fault(alloc, 3))
     }
 }
 

@@ -9,7 +9,7 @@ ghost use Rattle.cert_parts.specs.Leaves.{reads_no_point, reads_stop, reads_cred
 use crate::error::{CertError, fault, under};
 use crate::json::{has_keys, list};
 use crate::parts::{all_shown_part, natural_part, shown_part};
-use affine_form::{Step, key};
+use claims::{Step, key};
 use reuse_paths::Leaf;
 use serde_json::Value;
 use std::alloc::Global;
@@ -19,10 +19,8 @@ use std::alloc::Global;
 fn no_point(alloc: Global, value: &Value) -> Result<Leaf, CertError>
     ensures { Gives claim_of result (reads_no_point (view value.now)) }
 {
-    match shown_part(alloc, value, "empty", key::EMPTY) {
-        Ok(shown) => Ok(Leaf::Empty(shown)),
-        Err(error) => Err(error),
-    }
+    let shown = shown_part(alloc, value, "empty", key::EMPTY)?;
+    Ok(Leaf::Empty(shown))
 }
 
 /// That a walk stops there at an input.
@@ -30,10 +28,8 @@ fn no_point(alloc: Global, value: &Value) -> Result<Leaf, CertError>
 fn stop(alloc: Global, value: &Value) -> Result<Leaf, CertError>
     ensures { Gives claim_of result (reads_stop (view value.now)) }
 {
-    match all_shown_part(alloc, value, "stop", key::STOP) {
-        Ok(label) => Ok(Leaf::Stop { label }),
-        Err(error) => Err(error),
-    }
+    let label = all_shown_part(alloc, value, "stop", key::STOP)?;
+    Ok(Leaf::Stop { label })
 }
 
 /// That a walk stops there in a credited nest.
@@ -41,22 +37,14 @@ fn stop(alloc: Global, value: &Value) -> Result<Leaf, CertError>
 fn credit(alloc: Global, value: &Value) -> Result<Leaf, CertError>
     ensures { Gives claim_of result (reads_credit (view value.now)) }
 {
-    let credit = match natural_part(alloc, value, "credit", key::CREDIT, 0, 255) {
-        Ok(credit) => credit as u8,
-        Err(error) => return Err(error),
-    };
-    let label = match all_shown_part(alloc, value, "label", key::LABEL) {
-        Ok(label) => label,
-        Err(error) => return Err(error),
-    };
-    match all_shown_part(alloc, value, "rows", key::ROWS) {
-        Ok(rows) => Ok(Leaf::Credit {
-            credit,
-            rows,
-            label,
-        }),
-        Err(error) => Err(error),
-    }
+    let credit = natural_part(alloc, value, "credit", key::CREDIT, 0, 255)? as u8;
+    let label = all_shown_part(alloc, value, "label", key::LABEL)?;
+    let rows = all_shown_part(alloc, value, "rows", key::ROWS)?;
+    Ok(Leaf::Credit {
+        credit,
+        rows,
+        label,
+    })
 }
 
 /// That a walk goes on there.
@@ -64,14 +52,9 @@ fn credit(alloc: Global, value: &Value) -> Result<Leaf, CertError>
 fn go(alloc: Global, value: &Value) -> Result<Leaf, CertError>
     ensures { Gives claim_of result (reads_go (view value.now)) }
 {
-    let label = match all_shown_part(alloc, value, "label", key::LABEL) {
-        Ok(label) => label,
-        Err(error) => return Err(error),
-    };
-    match all_shown_part(alloc, value, "rows", key::ROWS) {
-        Ok(rows) => Ok(Leaf::Go { rows, label }),
-        Err(error) => Err(error),
-    }
+    let label = all_shown_part(alloc, value, "label", key::LABEL)?;
+    let rows = all_shown_part(alloc, value, "rows", key::ROWS)?;
+    Ok(Leaf::Go { rows, label })
 }
 
 /// That a walk arrives there.
@@ -79,10 +62,8 @@ fn go(alloc: Global, value: &Value) -> Result<Leaf, CertError>
 fn arrive(alloc: Global, value: &Value) -> Result<Leaf, CertError>
     ensures { Gives claim_of result (reads_arrive (view value.now)) }
 {
-    match all_shown_part(alloc, value, "arrive", key::ARRIVE) {
-        Ok(equal) => Ok(Leaf::Arrive { equal }),
-        Err(error) => Err(error),
-    }
+    let equal = all_shown_part(alloc, value, "arrive", key::ARRIVE)?;
+    Ok(Leaf::Arrive { equal })
 }
 
 /// A claim, told by its keys.
@@ -114,10 +95,7 @@ fn leaf(alloc: Global, value: &Value) -> Result<Leaf, CertError>
 pub fn leaf_list(alloc: Global, value: &Value) -> Result<Vec<Leaf>, CertError>
     ensures { Gives (λ leaves. map claim_of leaves.items) result (reads_leaves (view value.now)) }
 {
-    let values = match list(alloc, value) {
-        Ok(values) => values,
-        Err(error) => return Err(error),
-    };
+    let values = list(alloc, value)?;
     let mut leaves = Vec::new(alloc);
     for (i, value) in values.iter().enumerate() {
         match leaf(alloc, value) {

@@ -1,6 +1,6 @@
 //! The texts of matrices.
 
-ghost use Rattle.std.specs.Prelude.{◌≡◌, ◌<◌, ◌≤◌, ◌^◌, length, map, IfOk};
+ghost use Rattle.std.specs.Prelude.{◌≡◌, ◌<◌, ◌≤◌, length, map, IfOk};
 ghost use Rattle.std.specs.List.{AllByRecursion};
 ghost use Rattle.affine_form.specs.Form.{IsSmall};
 ghost use Rattle.serde_json.specs.View.{view};
@@ -8,22 +8,25 @@ ghost use Rattle.cert_parts.specs.Outcome.{Gives};
 ghost use Rattle.cert_parts.specs.Json.{each, reads_integer};
 ghost use Rattle.cert_parts.specs.Parts.{reads_row, columns_of as first_count, reads_matrix, all_entries};
 ghost use Rattle.cert_parts.specs.Rows.{IsRow, row_items};
+ghost use Rattle.iolb_model.specs.declared.limits.TheConstants.{NUMBER_SIZE};
 
 use crate::error::{CertError, fault, under};
 use crate::json::{elements, integer, short_list};
-use affine_form::{Matrix, Memory, Step};
+use affine_form::{Matrix, Memory};
+use claims::Step;
+use iolb_model::limits;
 use serde_json::Value;
 use std::alloc::Global;
 
 /// The entries of a row.
 fn entries(alloc: Global, values: &[Value]) -> Result<Vec<i32>, CertError>
-    ensures read { Gives (λ entries. entries.items) result (each (reads_integer (2 ^ 20)) 0 (map view values.now)) }
-    ensures small { IfOk result (λ entries. AllByRecursion (IsSmall (2 ^ 20)) entries.items) }
+    ensures read { Gives (λ entries. entries.items) result (each (reads_integer NUMBER_SIZE) 0 (map view values.now)) }
+    ensures small { IfOk result (λ entries. AllByRecursion (IsSmall NUMBER_SIZE) entries.items) }
     ensures all { IfOk result (λ entries. length entries.items ≡ length values.now) }
 {
     let mut entries = Vec::new(alloc);
     for (i, value) in values.iter().enumerate() {
-        match integer(alloc, value, 1 << 20) {
+        match integer(alloc, value, limits::NUMBER_SIZE) {
             Ok(entry) => entries.push(entry as i32)?,
             Err(error) => return Err(under(alloc, Step::Index(i as u64), error)),
         }
@@ -37,14 +40,12 @@ fn row(alloc: Global, value: &Value, columns: usize) -> Result<Vec<i32>, CertErr
     ensures read { Gives row_items result (reads_row columns (view value.now)) }
     ensures shape { IfOk result (IsRow columns) }
 {
-    let values = match short_list(alloc, value, 6) {
-        Ok(values) => values,
-        Err(error) => return Err(error),
-    };
-    match entries(alloc, values) {
-        Ok(entries) if entries.len() == columns => Ok(entries),
-        Ok(_) => Err(fault(alloc, 2)),
-        Err(error) => Err(error),
+    let values = short_list(alloc, value, 6)?;
+    let entries = entries(alloc, values)?;
+    if entries.len() == columns {
+        Ok(entries)
+    } else {
+        Err(fault(alloc, 2))
     }
 }
 
@@ -92,17 +93,9 @@ fn columns_of(values: &[Value]) -> usize
 pub fn matrix(alloc: Global, value: &Value) -> Result<Matrix, CertError>
     ensures { Gives (λ matrix. matrix) result (reads_matrix (view value.now)) }
 {
-    let values = match short_list(alloc, value, 6) {
-        Ok(values) => values,
-        Err(error) => return Err(error),
-    };
+    let values = short_list(alloc, value, 6)?;
     let columns = columns_of(values);
-    let rows = match rows(alloc, values, columns) {
-        Ok(rows) => rows,
-        Err(error) => return Err(error),
-    };
-    match joined(alloc, rows.as_slice()) {
-        Ok(cells) => Ok(Matrix::new(rows.len(), columns, cells)),
-        Err(_) => Err(CertError::Memory),
-    }
+    let rows = rows(alloc, values, columns)?;
+    let cells = joined(alloc, rows.as_slice())?;
+    Ok(Matrix::new(rows.len(), columns, cells))
 }

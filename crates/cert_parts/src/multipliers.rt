@@ -2,7 +2,7 @@
 
 ghost use Rattle.std.specs.Prelude.{◌≡◌, ◌<◌, ◌≤◌, ◌^◌, ◌%◌, length, map, IfOk, IsTrue};
 ghost use Rattle.std.specs.List.{AllByRecursion};
-ghost use Rattle.affine_form.specs.declared.place.Step.TheVariants.{Index};
+ghost use Rattle.claims.specs.declared.place.Step.TheVariants.{Index};
 ghost use Rattle.affine_form.specs.Multipliers.{IsWeight, RowsRise};
 ghost use Rattle.serde_json.specs.View.{view};
 ghost use Rattle.cert_parts.specs.Outcome.{Gives, under as seen_under};
@@ -11,7 +11,9 @@ ghost use Rattle.cert_parts.specs.Parts.{rise_from, reads_weights, multipliers_o
 
 use crate::error::{CertError, fault, under};
 use crate::json::{list, natural};
-use affine_form::{Multipliers, Step};
+use affine_form::Multipliers;
+use claims::Step;
+use iolb_model::limits;
 use serde_json::Value;
 use std::alloc::Global;
 
@@ -36,15 +38,9 @@ fn weights(alloc: Global, values: &[Value]) -> Result<Vec<(u8, u64)>, CertError>
     let mut weights = Vec::new(alloc);
     let mut i = 0;
     while i + 1 < values.len() {
-        let row = match member(alloc, &values[i], i as u64 + 2, 0, 127) {
-            Ok(row) => row,
-            Err(error) => return Err(error),
-        };
-        let most = (1 << 48) - 1;
-        let multiplier = match member(alloc, &values[i + 1], i as u64 + 3, 1, most) {
-            Ok(multiplier) => multiplier,
-            Err(error) => return Err(error),
-        };
+        let row = member(alloc, &values[i], i as u64 + 2, 0, 127)?;
+        let most = limits::MULTIPLIER_SIZE - 1;
+        let multiplier = member(alloc, &values[i + 1], i as u64 + 3, 1, most)?;
         weights.push((row as u8, multiplier))?;
         i += 2;
     }
@@ -77,19 +73,10 @@ fn multipliers_of(
     requires { length values.now % 2 ≡ 0 }
     ensures { Gives (λ shown. shown) result (multipliers_from (view scale.now) (view rest.now) (map view values.now)) }
 {
-    let most = (1 << 48) - 1;
-    let scale = match member(alloc, scale, 0, 1, most) {
-        Ok(scale) => scale,
-        Err(error) => return Err(error),
-    };
-    let rest = match member(alloc, rest, 1, 0, most) {
-        Ok(rest) => rest,
-        Err(error) => return Err(error),
-    };
-    let weights = match weights(alloc, values) {
-        Ok(weights) => weights,
-        Err(error) => return Err(error),
-    };
+    let most = limits::MULTIPLIER_SIZE - 1;
+    let scale = member(alloc, scale, 0, 1, most)?;
+    let rest = member(alloc, rest, 1, 0, most)?;
+    let weights = weights(alloc, values)?;
     if rows_rise(weights.as_slice()) {
         Ok(Multipliers::new(scale, rest, weights))
     } else {
@@ -102,10 +89,7 @@ fn multipliers_of(
 pub fn multipliers(alloc: Global, value: &Value) -> Result<Multipliers, CertError>
     ensures { Gives (λ shown. shown) result (reads_multipliers (view value.now)) }
 {
-    let values = match list(alloc, value) {
-        Ok(values) => values,
-        Err(error) => return Err(error),
-    };
+    let values = list(alloc, value)?;
     if values.len() < 2 || values.len() % 2 != 0 {
         return Err(fault(alloc, 2));
     }
@@ -117,10 +101,7 @@ pub fn multipliers(alloc: Global, value: &Value) -> Result<Multipliers, CertErro
 pub fn all_multipliers(alloc: Global, value: &Value) -> Result<Vec<Multipliers>, CertError>
     ensures { Gives (λ all. all.items) result (reads_all_multipliers (view value.now)) }
 {
-    let values = match list(alloc, value) {
-        Ok(values) => values,
-        Err(error) => return Err(error),
-    };
+    let values = list(alloc, value)?;
     let mut all = Vec::new(alloc);
     for (i, value) in values.iter().enumerate() {
         match multipliers(alloc, value) {

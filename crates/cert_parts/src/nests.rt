@@ -11,7 +11,8 @@ ghost use Rattle.cert_parts.specs.Nests.{reads_pair, reads_nest};
 use crate::error::{CertError, fault, under};
 use crate::forms::form;
 use crate::json::{list, short_list};
-use affine_form::{Form, Step};
+use affine_form::Form;
+use claims::Step;
 use domain_count::Nest;
 use serde_json::Value;
 use std::alloc::Global;
@@ -21,10 +22,7 @@ use std::alloc::Global;
 fn pair(alloc: Global, value: &Value) -> Result<(Form, Form), CertError>
     ensures { Gives (λ pair. pair) result (reads_pair (view value.now)) }
 {
-    let values = match list(alloc, value) {
-        Ok(values) => values,
-        Err(error) => return Err(error),
-    };
+    let values = list(alloc, value)?;
     if values.len() != 2 {
         return Err(fault(alloc, 2));
     }
@@ -43,10 +41,7 @@ fn pair(alloc: Global, value: &Value) -> Result<(Form, Form), CertError>
 fn bounds(alloc: Global, value: &Value) -> Result<Vec<(Form, Form)>, CertError>
     ensures { Gives (λ bounds. bounds.items) result (reads_nest (view value.now)) }
 {
-    let values = match short_list(alloc, value, 6) {
-        Ok(values) => values,
-        Err(error) => return Err(error),
-    };
+    let values = short_list(alloc, value, 6)?;
     let mut bounds = Vec::new(alloc);
     for (i, value) in values.iter().enumerate() {
         match pair(alloc, value) {
@@ -61,8 +56,6 @@ fn bounds(alloc: Global, value: &Value) -> Result<Vec<(Form, Form)>, CertError>
 pub fn nest(alloc: Global, value: &Value) -> Result<Nest, CertError>
     ensures { Gives (λ nest. nest) result (reads_nest (view value.now)) }
 {
-    match bounds(alloc, value) {
-        Ok(bounds) => Ok(Nest::new(bounds)),
-        Err(error) => Err(error),
-    }
+    let bounds = bounds(alloc, value)?;
+    Ok(Nest::new(bounds))
 }

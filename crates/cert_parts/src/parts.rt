@@ -10,7 +10,8 @@ use crate::error::{CertError, fault, under};
 use crate::forms::{form, form_list};
 use crate::json::natural;
 use crate::multipliers::{all_multipliers, multipliers};
-use affine_form::{Form, Multipliers, Step};
+use affine_form::{Form, Multipliers};
+use claims::Step;
 use serde_json::Value;
 use std::alloc::Global;
 

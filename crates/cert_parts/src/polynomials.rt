@@ -1,6 +1,6 @@
 //! The texts of polynomials.
 
-ghost use Rattle.std.specs.Prelude.{◌≡◌, ◌<◌, ◌≤◌, ◌^◌, ◌∷◌, [], ◌++◌, length, map, true, IfOk};
+ghost use Rattle.std.specs.Prelude.{◌≡◌, ◌<◌, ◌≤◌, ◌∷◌, [], ◌++◌, length, map, true, IfOk};
 ghost use Rattle.std.specs.List.{AllByRecursion};
 ghost use Rattle.poly_tree.specs.Terms.{term_of, terms_of, HasExponents, AreApart};
 ghost use Rattle.serde_json.specs.View.{view};
@@ -9,11 +9,13 @@ ghost use Rattle.cert_parts.specs.Apart.{HasLists, exponent_lists};
 ghost use Rattle.cert_parts.specs.Json.{each, reads_natural};
 ghost use Rattle.cert_parts.specs.Polynomials.{reads_coefficient, reads_term, stands_apart as do_stand_apart, reads_term_behind, reads_terms, reads_quotient, reads_polynomial, reads_polynomials};
 ghost use Rattle.cert_parts.specs.Read.{IsPolynomial, ArePolynomials};
+ghost use Rattle.iolb_model.specs.declared.limits.TheConstants.{COEFFICIENT_SIZE, EXPONENT};
 
 use crate::apart::stands_apart;
 use crate::error::{CertError, fault, under};
 use crate::json::{has_keys, integer, list, natural, short_list};
-use affine_form::{Step, key};
+use claims::{Step, key};
+use iolb_model::limits;
 use poly_tree::{Poly, PolyFault};
 use serde_json::Value;
 use std::alloc::Global;
@@ -24,7 +26,7 @@ use std::collections::BTreeSet;
 fn coefficient(alloc: Global, value: &Value) -> Result<i128, CertError>
     ensures { Gives (λ z. z) result (reads_coefficient (view value.now)) }
 {
-    match integer(alloc, value, 1 << 62) {
+    match integer(alloc, value, limits::COEFFICIENT_SIZE) {
         Ok(0) => Err(fault(alloc, 2)),
         Ok(coefficient) => Ok(coefficient),
         Err(error) => Err(error),
@@ -34,7 +36,7 @@ fn coefficient(alloc: Global, value: &Value) -> Result<i128, CertError>
 /// The exponents behind a coefficient.
 fn exponents(alloc: Global, values: &[Value]) -> Result<Vec<u8>, CertError>
     ensures read { Gives (λ exponents. exponents.items) result (each (reads_natural 0 8) 1 (map view values.now)) }
-    ensures low { IfOk result (λ exponents. AllByRecursion (λ e. e ≤ 8) exponents.items) }
+    ensures low { IfOk result (λ exponents. AllByRecursion (λ e. e ≤ EXPONENT) exponents.items) }
     ensures all { IfOk result (λ exponents. length exponents.items ≡ length values.now) }
 {
     let mut exponents = Vec::new(alloc);
@@ -53,10 +55,7 @@ fn term(alloc: Global, value: &Value) -> Result<(i128, Vec<u8>), CertError>
     ensures read { Gives term_of result (reads_term (view value.now)) }
     ensures fit { IfOk result (λ term. HasExponents (term_of term)) }
 {
-    let values = match short_list(alloc, value, 25) {
-        Ok(values) => values,
-        Err(error) => return Err(error),
-    };
+    let values = short_list(alloc, value, 25)?;
     if values.is_empty() {
         return Err(fault(alloc, 2));
     }
@@ -64,10 +63,8 @@ fn term(alloc: Global, value: &Value) -> Result<(i128, Vec<u8>), CertError>
         Ok(coefficient) => coefficient,
         Err(error) => return Err(under(alloc, Step::Index(0), error)),
     };
-    match exponents(alloc, &values[1..]) {
-        Ok(exponents) => Ok((coefficient, exponents)),
-        Err(error) => Err(error),
-    }
+    let exponents = exponents(alloc, &values[1..])?;
+    Ok((coefficient, exponents))
 }
 
 /// A term behind earlier ones, whose exponent lists are kept beside them.
@@ -85,10 +82,7 @@ fn term_behind(
     ensures apart { IfOk result (λ term. do_stand_apart (terms_of earlier.now) term.1.items ≡ true) }
     ensures lists { IfOk result (λ term. HasLists lists.new (exponent_lists (terms_of earlier.now) ++ term.1.items ∷ [])) }
 {
-    let (coefficient, exponents) = match term(alloc, value) {
-        Ok(term) => term,
-        Err(error) => return Err(error),
-    };
+    let (coefficient, exponents) = term(alloc, value)?;
     if stands_apart(alloc, earlier, lists, exponents.as_slice())? {
         Ok((coefficient, exponents))
     } else {
@@ -103,10 +97,7 @@ fn terms(alloc: Global, value: &Value) -> Result<Vec<(i128, Vec<u8>)>, CertError
     ensures fit { IfOk result (λ terms. AllByRecursion HasExponents (terms_of terms.items)) }
     ensures apart { IfOk result (λ terms. AreApart (terms_of terms.items)) }
 {
-    let values = match list(alloc, value) {
-        Ok(values) => values,
-        Err(error) => return Err(error),
-    };
+    let values = list(alloc, value)?;
     let mut terms = Vec::new(alloc);
     let mut lists = BTreeSet::new(alloc);
     for (i, value) in values.iter().enumerate() {
@@ -125,7 +116,7 @@ fn quotient(alloc: Global, value: &Value) -> Result<(u64, Vec<(i128, Vec<u8>)>),
     ensures fit { IfOk result (λ quotient. AllByRecursion HasExponents (terms_of quotient.1.items)) }
     ensures apart { IfOk result (λ quotient. AreApart (terms_of quotient.1.items)) }
     ensures some { IfOk result (λ quotient. 1 ≤ quotient.0) }
-    ensures small { IfOk result (λ quotient. quotient.0 < 2 ^ 62) }
+    ensures small { IfOk result (λ quotient. quotient.0 < COEFFICIENT_SIZE) }
 {
     if !has_keys(value, &["den", "terms"]) {
         return Err(fault(alloc, 2));
@@ -151,10 +142,7 @@ fn quotient(alloc: Global, value: &Value) -> Result<(u64, Vec<(i128, Vec<u8>)>),
 fn polynomial(alloc: Global, value: &Value) -> Result<Poly, CertError>
     ensures { GivesBy IsPolynomial result (reads_polynomial (view value.now)) }
 {
-    let (den, terms) = match quotient(alloc, value) {
-        Ok(quotient) => quotient,
-        Err(error) => return Err(error),
-    };
+    let (den, terms) = quotient(alloc, value)?;
     match Poly::from_terms(alloc, terms.as_slice(), i128::from(den)) {
         Ok(poly) => Ok(poly),
         Err(PolyFault::Wide) => Err(fault(alloc, 3)),
@@ -167,10 +155,7 @@ fn polynomial(alloc: Global, value: &Value) -> Result<Poly, CertError>
 pub fn polynomial_list(alloc: Global, value: &Value) -> Result<Vec<Poly>, CertError>
     ensures { GivesBy (λ said found. ArePolynomials said found.items) result (reads_polynomials (view value.now)) }
 {
-    let values = match list(alloc, value) {
-        Ok(values) => values,
-        Err(error) => return Err(error),
-    };
+    let values = list(alloc, value)?;
     let mut found = Vec::new(alloc);
     for (i, value) in values.iter().enumerate() {
         match polynomial(alloc, value) {

@@ -1,18 +1,18 @@
 //! The texts of source trees.
 
 ghost use Rattle.std.specs.Prelude.{◌≡◌, ◌≤◌, min, map, codes};
-ghost use Rattle.affine_form.specs.declared.key.TheConstants.{BLANK};
-ghost use Rattle.dep_quast.specs.Tree.{tree_of};
+ghost use Rattle.claims.specs.declared.key.TheConstants.{BLANK};
+ghost use Rattle.dep_quast.specs.Tree.{leaf_count, tree_of};
 ghost use Rattle.serde_json.specs.View.{view};
 ghost use Rattle.cert_parts.specs.Outcome.{Gives};
 ghost use Rattle.cert_parts.specs.Json.{part};
-ghost use Rattle.cert_parts.specs.Trees.{reads_source, reads_input, reads_empty, reads_true, reads_tree_leaf, reads_nested, leaf_count, reads_tree, reads_trees, reads_all_trees};
-ghost use Rattle.reuse_paths.specs.Rows.{row_trees};
+ghost use Rattle.cert_parts.specs.Trees.{reads_source, reads_input, reads_empty, reads_true, reads_tree_leaf, reads_nested, reads_tree, reads_trees, reads_all_trees};
+ghost use Rattle.reuse_paths.specs.Quasts.{row_trees};
 
 use crate::error::{CertError, fault, under};
 use crate::json::{has_keys, list};
 use crate::parts::{all_shown_part, form_part, forms_part, natural_part, shown_part};
-use affine_form::{Step, key};
+use claims::{Step, key};
 use dep_quast::Quast;
 use serde_json::Value;
 use std::alloc::Global;
@@ -22,42 +22,22 @@ use std::alloc::Global;
 fn source(alloc: Global, value: &Value) -> Result<Quast, CertError>
     ensures { Gives tree_of result (reads_source (view value.now)) }
 {
-    let before = match all_shown_part(alloc, value, "before", key::BEFORE) {
-        Ok(before) => before,
-        Err(error) => return Err(error),
-    };
-    let between = match all_shown_part(alloc, value, "between", key::BETWEEN) {
-        Ok(between) => between,
-        Err(error) => return Err(error),
-    };
-    let cell = match all_shown_part(alloc, value, "cell", key::CELL) {
-        Ok(cell) => cell,
-        Err(error) => return Err(error),
-    };
-    let domain = match all_shown_part(alloc, value, "domain", key::DOMAIN) {
-        Ok(domain) => domain,
-        Err(error) => return Err(error),
-    };
-    let level = match natural_part(alloc, value, "level", key::LEVEL, 0, 255) {
-        Ok(level) => level as u8,
-        Err(error) => return Err(error),
-    };
-    let point = match forms_part(alloc, value, "point", key::POINT) {
-        Ok(point) => point,
-        Err(error) => return Err(error),
-    };
-    match natural_part(alloc, value, "statement", key::STATEMENT, 0, 65535) {
-        Ok(statement) => Ok(Quast::Source {
-            statement: statement as u16,
-            level,
-            point,
-            domain,
-            cell,
-            before,
-            between,
-        }),
-        Err(error) => Err(error),
-    }
+    let before = all_shown_part(alloc, value, "before", key::BEFORE)?;
+    let between = all_shown_part(alloc, value, "between", key::BETWEEN)?;
+    let cell = all_shown_part(alloc, value, "cell", key::CELL)?;
+    let domain = all_shown_part(alloc, value, "domain", key::DOMAIN)?;
+    let level = natural_part(alloc, value, "level", key::LEVEL, 0, 255)? as u8;
+    let point = forms_part(alloc, value, "point", key::POINT)?;
+    let statement = natural_part(alloc, value, "statement", key::STATEMENT, 0, 65535)? as u16;
+    Ok(Quast::Source {
+        statement,
+        level,
+        point,
+        domain,
+        cell,
+        before,
+        between,
+    })
 }
 
 /// A leaf that says that no earlier instance writes the cell.
@@ -65,10 +45,8 @@ fn source(alloc: Global, value: &Value) -> Result<Quast, CertError>
 fn input(alloc: Global, value: &Value) -> Result<Quast, CertError>
     ensures { Gives tree_of result (reads_input (view value.now)) }
 {
-    match all_shown_part(alloc, value, "input", key::INPUT) {
-        Ok(earlier) => Ok(Quast::Input { earlier }),
-        Err(error) => Err(error),
-    }
+    let earlier = all_shown_part(alloc, value, "input", key::INPUT)?;
+    Ok(Quast::Input { earlier })
 }
 
 /// A leaf that says that no point comes there.
@@ -76,10 +54,8 @@ fn input(alloc: Global, value: &Value) -> Result<Quast, CertError>
 fn empty(alloc: Global, value: &Value) -> Result<Quast, CertError>
     ensures { Gives tree_of result (reads_empty (view value.now)) }
 {
-    match shown_part(alloc, value, "empty", key::EMPTY) {
-        Ok(shown) => Ok(Quast::Empty { shown }),
-        Err(error) => Err(error),
-    }
+    let shown = shown_part(alloc, value, "empty", key::EMPTY)?;
+    Ok(Quast::Empty { shown })
 }
 
 /// A leaf that claims nothing, behind its key.
@@ -133,10 +109,7 @@ fn nested(alloc: Global, value: &Value, left: u8) -> Result<Quast, CertError>
     if left == 0 {
         return Err(fault(alloc, 3));
     }
-    let form = match form_part(alloc, value, "form", key::FORM) {
-        Ok(form) => form,
-        Err(error) => return Err(error),
-    };
+    let form = form_part(alloc, value, "form", key::FORM)?;
     let Some(below) = value.get("no") else {
         return Err(fault(alloc, 2));
     };
@@ -172,10 +145,7 @@ fn leaves(tree: &Quast) -> u8
 fn tree(alloc: Global, value: &Value) -> Result<Quast, CertError>
     ensures { Gives tree_of result (reads_tree (view value.now)) }
 {
-    let tree = match nested(alloc, value, 16) {
-        Ok(tree) => tree,
-        Err(error) => return Err(error),
-    };
+    let tree = nested(alloc, value, 16)?;
     if leaves(&tree) <= 64 {
         Ok(tree)
     } else {
@@ -188,10 +158,7 @@ fn tree(alloc: Global, value: &Value) -> Result<Quast, CertError>
 fn trees(alloc: Global, value: &Value) -> Result<Vec<Quast>, CertError>
     ensures { Gives (λ row. map tree_of row.items) result (reads_trees (view value.now)) }
 {
-    let values = match list(alloc, value) {
-        Ok(values) => values,
-        Err(error) => return Err(error),
-    };
+    let values = list(alloc, value)?;
     let mut row = Vec::with_capacity(alloc, values.len())?;
     for (i, value) in values.iter().enumerate() {
         match tree(alloc, value) {
@@ -207,10 +174,7 @@ fn trees(alloc: Global, value: &Value) -> Result<Vec<Quast>, CertError>
 pub fn all_trees(alloc: Global, value: &Value) -> Result<Vec<Vec<Quast>>, CertError>
     ensures { Gives (λ rows. map row_trees rows.items) result (reads_all_trees (view value.now)) }
 {
-    let values = match list(alloc, value) {
-        Ok(values) => values,
-        Err(error) => return Err(error),
-    };
+    let values = list(alloc, value)?;
     let mut rows = Vec::with_capacity(alloc, values.len())?;
     for (i, value) in values.iter().enumerate() {
         match trees(alloc, value) {

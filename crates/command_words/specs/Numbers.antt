@@ -1,6 +1,7 @@
 -- Numbers on the command line: decimal digits, the bytes 48 to 57 alone.
 use Rattle.std.specs.Prelude.{ℕ, ◌+◌, ◌-◌, ◌*◌, ◌^◌, ◌==◌, ◌&&◌, nat_le, if◌then◌else◌, Bool, ℤ, pos, ◌-ℤ◌, List, [], ◌∷◌, length, Option, None, Some, option_map, option_and_then}
 use Rattle.std.specs.List.{list_all}
+use Rattle.iolb_model.specs.declared.limits.TheConstants.{VALUE_SIZE}
 
 abbrev pub is_digit : ℕ → Bool
 is_digit byte = nat_le 48 byte && nat_le byte 57
@@ -24,7 +25,7 @@ memory_in word = option_and_then (if_within 1 (2 ^ 63 - 1)) (natural_in 19 word)
 
 -- a size below 2^40 of 1 to 13 digits
 abbrev pub small_in : List ℕ → Option ℕ
-small_in word = option_and_then (if_within 0 (2 ^ 40 - 1)) (natural_in 13 word)
+small_in word = option_and_then (if_within 0 (VALUE_SIZE - 1)) (natural_in 13 word)
 
 -- a whole number: it may have `-` in front
 abbrev pub whole_in : List ℕ → Option ℤ

@@ -7,6 +7,7 @@ use Rattle.command_words.specs.declared.command.Job.{Job}
 use Rattle.command_words.specs.declared.command.Job.TheVariants.{Check, Eval}
 use Rattle.command_words.specs.Numbers.{memory_in}
 use Rattle.command_words.specs.Sizes.{NamedSize, named_of, sizes_in}
+use Rattle.iolb_model.specs.declared.limits.TheConstants.{VALUE_SIZE}
 
 -- A job: to check a certificate, or to value its bound with so many red pebbles at these sizes.
 pub data Task : Type 0 where
@@ -62,4 +63,4 @@ asked command = record { program = command.program.now; certificate = command.ce
 -- an evaluation has from 1 to 2^63 - 1 red pebbles and sizes below 2^40
 abbrev pub IsSmallJob : Job → Type 0
 IsSmallJob Check = ⊤
-IsSmallJob (Eval memory sizes) = (1 ≤ memory) × (memory < 2 ^ 63) × AllByRecursion (λ (size : Size). unsigned_abs size.value < 2 ^ 40) sizes.items
+IsSmallJob (Eval memory sizes) = (1 ≤ memory) × (memory < 2 ^ 63) × AllByRecursion (λ (size : Size). unsigned_abs size.value < VALUE_SIZE) sizes.items

@@ -49,7 +49,7 @@ fn has_option(words: &[String]) -> bool
     false
 }
 
-/// The evaluation that words S NAME=NUMBER... ask for. Want of memory is its only error.
+/// The evaluation that words S NAME=NUMBER... ask for.
 fn eval_job(alloc: Global, memory: &str, words: &[String]) -> Result<Option<Job>, Memory>
     ensures job { IfOk result (λ job. option_map task_of job ≡ eval_task memory.now (map (λ word. string_bytes word) words.now)) }
     ensures small { IfOk result (λ found. IfSome found IsSmallJob) }
@@ -66,7 +66,7 @@ fn eval_job(alloc: Global, memory: &str, words: &[String]) -> Result<Option<Job>
 /// What the words behind the program's name ask for: `check PROGRAM CERTIFICATE`, or
 /// `eval PROGRAM CERTIFICATE S NAME=NUMBER...`, where S is 1 to 19 digits, from 1 to 2^63 - 1, a NUMBER an optional `-` and
 /// 1 to 13 digits, of size below 2^40, and a NAME the bytes before the first `=`. `None` where they ask for nothing of
-/// this, or a word begins with `-`. Want of memory is its only error.
+/// this, or a word begins with `-`.
 pub fn command_of(alloc: Global, words: &[String]) -> Result<Option<Command<'_>>, Memory>
     ensures command { IfOk result (λ command. option_map asked command ≡ request_of (map (λ word. string_bytes word) words.now)) }
     ensures small { IfOk result (λ found. IfSome found (λ command. IsSmallJob command.job)) }
@@ -101,7 +101,7 @@ fn check_command(words: &[String]) -> Option<Command<'_>>
     }
 }
 
-/// The evaluation that words PROGRAM CERTIFICATE S NAME=NUMBER... ask for. Want of memory is its only error.
+/// The evaluation that words PROGRAM CERTIFICATE S NAME=NUMBER... ask for.
 fn eval_command(alloc: Global, words: &[String]) -> Result<Option<Command<'_>>, Memory>
     ensures command { IfOk result (λ command. option_map asked command ≡ eval_in (map (λ word. string_bytes word) words.now)) }
     ensures small { IfOk result (λ found. IfSome found (λ command. IsSmallJob command.job)) }

@@ -3,6 +3,9 @@
 ghost use Rattle.std.specs.Prelude.{◌≡◌, ◌≤◌, ◌<◌, ◌^◌, [], ◌∷◌, min, pos, option_map, unsigned_abs, IfSome};
 ghost use Rattle.std.specs.List.{list_all};
 ghost use Rattle.command_words.specs.Numbers.{is_digit, memory_in, small_in, natural_in, whole_in as whole_in_word, with_digits};
+ghost use Rattle.iolb_model.specs.declared.limits.TheConstants.{VALUE_SIZE};
+
+use iolb_model::limits;
 
 /// No number that is read reaches this one.
 const LIMIT: u128 = 1 << 64;
@@ -66,10 +69,10 @@ pub(crate) fn memory_of(word: &[u8]) -> Option<u64>
 /// The number of a word of 1 to 13 digits, where it is below 2^40.
 fn small_of(word: &[u8]) -> Option<i64>
     ensures number { result ≡ option_map pos (small_in word.now) }
-    ensures small { IfSome result (λ n. unsigned_abs n < 2 ^ 40) }
+    ensures small { IfSome result (λ n. unsigned_abs n < VALUE_SIZE) }
 {
     let number = natural_of(word, 13)?;
-    if number < 1 << 40 {
+    if number < limits::VALUE_SIZE {
         Some(number as i64)
     } else {
         None
@@ -79,7 +82,7 @@ fn small_of(word: &[u8]) -> Option<i64>
 /// A whole number of size below 2^40: 1 to 13 digits, which may have `-` in front.
 pub(crate) fn whole_in(word: &[u8]) -> Option<i64>
     ensures number { result ≡ whole_in_word word.now }
-    ensures small { IfSome result (λ n. unsigned_abs n < 2 ^ 40) }
+    ensures small { IfSome result (λ n. unsigned_abs n < VALUE_SIZE) }
 {
     match word.first() {
         Some(45) => {

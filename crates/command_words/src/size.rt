@@ -1,8 +1,9 @@
 //! Sizes on the command line.
 
-ghost use Rattle.std.specs.Prelude.{◌≡◌, ◌+◌, ◌<◌, ◌^◌, take, drop, length, map, None, Some, unsigned_abs, option_map, string_bytes, IfOk, IfSome, MatchOption};
+ghost use Rattle.std.specs.Prelude.{◌≡◌, ◌+◌, ◌<◌, take, drop, length, map, None, Some, unsigned_abs, option_map, string_bytes, IfOk, IfSome, MatchOption};
 ghost use Rattle.std.specs.List.{AllByRecursion};
 ghost use Rattle.command_words.specs.Sizes.{named_of, size_in, sizes_in, split_word};
+ghost use Rattle.iolb_model.specs.declared.limits.TheConstants.{VALUE_SIZE};
 
 use crate::number::whole_in;
 use affine_form::Memory;
@@ -28,10 +29,10 @@ fn equals_at(word: &[u8]) -> Option<usize>
     None
 }
 
-/// The size that a word NAME=NUMBER gives. Want of memory is its only error.
+/// The size that a word NAME=NUMBER gives.
 fn size_of(alloc: Global, word: &[u8]) -> Result<Option<Size>, Memory>
     ensures size { IfOk result (λ size. option_map named_of size ≡ size_in word.now) }
-    ensures small { IfOk result (λ found. IfSome found (λ size. unsigned_abs size.value < 2 ^ 40)) }
+    ensures small { IfOk result (λ found. IfSome found (λ size. unsigned_abs size.value < VALUE_SIZE)) }
 {
     let Some(place) = equals_at(word) else {
         return Ok(None);
@@ -43,10 +44,10 @@ fn size_of(alloc: Global, word: &[u8]) -> Result<Option<Size>, Memory>
     Ok(Some(Size { name, value }))
 }
 
-/// The sizes that words NAME=NUMBER give, and `None` where a word is of another form. Want of memory is its only error.
+/// The sizes that words NAME=NUMBER give, and `None` where a word is of another form.
 pub(crate) fn sizes_of(alloc: Global, words: &[String]) -> Result<Option<Vec<Size>>, Memory>
     ensures sizes { IfOk result (λ found. option_map (λ sizes. map named_of sizes.items) found ≡ sizes_in (map (λ word. string_bytes word) words.now)) }
-    ensures small { IfOk result (λ found. IfSome found (λ sizes. AllByRecursion (λ size. unsigned_abs size.value < 2 ^ 40) sizes.items)) }
+    ensures small { IfOk result (λ found. IfSome found (λ sizes. AllByRecursion (λ size. unsigned_abs size.value < VALUE_SIZE) sizes.items)) }
 {
     let mut sizes = Vec::new(alloc);
     for word in words {

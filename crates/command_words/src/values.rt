@@ -1,9 +1,10 @@
 //! The sizes of a program's parameters.
 
-ghost use Rattle.std.specs.Prelude.{◌≡◌, ◌<◌, ◌^◌, ◌==◌, map, min, option_map, bytes_eq, unsigned_abs, IfOk, IfSome};
+ghost use Rattle.std.specs.Prelude.{◌≡◌, ◌<◌, ◌==◌, map, min, option_map, bytes_eq, unsigned_abs, IfOk, IfSome};
 ghost use Rattle.std.specs.List.{AllByRecursion, list_all, list_any};
 ghost use Rattle.affine_form.specs.Form.{IsSmall};
 ghost use Rattle.command_words.specs.Sizes.{NamedSize, named_of, times as times_named, value_for as value_named, values_for as values_named};
+ghost use Rattle.iolb_model.specs.declared.limits.TheConstants.{VALUE_SIZE};
 
 use crate::size::Size;
 use affine_form::{Memory, Name};
@@ -67,9 +68,9 @@ fn are_named_once(names: &[Name], sizes: &[Size]) -> bool
 
 /// The first number for a name, and 0 if there is none.
 fn value_for(name: &[u8], sizes: &[Size]) -> i64
-    requires small { AllByRecursion (λ size. unsigned_abs size.value < 2 ^ 40) sizes.now }
+    requires small { AllByRecursion (λ size. unsigned_abs size.value < VALUE_SIZE) sizes.now }
     ensures value { result ≡ value_named name.now (map named_of sizes.now) }
-    ensures small { unsigned_abs result < 2 ^ 40 }
+    ensures small { unsigned_abs result < VALUE_SIZE }
 {
     for size in sizes {
         if size.name.as_slice() == name {
@@ -79,12 +80,11 @@ fn value_for(name: &[u8], sizes: &[Size]) -> i64
     0
 }
 
-/// The numbers of parameters with these names, in their order, where each is named exactly once and nothing else is. Want
-/// of memory is its only error.
+/// The numbers of parameters with these names, in their order, where each is named exactly once and nothing else is.
 pub fn values_for(alloc: Global, names: &[Name], sizes: &[Size]) -> Result<Option<Vec<i64>>, Memory>
-    requires small { AllByRecursion (λ size. unsigned_abs size.value < 2 ^ 40) sizes.now }
+    requires small { AllByRecursion (λ size. unsigned_abs size.value < VALUE_SIZE) sizes.now }
     ensures values { IfOk result (λ found. option_map (λ values. values.items) found ≡ values_named names.now (map named_of sizes.now)) }
-    ensures small { IfOk result (λ found. IfSome found (λ values. AllByRecursion (IsSmall (2 ^ 40)) values.items)) }
+    ensures small { IfOk result (λ found. IfSome found (λ values. AllByRecursion (IsSmall VALUE_SIZE) values.items)) }
 {
     if !are_known(sizes, names) || !are_named_once(names, sizes) {
         return Ok(None);
@@ -92,11 +92,11 @@ pub fn values_for(alloc: Global, names: &[Name], sizes: &[Size]) -> Result<Optio
     Ok(Some(values_of(alloc, names, sizes)?))
 }
 
-/// The first number for each name. Want of memory is its only error.
+/// The first number for each name.
 fn values_of(alloc: Global, names: &[Name], sizes: &[Size]) -> Result<Vec<i64>, Memory>
-    requires small { AllByRecursion (λ size. unsigned_abs size.value < 2 ^ 40) sizes.now }
+    requires small { AllByRecursion (λ size. unsigned_abs size.value < VALUE_SIZE) sizes.now }
     ensures values { IfOk result (λ values. values.items ≡ map (λ name. value_named name (map named_of sizes.now)) names.now) }
-    ensures small { IfOk result (λ values. AllByRecursion (IsSmall (2 ^ 40)) values.items) }
+    ensures small { IfOk result (λ values. AllByRecursion (IsSmall VALUE_SIZE) values.items) }
 {
     let mut values = Vec::new(alloc);
     for name in names {

@@ -186,7 +186,3 @@ pub all-full : (sets : List (List ℕ)) (rooms : List ℕ) (first count total bo
 all-full sets rooms first count total bound some past lesser [] fills = let empty : 0 ≡ count = fills.one_each in absurd (omega (arith, empty, some))
 all-full sets rooms first count total bound some past lesser (amount ∷ amounts) fills =
     lesser amount amounts (omega (arith, past, sum_by-cons (λ (n : ℕ). n) amount amounts, fills.adds_up)) fills
-
-pub nothing-fills : (sets : List (List ℕ)) (rooms : List ℕ) (first count total : ℕ) (found : List ℕ) → count ≡ 0 → Fills sets rooms first count total found → 0 ≡ total
-nothing-fills sets rooms first count total [] none fills = fills.adds_up
-nothing-fills sets rooms first count total (amount ∷ amounts) none fills = let some : suc (length amounts) ≡ count = fills.one_each in absurd (omega (arith, some, none))

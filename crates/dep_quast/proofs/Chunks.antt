@@ -2,44 +2,35 @@
 use Rattle.std.proofs.Common.{◌≡◌, refl, sym, ◌∙◌, ap, subst, ℕ, zero, suc, ◌+◌, ◌-◌, ◌*◌, ◌<◌, ◌≤◌, List, [], ◌∷◌, ◌++◌, length, map, get_or, drop, arith}
 use Rattle.std.specs.Prelude.{Option, Some, None, flat_map}
 use Rattle.std.specs.List.{range_with_len}
+use Rattle.base_laws.proofs.Lists.{rest_after, there}
 use Rattle.std.proofs.lemmas.List.{drop_more, drop_all, length-append}
 use Rattle.std.proofs.lemmas.List.FromFn.{length-map-range_with_len}
 use Rattle.iolb_model.specs.Form.{AffineForm}
-use Rattle.affine_form.specs.declared.place.Step.{Step}
-use Rattle.affine_form.specs.declared.place.Step.TheVariants.{Index}
-use Rattle.affine_form.specs.declared.refused.No.{No}
+use Rattle.claims.specs.declared.place.Step.{Step}
+use Rattle.claims.specs.declared.place.Step.TheVariants.{Index}
+use Rattle.claims.specs.declared.refused.No.{No}
 use Rattle.affine_form.specs.Multipliers.{FarkasMultipliers}
 use Rattle.affine_form.specs.System.{AffineSystem}
-use Rattle.dep_quast.specs.Claims.{PlacedClaim, few, pointless, pointless_claims}
-use Rattle.dep_quast.specs.Found.{Finds}
-use Rattle.dep_quast.proofs.Found.{Finds-stop, Finds-go}
+use Rattle.dep_quast.specs.Claims.{IsFew, IsPointless, pointless_claims}
+use Rattle.claims.specs.Claims.{Claim}
+use Rattle.claims.specs.Claims.{Finds}
+use Rattle.claims.proofs.Found.{Finds-stop, Finds-go}
 
 -- the claims on systems whose multipliers stand in a list from a place on
-abbrev pub claims_from : List Step → ℕ → List AffineSystem → List FarkasMultipliers → List PlacedClaim
+abbrev pub claims_from : List Step → ℕ → List AffineSystem → List FarkasMultipliers → List Claim
 claims_from place at systems shown = pointless_claims place at systems (drop at shown)
 
 -- those on one system
-abbrev pub claims_on : List Step → ℕ → AffineSystem → FarkasMultipliers → List PlacedClaim
+abbrev pub claims_on : List Step → ℕ → AffineSystem → FarkasMultipliers → List Claim
 claims_on place at system m =
-    record { condition = 2; place = place ++ Index at ∷ []; claim = few (length system.rows) }
-    ∷ record { condition = 6; place = place ++ Index at ∷ []; claim = pointless system m } ∷ []
-
-there : {X : Type 0} (xs : List X) (k : ℕ) → k < length xs → (x : X) × (x ≡ get_or xs k x)
-there [] k below = absurd (omega arith)
-there (x ∷ xs) zero below = (x, refl)
-there (x ∷ xs) (suc k) below = there xs k (omega arith)
-
-add-one : (i : ℕ) → i + 1 ≡ suc i
-add-one i = omega arith
-
-rest_at : {X : Type 0} (xs : List X) (i : ℕ) (x : X) → i < length xs → x ≡ get_or xs i x → drop i xs ≡ x ∷ drop (suc i) xs
-rest_at xs i x below is = drop_more xs i x below ∙ ap (λ z. z ∷ drop (i + 1) xs) (sym is) ∙ ap (λ n. x ∷ drop n xs) (add-one i)
+    record { condition = 2; place = place ++ Index at ∷ []; statement = IsFew (length system.rows) }
+    ∷ record { condition = 6; place = place ++ Index at ∷ []; statement = IsPointless system m } ∷ []
 
 -- the first system's claims, and those on the others
 first-from : (place : List Step) (at : ℕ) (system : AffineSystem) (systems : List AffineSystem) (shown : List FarkasMultipliers) (m : FarkasMultipliers)
     → at < length shown → m ≡ get_or shown at m → claims_from place at (system ∷ systems) shown ≡ claims_on place at system m ++ claims_from place (suc at) systems shown
 first-from place at system systems shown m below is =
-    ap (λ (ms : List FarkasMultipliers). pointless_claims place at (system ∷ systems) ms) (rest_at shown at m below is)
+    ap (λ (ms : List FarkasMultipliers). pointless_claims place at (system ∷ systems) ms) (rest_after shown at m below is)
 
 -- the claims on some systems, and those on the systems after them
 chunk : (place : List Step) (at : ℕ) (xs ys : List AffineSystem) (shown : List FarkasMultipliers) → at + length xs ≤ length shown
@@ -49,31 +40,31 @@ chunk place at [] ys shown enough = ap (λ (n : ℕ). claims_from place n ys sho
   none = omega arith
 chunk place at (x ∷ xs) ys shown enough =
     let m = there shown at (omega arith) in
-    let claims : List PlacedClaim = claims_on place at x m.0 in
+    let claims : List Claim = claims_on place at x m.0 in
     first-from place at x (xs ++ ys) shown m.0 (omega arith) m.1
-    ∙ ap (λ (cs : List PlacedClaim). claims ++ cs) (chunk place (suc at) xs ys shown (omega arith))
+    ∙ ap (λ (cs : List Claim). claims ++ cs) (chunk place (suc at) xs ys shown (omega arith))
     ∙ ap (λ (n : ℕ). claims ++ claims_from place (suc at) xs shown ++ claims_from place n ys shown) moved
-    ∙ ap (λ (cs : List PlacedClaim). cs ++ claims_from place (at + suc (length xs)) ys shown) (sym (first-from place at x xs shown m.0 (omega arith) m.1)) where
+    ∙ ap (λ (cs : List Claim). cs ++ claims_from place (at + suc (length xs)) ys shown) (sym (first-from place at x xs shown m.0 (omega arith) m.1)) where
       moved : suc at + length xs ≡ at + suc (length xs)
       moved = omega arith
 
 pub chunk-stop : (place : List Step) (at : ℕ) (xs ys : List AffineSystem) (shown : List FarkasMultipliers) (n : No) → at + length xs ≤ length shown
     → Finds (claims_from place at xs shown) (Some n) → Finds (claims_from place at (xs ++ ys) shown) (Some n)
 chunk-stop place at xs ys shown n enough h =
-    subst (λ (cs : List PlacedClaim). Finds cs (Some n)) (sym (chunk place at xs ys shown enough))
+    subst (λ (cs : List Claim). Finds cs (Some n)) (sym (chunk place at xs ys shown enough))
     (Finds-stop (claims_from place at xs shown) (claims_from place (at + length xs) ys shown) n h)
 
 pub chunk-go : (place : List Step) (at next : ℕ) (xs ys : List AffineSystem) (shown : List FarkasMultipliers) (found : Option No) → at + length xs ≤ length shown → next ≡ at + length xs
     → Finds (claims_from place at xs shown) None → Finds (claims_from place next ys shown) found → Finds (claims_from place at (xs ++ ys) shown) found
 chunk-go place at next xs ys shown found enough e h g =
-    subst (λ (cs : List PlacedClaim). Finds cs found) (sym (chunk place at xs ys shown enough))
+    subst (λ (cs : List Claim). Finds cs found) (sym (chunk place at xs ys shown enough))
     (Finds-go (claims_from place at xs shown) (claims_from place (at + length xs) ys shown) found h
     (subst (λ (n : ℕ). Finds (claims_from place n ys shown) found) e g))
 
 -- the claims on one system, from its place on
 pub one-from : (place : List Step) (at : ℕ) (system : AffineSystem) (shown : List FarkasMultipliers) (m : FarkasMultipliers) (found : Option No)
     → at < length shown → m ≡ get_or shown at m → Finds (claims_on place at system m) found → Finds (claims_from place at (system ∷ []) shown) found
-one-from place at system shown m found below is h = subst (λ (cs : List PlacedClaim). Finds cs found) (sym (first-from place at system [] shown m below is)) h
+one-from place at system shown m found below is h = subst (λ (cs : List Claim). Finds cs found) (sym (first-from place at system [] shown m below is)) h
 
 -- what is left of a range
 less-more : (n i : ℕ) → i < n → n - i ≡ suc (n - (i + 1))
@@ -91,16 +82,16 @@ list-flat f xs i below = ap (flat_map f) (drop_more xs i 0 below)
 -- what is found of one system is found of its claims
 same-system : (place member : List Step) (at vars : ℕ) (rows : List AffineForm) (system : AffineSystem) (m : FarkasMultipliers) (found : Option No)
     → member ≡ place ++ Index at ∷ [] → vars ≡ system.vars → rows ≡ system.rows
-    → Finds (record { condition = 2; place = member; claim = few (length rows) } ∷ record { condition = 6; place = member; claim = pointless (record { vars = vars; rows = rows }) m } ∷ []) found
+    → Finds (record { condition = 2; place = member; statement = IsFew (length rows) } ∷ record { condition = 6; place = member; statement = IsPointless (record { vars = vars; rows = rows }) m } ∷ []) found
     → Finds (claims_on place at system m) found
 same-system place member at vars rows system m found e p q h =
     subst (λ (zs : List AffineForm). Finds (claims_on place at (record { vars = system.vars; rows = zs }) m) found) q
     (subst (λ (n : ℕ). Finds (claims_on place at (record { vars = n; rows = rows }) m) found) p
-    (subst (λ (s : List Step). Finds (record { condition = 2; place = s; claim = few (length rows) } ∷ record { condition = 6; place = s; claim = pointless (record { vars = vars; rows = rows }) m } ∷ []) found) e h))
+    (subst (λ (s : List Step). Finds (record { condition = 2; place = s; statement = IsFew (length rows) } ∷ record { condition = 6; place = s; statement = IsPointless (record { vars = vars; rows = rows }) m } ∷ []) found) e h))
 
 module _ (f : ℕ → AffineSystem) (place member : List Step) (first level n : ℕ) (shown : List FarkasMultipliers) (m : FarkasMultipliers) (vars : ℕ) (rows : List AffineForm) (found : Option No)
     (below : level < n) (enough : first + n ≤ length shown) (is : m ≡ get_or shown (first + level) m) (at : member ≡ place ++ Index (first + level) ∷ []) (p : vars ≡ (f level).vars) (q : rows ≡ (f level).rows)
-    (h : Finds (record { condition = 2; place = member; claim = few (length rows) } ∷ record { condition = 6; place = member; claim = pointless (record { vars = vars; rows = rows }) m } ∷ []) found) where
+    (h : Finds (record { condition = 2; place = member; statement = IsFew (length rows) } ∷ record { condition = 6; place = member; statement = IsPointless (record { vars = vars; rows = rows }) m } ∷ []) found) where
   level-found : Finds (claims_from place (first + level) (f level ∷ []) shown) found
   level-found = one-from place (first + level) (f level) shown m found (omega arith) is (same-system place member (first + level) vars rows (f level) m found at p q h)
 
@@ -124,18 +115,6 @@ pub levels-end : (f : ℕ → AffineSystem) (place : List Step) (at level n : �
 levels-end f place at level n shown past = subst (λ (k : ℕ). Finds (claims_from place at (map f (range_with_len level k)) shown) None) (sym none) tt where
   none : n - level ≡ 0
   none = omega arith
-
--- the first level
-pub levels-begin : (f : ℕ → AffineSystem) (place : List Step) (first n count : ℕ) (shown : List FarkasMultipliers) (found : Option No) → n ≡ count
-    → Finds (claims_from place (first + 0) (map f (range_with_len 0 (n - 0))) shown) found → Finds (claims_from place first (map f (range_with_len 0 count)) shown) found
-levels-begin f place first n count shown found e h =
-    subst (λ (k : ℕ). Finds (claims_from place first (map f (range_with_len 0 k)) shown) found) whole
-    (subst (λ (k : ℕ). Finds (claims_from place k (map f (range_with_len 0 (n - 0))) shown) found) none h) where
-      none : first + 0 ≡ first
-      none = omega arith
-
-      whole : n - 0 ≡ count
-      whole = omega (arith, e)
 
 -- systems of one writer, level by level after a source: so many at each
 module _ (g : ℕ → List AffineSystem) (many : ℕ) (each : (k : ℕ) → length (g k) ≡ many) where

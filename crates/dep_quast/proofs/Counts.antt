@@ -7,10 +7,10 @@ use Rattle.std.proofs.lemmas.List.{drop_more, drop-map, length-append, length-ma
 use Rattle.std.proofs.lemmas.List.FromFn.{length-range_with_len}
 use Rattle.iolb_model.specs.Form.{AffineForm}
 use Rattle.iolb_model.specs.Program.{AffineProgram, Statement as ModelStatement, no_statement}
-use Rattle.execution_laws.specs.Order.{Direction, upward, common_loops}
-use Rattle.affine_rows.specs.Rows.{order_rows}
-use Rattle.affine_c.specs.declared.statement.Statement.{Statement}
-use Rattle.affine_c.specs.Parts.{statement_of}
+use Rattle.iolb_model.specs.Order.{Direction, upward, common_loops}
+use Rattle.affine_form.specs.Rows.{order_rows}
+use Rattle.affine_program.specs.declared.statement.Statement.{Statement}
+use Rattle.affine_program.specs.Parts.{statement_of}
 use Rattle.dep_quast.specs.Context.{ReadOf, reference_of, earlier_write, earlier_writes, write_between, writes_between}
 use Rattle.dep_quast.specs.Levels.{level_count, levels, writers, writers_from, order_count, levels_before, levels_between}
 use Rattle.dep_quast.specs.Tree.{SourceClaim}

@@ -1,32 +1,33 @@
 -- What a program says of the references of its statements, and of the loops around them.
-use Rattle.std.proofs.Common.{Bool, true, false, ◌≡◌, refl, sym, ◌∙◌, ap, subst, ℕ, zero, suc, ◌+◌, ◌*◌, ◌<◌, ◌≤◌, ◌^◌, List, [], ◌∷◌, ◌++◌, length, map, get_or, replicate, arith}
+use Rattle.std.proofs.Common.{Bool, true, false, ◌≡◌, refl, sym, ◌∙◌, ap, subst, ℕ, zero, suc, ◌+◌, ◌*◌, ◌<◌, ◌≤◌, List, [], ◌∷◌, ◌++◌, length, map, get_or, replicate, arith}
+use Rattle.iolb_model.specs.declared.limits.TheConstants.{LOOPS}
 use Rattle.std.specs.Prelude.{Option, Some, None, IsSomeAnd, slice_get, ◌==◌, if◌then◌else◌}
 use Rattle.std.proofs.lemmas.Bool.{eqb-true}
 use Rattle.dep_quast.specs.Levels.{writers, writers_from, IsWriter}
 use Rattle.std.specs.List.{AllByRecursion}
 use Rattle.std.proofs.lemmas.List.{length-map, get_or-map}
-use Rattle.integer_laws.proofs.Lists.{All-append}
+use Rattle.base_laws.proofs.Lists.{All-append, All-at, there}
 use Rattle.iolb_model.specs.Form.{AffineForm}
 use Rattle.iolb_model.specs.Path.{PathStep, row_path}
 use Rattle.iolb_model.specs.Program.{Array, AccessFits, IsOver, StatementFits, AffineProgram, IsWellFormed, statement_at, no_statement, Statement as ModelStatement}
-use Rattle.execution_laws.specs.Order.{Direction, upward, common_loops}
+use Rattle.iolb_model.specs.Order.{Direction, upward, common_loops}
 use Rattle.execution_laws.proofs.Domains.{way-there, statements-rise}
 use Rattle.execution_laws.proofs.Orders.{row_common-within, row_common-turn}
 use Rattle.affine_form.specs.Form.{variables, IsSmallForm}
 use Rattle.affine_form.specs.System.{AllOver}
-use Rattle.affine_rows.proofs.RowLemmas.{length-widened}
-use Rattle.affine_form.proofs.Lists.{All-at}
-use Rattle.affine_rows.specs.Rows.{IsSmallOver, widened, equality_rows, put_in}
+use Rattle.affine_form.proofs.RowLemmas.{length-widened}
+use Rattle.affine_form.specs.Rows.{IsSmallOver, widened, equality_rows, put_in, step_of}
 use Rattle.affine_form.specs.Substitution.{substitution}
-use Rattle.affine_c.specs.declared.reference.Reference.{Reference}
-use Rattle.affine_c.specs.declared.statement.Statement.{Statement}
-use Rattle.affine_c.specs.Domain.{depth_of}
-use Rattle.affine_c.specs.Limits.{IsSmallReference}
-use Rattle.affine_c.specs.Parts.{ProgramParts, IsProgram, access_of, statement_of, meaning, step_of}
-use Rattle.affine_c.proofs.Bounds.{StandsAt, row-stands, path-is, limits-at}
+use Rattle.affine_program.specs.declared.reference.Reference.{Reference}
+use Rattle.affine_program.specs.declared.statement.Statement.{Statement}
+use Rattle.affine_program.specs.Domain.{depth_of}
+use Rattle.affine_program.specs.Limits.{IsSmallReference}
+use Rattle.affine_program.specs.Parts.{ProgramParts, IsProgram, access_of, statement_of, meaning}
+use Rattle.affine_program.proofs.Bounds.{StandsAt, row-stands, path-is, limits-at}
 use Rattle.dep_quast.specs.Context.{ReadOf, reference_of}
 use Rattle.dep_quast.specs.Truth.{ReadFits}
 use Rattle.dep_quast.proofs.Points.{there-holds}
+use Rattle.iolb_model.specs.declared.limits.TheConstants.{NUMBER_SIZE}
 
 -- a statement of a program fits on its way
 pub fits-at : (program : AffineProgram) (s : ℕ) → IsWellFormed program → s < length program.statements → StatementFits program (length program.parameters + depth_of program s) s
@@ -68,11 +69,6 @@ pub common-upward : (program : AffineProgram) (t s common : ℕ) → common ≡ 
 common-upward program t s common e = ap (λ n. replicate n upward) e ∙ sym (all-upward (common_loops program t s))
 
 -- what stands at a place that is there
-there : {X : Type 0} (xs : List X) (k : ℕ) → k < length xs → (x : X) × (x ≡ get_or xs k x)
-there [] k below = absurd (omega arith)
-there (x ∷ xs) zero below = (x, refl)
-there (x ∷ xs) (suc k) below = there xs k (omega arith)
-
 -- a statement of the program that the parts mean
 pub statement-is : (parts : ProgramParts) (s : ℕ) (at : Statement) → s < length parts.statements → at ≡ get_or parts.statements s at → statement_at (meaning parts) s ≡ statement_of at
 statement-is parts s at below read = get_or-map statement_of parts.statements s at no_statement below ∙ ap statement_of (sym read)
@@ -84,16 +80,16 @@ module _ (parts : ProgramParts) (is : IsProgram parts) where
   pub params-few : length parts.params ≤ 6
   params-few = is.limits.parameters
 
-  pub depth-few : (s : ℕ) → s < length parts.statements → depth_of (meaning parts) s ≤ 4
+  pub depth-few : (s : ℕ) → s < length parts.statements → depth_of (meaning parts) s ≤ LOOPS
   depth-few s below =
       let at = there parts.statements s below in
       let path = path-is parts s at.0 is below at.1 in
       omega (arith, ap (λ (p : List PathStep). length p) path, length-map at.0.bounds.items step_of, (limits-at parts s at.0 is below at.1).depth)
 
-  pub common-few : (t s : ℕ) → t < length parts.statements → length (common_loops (meaning parts) t s) ≤ 4
+  pub common-few : (t s : ℕ) → t < length parts.statements → length (common_loops (meaning parts) t s) ≤ LOOPS
   common-few t s below = omega (arith, common-first (meaning parts) t s is.well_formed (all-there t below), depth-few t below)
 
-  over-and-small : (vars : ℕ) (forms : List AffineForm) → AllByRecursion (IsOver vars) forms → AllByRecursion (IsSmallForm (2 ^ 20)) forms → AllByRecursion (IsSmallOver vars) forms
+  over-and-small : (vars : ℕ) (forms : List AffineForm) → AllByRecursion (IsOver vars) forms → AllByRecursion (IsSmallForm NUMBER_SIZE) forms → AllByRecursion (IsSmallOver vars) forms
   over-and-small vars [] p q = tt
   over-and-small vars (f ∷ fs) p q = (record { over = p.0; small = q.0 }, over-and-small vars fs p.1 q.1)
 
@@ -105,10 +101,10 @@ module _ (parts : ProgramParts) (is : IsProgram parts) where
       let same = statement-is parts s at.0 below at.1 in
       over-and-small (length parts.params + depth_of (meaning parts) s) (statement_at (meaning parts) s).writes.subscripts
       (fits-at (meaning parts) s is.well_formed (all-there s below)).writes.subscripts
-      (subst (λ (statement : ModelStatement). AllByRecursion (IsSmallForm (2 ^ 20)) statement.writes.subscripts) (sym same) (limits-at parts s at.0 is below at.1).written)
+      (subst (λ (statement : ModelStatement). AllByRecursion (IsSmallForm NUMBER_SIZE) statement.writes.subscripts) (sym same) (limits-at parts s at.0 is below at.1).written)
 
   small-read : (reads : List Reference) (k : ℕ) → AllByRecursion IsSmallReference reads → k < length reads
-      → AllByRecursion (IsSmallForm (2 ^ 20)) (get_or (map access_of reads) k no_statement.writes).subscripts
+      → AllByRecursion (IsSmallForm NUMBER_SIZE) (get_or (map access_of reads) k no_statement.writes).subscripts
   small-read [] k h below = absurd (omega arith)
   small-read (r ∷ reads) zero h below = h.0
   small-read (r ∷ reads) (suc k) h below = small-read reads k h.1 (omega arith)
@@ -124,7 +120,7 @@ module _ (parts : ProgramParts) (is : IsProgram parts) where
       over-and-small (length parts.params + depth_of (meaning parts) s) (reference_of (meaning parts) reader).subscripts
       (All-at (AccessFits (meaning parts) (length parts.params + depth_of (meaning parts) s)) (statement_at (meaning parts) s).reads reader.read no_statement.writes
       (fits-at (meaning parts) s is.well_formed fits.statement).reads fits.read).subscripts
-      (subst (λ (statement : ModelStatement). AllByRecursion (IsSmallForm (2 ^ 20)) (get_or statement.reads reader.read no_statement.writes).subscripts) (sym same)
+      (subst (λ (statement : ModelStatement). AllByRecursion (IsSmallForm NUMBER_SIZE) (get_or statement.reads reader.read no_statement.writes).subscripts) (sym same)
       (small-read at.0.reads.items reader.read (limits-at parts s at.0 is below at.1).read
       (omega (arith, length-map at.0.reads.items access_of, ap (λ (statement : ModelStatement). length statement.reads) same, fits.read))))
 

@@ -5,8 +5,7 @@ use Rattle.std.specs.Option.{option_map_or}
 use Rattle.iolb_model.specs.Program.{AffineProgram}
 use Rattle.iolb_model.specs.Execution.{Instance}
 use Rattle.iolb_model.specs.Source.{Cell, same_cell, written_cell, writes_at, last_write_before}
-use Rattle.execution_laws.proofs.Cells.{same_cell-equal}
-use Rattle.execution_laws.proofs.Cells.{same_cell_refl}
+use Rattle.execution_laws.proofs.Cells.{same_cell-equal, same_cell_refl}
 
 -- an instance that writes the cell
 pub writer-at : (program : AffineProgram) (parameters : List ℤ) (runs : List Instance) (cell : Cell) (k : ℕ) → writes_at program parameters runs cell k ≡ true

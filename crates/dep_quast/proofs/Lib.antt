@@ -6,4 +6,5 @@ pub mod Found
 pub mod Chunks
 pub mod Sides
 pub mod Counts
+pub mod LastSources
 pub mod Truths

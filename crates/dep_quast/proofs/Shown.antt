@@ -4,21 +4,14 @@ use Rattle.std.specs.Prelude.{ℤ}
 use Rattle.iolb_model.specs.Form.{AffineForm}
 use Rattle.iolb_model.specs.Path.{PathStep, rises}
 use Rattle.execution_laws.proofs.Members.{Member}
-use Rattle.affine_form.specs.declared.place.Step.{Step}
+use Rattle.claims.specs.declared.place.Step.{Step}
 use Rattle.affine_form.specs.Multipliers.{FarkasMultipliers}
 use Rattle.affine_form.specs.Shown.{HasNoPoint}
 use Rattle.affine_form.specs.System.{AffineSystem, IsMet}
 use Rattle.affine_form.proofs.ShownLemmas.{Shows-follows, Shows-none}
-use Rattle.affine_rows.specs.Rows.{within_rows, equality_rows}
-use Rattle.dep_quast.specs.Claims.{AllHold, PlacedClaim, follow_claims, pointless_claims}
-
-pub AllHold-left : (xs ys : List PlacedClaim) → AllHold (xs ++ ys) → AllHold xs
-AllHold-left [] ys h = tt
-AllHold-left (x ∷ xs) ys h = (h.0, AllHold-left xs ys h.1)
-
-pub AllHold-right : (xs ys : List PlacedClaim) → AllHold (xs ++ ys) → AllHold ys
-AllHold-right [] ys h = h
-AllHold-right (x ∷ xs) ys h = AllHold-right xs ys h.1
+use Rattle.affine_form.specs.Rows.{within_rows, equality_rows}
+use Rattle.dep_quast.specs.Claims.{follow_claims, pointless_claims}
+use Rattle.claims.specs.Claims.{AllHold, Claim}
 
 -- goals that are shown are met where the rows are
 pub goals-met : (condition : ℕ) (place : List Step) (system : AffineSystem) (index : ℕ) (goals : List AffineForm) (shown : List FarkasMultipliers) (point : List ℤ)

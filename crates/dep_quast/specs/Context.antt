@@ -2,12 +2,11 @@
 -- statement, and then those of a writer.
 use Rattle.std.specs.Prelude.{ℕ, ◌+◌, pos, negsuc, List, [], ◌++◌, map, flat_map, length}
 use Rattle.iolb_model.specs.Form.{AffineForm}
-use Rattle.iolb_model.specs.Program.{Access, AffineProgram, statement_at}
-use Rattle.execution_laws.specs.Order.{common_loops}
-use Rattle.execution_laws.specs.Cold.{read_at}
+use Rattle.iolb_model.specs.Program.{Access, AffineProgram, statement_at, read_at}
+use Rattle.iolb_model.specs.Order.{common_loops}
 use Rattle.affine_form.specs.System.{AffineSystem}
-use Rattle.affine_rows.specs.Rows.{widened, variables_from, difference, within_rows, equality_rows, put_in, order_rows}
-use Rattle.affine_c.specs.Domain.{path_of, depth_of, domain_of}
+use Rattle.affine_form.specs.Rows.{widened, variables_from, difference, within_rows, equality_rows, put_in, order_rows}
+use Rattle.affine_program.specs.Domain.{path_of, depth_of, domain_of}
 use Rattle.dep_quast.specs.Tree.{SourceClaim}
 use Rattle.dep_quast.specs.Levels.{levels, writers}
 

@@ -2,7 +2,7 @@
 use Rattle.std.specs.Prelude.{◌≡◌, ℕ, suc, ◌+◌, ◌*◌, ◌<◌, ◌==◌, nat_lt, if◌then◌else◌, List, [], ◌∷◌, length, flat_map}
 use Rattle.std.specs.List.{range_with_len}
 use Rattle.iolb_model.specs.Program.{Statement, AffineProgram, statement_at}
-use Rattle.execution_laws.specs.Order.{common_loops}
+use Rattle.iolb_model.specs.Order.{common_loops}
 
 -- How many levels there are at which an instance of t may come before one of s: one for each loop around both, and one
 -- more where t stands before s in the text.

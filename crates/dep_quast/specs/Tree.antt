@@ -1,5 +1,5 @@
 -- Source trees. (Quasi-affine selection trees, Feautrier 1991.)
-use Rattle.std.specs.Prelude.{ℕ, ℤ, if◌then◌else◌, List}
+use Rattle.std.specs.Prelude.{ℕ, ◌+◌, ℤ, if◌then◌else◌, List}
 use Rattle.iolb_model.specs.Form.{AffineForm, form_value}
 use Rattle.iolb_model.specs.Printed.{is_below_zero}
 use Rattle.affine_form.specs.Multipliers.{FarkasMultipliers}
@@ -44,6 +44,11 @@ tree_of (Source statement level point inside cell before between) = leaf (source
 tree_of (Input earlier) = leaf (input earlier.items)
 tree_of (Empty shown) = leaf (empty shown)
 tree_of Blank = leaf blank
+
+-- how many leaves a tree has
+abbrev pub leaf_count : SelectionTree → ℕ
+leaf_count (leaf chosen) = 1
+leaf_count (test form above below) = leaf_count above + leaf_count below
 
 -- the leaf that the tests choose at a point
 abbrev pub leaf_at : SelectionTree → List ℤ → Leaf

@@ -5,14 +5,13 @@ use Rattle.iolb_model.specs.Form.{AffineForm}
 use Rattle.iolb_model.specs.Program.{AffineProgram, IsWellFormed, statement_at}
 use Rattle.iolb_model.specs.Bound.{IsAdmitted}
 use Rattle.iolb_model.specs.Execution.{execution}
-use Rattle.iolb_model.specs.Source.{Source, written_at, input, source_of}
-use Rattle.execution_laws.specs.Cold.{read_cell}
-use Rattle.execution_laws.specs.Domain.{IsAt}
-use Rattle.execution_laws.specs.Order.{common_loops}
-use Rattle.affine_form.specs.declared.place.Step.{Step}
+use Rattle.iolb_model.specs.Source.{Source, written_at, input, source_of, read_cell}
+use Rattle.iolb_model.specs.Domain.{IsAt}
+use Rattle.iolb_model.specs.Order.{common_loops}
+use Rattle.claims.specs.declared.place.Step.{Step}
 use Rattle.affine_form.specs.Substitution.{values_at}
-use Rattle.affine_rows.specs.Rows.{IsSmallOver}
-use Rattle.affine_c.specs.Domain.{depth_of}
+use Rattle.affine_form.specs.Rows.{IsSmallOver}
+use Rattle.affine_program.specs.Domain.{depth_of}
 use Rattle.dep_quast.specs.Tree.{SourceClaim, Leaf, source, input as input_leaf, empty, blank, SelectionTree, leaf, test, leaf_at}
 use Rattle.dep_quast.specs.Context.{ReadOf, reference_of, variables_at, no_row, context, earlier_writes, writes_between}
 use Rattle.dep_quast.specs.Claims.{before_goals, IsValid}

@@ -2,10 +2,10 @@
 
 ghost use Rattle.std.specs.Prelude.{◌≡◌, [], IfOk, OnOk, IfErr};
 ghost use Rattle.affine_form.specs.System.{AllOver};
-ghost use Rattle.affine_c.specs.Parts.{meaning};
+ghost use Rattle.affine_program.specs.Parts.{meaning};
 ghost use Rattle.dep_quast.specs.Claims.{claims, IsValid};
 ghost use Rattle.dep_quast.specs.Context.{variables_at};
-ghost use Rattle.dep_quast.specs.Found.{Finds, IsRefusalOf};
+ghost use Rattle.claims.specs.Claims.{Finds, IsRefusal};
 ghost use Rattle.dep_quast.specs.Tree.{tree_of};
 ghost use Rattle.dep_quast.specs.Truth.{ReadFits, FitsUnder, TreeFits, IsTrueTree};
 ghost use Rattle.dep_quast.specs.Views.{read_of};
@@ -13,17 +13,16 @@ ghost use Rattle.dep_quast.specs.Views.{read_of};
 use crate::claimed::Claimed;
 use crate::context::{tests_of_no, tests_of_yes};
 use crate::leaves::{blank_shown, empty_shown, input_shown, source_shown};
-use crate::lists::within;
 use crate::quast::Quast;
 use crate::reader::Reader;
 use crate::truth::valid_trees_are_true;
-use affine_c::Program;
-use affine_form::key::{NO, YES};
-use affine_form::{Form, Memory, No, Place, Refused, Step};
+use affine_form::{Form, Memory};
+use affine_program::Program;
+use claims::key::{NO, YES};
+use claims::{No, Place, Refused, Step};
 use std::alloc::Global;
 
-/// What isn't shown of a tree under these tests: the first claim that doesn't hold, leaf by leaf, `yes` before `no`. Want
-/// of memory is its only error.
+/// What isn't shown of a tree under these tests: the first claim that doesn't hold, leaf by leaf, `yes` before `no`.
 fn tree_shown(
     alloc: Global,
     program: &Program,
@@ -40,12 +39,12 @@ fn tree_shown(
     match quast {
         Quast::Test { form, yes, no } => {
             let above = tests_of_yes(alloc, tests, form)?;
-            let side = within(alloc, place, Step::Key(YES))?;
+            let side = place.within(alloc, Step::Key(YES))?;
             if let Some(found) = tree_shown(alloc, program, reader, above.as_slice(), &side, yes)? {
                 return Ok(Some(found));
             }
             let below = tests_of_no(alloc, program, reader, tests, form)?;
-            let side = within(alloc, place, Step::Key(NO))?;
+            let side = place.within(alloc, Step::Key(NO))?;
             tree_shown(alloc, program, reader, below.as_slice(), &side, no)
         }
         Quast::Source {
@@ -96,7 +95,7 @@ pub fn check_quast(
     requires fits { TreeFits (meaning program.now) (record { statement = statement; read = read }) (tree_of quast.now) }
     ensures valid { OnOk result (IsValid (meaning program.now) (record { statement = statement; read = read }) place.now (tree_of quast.now)) }
     ensures true_tree { OnOk result (IsTrueTree (meaning program.now) (record { statement = statement; read = read }) (tree_of quast.now)) }
-    ensures refused { IfErr result (λ refused. IsRefusalOf (claims (meaning program.now) (record { statement = statement; read = read }) [] place.now (tree_of quast.now)) refused) }
+    ensures refused { IfErr result (λ refused. IsRefusal (claims (meaning program.now) (record { statement = statement; read = read }) [] place.now (tree_of quast.now)) refused) }
 {
     let _params = program.params();
     valid_trees_are_true();

@@ -2,28 +2,18 @@
 
 ghost use Rattle.std.specs.Prelude.{◌≡◌, ◌≤◌, [], ◌∷◌, length, IfOk, IsTrue, ◌↔◌};
 ghost use Rattle.affine_form.specs.System.{AllOver};
-ghost use Rattle.dep_quast.specs.Claims.{Holds, few, follows, pointless, follow_claims};
-ghost use Rattle.dep_quast.specs.Found.{Finds};
+ghost use Rattle.dep_quast.specs.Claims.{IsFew, Follows, IsPointless, follow_claims};
+ghost use Rattle.claims.specs.Claims.{Finds};
+ghost use Rattle.iolb_model.specs.declared.limits.TheConstants.{VARIABLES};
 
-use crate::lists::within;
-use affine_form::{Form, Memory, Multipliers, No, Place, Step, System, empty, entails};
-use affine_rows::system_of;
+use affine_form::{Form, Memory, Multipliers, System, empty, entails, system_of};
+use claims::{No, Place, Step, refusal};
+use iolb_model::limits;
 use std::alloc::Global;
-
-/// The greatest number of rows that a system may have.
-pub const MOST_ROWS: usize = 128;
-
-/// A condition that doesn't hold at a place. Want of memory is its only error.
-pub fn refusal(alloc: Global, condition: u8, place: &Place) -> Result<Option<No>, Memory>
-    ensures { IfOk result (λ found. found ≡ Some (record { condition = condition; place = place.now })) }
-{
-    let place = place.try_clone(alloc)?;
-    Ok(Some(No { condition, place }))
-}
 
 /// Whether the multipliers show that the goal follows.
 fn is_followed(system: &System, goal: &Form, shown: &Multipliers) -> bool
-    ensures { IsTrue result ↔ Holds (follows system.now goal.now shown.now) }
+    ensures { IsTrue result ↔ (Follows system.now goal.now shown.now) }
 {
     let _scale = shown.c();
     entails(system, goal, shown)
@@ -31,14 +21,13 @@ fn is_followed(system: &System, goal: &Form, shown: &Multipliers) -> bool
 
 /// Whether the multipliers show that the system has no point.
 fn is_pointless(system: &System, shown: &Multipliers) -> bool
-    ensures { IsTrue result ↔ Holds (pointless system.now shown.now) }
+    ensures { IsTrue result ↔ (IsPointless system.now shown.now) }
 {
     let _scale = shown.c();
     empty(system, shown)
 }
 
 /// Whether the goals follow, each by its multipliers: the first that doesn't, by its place in the list at this place.
-/// Want of memory is its only error.
 pub fn goals_shown(
     alloc: Global,
     condition: u8,
@@ -52,7 +41,7 @@ pub fn goals_shown(
 {
     for (i, goal) in goals.iter().enumerate() {
         if !is_followed(system, goal, &shown[i]) {
-            let place = within(alloc, place, Step::Index(i as u64))?;
+            let place = place.within(alloc, Step::Index(i as u64))?;
             return refusal(alloc, condition, &place);
         }
     }
@@ -60,7 +49,7 @@ pub fn goals_shown(
 }
 
 /// Whether the rows are few, and the multipliers show that no point meets them all: else the condition that doesn't
-/// hold, at this place. Want of memory is its only error.
+/// hold, at this place.
 pub fn system_shown(
     alloc: Global,
     condition: u8,
@@ -69,12 +58,12 @@ pub fn system_shown(
     rows: &[Form],
     shown: &Multipliers,
 ) -> Result<Option<No>, Memory>
-    requires few { vars ≤ 24 }
+    requires few { vars ≤ VARIABLES }
     requires over { AllOver vars rows.now }
-    ensures { IfOk result (λ found. Finds (record { condition = 2; place = place.now; claim = few (length rows.now) }
-        ∷ record { condition = condition; place = place.now; claim = pointless (record { vars = vars; rows = rows.now }) shown.now } ∷ []) found) }
+    ensures { IfOk result (λ found. Finds (record { condition = 2; place = place.now; statement = IsFew (length rows.now) }
+        ∷ record { condition = condition; place = place.now; statement = IsPointless (record { vars = vars; rows = rows.now }) shown.now } ∷ []) found) }
 {
-    if rows.len() > MOST_ROWS {
+    if rows.len() > limits::ROWS {
         return refusal(alloc, 2, place);
     }
     let system = system_of(alloc, vars, rows)?;

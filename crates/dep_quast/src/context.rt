@@ -2,20 +2,18 @@
 
 ghost use Rattle.std.specs.Prelude.{◌≡◌, ◌<◌, ◌++◌, ◌∷◌, [], length, IfOk};
 ghost use Rattle.affine_form.specs.System.{AllOver};
-ghost use Rattle.affine_rows.specs.Rows.{IsSmallOver};
-ghost use Rattle.affine_c.specs.Parts.{meaning};
+ghost use Rattle.affine_form.specs.Rows.{IsSmallOver};
+ghost use Rattle.affine_program.specs.Parts.{meaning};
 ghost use Rattle.dep_quast.specs.Context.{variables_at, context, no_row};
 ghost use Rattle.dep_quast.specs.Views.{read_of};
 
 use crate::lists::{all_widened, followed_by, with_form};
 use crate::reader::{Reader, variables};
-use affine_c::Program;
-use affine_form::{Form, Memory};
-use affine_rows::difference;
+use affine_form::{Form, Memory, difference};
+use affine_program::Program;
 use std::alloc::Global;
 
-/// The rows of a leaf under these tests: the assumptions, the domain of the reading statement, and the tests. Want of
-/// memory is its only error.
+/// The rows of a leaf under these tests: the assumptions, the domain of the reading statement, and the tests.
 pub(crate) fn context_rows(
     alloc: Global,
     program: &Program,
@@ -34,14 +32,14 @@ pub(crate) fn context_rows(
     followed_by(alloc, rows, tests)
 }
 
-/// The tests on the way to the side where the form is at least 0. Want of memory is its only error.
+/// The tests on the way to the side where the form is at least 0.
 pub(crate) fn tests_of_yes(alloc: Global, tests: &[Form], form: &Form) -> Result<Vec<Form>, Memory>
     ensures { IfOk result (λ all. all.items ≡ tests.now ++ form.now ∷ []) }
 {
     with_form(alloc, tests, form.try_clone(alloc)?)
 }
 
-/// The tests on the way to the side where the form is at most -1. Want of memory is its only error.
+/// The tests on the way to the side where the form is at most -1.
 pub(crate) fn tests_of_no(
     alloc: Global,
     program: &Program,

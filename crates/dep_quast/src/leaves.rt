@@ -2,28 +2,28 @@
 
 ghost use Rattle.std.specs.Prelude.{IfOk};
 ghost use Rattle.affine_form.specs.System.{AllOver};
-ghost use Rattle.affine_c.specs.Parts.{meaning};
+ghost use Rattle.affine_program.specs.Parts.{meaning};
 ghost use Rattle.dep_quast.specs.Claims.{leaf_claims};
 ghost use Rattle.dep_quast.specs.Context.{variables_at};
-ghost use Rattle.dep_quast.specs.Found.{Finds};
+ghost use Rattle.claims.specs.Claims.{Finds};
 ghost use Rattle.dep_quast.specs.Tree.{source, input, empty, blank};
 ghost use Rattle.dep_quast.specs.Truth.{ReadFits, LeafFits};
 ghost use Rattle.dep_quast.specs.Views.{read_of, claim_of};
 
 use crate::claimed::Claimed;
-use crate::claims_shown::{MOST_ROWS, refusal, system_shown};
+use crate::claims_shown::system_shown;
 use crate::context::context_rows;
-use crate::lists::within;
 use crate::reader::{Reader, variables};
 use crate::source_claims::{place_of_first, point_shown};
 use crate::writes_shown::{between_shown, earlier_shown};
-use affine_c::Program;
-use affine_form::key::{BETWEEN, EMPTY, INPUT};
-use affine_form::{Form, Memory, Multipliers, No, Place, Step};
-use affine_rows::system_of;
+use affine_form::{Form, Memory, Multipliers, system_of};
+use affine_program::Program;
+use claims::key::{BETWEEN, EMPTY, INPUT};
+use claims::{No, Place, Step, refusal};
+use iolb_model::limits;
 use std::alloc::Global;
 
-/// What isn't shown of a leaf that names a source. Want of memory is its only error.
+/// What isn't shown of a leaf that names a source.
 pub(crate) fn source_shown(
     alloc: Global,
     program: &Program,
@@ -38,7 +38,7 @@ pub(crate) fn source_shown(
     ensures { IfOk result (λ found. Finds (leaf_claims (meaning program.now) (read_of reader) tests.now place.now (source (claim_of claimed.now))) found) }
 {
     let rows = context_rows(alloc, program, reader, tests)?;
-    if rows.len() > MOST_ROWS {
+    if rows.len() > limits::ROWS {
         let first = place_of_first(alloc, place, claimed.domain, claimed.cell, claimed.before)?;
         return refusal(alloc, 2, &first);
     }
@@ -46,11 +46,11 @@ pub(crate) fn source_shown(
     if let Some(no) = point_shown(alloc, program, reader, place, &system, claimed)? {
         return Ok(Some(no));
     }
-    let list = within(alloc, place, Step::Key(BETWEEN))?;
+    let list = place.within(alloc, Step::Key(BETWEEN))?;
     between_shown(alloc, program, reader, &list, rows.as_slice(), claimed)
 }
 
-/// What isn't shown of a leaf that says there is no earlier write. Want of memory is its only error.
+/// What isn't shown of a leaf that says there is no earlier write.
 pub(crate) fn input_shown(
     alloc: Global,
     program: &Program,
@@ -65,14 +65,14 @@ pub(crate) fn input_shown(
     ensures { IfOk result (λ found. Finds (leaf_claims (meaning program.now) (read_of reader) tests.now place.now (input shown.now)) found) }
 {
     let rows = context_rows(alloc, program, reader, tests)?;
-    if rows.len() > MOST_ROWS {
+    if rows.len() > limits::ROWS {
         return refusal(alloc, 2, place);
     }
-    let list = within(alloc, place, Step::Key(INPUT))?;
+    let list = place.within(alloc, Step::Key(INPUT))?;
     earlier_shown(alloc, program, reader, &list, rows.as_slice(), shown)
 }
 
-/// What isn't shown of a leaf that says no point comes there. Want of memory is its only error.
+/// What isn't shown of a leaf that says no point comes there.
 pub(crate) fn empty_shown(
     alloc: Global,
     program: &Program,
@@ -86,12 +86,12 @@ pub(crate) fn empty_shown(
     ensures { IfOk result (λ found. Finds (leaf_claims (meaning program.now) (read_of reader) tests.now place.now (empty shown.now)) found) }
 {
     let rows = context_rows(alloc, program, reader, tests)?;
-    let member = within(alloc, place, Step::Key(EMPTY))?;
+    let member = place.within(alloc, Step::Key(EMPTY))?;
     let vars = variables(program, reader);
     system_shown(alloc, 7, &member, vars, rows.as_slice(), shown)
 }
 
-/// What isn't shown of a leaf that claims nothing. Want of memory is its only error.
+/// What isn't shown of a leaf that claims nothing.
 pub(crate) fn blank_shown(
     alloc: Global,
     program: &Program,
@@ -104,7 +104,7 @@ pub(crate) fn blank_shown(
     ensures { IfOk result (λ found. Finds (leaf_claims (meaning program.now) (read_of reader) tests.now place.now blank) found) }
 {
     let rows = context_rows(alloc, program, reader, tests)?;
-    if rows.len() > MOST_ROWS {
+    if rows.len() > limits::ROWS {
         return refusal(alloc, 2, place);
     }
     Ok(None)

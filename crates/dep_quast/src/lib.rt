@@ -19,5 +19,4 @@ mod writes;
 mod writes_shown;
 
 pub use check::check_quast;
-pub use fitting::quast_fits;
 pub use quast::Quast;

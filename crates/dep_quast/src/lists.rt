@@ -1,15 +1,15 @@
-//! Lists of forms, and places.
+//! Lists of forms.
 
 ghost use Rattle.std.specs.Prelude.{◌≡◌, ◌≤◌, [], ◌∷◌, ◌++◌, map, IfOk};
 ghost use Rattle.std.specs.List.{AllByRecursion};
 ghost use Rattle.affine_form.specs.Form.{variables};
-ghost use Rattle.affine_rows.specs.Rows.{widened};
+ghost use Rattle.affine_form.specs.Rows.{widened};
+ghost use Rattle.iolb_model.specs.declared.limits.TheConstants.{VARIABLES};
 
-use affine_form::{Form, Memory, Place, Step};
-use affine_rows::widened;
+use affine_form::{Form, Memory, widened};
 use std::alloc::Global;
 
-/// Forms, and then copies of others. Want of memory is its only error.
+/// Forms, and then copies of others.
 pub fn followed_by(alloc: Global, forms: Vec<Form>, more: &[Form]) -> Result<Vec<Form>, Memory>
     ensures { IfOk result (λ all. all.items ≡ forms.items ++ more.now) }
 {
@@ -20,7 +20,7 @@ pub fn followed_by(alloc: Global, forms: Vec<Form>, more: &[Form]) -> Result<Vec
     Ok(all)
 }
 
-/// Copies of forms, and one more. Want of memory is its only error.
+/// Copies of forms, and one more.
 pub fn with_form(alloc: Global, forms: &[Form], last: Form) -> Result<Vec<Form>, Memory>
     ensures { IfOk result (λ all. all.items ≡ forms.now ++ last ∷ []) }
 {
@@ -32,9 +32,9 @@ pub fn with_form(alloc: Global, forms: &[Form], last: Form) -> Result<Vec<Form>,
     Ok(all)
 }
 
-/// Forms read over so many variables. Want of memory is its only error.
+/// Forms read over so many variables.
 pub fn all_widened(alloc: Global, vars: usize, forms: &[Form]) -> Result<Vec<Form>, Memory>
-    requires few { vars ≤ 24 }
+    requires few { vars ≤ VARIABLES }
     requires within { AllByRecursion (λ form. variables form ≤ vars) forms.now }
     ensures { IfOk result (λ wide. wide.items ≡ map (widened vars) forms.now) }
 {
@@ -43,13 +43,4 @@ pub fn all_widened(alloc: Global, vars: usize, forms: &[Form]) -> Result<Vec<For
         wide.push(widened(alloc, vars, form)?)?;
     }
     Ok(wide)
-}
-
-/// The place one step further in. Want of memory is its only error.
-pub fn within(alloc: Global, place: &Place, step: Step) -> Result<Place, Memory>
-    ensures { IfOk result (λ inner. inner ≡ place.now ++ step ∷ []) }
-{
-    let mut steps = Vec::from_slice(alloc, place.steps())?;
-    steps.push(step)?;
-    Ok(Place::new(steps))
 }

@@ -3,23 +3,23 @@
 ghost use Rattle.std.specs.Prelude.{◌≡◌, ◌≤◌, ◌<◌, ◌*◌, ◌++◌, length, IfOk};
 ghost use Rattle.std.specs.List.{AllByRecursion};
 ghost use Rattle.iolb_model.specs.Program.{statement_at};
-ghost use Rattle.execution_laws.specs.Order.{common_loops};
+ghost use Rattle.iolb_model.specs.Order.{common_loops};
 ghost use Rattle.affine_form.specs.System.{AllOver};
-ghost use Rattle.affine_rows.specs.Rows.{within_rows, equality_rows, put_in, order_rows, IsSmallOver, IsSmallWithin};
-ghost use Rattle.affine_c.specs.Domain.{path_of, depth_of};
-ghost use Rattle.affine_c.specs.Parts.{meaning};
+ghost use Rattle.affine_form.specs.Rows.{within_rows, equality_rows, put_in, order_rows, IsSmallOver, IsSmallWithin};
+ghost use Rattle.affine_program.specs.Domain.{path_of, depth_of};
+ghost use Rattle.affine_program.specs.Parts.{meaning};
 ghost use Rattle.dep_quast.specs.Context.{reference_of, variables_at, parameter_point, reader_point};
 ghost use Rattle.dep_quast.specs.Truth.{ReadFits};
 ghost use Rattle.dep_quast.specs.Views.{read_of};
+ghost use Rattle.iolb_model.specs.declared.limits.TheConstants.{VARIABLES};
 
 use crate::lists::followed_by;
 use crate::reader::{Reader, reference, variables, written};
-use affine_c::Program;
-use affine_form::{Form, Memory};
-use affine_rows::{cell_rows, order_rows, variables_from, within_rows};
+use affine_form::{Form, Memory, cell_rows, order_rows, variables_from, within_rows};
+use affine_program::Program;
 use std::alloc::Global;
 
-/// The rows which say that loop values of a statement are in its domain. Want of memory is its only error.
+/// The rows which say that loop values of a statement are in its domain.
 pub fn domain_rows(
     alloc: Global,
     program: &Program,
@@ -28,7 +28,7 @@ pub fn domain_rows(
     values: &[Form],
 ) -> Result<Vec<Form>, Memory>
     requires there { statement < length program.now.statements }
-    requires few { vars ≤ 24 }
+    requires few { vars ≤ VARIABLES }
     requires room { length program.now.params ≤ vars }
     requires one_each { length values.now ≡ depth_of (meaning program.now) statement }
     requires values_over { AllByRecursion (IsSmallOver vars) values.now }
@@ -44,8 +44,7 @@ pub fn domain_rows(
     Ok(rows)
 }
 
-/// The rows which say that a statement at these loop values writes the cell that is read. Want of memory is its only
-/// error.
+/// The rows which say that a statement at these loop values writes the cell that is read.
 pub(crate) fn written_rows(
     alloc: Global,
     program: &Program,
@@ -57,7 +56,7 @@ pub(crate) fn written_rows(
     requires there { statement < length program.now.statements }
     requires read { ReadFits (meaning program.now) (read_of reader) }
     requires one_array { (statement_at (meaning program.now) statement).writes.array ≡ (reference_of (meaning program.now) (read_of reader)).array }
-    requires few { vars ≤ 24 }
+    requires few { vars ≤ VARIABLES }
     requires room { variables_at (meaning program.now) (read_of reader) ≤ vars }
     requires one_each { length values.now ≡ depth_of (meaning program.now) statement }
     requires values_over { AllByRecursion (IsSmallOver vars) values.now }
@@ -76,8 +75,7 @@ pub(crate) fn written_rows(
     Ok(rows)
 }
 
-/// The rows which say that loop values ys of statement t come before loop values xs of statement s at a level. Want of
-/// memory is its only error.
+/// The rows which say that loop values ys of statement t come before loop values xs of statement s at a level.
 pub(crate) fn precedence_rows(
     alloc: Global,
     program: &Program,
@@ -90,7 +88,7 @@ pub(crate) fn precedence_rows(
 ) -> Result<Vec<Form>, Memory>
     requires t_there { t < length program.now.statements }
     requires s_there { s < length program.now.statements }
-    requires few { vars ≤ 24 }
+    requires few { vars ≤ VARIABLES }
     requires level_in { level ≤ length (common_loops (meaning program.now) t s) }
     requires ys_each { length ys.now ≡ depth_of (meaning program.now) t }
     requires xs_each { length xs.now ≡ depth_of (meaning program.now) s }

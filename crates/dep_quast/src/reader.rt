@@ -1,14 +1,15 @@
 //! Reads of a program, and what the program says of their statements.
 
-ghost use Rattle.std.specs.Prelude.{◌≡◌, ◌<◌, ◌≤◌, length, IfOk};
+ghost use Rattle.std.specs.Prelude.{◌≡◌, ◌<◌, ◌≤◌, length, IfOk, ◌+◌};
 ghost use Rattle.iolb_model.specs.Program.{statement_at};
-ghost use Rattle.affine_c.specs.Domain.{depth_of};
-ghost use Rattle.affine_c.specs.Parts.{access_of, meaning};
+ghost use Rattle.affine_program.specs.Domain.{depth_of};
+ghost use Rattle.affine_program.specs.Parts.{access_of, meaning};
 ghost use Rattle.dep_quast.specs.Context.{reference_of, variables_at};
 ghost use Rattle.dep_quast.specs.Truth.{ReadFits};
 ghost use Rattle.dep_quast.specs.Views.{read_of};
+ghost use Rattle.iolb_model.specs.declared.limits.TheConstants.{LOOPS, PARAMETERS};
 
-use affine_c::{Program, Reference};
+use affine_program::{Program, Reference};
 
 /// A read of a program: the statement's number, and the read's.
 #[derive(Clone, Copy)]
@@ -21,7 +22,7 @@ pub struct Reader {
 pub fn depth(program: &Program, statement: u16) -> usize
     requires { statement < length program.now.statements }
     ensures depth { result ≡ depth_of (meaning program.now) statement }
-    ensures few { result ≤ 4 }
+    ensures few { result ≤ LOOPS }
 {
     program.statements()[usize::from(statement)]
         .bounds
@@ -33,7 +34,7 @@ pub fn depth(program: &Program, statement: u16) -> usize
 pub fn variables(program: &Program, reader: Reader) -> usize
     requires { reader.statement < length program.now.statements }
     ensures variables { result ≡ variables_at (meaning program.now) (read_of reader) }
-    ensures few { result ≤ 10 }
+    ensures few { result ≤ PARAMETERS + LOOPS }
 {
     program.params().len() + depth(program, reader.statement)
 }

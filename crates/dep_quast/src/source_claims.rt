@@ -3,28 +3,28 @@
 ghost use Rattle.std.specs.Prelude.{◌≡◌, ◌<◌, ◌*◌, ◌++◌, ◌∷◌, [], length, IfOk, IsTrue, ◌↔◌};
 ghost use Rattle.std.specs.List.{AllByRecursion};
 ghost use Rattle.iolb_model.specs.Program.{statement_at};
-ghost use Rattle.affine_rows.specs.Rows.{IsSmallOver};
-ghost use Rattle.affine_c.specs.Domain.{depth_of};
-ghost use Rattle.affine_c.specs.Parts.{meaning};
-ghost use Rattle.affine_form.specs.declared.place.Step.TheVariants.{Key, Index};
+ghost use Rattle.affine_form.specs.Rows.{IsSmallOver};
+ghost use Rattle.affine_program.specs.Domain.{depth_of};
+ghost use Rattle.affine_program.specs.Parts.{meaning};
+ghost use Rattle.claims.specs.declared.place.Step.TheVariants.{Key, Index};
 ghost use Rattle.dep_quast.specs.Claims.{point_claims, follow_claims, first_shown, inside_goals, cell_goals, before_goals};
 ghost use Rattle.dep_quast.specs.Context.{reference_of, variables_at};
-ghost use Rattle.dep_quast.specs.Found.{Finds};
+ghost use Rattle.claims.specs.Claims.{Finds};
 ghost use Rattle.dep_quast.specs.Truth.{ReadFits, IsLevel};
 ghost use Rattle.dep_quast.specs.Views.{read_of, claim_of};
 
 use crate::claimed::Claimed;
-use crate::claims_shown::{goals_shown, refusal};
-use crate::lists::within;
+use crate::claims_shown::goals_shown;
 use crate::point_rows::{domain_rows, precedence_rows, written_rows};
 use crate::reader::{Reader, reference, variables, written};
 use crate::writes::values_of_reader;
-use affine_c::Program;
-use affine_form::key::{BEFORE, CELL, DOMAIN, STATEMENT};
-use affine_form::{Memory, Multipliers, No, Place, Step, System};
+use affine_form::{Memory, Multipliers, System};
+use affine_program::Program;
+use claims::key::{BEFORE, CELL, DOMAIN, STATEMENT};
+use claims::{No, Place, Step, refusal};
 use std::alloc::Global;
 
-/// The first member of the lists of a source, and the leaf itself if they have none. Want of memory is its only error.
+/// The first member of the lists of a source, and the leaf itself if they have none.
 pub(crate) fn place_of_first(
     alloc: Global,
     place: &Place,
@@ -43,11 +43,11 @@ pub(crate) fn place_of_first(
     } else {
         return place.try_clone(alloc);
     };
-    let list = within(alloc, place, Step::Key(key))?;
-    within(alloc, &list, Step::Index(0))
+    let list = place.within(alloc, Step::Key(key))?;
+    list.within(alloc, Step::Index(0))
 }
 
-/// Whether the source is shown to be in its statement's domain. Want of memory is its only error.
+/// Whether the source is shown to be in its statement's domain.
 pub(crate) fn domain_shown(
     alloc: Global,
     program: &Program,
@@ -65,7 +65,7 @@ pub(crate) fn domain_shown(
 {
     let vars = variables(program, reader);
     let goals = domain_rows(alloc, program, vars, claimed.statement, claimed.point)?;
-    let list = within(alloc, place, Step::Key(DOMAIN))?;
+    let list = place.within(alloc, Step::Key(DOMAIN))?;
     goals_shown(alloc, 3, &list, system, goals.as_slice(), claimed.domain)
 }
 
@@ -78,7 +78,7 @@ pub(crate) fn writes_array(program: &Program, reader: Reader, statement: u16) ->
     written(program, statement).array == reference(program, reader).array
 }
 
-/// Whether the source is shown to write the cell that is read. Want of memory is its only error.
+/// Whether the source is shown to write the cell that is read.
 pub(crate) fn cell_shown(
     alloc: Global,
     program: &Program,
@@ -104,11 +104,11 @@ pub(crate) fn cell_shown(
         claimed.statement,
         claimed.point,
     )?;
-    let list = within(alloc, place, Step::Key(CELL))?;
+    let list = place.within(alloc, Step::Key(CELL))?;
     goals_shown(alloc, 4, &list, system, goals.as_slice(), claimed.cell)
 }
 
-/// Whether the source is shown to come before the reader at its level. Want of memory is its only error.
+/// Whether the source is shown to come before the reader at its level.
 pub(crate) fn before_shown(
     alloc: Global,
     program: &Program,
@@ -137,12 +137,11 @@ pub(crate) fn before_shown(
         reader.statement,
         xs.as_slice(),
     )?;
-    let list = within(alloc, place, Step::Key(BEFORE))?;
+    let list = place.within(alloc, Step::Key(BEFORE))?;
     goals_shown(alloc, 5, &list, system, goals.as_slice(), claimed.before)
 }
 
-/// Whether a source is shown to be in its domain, to write the cell that is read, and to come before the reader. Want of
-/// memory is its only error.
+/// Whether a source is shown to be in its domain, to write the cell that is read, and to come before the reader.
 pub(crate) fn point_shown(
     alloc: Global,
     program: &Program,
@@ -165,7 +164,7 @@ pub(crate) fn point_shown(
         return Ok(Some(no));
     }
     if !writes_array(program, reader, claimed.statement) {
-        let key = within(alloc, place, Step::Key(STATEMENT))?;
+        let key = place.within(alloc, Step::Key(STATEMENT))?;
         return refusal(alloc, 4, &key);
     }
     if let Some(no) = cell_shown(alloc, program, reader, place, system, claimed)? {

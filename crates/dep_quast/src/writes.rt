@@ -1,23 +1,23 @@
 //! Rows of writes of the cell that is read.
 
-ghost use Rattle.std.specs.Prelude.{◌≡◌, ◌<◌, ◌≤◌, length, IfOk};
+ghost use Rattle.std.specs.Prelude.{◌≡◌, ◌<◌, ◌≤◌, length, IfOk, ◌+◌};
 ghost use Rattle.std.specs.List.{AllByRecursion};
 ghost use Rattle.affine_form.specs.System.{AllOver};
-ghost use Rattle.affine_rows.specs.Rows.{IsSmallOver};
-ghost use Rattle.affine_c.specs.Domain.{depth_of};
-ghost use Rattle.affine_c.specs.Parts.{meaning};
+ghost use Rattle.affine_form.specs.Rows.{IsSmallOver};
+ghost use Rattle.affine_program.specs.Domain.{depth_of};
+ghost use Rattle.affine_program.specs.Parts.{meaning};
 ghost use Rattle.dep_quast.specs.Context.{reference_of, variables_at, variables_with, reader_values, writer_values, write_rows, before_reader, after_source};
 ghost use Rattle.dep_quast.specs.Levels.{IsWriter, level_count};
 ghost use Rattle.dep_quast.specs.Truth.{ReadFits};
 ghost use Rattle.dep_quast.specs.Views.{read_of, claim_of};
+ghost use Rattle.iolb_model.specs.declared.limits.TheConstants.{VARIABLES, LOOPS, PARAMETERS};
 
 use crate::claimed::Claimed;
 use crate::lists::{all_widened, followed_by};
 use crate::point_rows::{domain_rows, precedence_rows, written_rows};
 use crate::reader::{Reader, depth, variables};
-use affine_c::Program;
-use affine_form::{Form, Memory};
-use affine_rows::variables_from;
+use affine_form::{Form, Memory, variables_from};
+use affine_program::Program;
 use std::alloc::Global;
 
 /// How many variables there are with a writer's.
@@ -25,12 +25,12 @@ pub(crate) fn variables_beside(program: &Program, reader: Reader, writer: u16) -
     requires read { reader.statement < length program.now.statements }
     requires writer { writer < length program.now.statements }
     ensures variables { result ≡ variables_with (meaning program.now) (read_of reader) writer }
-    ensures few { result ≤ 14 }
+    ensures few { result ≤ PARAMETERS + LOOPS + LOOPS }
 {
     variables(program, reader) + depth(program, writer)
 }
 
-/// The loop values of a writer, of all variables. Want of memory is its only error.
+/// The loop values of a writer, of all variables.
 fn values_of_writer(
     alloc: Global,
     program: &Program,
@@ -48,7 +48,7 @@ fn values_of_writer(
     variables_from(alloc, first + count, first, count)
 }
 
-/// The loop values of the reader, of so many variables. Want of memory is its only error.
+/// The loop values of the reader, of so many variables.
 pub(crate) fn values_of_reader(
     alloc: Global,
     program: &Program,
@@ -56,7 +56,7 @@ pub(crate) fn values_of_reader(
     vars: usize,
 ) -> Result<Vec<Form>, Memory>
     requires read { reader.statement < length program.now.statements }
-    requires few { vars ≤ 24 }
+    requires few { vars ≤ VARIABLES }
     requires room { variables_at (meaning program.now) (read_of reader) ≤ vars }
     ensures forms { IfOk result (λ values. values.items ≡ reader_values (meaning program.now) (read_of reader) vars) }
     ensures many { IfOk result (λ values. length values.items ≡ depth_of (meaning program.now) reader.statement) }
@@ -68,7 +68,6 @@ pub(crate) fn values_of_reader(
 }
 
 /// The rows of a write of the cell by another statement: those given, the writer's domain, and that the cells are one.
-/// Want of memory is its only error.
 pub(crate) fn rows_of_write(
     alloc: Global,
     program: &Program,
@@ -91,8 +90,7 @@ pub(crate) fn rows_of_write(
     followed_by(alloc, inside, cell.as_slice())
 }
 
-/// The rows of the system of rows about a writer, with those which say that it comes before the reader at a level. Want of
-/// memory is its only error.
+/// The rows of the system of rows about a writer, with those which say that it comes before the reader at a level.
 pub(crate) fn rows_before_reader(
     alloc: Global,
     program: &Program,
@@ -124,7 +122,7 @@ pub(crate) fn rows_before_reader(
     followed_by(alloc, copies(alloc, rows)?, order.as_slice())
 }
 
-/// Rows about a writer, and those which say that it comes after the source at a level. Want of memory is its only error.
+/// Rows about a writer, and those which say that it comes after the source at a level.
 pub(crate) fn rows_after_source(
     alloc: Global,
     program: &Program,
@@ -159,7 +157,7 @@ pub(crate) fn rows_after_source(
     followed_by(alloc, copies(alloc, rows)?, order.as_slice())
 }
 
-/// Copies of forms. Want of memory is its only error.
+/// Copies of forms.
 fn copies(alloc: Global, forms: &[Form]) -> Result<Vec<Form>, Memory>
     ensures { IfOk result (λ copies. copies.items ≡ forms.now) }
 {

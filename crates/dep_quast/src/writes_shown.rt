@@ -1,30 +1,31 @@
 //! Whether writes of the cell that is read are shown not to be.
 
-ghost use Rattle.std.specs.Prelude.{◌≡◌, ◌<◌, ◌≤◌, ◌+◌, ◌*◌, length, map, flat_map, drop, IfOk};
+ghost use Rattle.std.specs.Prelude.{◌≡◌, ◌<◌, ◌≤◌, ◌+◌, ◌*◌, length, map, flat_map, drop, IfOk, suc};
 ghost use Rattle.std.specs.List.{AllByRecursion};
 ghost use Rattle.affine_form.specs.System.{AllOver};
-ghost use Rattle.affine_rows.specs.Rows.{IsSmallOver};
-ghost use Rattle.affine_c.specs.Domain.{depth_of};
-ghost use Rattle.affine_c.specs.Parts.{meaning};
+ghost use Rattle.affine_form.specs.Rows.{IsSmallOver};
+ghost use Rattle.affine_program.specs.Domain.{depth_of};
+ghost use Rattle.affine_program.specs.Parts.{meaning};
 ghost use Rattle.dep_quast.specs.Claims.{pointless_claims};
 ghost use Rattle.dep_quast.specs.Context.{reference_of, variables_at, variables_with, before_reader, after_source, earlier_writes, writes_between};
-ghost use Rattle.dep_quast.specs.Found.{Finds};
+ghost use Rattle.claims.specs.Claims.{Finds};
 ghost use Rattle.dep_quast.specs.Levels.{levels, level_count};
 ghost use Rattle.dep_quast.specs.Truth.{ReadFits};
 ghost use Rattle.dep_quast.specs.Views.{read_of, claim_of};
+ghost use Rattle.iolb_model.specs.declared.limits.TheConstants.{LOOPS};
 
 use crate::claimed::Claimed;
 use crate::claims_shown::system_shown;
 use crate::levels::{level_count, writers};
-use crate::lists::within;
 use crate::reader::{Reader, reference};
 use crate::writes::{rows_after_source, rows_before_reader, rows_of_write, variables_beside};
-use affine_c::Program;
-use affine_form::{Form, Memory, Multipliers, No, Place, Step};
+use affine_form::{Form, Memory, Multipliers};
+use affine_program::Program;
+use claims::{No, Place, Step};
 use std::alloc::Global;
 
 /// Whether the systems of rows about a writer at each level before the reader are shown to have no point, by the
-/// multipliers of the list at this place from the first on. Want of memory is its only error.
+/// multipliers of the list at this place from the first on.
 fn levels_shown(
     alloc: Global,
     program: &Program,
@@ -46,7 +47,7 @@ fn levels_shown(
     for level in 0..level_count(program, writer, reader.statement) {
         let at = first + level;
         let system = rows_before_reader(alloc, program, reader, writer, rows, level)?;
-        let member = within(alloc, place, Step::Index(at as u64))?;
+        let member = place.within(alloc, Step::Index(at as u64))?;
         if let Some(no) = system_shown(alloc, 6, &member, vars, system.as_slice(), &shown[at])? {
             return Ok(Some(no));
         }
@@ -55,7 +56,7 @@ fn levels_shown(
 }
 
 /// Whether the systems of rows about a writer at each level after the source and each before the reader are shown to have
-/// no point, by the multipliers of the list at this place from the first on. Want of memory is its only error.
+/// no point, by the multipliers of the list at this place from the first on.
 fn levels_between_shown(
     alloc: Global,
     program: &Program,
@@ -98,8 +99,7 @@ fn levels_between_shown(
     Ok(None)
 }
 
-/// Whether no write of the cell is shown to be earlier, by the multipliers of the list at this place. Want of memory is
-/// its only error.
+/// Whether no write of the cell is shown to be earlier, by the multipliers of the list at this place.
 pub(crate) fn earlier_shown(
     alloc: Global,
     program: &Program,
@@ -136,8 +136,7 @@ pub(crate) fn earlier_shown(
     Ok(None)
 }
 
-/// Whether no write of the cell is shown to lie between the source and the reader, by the source's multipliers. Want of
-/// memory is its only error.
+/// Whether no write of the cell is shown to lie between the source and the reader, by the source's multipliers.
 pub(crate) fn between_shown(
     alloc: Global,
     program: &Program,
@@ -183,7 +182,7 @@ fn levels_between(program: &Program, source: u16, writer: u16, reader: u16) -> u
     requires writer { writer < length program.now.statements }
     requires reader { reader < length program.now.statements }
     ensures many { result ≡ level_count (meaning program.now) source writer * level_count (meaning program.now) writer reader }
-    ensures few { result ≤ 25 }
+    ensures few { result ≤ suc LOOPS * suc LOOPS }
 {
     let after = level_count(program, source, writer);
     let before = level_count(program, writer, reader);

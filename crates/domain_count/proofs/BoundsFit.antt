@@ -2,7 +2,7 @@
 use Rattle.std.proofs.Common.{◌≡◌, ℕ, zero, suc, ◌+◌, ◌<◌, List, [], ◌∷◌, length, take, get_or, subst, sym, arith}
 use Rattle.std.proofs.lemmas.List.{length-take-le}
 use Rattle.iolb_model.specs.Form.{AffineForm}
-use Rattle.affine_rows.specs.Rows.{BoundsFit, IsSmallOver}
+use Rattle.affine_form.specs.Rows.{BoundsFit, IsSmallOver}
 
 -- the bounds at a place are over the variables before it
 pub BoundsFit-at : (vars k : ℕ) (nest : List (AffineForm × AffineForm)) (d : AffineForm × AffineForm) → BoundsFit vars nest → k < length nest

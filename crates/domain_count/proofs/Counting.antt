@@ -7,18 +7,18 @@ use Rattle.std.proofs.Math.Seq.{take-append_seam, get_or-append_seam}
 use lib.Signed.{◌≤ℤ◌}
 use Rattle.std.proofs.lemmas.Int.{ints}
 use Rattle.std.proofs.lemmas.List.{append_assoc, append-nil, length-append, length-map, map-append}
-use Rattle.integer_laws.proofs.Lists.{All-append}
+use Rattle.base_laws.proofs.Lists.{All-append}
 use Rattle.iolb_model.specs.Form.{AffineForm, dot, form_value}
 use Rattle.iolb_model.specs.Path.{PathStep, rises}
 use Rattle.iolb_model.specs.Program.{AffineProgram, IsOver, IsWellFormed}
 use Rattle.iolb_model.specs.Bound.{IsAdmitted}
-use Rattle.execution_laws.specs.Domain.{IsWithin}
+use Rattle.iolb_model.specs.Domain.{IsWithin}
 use Rattle.affine_form.specs.Multipliers.{FarkasMultipliers}
 use Rattle.affine_form.specs.Substitution.{values_at}
 use Rattle.affine_form.specs.System.{IsMet}
 use Rattle.affine_form.proofs.ShownLemmas.{Shows-follows}
-use Rattle.affine_rows.specs.Rows.{BoundsFit, widened, variables_from, within_rows, step_of}
-use Rattle.affine_rows.proofs.Meaning.{form_value-widened, form_value-difference, values_at-variables, within_rows-met}
+use Rattle.affine_form.specs.Rows.{BoundsFit, widened, variables_from, within_rows, step_of}
+use Rattle.affine_form.proofs.Meaning.{form_value-difference, values-end, values-front, widened-met, within_rows-met}
 use Rattle.poly_tree.specs.Expansion.{at, put, value}
 use Rattle.poly_tree.specs.Poly.{Quotient, numerator_at}
 use Rattle.domain_count.specs.Points.{points}
@@ -96,34 +96,6 @@ counted (bounds ∷ nest) (sum ∷ sums) total before fit whole h =
     summed-counts bounds nest h.0 sum total before (omega (arith, fit.0.0.over)) (omega (arith, fit.0.1.over)) h.1.1 whole.0 (positive-from (suc (length before)) nest sums h.0 h.1.0)
     (λ x p q. counted nest sums h.0 (before ++ x ∷ []) (subst (λ (n : ℕ). BoundsFit n nest) (longer before x) fit.1) (whole.1 x p q)
     (subst (λ (n : ℕ). IsSumFrom n nest sums h.0) (longer before x) h.1.0))
-
--- a form over the first of a point's values has the same value further on
-dot-front : (cs front rest : List ℤ) → length cs ≤ length front → dot cs (front ++ rest) ≡ dot cs front
-dot-front [] front rest h = refl
-dot-front (c ∷ cs) [] rest h = absurd (omega arith)
-dot-front (c ∷ cs) (x ∷ front) rest h = ap (λ (z : ℤ). (c *ℤ x) +ℤ z) (dot-front cs front rest (omega arith))
-
--- rows over the first values that are met there are met further on, read over more variables
-widened-met : (vars many : ℕ) (rows : List AffineForm) (front rest : List ℤ) → AllByRecursion (IsOver many) rows → many ≡ length front
-    → IsMet rows front → IsMet (map (widened vars) rows) (front ++ rest)
-widened-met vars many [] front rest over e met = tt
-widened-met vars many (row ∷ rows) front rest over e met = (
-  subst (λ (z : ℤ). pos 0 ≤ℤ z)
-      (sym (form_value-widened vars row (front ++ rest) ∙ ap (λ (z : ℤ). z +ℤ row.constant) (dot-front row.coefficients front rest (omega (arith, over.0))))) met.0,
-  widened-met vars many rows front rest over.1 e met.1,
-)
-
--- the variables of the front and of the end
-values-front : (vars count : ℕ) (front rest : List ℤ) → count ≡ length front → count ≤ vars → values_at (variables_from vars 0 count) (front ++ rest) ≡ front
-values-front vars count front rest e h =
-    subst (λ (n : ℕ). values_at (variables_from vars 0 n) (front ++ rest) ≡ front) (sym e) (values_at-variables vars 0 [] front rest refl (omega arith))
-
-values-end : (vars first count : ℕ) (front xs : List ℤ) → first ≡ length front → count ≡ length xs → first + count ≤ vars
-    → values_at (variables_from vars first count) (front ++ xs) ≡ xs
-values-end vars first count front xs d e h =
-    subst (λ (n : ℕ). values_at (variables_from vars first n) (front ++ xs) ≡ xs) (sym e)
-    (subst (λ (p : List ℤ). values_at (variables_from vars first (length xs)) (front ++ p) ≡ xs) (append-nil xs)
-    (values_at-variables vars first front xs [] (sym d) (omega arith)))
 
 -- a value more within its bounds
 within-more : (path : List PathStep) (lower upper : AffineForm) (point xs : List ℤ) (x : ℤ) → IsWithin path point xs

@@ -2,17 +2,18 @@
 use Rattle.std.proofs.Common.{◌≡◌, ◌≢◌, refl, sym, ◌∙◌, ap, subst, inl, inr, ℕ, zero, suc, ◌+◌, ◌*◌, ◌<◌, ◌≤◌, ◌^◌, List, ◌++◌, length, replicate, arith}
 use Rattle.std.proofs.Math.IntN.{ℤ, pos, ◌-ℤ◌, ◌*ℤ◌}
 use Rattle.std.proofs.lemmas.List.{length-append, length-replicate}
-use Rattle.integer_laws.proofs.Ring.{mul_comm, mul_turn}
+use Rattle.base_laws.proofs.Ring.{mul_comm, mul_turn}
 use Rattle.iolb_model.specs.Form.{AffineForm, form_value}
 use Rattle.poly_tree.specs.Expansion.{Expansion, Parts, number, over, none, part, at, put, value, scaled, parts_scaled, parts_count, IsCanonical, DegreesAtMost, PartsDegreesAtMost}
 use Rattle.poly_tree.specs.Poly.{Quotient, IsLegal, SameValues, numerator_at, size, put_size, form_size}
 use Rattle.poly_tree.proofs.Products.{canonical-scaled, value-scaled}
 use Rattle.poly_tree.proofs.Reduced.{degrees-scaled}
-use Rattle.poly_tree.proofs.SameLemmas.{same-polynomial}
+use Rattle.poly_tree.proofs.SameLemmas.{at-listed, length-listed, listed, same-polynomial}
 use Rattle.poly_tree.proofs.Unique.{agree, unique}
 use Rattle.domain_count.specs.Antidifference.{less_one, IsShifted, ShiftPasses, IsSubtracted, SubtractionPasses, IsSubstituted, SubstitutionPasses, IsBackwardDifference, DifferencePasses, IsAntidifference, IsNoAntidifference, IsBetween, BetweenPasses}
 use Rattle.domain_count.proofs.Fractions.{cancelled}
-use Rattle.domain_count.proofs.Variables.{at-longer, at-listed, length-listed, listed}
+use Rattle.domain_count.proofs.Variables.{at-longer}
+use Rattle.iolb_model.specs.declared.limits.TheConstants.{MEASURE, SUM_MEASURE}
 
 -- two values over their denominators that are one value
 pub crossed : (k d e : ℕ) (x y v : ℤ) → 1 ≤ k → x *ℤ pos k ≡ v *ℤ pos d → y *ℤ pos k ≡ v *ℤ pos e → x *ℤ pos e ≡ y *ℤ pos d
@@ -73,7 +74,7 @@ shift-same var sum s r legal h g =
     (λ p. crossed sum.denominator s.denominator r.denominator (numerator_at s p) (numerator_at r p) (value sum.tree (put (at p) var (at p var -ℤ pos 1))) legal.positive (h.value p) (g.value p))
 
 shift-stays : (var : ℕ) (sum s : Quotient) → IsLegal sum → IsShifted var sum s → ShiftPasses var sum → ⊥
-shift-stays var sum s legal h (inl wide) = over (put_size sum var 2) (2 ^ 126) h.narrow wide where
+shift-stays var sum s legal h (inl wide) = over (put_size sum var 2) MEASURE h.narrow wide where
   over : (m n : ℕ) → m < n → n ≤ m → ⊥
   over m n p q = omega arith
 shift-stays var sum s legal h (inr passes) =
@@ -87,7 +88,7 @@ substituted-same var form sum s r legal h g =
     (λ p long. crossed sum.denominator s.denominator r.denominator (numerator_at s p) (numerator_at r p) (value sum.tree (put (at p) var (form_value form p))) legal.positive (h.value p long) (g.value p long)))
 
 substitution-stays : (var : ℕ) (form : AffineForm) (sum s : Quotient) → IsLegal sum → IsSubstituted var form sum s → SubstitutionPasses var form sum → ⊥
-substitution-stays var form sum s legal h (inl wide) = over (put_size sum var (form_size form)) (2 ^ 126) h.narrow wide where
+substitution-stays var form sum s legal h (inl wide) = over (put_size sum var (form_size form)) MEASURE h.narrow wide where
   over : (m n : ℕ) → m < n → n ≤ m → ⊥
   over m n p q = omega arith
 substitution-stays var form sum s legal h (inr passes) =
@@ -106,7 +107,7 @@ subtracted-same a b c d r s la lb first second h g =
 
 subtraction-stays : (a b c d r : Quotient) → a ≡ c → b ≡ d → IsSubtracted a b r → SubtractionPasses c d → ⊥
 subtraction-stays a b c d r first second h wide =
-    over (size a * size b) (2 ^ 125) h.narrow (subst (λ (x : Quotient). 2 ^ 125 ≤ size x * size b) (sym first) (subst (λ (y : Quotient). 2 ^ 125 ≤ size c * size y) (sym second) wide)) where
+    over (size a * size b) SUM_MEASURE h.narrow (subst (λ (x : Quotient). SUM_MEASURE ≤ size x * size b) (sym first) (subst (λ (y : Quotient). SUM_MEASURE ≤ size c * size y) (sym second) wide)) where
       over : (m n : ℕ) → m < n → n ≤ m → ⊥
       over m n p q = omega arith
 

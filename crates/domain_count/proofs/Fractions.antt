@@ -1,7 +1,7 @@
 -- Values over denominators.
 use Rattle.std.proofs.Common.{◌≡◌, refl, sym, ◌∙◌, ap, ℕ, zero, suc, ◌*◌, ◌≤◌, arith}
 use Rattle.std.proofs.Math.IntN.{ℤ, pos, ◌-ℤ◌, ◌*ℤ◌}
-use Rattle.integer_laws.proofs.Ring.{mul-cancel, mul_comm, mul_assoc_ℤ, mul_turn, sub-mul}
+use Rattle.base_laws.proofs.Ring.{mul-cancel, mul_comm, mul_assoc_ℤ, mul_turn, sub-mul}
 
 -- a factor of at least 1 cancels
 pub cancelled : (n : ℕ) (a b : ℤ) → 1 ≤ n → a *ℤ pos n ≡ b *ℤ pos n → a ≡ b

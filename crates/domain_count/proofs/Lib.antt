@@ -7,5 +7,7 @@ pub mod Places
 pub mod Counting
 pub mod Variables
 pub mod Determined
-pub mod Exactness
+pub mod Claimed
 pub mod Ones
+pub mod RangesShown
+pub mod Whole

@@ -1,22 +1,23 @@
 -- From one summation to the next, and to the refusals.
-use Rattle.std.proofs.Common.{◌≡◌, sym, ◌∙◌, subst, ap, inr, ℕ, suc, ◌+◌, ◌<◌, ◌≤◌, List, [], ◌∷◌, length, drop, get_or, drop-cons, arith}
-use Rattle.std.specs.Prelude.{Result, Ok, Err, IfOk, IfErr, IsErrAnd}
+use Rattle.std.proofs.Common.{◌≡◌, sym, ◌∙◌, subst, ap, ℕ, suc, ◌+◌, ◌<◌, ◌≤◌, List, [], ◌∷◌, length, drop, get_or, drop-cons, arith}
+use Rattle.std.specs.Prelude.{Option, Some, None, Result, Ok, Err, IfErr, IsErrAnd}
 use Rattle.std.proofs.lemmas.List.{get_or_default}
 use Rattle.iolb_model.specs.Form.{AffineForm}
-use Rattle.iolb_model.specs.Program.{AffineProgram, IsWellFormed}
-use Rattle.affine_form.specs.Multipliers.{FarkasMultipliers}
-use Rattle.affine_form.specs.declared.place.Step.{Step}
-use Rattle.affine_form.specs.declared.refused.Refused.{Refused}
-use Rattle.affine_form.specs.declared.refused.Refused.TheVariants.{No, Memory}
-use Rattle.poly_tree.specs.Poly.{Quotient}
+use Rattle.claims.specs.Claims.{AllHold, FirstFails, Finds, IsRefusal}
+use Rattle.claims.specs.declared.key.TheConstants.{SUMS}
+use Rattle.claims.specs.declared.place.Step.{Step}
+use Rattle.claims.specs.declared.refused.No.{No as FailedCondition}
+use Rattle.claims.specs.declared.refused.Refused.{Refused}
+use Rattle.claims.specs.declared.refused.Refused.TheVariants.{No, Memory}
+use Rattle.claims.proofs.Found.{Finds-go}
+use Rattle.claims.proofs.Laws.{first-fails}
+use Rattle.poly_tree.specs.Poly.{Quotient, IsLegal}
 use Rattle.domain_count.specs.declared.summation.SumFault.{SumFault}
 use Rattle.domain_count.specs.Antidifference.{IsSummed, FailsAs}
-use Rattle.domain_count.specs.Claims.{SumClaims}
-use Rattle.affine_rows.specs.Rows.{BoundsFit}
-use Rattle.domain_count.proofs.Counting.{right-claims-count}
-use Rattle.domain_count.specs.Count.{AreShownBelow, CountsPoints, IsCount, IsFirstFailure, IsSumFrom, bounds_at}
-use Rattle.domain_count.specs.Refused.{IsSumRefusal}
-use Rattle.domain_count.specs.Refusal.{IsRefusal}
+use Rattle.domain_count.specs.Count.{IsSumFrom, bounds_at, one}
+use Rattle.domain_count.specs.CountClaims.{member_place, sum_at, sum_claims, sums_down}
+use Rattle.domain_count.specs.Faults.{IsFaultRefusal}
+use Rattle.domain_count.proofs.Claimed.{sum-fails, sum-holds}
 
 -- a fault that is handed on
 pub fails-through : (var : ℕ) (bounds : AffineForm × AffineForm) (summand sum : Quotient) (r : Result Quotient SumFault) (fault : SumFault) → IsErrAnd r (λ e. e ≡ fault)
@@ -42,54 +43,47 @@ sum-step params j k nest sums b s summand total e within same here there h is =
       turned : (m n : ℕ) → m + suc n ≡ suc (m + n)
       turned m n = omega arith
 
--- the first summation that fails
-pub first-failure : (params j k : ℕ) (nest : List (AffineForm × AffineForm)) (sums : List Quotient) (b : AffineForm × AffineForm) (s summand : Quotient) (fault : SumFault) → k ≡ suc j
-    → k ≤ length nest → length sums ≡ length nest → b ≡ get_or nest j b → s ≡ get_or sums j s → IsSumFrom (params + k) (drop k nest) (drop k sums) summand
-    → FailsAs (params + j) b summand s fault → IsFirstFailure params nest sums j fault
-first-failure params j k nest sums b s summand fault e within same here there h fails =
-    let below : j < length nest = omega arith in record {
-      there = below;
-      sum = s;
-      others = drop (suc j) sums;
-      at_variable = drop-cons sums j s (omega arith) ∙ ap (λ (x : Quotient). x ∷ drop (suc j) sums) (sym there);
-      summand = summand;
-      behind = subst (λ (n : ℕ). IsSumFrom n (drop (suc j) nest) (drop (suc j) sums) summand) (turned params j)
-          (subst (λ (n : ℕ). IsSumFrom (params + n) (drop n nest) (drop n sums) summand) e h);
-      fails = subst (λ (x : AffineForm × AffineForm). FailsAs (params + j) x summand s fault)
-          (here ∙ get_or_default nest j b (bounds_at [] 0) below) fails;
-    } where
+-- One variable further out: its claims hold, and what is found in the claims of those before it is found in all.
+pub sums-further : (params j k many : ℕ) (nest : List (AffineForm × AffineForm)) (sums : List Quotient) (place : List Step) (total : Quotient) → k ≡ suc j → k ≤ length nest
+    → IsSumFrom (params + j) (drop j nest) (drop j sums) total
+    → ((found : Option FailedCondition) → Finds (sums_down params nest sums place k) found → Finds (sums_down params nest sums place many) found)
+    → (found : Option FailedCondition) → Finds (sums_down params nest sums place j) found → Finds (sums_down params nest sums place many) found
+sums-further params j k many nest sums place total e within is whole found h =
+    whole found (subst (λ (n : ℕ). Finds (sums_down params nest sums place n) found) (sym e)
+    (Finds-go (sum_claims params nest sums place j) (sums_down params nest sums place j) found (sum-holds params nest sums place j total (omega arith) is) h))
+
+-- the first claim of a sum that fails
+pub sum-refused : (params j k many : ℕ) (nest : List (AffineForm × AffineForm)) (sums : List Quotient) (place : List Step) (b : AffineForm × AffineForm) (s summand : Quotient) (fault : SumFault)
+    (refused : Refused) → k ≡ suc j → k ≤ length nest → length sums ≡ length nest → b ≡ get_or nest j b → s ≡ get_or sums j s → IsSumFrom (params + k) (drop k nest) (drop k sums) summand
+    → ((found : Option FailedCondition) → Finds (sums_down params nest sums place k) found → Finds (sums_down params nest sums place many) found)
+    → IsLegal s → FailsAs (params + j) b summand s fault → IsFaultRefusal (member_place place SUMS j) fault refused → IsRefusal (sums_down params nest sums place many) refused
+sum-refused params j k many nest sums place b s summand fault Memory e within same here there behind whole legal fails is = tt
+sum-refused params j k many nest sums place b s summand fault (No failed) e within same here there behind whole legal fails is =
+    let below : j < length nest = omega arith in
+    let bounds : b ≡ bounds_at nest j = here ∙ get_or_default nest j b (bounds_at [] 0) below in
+    let poly : s ≡ sum_at sums j = there ∙ get_or_default sums j s one (omega arith) in
+    let from : IsSumFrom (suc (params + j)) (drop (suc j) nest) (drop (suc j) sums) summand
+    = subst (λ (n : ℕ). IsSumFrom n (drop (suc j) nest) (drop (suc j) sums) summand) (turned params j)
+    (subst (λ (n : ℕ). IsSumFrom (params + n) (drop n nest) (drop n sums) summand) e behind) in
+    let breaks : FailsAs (params + j) (bounds_at nest j) summand (sum_at sums j) fault
+    = subst (λ (x : AffineForm × AffineForm). FailsAs (params + j) x summand (sum_at sums j) fault) bounds
+    (subst (λ (q : Quotient). FailsAs (params + j) b summand q fault) poly fails) in
+    let first = sum-fails params nest sums place j summand fault below from (subst IsLegal poly legal) is.0 breaks in
+    whole (Some failed) (subst (λ (n : ℕ). FirstFails (sums_down params nest sums place n) failed) (sym e)
+    (first-fails (sum_claims params nest sums place j) (sums_down params nest sums place j) failed
+    (subst (FirstFails (sum_claims params nest sums place j)) (sym is.1) first))) where
       turned : (m n : ℕ) → m + suc n ≡ suc (m + n)
       turned m n = omega arith
 
--- the two parts of a check
-pub count-right : (program : AffineProgram) (nest bounds others : List (AffineForm × AffineForm)) (claims : SumClaims) (shown : List FarkasMultipliers) (sums : List Quotient) (params : ℕ)
-    (r : Result Quotient Refused) → bounds ≡ nest → shown ≡ claims.shown → others ≡ nest → sums ≡ claims.sums → params ≡ length program.parameters
-    → AreShownBelow program bounds shown (length bounds) → IfOk r (λ total. IsSumFrom params others sums total) → IfOk r (λ total. IsCount program nest claims total)
-count-right program nest bounds others claims shown sums params (Ok total) a b c d e h k = record {
-  shown = subst (λ (m : List FarkasMultipliers). AreShownBelow program nest m (length nest)) b
-      (subst (λ (n : List (AffineForm × AffineForm)). AreShownBelow program n shown (length n)) a h);
-  sums = subst (λ (n : ℕ). IsSumFrom n nest claims.sums total) e
-      (subst (λ (n : List (AffineForm × AffineForm)). IsSumFrom params n claims.sums total) c (subst (λ (s : List Quotient). IsSumFrom params others s total) d k));
-}
-count-right program nest bounds others claims shown sums params (Err refused) a b c d e h k = tt
+-- all claims hold where none is left
+pub sums-ended : (params k many : ℕ) (nest : List (AffineForm × AffineForm)) (sums : List Quotient) (place : List Step) → k ≡ 0
+    → ((found : Option FailedCondition) → Finds (sums_down params nest sums place k) found → Finds (sums_down params nest sums place many) found)
+    → AllHold (sums_down params nest sums place many)
+sums-ended params k many nest sums place e whole = whole None (subst (λ (n : ℕ). AllHold (sums_down params nest sums place n)) (sym e) tt)
 
-pub count-refused : (program : AffineProgram) (nest bounds others : List (AffineForm × AffineForm)) (claims : SumClaims) (shown : List FarkasMultipliers) (sums : List Quotient) (params : ℕ)
-    (place : List Step) (r : Result Quotient Refused) → bounds ≡ nest → shown ≡ claims.shown → others ≡ nest → sums ≡ claims.sums → params ≡ length program.parameters
-    → AreShownBelow program bounds shown (length bounds) → IfErr r (λ refused. IsSumRefusal params others sums place refused)
-    → IfErr r (λ refused. IsRefusal program nest claims place refused)
-count-refused program nest bounds others claims shown sums params place (Ok total) a b c d e h k = tt
-count-refused program nest bounds others claims shown sums params place (Err Memory) a b c d e h k = tt
-count-refused program nest bounds others claims shown sums params place (Err (No failed)) a b c d e h k =
-    inr (
-      subst (λ (m : List FarkasMultipliers). AreShownBelow program nest m (length nest)) b
-          (subst (λ (n : List (AffineForm × AffineForm)). AreShownBelow program n shown (length n)) a h),
-      subst (λ (n : ℕ). IsSumRefusal n nest claims.sums place (No failed)) e
-          (subst (λ (n : List (AffineForm × AffineForm)). IsSumRefusal params n claims.sums place (No failed)) c
-          (subst (λ (s : List Quotient). IsSumRefusal params others s place (No failed)) d k)),
-    )
-
--- what is right counts the points
-pub count-counts : (program : AffineProgram) (nest : List (AffineForm × AffineForm)) (claims : SumClaims) (r : Result Quotient Refused) → IsWellFormed program
-    → BoundsFit (length program.parameters) nest → IfOk r (λ total. IsCount program nest claims total) → IfOk r (λ total. CountsPoints program nest total)
-count-counts program nest claims (Ok total) formed fit h = right-claims-count program nest claims total formed fit h
-count-counts program nest claims (Err refused) formed fit h = tt
+pub sum-ended : (params k : ℕ) (nest : List (AffineForm × AffineForm)) (sums : List Quotient) (total : Quotient) → k ≡ 0
+    → IsSumFrom (params + k) (drop k nest) (drop k sums) total → IsSumFrom params nest sums total
+sum-ended params k nest sums total e h =
+    subst (λ (n : ℕ). IsSumFrom n nest sums total) (none params) (subst (λ (n : ℕ). IsSumFrom (params + n) (drop n nest) (drop n sums) total) e h) where
+      none : (n : ℕ) → n + 0 ≡ n
+      none n = omega arith

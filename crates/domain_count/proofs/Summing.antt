@@ -5,15 +5,10 @@ use Rattle.iolb_model.specs.Form.{AffineForm}
 use Rattle.poly_tree.specs.Poly.{Quotient}
 use Rattle.poly_tree.specs.declared.fault.PolyFault.{PolyFault}
 use Rattle.poly_tree.specs.declared.fault.PolyFault.TheVariants.{Wide, Memory}
-use Rattle.domain_count.specs.Antidifference.{less_one, IsShifted, IsSubtracted, IsSubstituted, IsBackwardDifference, IsBetween, BetweenPasses, DifferencePasses, FailsAs, IsAntidifference, SubtractionPasses, SubstitutionPasses}
+use Rattle.domain_count.specs.Antidifference.{less_one, IsShifted, IsSubtracted, IsSubstituted, IsBackwardDifference, IsBetween, BetweenPasses, FailsAs, IsAntidifference, SubtractionPasses, SubstitutionPasses}
 use Rattle.domain_count.specs.Faults.{fault_of}
 
--- the faults of the two parts of a summation
-pub fails-first : (var : ℕ) (bounds : AffineForm × AffineForm) (summand sum : Quotient) (fault : PolyFault)
-    → (fault ≡ Wide → DifferencePasses var sum) → FailsAs var bounds summand sum (fault_of fault)
-fails-first var bounds summand sum Wide h = inl (h refl)
-fails-first var bounds summand sum Memory h = tt
-
+-- the faults of the second part of a summation
 pub fails-second : (var : ℕ) (bounds : AffineForm × AffineForm) (summand sum : Quotient) (fault : PolyFault) → IsAntidifference var summand sum
     → (fault ≡ Wide → BetweenPasses var bounds sum) → FailsAs var bounds summand sum (fault_of fault)
 fails-second var bounds summand sum Wide is h = inr (is, h refl)

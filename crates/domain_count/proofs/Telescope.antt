@@ -6,7 +6,7 @@ use lib.Signed.{◌≤ℤ◌}
 use Rattle.std.proofs.lemmas.Int.{ints}
 use Rattle.std.proofs.lemmas.List.{length-append}
 use Rattle.std.proofs.lemmas.List.Concat.{flat_map-cons}
-use Rattle.integer_laws.proofs.Ring.{add-mul, zero-mul}
+use Rattle.base_laws.proofs.Ring.{add-mul, zero-mul}
 use Rattle.iolb_model.specs.Execution.{natural, rising, range}
 
 pos-add : (m n : ℕ) → pos (m + n) ≡ pos m +ℤ pos n

@@ -4,12 +4,13 @@ use Rattle.std.specs.Prelude.{◌⊎◌, ◌==◌, if◌then◌else◌}
 use Rattle.std.proofs.Math.IntN.{ℤ, pos, negsuc, ◌+ℤ◌, ◌-ℤ◌, ◌*ℤ◌}
 use Rattle.std.proofs.lemmas.Int.{ints}
 use Rattle.std.proofs.lemmas.List.{get_or_append_left, get_or_push, length-append, length-replicate}
-use Rattle.integer_laws.proofs.Ring.{zero-mul}
+use Rattle.base_laws.proofs.Ring.{zero-mul}
 use Rattle.iolb_model.specs.Form.{AffineForm, dot, form_value}
-use Rattle.affine_rows.specs.Rows.{BoundsFit}
+use Rattle.affine_form.specs.Rows.{BoundsFit}
 use Rattle.poly_tree.specs.Expansion.{Expansion, Parts, number, over, none, part, at, put, value, parts_value, IsCanonical}
 use Rattle.poly_tree.specs.Poly.{Quotient, IsLegal, numerator_at}
 use Rattle.poly_tree.proofs.Expansions.{IsCanonical-more}
+use Rattle.poly_tree.proofs.SameLemmas.{at-listed, length-listed, listed}
 use Rattle.poly_tree.proofs.Unique.{agree, put-same, put-below, unique}
 use Rattle.domain_count.specs.Antidifference.{IsAntidifference, IsSummed, less_one}
 use Rattle.domain_count.specs.Count.{IsSumFrom}
@@ -23,27 +24,6 @@ AgreeBelow bound p q = (w : ℕ) → w < bound → at p w ≡ at q w
 -- a polynomial's value is the same at points that agree below a bound
 abbrev pub ReadsBelow : ℕ → Expansion → Type 0
 ReadsBelow bound t = (p q : List ℤ) → AgreeBelow bound p q → value t (at p) ≡ value t (at q)
-
--- the first values of a point as a list
-pub listed : (ℕ → ℤ) → ℕ → List ℤ
-listed point zero = []
-listed point (suc n) = listed point n ++ point n ∷ []
-
-pub length-listed : (point : ℕ → ℤ) (n : ℕ) → length (listed point n) ≡ n
-unfolding listed
-length-listed point zero = refl
-length-listed point (suc n) = omega (arith, length-listed point n, length-append (listed point n) (point n ∷ []))
-
-pub at-listed : (point : ℕ → ℤ) (n w : ℕ) → w < n → at (listed point n) w ≡ point w
-unfolding listed
-at-listed point zero w p = absurd (omega arith)
-at-listed point (suc n) w p = by (λ less. at-listed point n w less) (cases w n p) where
-  cases : (x m : ℕ) → x < suc m → (x ≡ m) ⊎ (x < m)
-  cases x m q = grind arith
-
-  by : (w < n → at (listed point n) w ≡ point w) → (w ≡ n) ⊎ (w < n) → at (listed point n ++ point n ∷ []) w ≡ point w
-  by f (inl e) = ap (λ (k : ℕ). at (listed point n ++ point n ∷ []) k) e ∙ get_or_push (listed point n) (point n) (pos 1) n (length-listed point n) ∙ ap point (sym e)
-  by f (inr less) = get_or_append_left (listed point n) (point n ∷ []) (pos 1) w (omega (arith, length-listed point n)) ∙ f less
 
 -- a polynomial in a variable whose value doesn't depend on it has the value of its first part
 first-part : (bound v : ℕ) (t : Expansion) (ps : Parts) → bound ≤ v → IsCanonical (2 ^ 16) (over v (part t ps)) → ReadsBelow bound (over v (part t ps))

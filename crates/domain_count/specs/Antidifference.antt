@@ -1,11 +1,12 @@
 -- Sums of polynomials over a variable, by antidifferences. (The finite calculus: Boole 1860; Graham, Knuth and
 -- Patashnik, Concrete Mathematics, section 2.6.) Each operation has a measure of how large its answer may be, and has no
 -- answer past its limit.
-use Rattle.std.specs.Prelude.{◌⊎◌, ℕ, ◌*◌, ◌<◌, ◌≤◌, ◌^◌, pos, ◌-ℤ◌, ⊤}
+use Rattle.std.specs.Prelude.{◌⊎◌, ℕ, ◌*◌, ◌<◌, ◌≤◌, pos, ◌-ℤ◌, ⊤}
 use Rattle.iolb_model.specs.Form.{AffineForm}
 use Rattle.poly_tree.specs.Poly.{Quotient, IsLegal, IsShiftOf, IsDifferenceOf, IsSubstitutionOf, SameValues, ShiftPassesDegree, SubstitutionPassesDegree, form_size, put_size, size}
 use Rattle.domain_count.specs.declared.summation.SumFault.{SumFault}
 use Rattle.domain_count.specs.declared.summation.SumFault.TheVariants.{Wide, Differs, Memory}
+use Rattle.iolb_model.specs.declared.limits.TheConstants.{MEASURE, SUM_MEASURE}
 
 -- a form less 1
 abbrev pub less_one : AffineForm → AffineForm
@@ -13,30 +14,30 @@ less_one form = record form { constant = form.constant -ℤ pos 1 }
 
 -- a polynomial with x - 1 for a variable x
 pub record IsShifted (var : ℕ) (sum shifted : Quotient) : Type 0 where
-  pub narrow : put_size sum var 2 < 2 ^ 126
+  pub narrow : put_size sum var 2 < MEASURE
   pub legal : IsLegal shifted
   pub value : IsShiftOf sum var shifted
 
 abbrev pub ShiftPasses : ℕ → Quotient → Type 0
-ShiftPasses var sum = (2 ^ 126 ≤ put_size sum var 2) ⊎ ShiftPassesDegree sum var
+ShiftPasses var sum = (MEASURE ≤ put_size sum var 2) ⊎ ShiftPassesDegree sum var
 
 -- a polynomial minus another
 pub record IsSubtracted (a b less : Quotient) : Type 0 where
-  pub narrow : size a * size b < 2 ^ 125
+  pub narrow : size a * size b < SUM_MEASURE
   pub legal : IsLegal less
   pub value : IsDifferenceOf a b less
 
 abbrev pub SubtractionPasses : Quotient → Quotient → Type 0
-SubtractionPasses a b = 2 ^ 125 ≤ size a * size b
+SubtractionPasses a b = SUM_MEASURE ≤ size a * size b
 
 -- a polynomial with a form for a variable
 pub record IsSubstituted (var : ℕ) (form : AffineForm) (sum at_form : Quotient) : Type 0 where
-  pub narrow : put_size sum var (form_size form) < 2 ^ 126
+  pub narrow : put_size sum var (form_size form) < MEASURE
   pub legal : IsLegal at_form
   pub value : IsSubstitutionOf sum var form at_form
 
 abbrev pub SubstitutionPasses : ℕ → AffineForm → Quotient → Type 0
-SubstitutionPasses var form sum = (2 ^ 126 ≤ put_size sum var (form_size form)) ⊎ SubstitutionPassesDegree sum var form
+SubstitutionPasses var form sum = (MEASURE ≤ put_size sum var (form_size form)) ⊎ SubstitutionPassesDegree sum var form
 
 -- the backward difference of a polynomial in a variable: the polynomial minus its shift
 pub record IsBackwardDifference (var : ℕ) (sum difference : Quotient) : Type 0 where

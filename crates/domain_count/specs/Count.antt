@@ -1,20 +1,19 @@
 -- Counting the points of a nest by summation, variable by variable from the last. (Graham, Knuth and Patashnik, Concrete
 -- Mathematics, section 2.6.) A range is whole where its upper end is at least its lower end less 1, so that it has
 -- `upper - lower + 1` values; sums by antidifferences are right over whole ranges alone.
-use Rattle.std.specs.Prelude.{◌≡◌, ℕ, suc, ◌+◌, ◌<◌, ◌≤◌, ℤ, pos, ◌*ℤ◌, List, [], ◌∷◌, ◌++◌, map, length, take, drop, slice_index_or}
+use Rattle.std.specs.Prelude.{◌≡◌, ℕ, suc, ◌+◌, ◌<◌, ◌≤◌, ℤ, pos, ◌*ℤ◌, List, [], ◌∷◌, ◌++◌, map, length, take, slice_index_or}
 use Rattle.iolb_model.specs.Form.{AffineForm}
 use Rattle.iolb_model.specs.Program.{AffineProgram, IsWellFormed}
 use Rattle.iolb_model.specs.Bound.{IsAdmitted}
 use Rattle.affine_form.specs.Multipliers.{FarkasMultipliers}
 use Rattle.affine_form.specs.Shown.{Shows}
 use Rattle.affine_form.specs.System.{AffineSystem}
-use Rattle.affine_rows.specs.Rows.{BoundsFit, widened, variables_from, difference, within_rows, step_of}
+use Rattle.affine_form.specs.Rows.{BoundsFit, widened, variables_from, difference, within_rows, step_of}
 use Rattle.poly_tree.specs.Expansion.{number}
 use Rattle.poly_tree.specs.Poly.{Quotient, numerator_at}
-use Rattle.domain_count.specs.declared.summation.SumFault.{SumFault}
 use Rattle.domain_count.specs.Points.{count}
 use Rattle.domain_count.specs.Claims.{SumClaims}
-use Rattle.domain_count.specs.Antidifference.{IsSummed, FailsAs}
+use Rattle.domain_count.specs.Antidifference.{IsSummed}
 
 -- The rows that hold where a variable begins, over the parameters and the variables before it: the assumptions, and
 -- `x - lower` and `upper - x` for each variable before.
@@ -66,22 +65,6 @@ IsSumFrom var (bounds ∷ nest) (sum ∷ sums) total =
 pub record IsCount (program : AffineProgram) (nest : List (AffineForm × AffineForm)) (claims : SumClaims) (total : Quotient) : Type 0 where
   pub shown : AreShownBelow program nest claims.shown (length nest)
   pub sums : IsSumFrom (length program.parameters) nest claims.sums total
-
--- the variable is the first, from the outermost on, whose range isn't shown to be whole
-pub record IsFirstNotShown (program : AffineProgram) (nest : List (AffineForm × AffineForm)) (shown : List FarkasMultipliers) (k : ℕ) : Type 0 where
-  pub there : k < length nest
-  pub not : ¬ IsShown program nest shown k
-  pub before : AreShownBelow program nest shown k
-
--- the variable is the first, from the last on, whose summation fails, and it fails in this way
-pub record IsFirstFailure (params : ℕ) (nest : List (AffineForm × AffineForm)) (sums : List Quotient) (k : ℕ) (fault : SumFault) : Type 0 where
-  pub there : k < length nest
-  pub sum : Quotient
-  pub others : List Quotient
-  pub at_variable : drop k sums ≡ sum ∷ others
-  pub summand : Quotient
-  pub behind : IsSumFrom (suc (params + k)) (drop (suc k) nest) others summand
-  pub fails : FailsAs (params + k) (bounds_at nest k) summand sum fault
 
 -- A polynomial counts the points of a nest: at all parameter values that meet the program's assumptions, of any size, its
 -- value is how many points the nest has, stated without fractions.

@@ -3,6 +3,5 @@ pub mod Claims
 pub mod Faults
 pub mod Antidifference
 pub mod Count
-pub mod Refused
-pub mod Refusal
+pub mod CountClaims
 pub mod Exact

@@ -1,22 +1,24 @@
 //! Counts by summation.
 
 ghost use Rattle.std.specs.Prelude.{◌≡◌, ◌+◌, ◌≤◌, length, IfOk, IfErr, OnOk};
-ghost use Rattle.affine_rows.specs.Rows.{BoundsFit};
-ghost use Rattle.affine_c.specs.Parts.{meaning};
+ghost use Rattle.affine_form.specs.Rows.{BoundsFit};
+ghost use Rattle.affine_program.specs.Parts.{meaning};
+ghost use Rattle.claims.specs.Claims.{AllHold, IsRefusal};
 ghost use Rattle.poly_tree.specs.Expansion.{IsCanonical};
-ghost use Rattle.poly_tree.specs.Poly.{IsLegal};
 ghost use Rattle.domain_count.specs.Claims.{FitsCount};
-ghost use Rattle.domain_count.specs.Count.{AreShownBelow, CountsPoints, IsCount, IsFirstFailure, IsSumFrom, one};
-ghost use Rattle.domain_count.specs.Refused.{IsFaultRefusal, IsRangeRefusal, IsSumRefusal};
-ghost use Rattle.domain_count.specs.Refusal.{IsRefusal};
+ghost use Rattle.domain_count.specs.Count.{CountsPoints, IsCount, IsSumFrom, one};
+ghost use Rattle.domain_count.specs.CountClaims.{count_claims, member_place, sums_down};
+ghost use Rattle.domain_count.specs.Faults.{IsFaultRefusal};
+ghost use Rattle.claims.specs.declared.key.TheConstants.{SUMS};
+ghost use Rattle.iolb_model.specs.declared.limits.TheConstants.{VARIABLES};
 
 use crate::nest::Nest;
-use crate::ranges::first_not_shown;
-use crate::refusal::refusal;
+use crate::ranges::{first_not_shown, member_place};
 use crate::summation::{SumFault, summed};
 use crate::sums::Sums;
-use affine_c::Program;
-use affine_form::{Form, Memory, Multipliers, Place, Refused, key};
+use affine_form::{Form, Memory};
+use affine_program::Program;
+use claims::{No, Place, Refused, key};
 use poly_tree::Poly;
 use std::alloc::Global;
 
@@ -44,70 +46,64 @@ pub fn check_count(
     ensures right { IfOk result (λ poly. IsCount (meaning program.now) nest.now sums.now poly) }
     ensures counts { IfOk result (λ poly. CountsPoints (meaning program.now) nest.now poly) }
     ensures parameters { IfOk result (λ poly. IsCanonical (length program.now.params) poly.tree) }
-    ensures refused { IfErr result (λ refused. IsRefusal (meaning program.now) nest.now sums.now place.now refused) }
+    ensures holds { OnOk result (AllHold (count_claims (meaning program.now) nest.now sums.now place.now)) }
+    ensures refused { IfErr result (λ refused. IsRefusal (count_claims (meaning program.now) nest.now sums.now place.now) refused) }
 {
-    check_ranges(alloc, program, nest.bounds(), sums.shown(), place)?;
-    let params = program.params().len();
-    check_sums(alloc, params, nest.bounds(), sums.sums(), place)
-}
-
-/// Whether each variable's range is shown to be whole.
-fn check_ranges(
-    alloc: Global,
-    program: &Program,
-    bounds: &[(Form, Form)],
-    shown: &[Multipliers],
-    place: &Place,
-) -> Result<(), Refused>
-    requires few { length bounds.now ≤ 6 }
-    requires fit { BoundsFit (length program.now.params) bounds.now }
-    requires one_each { length shown.now ≡ length bounds.now }
-    ensures shown { OnOk result (AreShownBelow (meaning program.now) bounds.now shown.now (length bounds.now)) }
-    ensures refused { IfErr result (λ refused. IsRangeRefusal (meaning program.now) bounds.now shown.now place.now refused) }
-{
-    match first_not_shown(alloc, program, bounds, shown) {
-        Ok(None) => Ok(()),
-        Ok(Some(k)) => Err(refusal(alloc, 8, place, key::SHOWN, k)),
-        Err(Memory) => Err(Refused::Memory),
+    let found = first_not_shown(alloc, program, nest.bounds(), sums.shown(), place)?;
+    if let Some(no) = found {
+        return Err(Refused::No(no));
     }
+    let params = program.params().len();
+    sum_up(alloc, params, nest.bounds(), sums.sums(), place)
 }
 
-/// The polynomial that the sums give.
-fn check_sums(
+/// The sum over all variables, from the last on, of the polynomial 1.
+fn sum_up(
     alloc: Global,
     params: usize,
     bounds: &[(Form, Form)],
     sums: &[Poly],
     place: &Place,
 ) -> Result<Poly, Refused>
-    requires few { params + length bounds.now ≤ 24 }
+    requires few { params + length bounds.now ≤ VARIABLES }
     requires fit { BoundsFit params bounds.now }
     requires one_each { length sums.now ≡ length bounds.now }
     ensures total { IfOk result (λ total. IsSumFrom params bounds.now sums.now total) }
     ensures parameters { IfOk result (λ total. IsCanonical params total.tree) }
-    ensures refused { IfErr result (λ refused. IsSumRefusal params bounds.now sums.now place.now refused) }
+    ensures holds { OnOk result (AllHold (sums_down params bounds.now sums.now place.now (length bounds.now))) }
+    ensures refused { IfErr result (λ refused. IsRefusal (sums_down params bounds.now sums.now place.now (length bounds.now)) refused) }
 {
-    let Ok(start) = one(alloc) else {
-        return Err(Refused::Memory);
-    };
-    match sum_up(alloc, params, bounds, sums, start) {
-        Ok(total) => Ok(total),
-        Err((k, fault)) => Err(sum_refusal(alloc, place, k, fault)),
+    let mut total = one(alloc)?;
+    let mut k = bounds.len();
+    while k > 0 {
+        k -= 1;
+        let var = (params + k) as u16;
+        match summed(alloc, var, &bounds[k], &total, &sums[k]) {
+            Ok(outer) => total = outer,
+            Err(fault) => return Err(sum_refusal(alloc, place, k, fault)),
+        }
     }
+    // Its reader says that the polynomial is canonical.
+    let _den = total.den();
+    Ok(total)
 }
 
 /// The refusal where the summation over a variable fails.
 fn sum_refusal(alloc: Global, place: &Place, k: usize, fault: SumFault) -> Refused
-    ensures { IsFaultRefusal place.now k fault result }
+    ensures { IsFaultRefusal (member_place place.now SUMS k) fault result }
 {
-    match fault {
-        SumFault::Differs => refusal(alloc, 9, place, key::SUMS, k),
-        SumFault::Wide => refusal(alloc, 2, place, key::SUMS, k),
-        SumFault::Memory => Refused::Memory,
+    let condition = match fault {
+        SumFault::Wide => 2,
+        SumFault::Differs => 9,
+        SumFault::Memory => return Refused::Memory,
+    };
+    match member_place(alloc, place, key::SUMS, k) {
+        Ok(place) => Refused::No(No { condition, place }),
+        Err(Memory) => Refused::Memory,
     }
 }
 
-/// The polynomial 1. Want of memory is its only error.
+/// The polynomial 1.
 fn one(alloc: Global) -> Result<Poly, Memory>
     ensures { IfOk result (λ poly. poly ≡ one) }
 {
@@ -116,35 +112,4 @@ fn one(alloc: Global) -> Result<Poly, Memory>
     // Its reader says that the polynomial is canonical and in lowest terms.
     let _den = poly.den();
     Ok(poly)
-}
-
-/// The sum over all variables, from the last on, of the polynomial 1; or the first variable whose summation fails.
-fn sum_up(
-    alloc: Global,
-    params: usize,
-    bounds: &[(Form, Form)],
-    sums: &[Poly],
-    start: Poly,
-) -> Result<Poly, (usize, SumFault)>
-    requires few { params + length bounds.now ≤ 24 }
-    requires fit { BoundsFit params bounds.now }
-    requires one_each { length sums.now ≡ length bounds.now }
-    requires one { start ≡ one }
-    ensures total { IfOk result (λ total. IsSumFrom params bounds.now sums.now total) }
-    ensures legal { IfOk result (λ total. IsLegal total) }
-    ensures fails { IfErr result (λ failed. IsFirstFailure params bounds.now sums.now failed.0 failed.1) }
-{
-    let mut total = start;
-    let mut k = bounds.len();
-    while k > 0 {
-        k -= 1;
-        let var = (params + k) as u16;
-        match summed(alloc, var, &bounds[k], &total, &sums[k]) {
-            Ok(outer) => total = outer,
-            Err(fault) => return Err((k, fault)),
-        }
-    }
-    // Its reader says that the polynomial is canonical.
-    let _den = total.den();
-    Ok(total)
 }

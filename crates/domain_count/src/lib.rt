@@ -5,16 +5,13 @@
 #![tactic(auto)]
 
 mod count;
-mod fits;
 pub mod law;
 mod nest;
 mod ranges;
-mod refusal;
 mod summation;
 mod sums;
 
 pub use count::check_count;
-pub use fits::fits_count;
 pub use nest::Nest;
 pub use ranges::rows_before;
 pub use sums::Sums;

@@ -1,38 +1,46 @@
 //! Whether the ranges of a nest's variables are shown to be whole.
 
-ghost use Rattle.std.specs.Prelude.{◌≡◌, ◌+◌, ◌<◌, ◌≤◌, ◌↔◌, length, map, IfOk, IsTrue, MatchOption};
+ghost use Rattle.std.specs.Prelude.{◌≡◌, ◌+◌, ◌<◌, ◌≤◌, ◌↔◌, length, map, IfOk, IsTrue};
 ghost use Rattle.affine_form.specs.System.{AllOver};
-ghost use Rattle.affine_rows.specs.Rows.{BoundsFit, IsSmallOver, widened};
-ghost use Rattle.affine_c.specs.Parts.{meaning};
-ghost use Rattle.domain_count.specs.Count.{AreShownBelow, IsFirstNotShown, ShowsRange, rows_before};
+ghost use Rattle.affine_form.specs.Rows.{BoundsFit, IsSmallOver, widened};
+ghost use Rattle.affine_program.specs.Parts.{meaning};
+ghost use Rattle.claims.specs.Claims.{Finds, numbered};
+ghost use Rattle.domain_count.specs.Count.{ShowsRange, rows_before};
+ghost use Rattle.domain_count.specs.CountClaims.{member_place, range_claim};
+ghost use Rattle.iolb_model.specs.declared.limits.TheConstants.{VARIABLES, NEST_VARIABLES};
 
-use affine_c::Program;
-use affine_form::{Form, Memory, Multipliers, System, entails};
-use affine_rows::{difference, system_of, variables_from, widened, within_rows};
+use affine_form::{
+    Form, Memory, Multipliers, System, difference, entails, system_of, variables_from, widened,
+    within_rows,
+};
+use affine_program::Program;
+use claims::{No, Place, Step, key, refusal};
 use std::alloc::Global;
 
-/// The first variable whose multipliers don't show that its range is whole: that its upper form is at least its lower form
-/// less 1. Want of memory is its only error.
+/// The refusal of the first variable whose multipliers don't show that its range is whole: that its upper form is at
+/// least its lower form less 1.
 pub(crate) fn first_not_shown(
     alloc: Global,
     program: &Program,
     bounds: &[(Form, Form)],
     shown: &[Multipliers],
-) -> Result<Option<usize>, Memory>
-    requires few { length bounds.now ≤ 6 }
+    place: &Place,
+) -> Result<Option<No>, Memory>
+    requires few { length bounds.now ≤ NEST_VARIABLES }
     requires fit { BoundsFit (length program.now.params) bounds.now }
     requires one_each { length shown.now ≡ length bounds.now }
-    ensures { IfOk result (λ first. MatchOption first (AreShownBelow (meaning program.now) bounds.now shown.now (length bounds.now)) (λ k. IsFirstNotShown (meaning program.now) bounds.now shown.now k)) }
+    ensures { IfOk result (λ found. Finds (numbered (range_claim (meaning program.now) bounds.now shown.now place.now) 0 bounds.now) found) }
 {
     for k in 0..bounds.len() {
         if !is_shown(alloc, program, &bounds[..k], &bounds[k], &shown[k])? {
-            return Ok(Some(k));
+            let place = member_place(alloc, place, key::SHOWN, k)?;
+            return refusal(alloc, 8, &place);
         }
     }
     Ok(None)
 }
 
-/// Whether the multipliers of a variable behind others show that its range is whole. Want of memory is its only error.
+/// Whether the multipliers of a variable behind others show that its range is whole.
 fn is_shown(
     alloc: Global,
     program: &Program,
@@ -40,7 +48,7 @@ fn is_shown(
     bounds: &(Form, Form),
     shown: &Multipliers,
 ) -> Result<bool, Memory>
-    requires few { length before.now < 6 }
+    requires few { length before.now < NEST_VARIABLES }
     requires fit { BoundsFit (length program.now.params) before.now }
     requires lower { IsSmallOver (length program.now.params + length before.now) bounds.now.0 }
     requires upper { IsSmallOver (length program.now.params + length before.now) bounds.now.1 }
@@ -54,14 +62,13 @@ fn is_shown(
     Ok(entails(&system, &goal, shown))
 }
 
-/// The assumptions and the rows of the variables before, over the parameters and these variables. Want of memory is its
-/// only error.
+/// The assumptions and the rows of the variables before, over the parameters and these variables.
 pub fn rows_before(
     alloc: Global,
     program: &Program,
     before: &[(Form, Form)],
 ) -> Result<System, Memory>
-    requires few { length before.now ≤ 6 }
+    requires few { length before.now ≤ NEST_VARIABLES }
     requires fit { BoundsFit (length program.now.params) before.now }
     ensures { IfOk result (λ system. system ≡ rows_before (meaning program.now) before.now) }
 {
@@ -75,9 +82,9 @@ pub fn rows_before(
     Ok(system_of(alloc, vars, rows.as_slice())?)
 }
 
-/// The rows of a system read over more variables. Want of memory is its only error.
+/// The rows of a system read over more variables.
 fn widened_rows(alloc: Global, vars: usize, system: &System) -> Result<Vec<Form>, Memory>
-    requires few { vars ≤ 24 }
+    requires few { vars ≤ VARIABLES }
     requires more { system.now.vars ≤ vars }
     ensures rows { IfOk result (λ wide. wide.items ≡ map (widened vars) system.now.rows) }
     ensures over { IfOk result (λ wide. AllOver vars wide.items) }
@@ -87,4 +94,18 @@ fn widened_rows(alloc: Global, vars: usize, system: &System) -> Result<Vec<Form>
         wide.push(widened(alloc, vars, row)?)?;
     }
     Ok(wide)
+}
+
+/// The place of a variable's claim under a key.
+pub(crate) fn member_place(
+    alloc: Global,
+    place: &Place,
+    key: u8,
+    variable: usize,
+) -> Result<Place, Memory>
+    ensures { IfOk result (λ inner. inner ≡ member_place place.now key variable) }
+{
+    place
+        .within(alloc, Step::Key(key))?
+        .within(alloc, Step::Index(variable as u64))
 }

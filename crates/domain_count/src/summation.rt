@@ -1,8 +1,10 @@
 //! Summation over one variable.
 
-ghost use Rattle.std.specs.Prelude.{◌≡◌, ◌<◌, ◌^◌, IfOk, IfErr};
+ghost use Rattle.std.specs.Prelude.{◌≡◌, ◌<◌, IfOk, IfErr};
 ghost use Rattle.affine_form.specs.Form.{IsSmallForm};
 ghost use Rattle.domain_count.specs.Antidifference.{BetweenPasses, DifferencePasses, FailsAs, IsBackwardDifference, IsBetween, IsShifted, IsSubstituted, IsSubtracted, IsSummed, ShiftPasses, SubstitutionPasses, SubtractionPasses, less_one};
+ghost use Rattle.poly_tree.specs.Poly.{IsLegal};
+ghost use Rattle.iolb_model.specs.declared.limits.TheConstants.{NUMBER_SIZE};
 
 use affine_form::{Form, Memory};
 use poly_tree::{Poly, PolyFault};
@@ -41,7 +43,8 @@ pub(crate) fn summed(
     summand: &Poly,
     sum: &Poly,
 ) -> Result<Poly, SumFault>
-    requires { IsSmallForm (2 ^ 20) bounds.now.0 }
+    requires { IsSmallForm NUMBER_SIZE bounds.now.0 }
+    ensures legal { IsLegal sum.now }
     ensures total { IfOk result (λ total. IsSummed var bounds.now summand.now sum.now total) }
     ensures fails { IfErr result (λ fault. FailsAs var bounds.now summand.now sum.now fault) }
 {
@@ -65,7 +68,7 @@ fn backward_difference(alloc: Global, var: u16, sum: &Poly) -> Result<Poly, Poly
 
 /// A polynomial with a variable's upper form for it, minus the polynomial with its lower form less 1.
 fn between(alloc: Global, var: u16, bounds: &(Form, Form), sum: &Poly) -> Result<Poly, PolyFault>
-    requires { IsSmallForm (2 ^ 20) bounds.now.0 }
+    requires { IsSmallForm NUMBER_SIZE bounds.now.0 }
     ensures total { IfOk result (λ total. IsBetween var bounds.now sum.now total) }
     ensures wide { result ≡ Err PolyFault.Wide → BetweenPasses var bounds.now sum.now }
 {
@@ -107,7 +110,7 @@ fn substitute(alloc: Global, var: u16, form: &Form, sum: &Poly) -> Result<Poly, 
 
 /// A form less 1.
 fn less_one(alloc: Global, form: &Form) -> Result<Form, Memory>
-    requires { IsSmallForm (2 ^ 20) form.now }
+    requires { IsSmallForm NUMBER_SIZE form.now }
     ensures { IfOk result (λ less. less ≡ less_one form.now) }
 {
     let coef = Vec::from_slice(alloc, form.coef())?;

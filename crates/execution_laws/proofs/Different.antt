@@ -3,7 +3,7 @@ use Rattle.std.proofs.Common.{◌≡◌, ℕ, zero, suc, List, [], ◌∷◌, �
 use Rattle.std.specs.Prelude.{ℤ, pos, ◌+ℤ◌, ◌<ℤ◌}
 use Rattle.std.specs.List.{AllByRecursion}
 use Rattle.std.proofs.lemmas.Int.{ints}
-use Rattle.integer_laws.proofs.Lists.{All-append, All-weaken, All-map}
+use Rattle.base_laws.proofs.Lists.{All-append, All-weaken, All-map}
 use Rattle.iolb_model.specs.Execution.{rising}
 
 -- no two members are equal

@@ -9,7 +9,8 @@ use Rattle.iolb_model.specs.Form.{AffineForm, form_value}
 use Rattle.iolb_model.specs.Path.{PathStep, rises, first_of, item_path, row_path}
 use Rattle.iolb_model.specs.Program.{Item, assign, loop, Row, done, next, AffineProgram, IsWellFormed, item_statements, row_statements}
 use Rattle.iolb_model.specs.Execution.{Instance, range, at_value, item_runs, row_runs, execution}
-use Rattle.execution_laws.specs.Domain.{IsWithin, DomainsAreExecuted}
+use Rattle.execution_laws.specs.Domain.{DomainsAreExecuted}
+use Rattle.iolb_model.specs.Domain.{IsWithin}
 use Rattle.execution_laws.proofs.Members.{Member, Member-append_left, Member-append_right, Member-map, Member-flat_map, Member-slice_get}
 use Rattle.execution_laws.proofs.Ordered.{IsOrdered, Member-append, Member-map_from, Member-flat_map_from, Member-place, Ordered-left, Ordered-right, Ordered-across}
 use Rattle.execution_laws.proofs.Ranges.{range-has, range-within}
@@ -81,7 +82,7 @@ mutual
       ]
 
 -- an option that is there holds something
-some_there : {A : Type 0} (o : Option A) → is_some o ≡ true → IsSomeAnd o (λ x. Unit {0})
+pub some_there : {A : Type 0} (o : Option A) → is_some o ≡ true → IsSomeAnd o (λ x. Unit {0})
 some_there None e = absurd cc
 some_there (Some x) e = tt
 

@@ -4,8 +4,5 @@ pub mod Ranges
 pub mod Domains
 pub mod Orders
 pub mod Cells
-pub mod InputVertices
-pub mod BranchLoads
 pub mod Different
 pub mod Undone
-pub mod Marks

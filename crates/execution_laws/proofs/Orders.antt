@@ -7,12 +7,14 @@ use Rattle.iolb_model.specs.Form.{form_value}
 use Rattle.iolb_model.specs.Path.{PathStep, first_of, item_path, row_path, rises}
 use Rattle.iolb_model.specs.Program.{Item, assign, loop, Row, done, next, AffineProgram, IsWellFormed, item_statements, row_statements}
 use Rattle.iolb_model.specs.Execution.{Instance, range, at_value, item_runs, row_runs, execution}
-use Rattle.execution_laws.specs.Domain.{IsWithin, InstancesAreExecutedOnce}
-use Rattle.execution_laws.specs.Order.{Direction, upward, has_both, item_common, row_common, Precedes, OrderIsByLevels}
+use Rattle.execution_laws.specs.Domain.{InstancesAreExecutedOnce}
+use Rattle.iolb_model.specs.Domain.{IsWithin}
+use Rattle.execution_laws.specs.Order.{OrderIsByLevels}
+use Rattle.iolb_model.specs.Order.{Direction, upward, has_both, item_common, row_common, Precedes}
 use Rattle.execution_laws.proofs.Members.{Member}
 use Rattle.execution_laws.proofs.Ordered.{IsOrdered, Ordered-append, Ordered-weaken, Ordered-map, Ordered-flat_map, Ordered-left, Ordered-right, Ordered-across, Ordered-at, Member-map_from}
 use Rattle.execution_laws.proofs.Ranges.{range-ordered}
-use Rattle.execution_laws.proofs.Domains.{Rises, statements-rise, item_path-statement, row_path-statement, in_one, item_runs-within, row_runs-within}
+use Rattle.execution_laws.proofs.Domains.{Rises, some_there, statements-rise, item_path-statement, row_path-statement, in_one, item_runs-within, row_runs-within}
 
 -- one instance comes before another at some level of these loops around both
 abbrev pub Before : List Direction → Instance → Instance → Type 0
@@ -66,10 +68,6 @@ no_common done t s none = refl
 no_common (next item row) t s none =
     ap (λ (b : Bool). if b then item_common item t s else row_common row t s) (ap (λ (b : Bool). b && is_some (item_path item s)) (absent (item_path item t) (row_path row t) none))
     ∙ no_common row t s (later (item_path item t) (row_path row t) none)
-
-some_there : {A : Type 0} (o : Option A) → is_some o ≡ true → IsSomeAnd o (λ x. Unit {0})
-some_there None e = absurd cc
-some_there (Some x) e = tt
 
 -- the items after one have none of the statements of its instances
 row_lacks : (item : Item) (row : Row) (point : List ℤ) (a : Instance) → Rises (item_statements item ++ row_statements row) → Member a (item_runs item point)

@@ -4,7 +4,7 @@ use Rattle.std.specs.Prelude.{ℤ, pos, ◌+ℤ◌, ◌*ℤ◌}
 use Rattle.std.proofs.lemmas.Int.{ints}
 use Rattle.std.proofs.lemmas.Bool.{eq-eqb, ne_eqb, cases_eq}
 use Rattle.std.proofs.lemmas.List.{same_lists, get_or_default}
-use Rattle.integer_laws.proofs.Ring.{zero-mul, mul-cancel, mul-zero, mul-add, add-mul, mul_assoc_ℤ, add_pairs}
+use Rattle.base_laws.proofs.Ring.{zero-mul, mul-cancel, mul-zero, mul-add, add-mul, mul_assoc_ℤ, add_pairs}
 use Rattle.iolb_model.specs.Form.{dot}
 use Rattle.execution_laws.specs.Inverse.{column, scaled_entry, IsScaledInverse}
 

@@ -1,7 +1,5 @@
-//! Laws of the executions of affine programs and of their computation graphs.
+//! Laws of the executions of affine programs: which instances they have and in which order.
 #![tactic(auto)]
 
-pub mod branches;
-pub mod cold;
 pub mod domain;
 pub mod order;

@@ -5,18 +5,19 @@ use Rattle.iolb_model.specs.Bound.{AreMet}
 use Rattle.iolb_model.specs.Form.{AffineForm}
 use Rattle.iolb_model.specs.Printed.{bound_text}
 use Rattle.iolb_model.specs.Program.{AffineProgram}
-use Rattle.affine_form.specs.declared.refused.No.{No as FailedCondition}
-use Rattle.affine_text.specs.declared.fault.ProgramFault.{ProgramFault}
-use Rattle.affine_text.specs.Laws.{TextsMeanOneProgram}
-use Rattle.affine_text.specs.Meaning.{Means, HasFault}
-use Rattle.cert_reading.specs.Laws.{HasCertificate, TextsHaveOneCertificate, TextsHaveOneAnswer}
-use Rattle.cert_reading.specs.Texts.{IsTextFault}
-use Rattle.certificates.specs.Claims.{CertificateClaim}
+use Rattle.claims.specs.declared.refused.No.{No as FailedCondition}
+use Rattle.affine_c.specs.declared.fault.ProgramFault.{ProgramFault}
+use Rattle.affine_c.specs.Laws.{TextsMeanOneProgram}
+use Rattle.c_grammar.specs.Program.{Means}
+use Rattle.affine_c.specs.Meaning.{HasFault}
+use Rattle.iolb_cert.specs.OneCertificate.{HasCertificate, TextsHaveOneCertificate, TextsHaveOneAnswer}
+use Rattle.iolb_cert.specs.Texts.{IsTextFault}
+use Rattle.iolb_check.specs.Claims.{CertificateClaim}
 use Rattle.command_words.specs.Requests.{Request, Task, checks, evaluates, request_of}
 use Rattle.command_words.specs.Sizes.{values_for}
 use Rattle.iolb_check.specs.declared.bound.Value.{Value}
 use Rattle.iolb_check.specs.Bounds.{HasWideBranch, IsFirstUnmet}
-use Rattle.iolb_check.specs.Exact.{IsLegalCertificate, RefusalsAreOne, ValidCertificatesGiveOne, ValidCertificatesStand}
+use Rattle.iolb_check.specs.Exact.{RefusalsAreOne, ValidCertificatesGiveOne, ValidCertificatesStand}
 use Rattle.iolb_host.specs.declared.files.FileFault.{FileFault}
 use Rattle.iolb_host.specs.declared.files.FileFault.TheVariants.{Missing, TooLong, Failed, Memory as NoMemoryForFile}
 use Rattle.iolb_host.specs.Files.{FileMap, content_of}
@@ -27,9 +28,9 @@ use Rattle.iolb_call.specs.declared.stop.Stop.TheVariants.{Words, ProgramFile, P
 use Rattle.iolb_call.specs.Lines.{usage}
 use Rattle.iolb_call.specs.Stop.{program_most, certificate_most, stop_line, stop_status}
 use Rattle.iolb_call.specs.Task.{HasSizes, LacksSizes, bound_with}
-use Rattle.iolb_call.specs.Valid.{IsValid, IsInvalid}
+use Rattle.iolb_check.specs.Conditions.{MeetsConditions, conditions}
+use Rattle.claims.specs.Claims.{FirstFails}
 use Rattle.iolb_call.specs.Values.{values_text}
-use Rattle.iolb_call.proofs.Legal.{legal}
 use Rattle.iolb_call.proofs.Phases.{Phase, phase_one}
 use Rattle.iolb_call.proofs.Values.{met-first}
 
@@ -75,8 +76,8 @@ TaskEnds (evaluates s named) request program values end =
 
 -- the conditions
 abbrev pub ConditionEnds : Request → AffineProgram → CertificateClaim → CallEnd → Type 0
-ConditionEnds request program claim = Phase (IsInvalid program claim) (λ failed. stop_end request (Condition failed))
-    (IsValid program claim) (TaskEnds request.task request program)
+ConditionEnds request program claim = Phase (FirstFails (conditions program claim)) (λ failed. stop_end request (Condition failed))
+    (MeetsConditions program claim) (TaskEnds request.task request program)
 
 -- the certificate's text
 abbrev pub CertificateEnds : Request → AffineProgram → List ℕ → CallEnd → Type 0
@@ -145,22 +146,19 @@ task_one (evaluates s named) request program values one other (sizes, given, end
     values_one request s program values sizes one other ends
     (subst (λ (z : List ℤ). ValueEnds request s program values z other) (same_some others sizes (sym gives ∙ given)) end)
 
-same_refusal : AreExact → (program : AffineProgram) (claim : CertificateClaim) (f g : FailedCondition) → IsLegalCertificate claim → IsInvalid program claim f → IsInvalid program claim g → f ≡ g
-same_refusal exact program claim f g legal one other =
-    exact.one_refusal program one.certificate other.certificate f g (one.claims ∙ sym other.claims) (subst IsLegalCertificate (sym one.claims) legal) one.fails other.fails
+same_refusal : AreExact → (program : AffineProgram) (claim : CertificateClaim) (f g : FailedCondition) → FirstFails (conditions program claim) f → FirstFails (conditions program claim) g → f ≡ g
+same_refusal exact program claim f g one other = exact.one_refusal program claim f g one other
 
-valid_or_not : AreExact → (program : AffineProgram) (claim : CertificateClaim) (values : List (List Value)) (failed : FailedCondition) → IsValid program claim values → IsInvalid program claim failed → ⊥
-valid_or_not exact program claim values failed valid invalid =
-    exact.stand program valid.certificate invalid.certificate values failed (valid.claims ∙ sym invalid.claims) valid.meets invalid.fails
+valid_or_not : AreExact → (program : AffineProgram) (claim : CertificateClaim) (values : List (List Value)) (failed : FailedCondition) → MeetsConditions program claim values → FirstFails (conditions program claim) failed → ⊥
+valid_or_not exact program claim values failed valid invalid = exact.stand program claim values failed valid invalid
 
-same_values : AreExact → (program : AffineProgram) (claim : CertificateClaim) (v w : List (List Value)) → IsValid program claim v → IsValid program claim w → v ≡ w
-same_values exact program claim v w one other =
-    exact.one_values program one.certificate other.certificate v w (one.claims ∙ sym other.claims) one.meets other.meets
+same_values : AreExact → (program : AffineProgram) (claim : CertificateClaim) (v w : List (List Value)) → MeetsConditions program claim v → MeetsConditions program claim w → v ≡ w
+same_values exact program claim v w one other = exact.one_values program claim v w one other
 
-conditions_one : AreExact → (request : Request) (program : AffineProgram) (claim : CertificateClaim) → IsLegalCertificate claim → (one other : CallEnd)
+conditions_one : AreExact → (request : Request) (program : AffineProgram) (claim : CertificateClaim) (one other : CallEnd)
     → ConditionEnds request program claim one → ConditionEnds request program claim other → one ≡ other
-conditions_one exact request program claim legal = phase_one _ _ _ _
-    (λ f g fails again. ap (λ failed. stop_end request (Condition failed)) (same_refusal exact program claim f g legal fails again))
+conditions_one exact request program claim = phase_one _ _ _ _
+    (λ f g fails again. ap (λ failed. stop_end request (Condition failed)) (same_refusal exact program claim f g fails again))
     (λ failed values fails valid. valid_or_not exact program claim values failed valid fails)
     (λ v w one other valid again ends end. task_one request.task request program v one other ends
     (subst (λ (z : List (List Value)). TaskEnds request.task request program z other) (same_values exact program claim w v again valid) end))
@@ -170,7 +168,7 @@ certificate_one : AreExact → (request : Request) (program : AffineProgram) (by
 certificate_one exact request program bytes = phase_one _ _ _ _
     (λ f g has again. ap (λ fault. stop_end request (CertificateText fault)) (exact.one_answer.one_fault bytes f g has again))
     (λ fault claim faulty has. exact.one_answer.either bytes claim fault has faulty)
-    (λ a b one other has again ends end. conditions_one exact request program a (legal bytes a has) one other ends
+    (λ a b one other has again ends end. conditions_one exact request program a one other ends
     (subst (λ (z : CertificateClaim). ConditionEnds request program z other) (exact.one_certificate bytes b a again has) end))
 
 absent_one : (content : Option (List ℕ)) (most : ℕ) (f g : FileFault) → IsAbsent content most f → IsAbsent content most g → f ≡ g

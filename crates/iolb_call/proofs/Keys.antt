@@ -1,6 +1,5 @@
 -- The table of keys.
-use Rattle.std.proofs.Common.{◌≡◌, sym, ◌∙◌, ap, ℕ, ◌<◌, List, [], length, map, get_or}
-use Rattle.std.proofs.Common.{Bor}
+use Rattle.std.proofs.Common.{◌≡◌, sym, ◌∙◌, ap, ℕ, ◌<◌, List, [], length, map, get_or, Bor}
 use Rattle.std.proofs.lemmas.List.{get_or-map}
 
 pub name_at : (xs : List (Bor (List ℕ))) (ys : List (List ℕ)) → map (λ (x : Bor (List ℕ)). x.now) xs ≡ ys → (i : ℕ) → i < length xs → (d : Bor (List ℕ)) → (get_or xs i d).now ≡ get_or ys i []

@@ -3,7 +3,6 @@ pub mod Words
 pub mod Stops
 pub mod Values
 pub mod Asked
-pub mod Legal
 pub mod Phases
 pub mod Ends
 pub mod One

@@ -6,9 +6,9 @@ use Rattle.std.proofs.lemmas.List.{append-nil}
 use Rattle.std.proofs.lemmas.List.Sums.{sum_by-append}
 use Rattle.iolb_model.specs.Printed.{bound_text}
 use Rattle.iolb_model.specs.Program.{AffineProgram}
-use Rattle.affine_text.specs.Meaning.{Means}
-use Rattle.cert_reading.specs.Laws.{HasCertificate}
-use Rattle.certificates.specs.Claims.{CertificateClaim}
+use Rattle.c_grammar.specs.Program.{Means}
+use Rattle.iolb_cert.specs.OneCertificate.{HasCertificate}
+use Rattle.iolb_check.specs.Claims.{CertificateClaim}
 use Rattle.command_words.specs.Requests.{Request, Task, checks, evaluates, request_of}
 use Rattle.iolb_check.specs.declared.bound.Value.{Value}
 use Rattle.iolb_host.specs.declared.files.FileFault.{FileFault}
@@ -25,7 +25,7 @@ use Rattle.iolb_call.specs.Reading.{IsContent}
 use Rattle.iolb_call.specs.Stop.{certificate_most, HoldsProgram, HoldsCertificate, HoldsValid, IsAccepted, RequestStop, faults_at, stop_status, Call, Stops}
 use Rattle.iolb_call.specs.Task.{HasSizes, IsAnswer, IsOutside, IsBeyond, bound_with}
 use Rattle.iolb_call.specs.Use.{CallUse, SinkUse, Gains, Stays}
-use Rattle.iolb_call.specs.Valid.{IsValid}
+use Rattle.iolb_check.specs.Conditions.{MeetsConditions}
 use Rattle.iolb_call.specs.Values.{values_text}
 use Rattle.iolb_call.proofs.Asked.{HasPebbles, pebbles}
 use Rattle.iolb_call.proofs.Ends.{AreExact, CallEnd, CallEnds, CertificateEnds, ConditionEnds, NameEnds, RequestEnds, TaskEnds, calls_one, done_end, same_some, stop_end, words_end}
@@ -247,7 +247,7 @@ has_text (evaluates s named) program values some (sizes, given, admitted, narrow
 )
 
 passes : (request : Request) (map : FileMap) (words : List (List ℕ)) (program : AffineProgram) (claim : CertificateClaim) (values : List (List Value)) (text : List ℕ) → request_of words ≡ Some request
-    → HoldsProgram (Some map) request.program program → HoldsCertificate (Some map) request.certificate claim → IsValid program claim values → IsAnswer request.task program values text
+    → HoldsProgram (Some map) request.program program → HoldsCertificate (Some map) request.certificate claim → MeetsConditions program claim values → IsAnswer request.task program values text
     → CallEnds map words (done_end text)
 passes request map words program claim values text asked holds held valid answer =
     let ends = answer_ends request.task request program values text answer in
@@ -290,5 +290,5 @@ others_never exact call request program claim left status reads never outcome is
           let good = accepted.good in
           let p = same_program exact reads.map request.program accepted.program program accepted.holds_program holds in
           let c = same_claim exact reads.map request.certificate good.valid.certificate claim good.valid.held held in
-          never good.values (subst (λ (q : AffineProgram). IsValid q claim good.values) p
-          (subst (λ (d : CertificateClaim). IsValid accepted.program d good.values) c good.valid.valid))
+          never good.values (subst (λ (q : AffineProgram). MeetsConditions q claim good.values) p
+          (subst (λ (d : CertificateClaim). MeetsConditions accepted.program d good.values) c good.valid.valid))

@@ -6,12 +6,11 @@ use Rattle.iolb_model.specs.Bound.{IsAdmitted}
 use Rattle.iolb_model.specs.Headline.{BoundHolds}
 use Rattle.iolb_model.specs.Program.{AffineProgram}
 use Rattle.affine_form.specs.System.{AffineSystem}
-use Rattle.affine_c.specs.Parts.{ProgramParts, meaning}
-use Rattle.affine_text.specs.Meaning.{Means}
-use Rattle.certificates.specs.Claims.{claim_of_certificate}
-use Rattle.certificates.specs.Limits.{CertificateParts}
-use Rattle.cert_reading.specs.Texts.{IsTextOf}
-use Rattle.cert_reading.specs.Written.{WrittenCertificate, IsCertificate}
+use Rattle.affine_program.specs.Parts.{ProgramParts, meaning}
+use Rattle.c_grammar.specs.Program.{Means}
+use Rattle.iolb_check.specs.Claims.{CertificateClaim}
+use Rattle.iolb_cert.specs.Texts.{IsTextOf}
+use Rattle.iolb_cert.specs.Read.{WrittenCertificate, IsCertificate}
 use Rattle.command_words.specs.Requests.{Request, Task, checks, evaluates}
 use Rattle.iolb_check.specs.declared.bound.Value.{Value}
 use Rattle.iolb_check.specs.Bounds.{BoundParts, bound_of}
@@ -70,26 +69,26 @@ program_there files name bytes slice program e few told means = record {
   means = means;
 }
 
-pub certificate_there : (files : Option FileMap) (name : List ℕ) (bytes : Vec ℕ Global) (slice : List ℕ) (certificate : CertificateParts) → slice ≡ bytes.items → length bytes.items ≤ certificate_most
-    → IfSome files (λ map. Answers (content_of map name) certificate_most (Ok bytes)) → ((written : WrittenCertificate) × IsTextOf slice written × IsCertificate written (claim_of_certificate certificate))
-    → HoldsCertificate files name (claim_of_certificate certificate)
+pub certificate_there : (files : Option FileMap) (name : List ℕ) (bytes : Vec ℕ Global) (slice : List ℕ) (certificate : CertificateClaim) → slice ≡ bytes.items → length bytes.items ≤ certificate_most
+    → IfSome files (λ map. Answers (content_of map name) certificate_most (Ok bytes)) → ((written : WrittenCertificate) × IsTextOf slice written × IsCertificate written certificate)
+    → HoldsCertificate files name certificate
 certificate_there files name bytes slice certificate e few told reads = record {
   bytes = slice;
   content = content files name certificate_most bytes slice e few told;
   has = record { written = reads.0; says = reads.1; is = reads.2 };
 }
 
-valid : (files : Option FileMap) (name : List ℕ) (program : AffineProgram) (bound : BoundParts) (certificate : CertificateParts) → HoldsCertificate files name (claim_of_certificate certificate)
+valid : (files : Option FileMap) (name : List ℕ) (program : AffineProgram) (bound : BoundParts) (certificate : CertificateClaim) → HoldsCertificate files name certificate
     → MeetsConditions program certificate bound.branches → HoldsValid files name program bound.branches
 valid files name program bound certificate held meets = record {
-  certificate = claim_of_certificate certificate;
+  certificate = certificate;
   held = held;
-  valid = record { certificate = certificate; claims = refl; meets = meets };
+  valid = meets;
 }
 
 -- an answer to a certificate that is valid
-pub good_result : (r : Result (Vec ℕ Global) Stop) (files : Option FileMap) (request : Request) (program : ProgramParts) (bound : BoundParts) (certificate : CertificateParts) → bound.assumed ≡ program.assumed
-    → HoldsCertificate files request.certificate (claim_of_certificate certificate) → MeetsConditions (meaning program) certificate bound.branches → BoundHolds (meaning program) (bound_of bound)
+pub good_result : (r : Result (Vec ℕ Global) Stop) (files : Option FileMap) (request : Request) (program : ProgramParts) (bound : BoundParts) (certificate : CertificateClaim) → bound.assumed ≡ program.assumed
+    → HoldsCertificate files request.certificate certificate → MeetsConditions (meaning program) certificate bound.branches → BoundHolds (meaning program) (bound_of bound)
     → IfOk r (λ text. IsAnswer request.task (meaning program) bound.branches text.items) → IfOk r (λ text. IsGoodFor files request (meaning program) text.items)
 good_result (Err stop) files request program bound certificate e held meets holds answer = tt
 good_result (Ok text) files request program bound certificate e held meets holds answer = record {
@@ -100,8 +99,8 @@ good_result (Ok text) files request program bound certificate e held meets holds
 }
 
 -- why a certificate that is valid isn't answered
-pub unanswered : (r : Result (Vec ℕ Global) Stop) (files : Option FileMap) (request : Request) (program : AffineProgram) (bound : BoundParts) (certificate : CertificateParts)
-    → HoldsCertificate files request.certificate (claim_of_certificate certificate) → MeetsConditions program certificate bound.branches → IfErr r (λ stop. AnswerStop request.task program bound.branches stop)
+pub unanswered : (r : Result (Vec ℕ Global) Stop) (files : Option FileMap) (request : Request) (program : AffineProgram) (bound : BoundParts) (certificate : CertificateClaim)
+    → HoldsCertificate files request.certificate certificate → MeetsConditions program certificate bound.branches → IfErr r (λ stop. AnswerStop request.task program bound.branches stop)
     → IfErr r (λ stop. CertificateStop files request program stop)
 unanswered (Ok text) files request program bound certificate held meets stop = tt
 unanswered (Err Words) files request program bound certificate held meets stop = absurd stop
@@ -115,15 +114,15 @@ unanswered (Err Wide) files request program bound certificate held meets stop = 
 unanswered (Err Memory) files request program bound certificate held meets stop = tt
 
 -- why a certificate that was read isn't valid
-pub refused : (stop : Stop) (files : Option FileMap) (request : Request) (program : AffineProgram) (certificate : CertificateParts) → HasSizes request.task program.parameters
-    → HoldsCertificate files request.certificate (claim_of_certificate certificate) → JudgeStop program certificate stop → CertificateStop files request program stop
+pub refused : (stop : Stop) (files : Option FileMap) (request : Request) (program : AffineProgram) (certificate : CertificateClaim) → HasSizes request.task program.parameters
+    → HoldsCertificate files request.certificate certificate → JudgeStop program certificate stop → CertificateStop files request program stop
 refused Words files request program certificate sizes held cause = absurd cause
 refused (ProgramFile fault) files request program certificate sizes held cause = absurd cause
 refused (ProgramText fault) files request program certificate sizes held cause = absurd cause
 refused (CertificateFile fault) files request program certificate sizes held cause = absurd cause
 refused (CertificateText fault) files request program certificate sizes held cause = absurd cause
 refused (Condition failed) files request program certificate sizes held cause =
-    (sizes, claim_of_certificate certificate, held, record { certificate = certificate; claims = refl; fails = cause })
+    (sizes, certificate, held, cause)
 refused (Assumption number) files request program certificate sizes held cause = absurd cause
 refused Wide files request program certificate sizes held cause = absurd cause
 refused Memory files request program certificate sizes held cause = tt

@@ -8,6 +8,7 @@ use Rattle.iolb_check.specs.declared.value_fault.ValueFault.{ValueFault}
 use Rattle.iolb_check.specs.declared.value_fault.ValueFault.TheVariants.{OutsideAssumption, Wide}
 use Rattle.iolb_check.specs.Bounds.{BoundParts, EvaluatesBranch, HasWideBranch, IsFirstUnmet, IsWideBranch, terms_of}
 use Rattle.iolb_call.specs.Values.{branch_value_lines}
+use Rattle.iolb_cert.proofs.Branches.{drop_get, terms-at}
 
 -- assumptions that are met have none that isn't
 pub met-first : (rows : List AffineForm) (sizes : List ℤ) (n : ℕ) → AreMet rows sizes → IsFirstUnmet rows sizes n → ⊥
@@ -28,18 +29,6 @@ pub has-value : (bound : BoundParts) (sizes : List ℤ) (s branch : ℕ) (fault 
     → EvaluatesBranch bound sizes s branch (Err fault) → ⊥
 has-value bound sizes s branch (OutsideAssumption n) met narrow e = met-first bound.assumed.rows sizes n met e.2
 has-value bound sizes s branch Wide met narrow e = narrow (wide-at bound.branches branch e.0 sizes s e.1 e.2.1)
-
-drop_get : {A : Type 0} (xs : List A) (i : ℕ) (x : A) → slice_get xs i ≡ Some x → drop i xs ≡ x ∷ drop (suc i) xs
-drop_get [] i x e = absurd cc
-drop_get (y ∷ xs) zero x e = ap (λ z. z ∷ xs) cc
-drop_get (y ∷ xs) (suc i) x e = drop_get xs i x e
-
-terms-at : (branches : List (List Value)) (i : ℕ) (terms : List Value) → slice_get branches i ≡ Some terms → slice_get (map terms_of branches) i ≡ Some (terms_of terms)
-terms-at [] i terms e = absurd cc
-terms-at (b ∷ branches) zero terms e = ap (λ t. Some (terms_of t)) (same b terms e) where
-  same : (a b : List Value) → Some a ≡ Some b → a ≡ b
-  same a b p = cc
-terms-at (b ∷ branches) (suc i) terms e = terms-at branches i terms e
 
 -- one line more
 pub lines-step : (branches : List (List Value)) (i : ℕ) (terms : List Value) (sizes : List ℤ) (s value : ℕ) (old new all : List ℕ) → slice_get branches i ≡ Some terms

@@ -2,13 +2,13 @@
 use Rattle.std.specs.Prelude.{◌≡◌, ℕ, List, Some}
 use Rattle.iolb_model.specs.Headline.{BoundHolds}
 use Rattle.iolb_model.specs.Program.{AffineProgram}
-use Rattle.certificates.specs.Claims.{CertificateClaim}
+use Rattle.iolb_check.specs.Claims.{CertificateClaim}
 use Rattle.command_words.specs.Requests.{Request, request_of}
 use Rattle.iolb_check.specs.declared.bound.Value.{Value}
 use Rattle.iolb_call.specs.Stop.{Call, HoldsCertificate, HoldsProgram}
 use Rattle.iolb_call.specs.Task.{IsAnswer, LoadsAtLeast, bound_with}
 use Rattle.iolb_call.specs.Use.{CallUse, FilesStay, Gains, Stays}
-use Rattle.iolb_call.specs.Valid.{IsValid}
+use Rattle.iolb_check.specs.Conditions.{MeetsConditions, conditions}
 
 -- The words name two files. The first holds a text that means a program, and the second that of a certificate, which meets
 -- the conditions for the program. (Where the files don't tell what they hold, this says that there are such contents.) The
@@ -27,7 +27,7 @@ pub record IsLowerBoundPrinted (call : Call) (left : CallUse) : Type 0 where
   pub certificate : CertificateClaim
   pub holds_certificate : HoldsCertificate call.files request.certificate certificate
   pub values : List (List Value)
-  pub valid : IsValid program certificate values
+  pub valid : MeetsConditions program certificate values
   pub holds : BoundHolds program (bound_with program values)
   pub text : List ℕ
   pub answer : IsAnswer request.task program values text

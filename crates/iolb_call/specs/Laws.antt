@@ -2,7 +2,7 @@
 use Rattle.std.specs.Prelude.{◌≡◌, ◌≢◌, ◌⊎◌, ⊤, ℕ, ℤ, List, Some}
 use Rattle.iolb_model.specs.Bound.{IsAdmitted}
 use Rattle.iolb_model.specs.Program.{AffineProgram}
-use Rattle.certificates.specs.Claims.{CertificateClaim}
+use Rattle.iolb_check.specs.Claims.{CertificateClaim}
 use Rattle.command_words.specs.Requests.{Request, Task, checks, evaluates, request_of}
 use Rattle.command_words.specs.Sizes.{values_for}
 use Rattle.iolb_check.specs.declared.bound.Value.{Value}
@@ -14,7 +14,7 @@ use Rattle.iolb_call.specs.declared.status.Status.TheVariants.{Done, NoMemory}
 use Rattle.iolb_call.specs.Outcome.{Outcome}
 use Rattle.iolb_call.specs.Stop.{Call, HoldsCertificate, HoldsProgram}
 use Rattle.iolb_call.specs.Use.{CallUse, SinkUse, Fails, Gains}
-use Rattle.iolb_call.specs.Valid.{IsValid}
+use Rattle.iolb_check.specs.Conditions.{MeetsConditions, conditions}
 
 -- No read failed in a call, and no write: no count of faults rose.
 pub record IsUndisturbed (left : CallUse) : Type 0 where
@@ -55,11 +55,11 @@ HasAnswer (evaluates s named) program values = (sizes : List ℤ) × (values_for
 -- it wasn't disturbed.
 abbrev pub ValidCertificatesPass : Type 0
 ValidCertificatesPass = (call : Call) (request : Request) (program : AffineProgram) (certificate : CertificateClaim) (values : List (List Value)) (left : CallUse) (status : Status)
-    → Reads call request program certificate → IsValid program certificate values → HasAnswer request.task program values
+    → Reads call request program certificate → MeetsConditions program certificate values → HasAnswer request.task program values
     → Outcome status call left → IsUndisturbed left → (status ≡ Done) ⊎ (status ≡ NoMemory)
 
 -- A call about a certificate that doesn't meet the conditions never ends with 0.
 abbrev pub OthersNeverPass : Type 0
 OthersNeverPass = (call : Call) (request : Request) (program : AffineProgram) (certificate : CertificateClaim) (left : CallUse) (status : Status)
-    → Reads call request program certificate → ((values : List (List Value)) → IsValid program certificate values → ⊥)
+    → Reads call request program certificate → ((values : List (List Value)) → MeetsConditions program certificate values → ⊥)
     → Outcome status call left → status ≢ Done

@@ -5,7 +5,6 @@ pub mod PointerText
 pub mod Lines
 pub mod Values
 pub mod Task
-pub mod Valid
 pub mod Answers
 pub mod Judged
 pub mod Stop

@@ -2,8 +2,8 @@
 use Rattle.std.specs.Prelude.{ℕ, ◌==◌, if◌then◌else◌, List, ◌++◌, codes, decimal}
 use Rattle.iolb_host.specs.declared.files.FileFault.{FileFault}
 use Rattle.iolb_host.specs.declared.files.FileFault.TheVariants.{Missing, TooLong, Failed, Memory}
-use Rattle.affine_text.specs.declared.fault.ProgramFault.{ProgramFault}
-use Rattle.affine_form.specs.declared.place.Step.{Step}
+use Rattle.affine_c.specs.declared.fault.ProgramFault.{ProgramFault}
+use Rattle.claims.specs.declared.place.Step.{Step}
 use Rattle.cert_parts.specs.declared.error.CertFault.{CertFault}
 use Rattle.iolb_call.specs.PointerText.{pointer_text}
 

@@ -1,7 +1,7 @@
 -- Places in JSON values, as JSON Pointers print them. (RFC 6901.)
 use Rattle.std.specs.Prelude.{ℕ, List, [], ◌∷◌, ◌++◌, flat_map, codes, decimal, slice_index_or}
-use Rattle.affine_form.specs.declared.place.Step.{Step}
-use Rattle.affine_form.specs.declared.place.Step.TheVariants.{Key, Index}
+use Rattle.claims.specs.declared.place.Step.{Step}
+use Rattle.claims.specs.declared.place.Step.TheVariants.{Key, Index}
 
 -- the keys of certificates and schedules, in byte order
 abbrev pub key_names : List (List ℕ)

@@ -3,10 +3,11 @@ use Rattle.std.specs.Prelude.{◌≡◌, ⊤, ℕ, ◌⊎◌, List, map, Option,
 use Rattle.std.specs.Global.{Global}
 use Rattle.iolb_model.specs.Headline.{BoundHolds}
 use Rattle.iolb_model.specs.Program.{AffineProgram}
-use Rattle.affine_text.specs.Meaning.{Means, HasFault}
-use Rattle.certificates.specs.Claims.{CertificateClaim}
-use Rattle.cert_reading.specs.Laws.{HasCertificate}
-use Rattle.cert_reading.specs.Texts.{IsTextFault}
+use Rattle.c_grammar.specs.Program.{Means}
+use Rattle.affine_c.specs.Meaning.{HasFault}
+use Rattle.iolb_check.specs.Claims.{CertificateClaim}
+use Rattle.iolb_cert.specs.OneCertificate.{HasCertificate}
+use Rattle.iolb_cert.specs.Texts.{IsTextFault}
 use Rattle.command_words.specs.Requests.{Request, request_of}
 use Rattle.iolb_check.specs.declared.bound.Value.{Value}
 use Rattle.iolb_host.specs.Faults.{NamedFault, after_fault}
@@ -21,7 +22,8 @@ use Rattle.iolb_call.specs.Lines.{usage, out_of_memory, file_line, program_line,
 use Rattle.iolb_call.specs.Reading.{IsContent, FaultCause}
 use Rattle.iolb_call.specs.Task.{HasSizes, LacksSizes, IsAnswer, IsOutside, IsBeyond, bound_with}
 use Rattle.iolb_call.specs.Use.{FilesUse, FilesStay}
-use Rattle.iolb_call.specs.Valid.{IsValid, IsInvalid}
+use Rattle.iolb_check.specs.Conditions.{MeetsConditions, conditions}
+use Rattle.claims.specs.Claims.{FirstFails}
 
 -- a program file has at most 4 MiB, and a certificate file at most 64 MiB
 abbrev pub program_most : ℕ
@@ -46,7 +48,7 @@ pub record HoldsCertificate (files : Option FileMap) (name : List ℕ) (certific
 pub record HoldsValid (files : Option FileMap) (name : List ℕ) (program : AffineProgram) (values : List (List Value)) : Type 0 where
   pub certificate : CertificateClaim
   pub held : HoldsCertificate files name certificate
-  pub valid : IsValid program certificate values
+  pub valid : MeetsConditions program certificate values
 
 -- The certificate of a request is valid for a program, this text answers the request's task, and the bound holds.
 pub record IsGoodFor (files : Option FileMap) (request : Request) (program : AffineProgram) (text : List ℕ) : Type 0 where
@@ -72,7 +74,7 @@ CertificateStop files request program (CertificateFile fault) = HasSizes request
 CertificateStop files request program (CertificateText fault) = HasSizes request.task program.parameters
     × (bytes : List ℕ) × IsContent files request.certificate certificate_most bytes × IsTextFault bytes fault
 CertificateStop files request program (Condition failed) = HasSizes request.task program.parameters
-    × (certificate : CertificateClaim) × HoldsCertificate files request.certificate certificate × IsInvalid program certificate failed
+    × (certificate : CertificateClaim) × HoldsCertificate files request.certificate certificate × FirstFails (conditions program certificate) failed
 CertificateStop files request program (Assumption number) = (values : List (List Value))
     × HoldsValid files request.certificate program values × IsOutside request.task program number
 CertificateStop files request program Wide = (values : List (List Value))

@@ -3,7 +3,7 @@
 ghost use Rattle.std.specs.Prelude.{◌≡◌, ◌≤◌, ◌<◌, ◌^◌, ◌++◌, length, slice_get, List, Some, codes, decimal, IfOk, IfErr, OnOk};
 ghost use Rattle.std.specs.List.{AllByRecursion};
 ghost use Rattle.iolb_model.specs.Bound.{AreMet, bound_value, branch_value};
-ghost use Rattle.affine_c.specs.Parts.{meaning};
+ghost use Rattle.affine_program.specs.Parts.{meaning};
 ghost use Rattle.affine_form.specs.Form.{IsSmall};
 ghost use Rattle.command_words.specs.Requests.{IsSmallJob, task_of};
 ghost use Rattle.iolb_check.specs.declared.bound.Value.{Value as value};
@@ -11,10 +11,11 @@ ghost use Rattle.iolb_check.specs.Bounds.{HasWideBranch, bound_of, terms_of};
 ghost use Rattle.iolb_call.specs.Answers.{AnswerStop, ValueStop};
 ghost use Rattle.iolb_call.specs.Task.{GivesSizes, IsAnswer};
 ghost use Rattle.iolb_call.specs.Values.{branch_value_lines, values_text as text_of_values};
+ghost use Rattle.iolb_model.specs.declared.limits.TheConstants.{VALUE_SIZE};
 
 use crate::stop::Stop;
-use affine_c::Program;
 use affine_form::Memory;
+use affine_program::Program;
 use command_words::Job;
 use iolb_cert::bound_text;
 use iolb_check::{Bound, ValueFault};
@@ -31,7 +32,7 @@ pub(crate) fn answer(
     requires assumed { bound.now.assumed ≡ program.now.assumed }
     requires job { IsSmallJob job.now }
     requires given { GivesSizes (task_of job.now) program.now.params sizes.now }
-    requires small { AllByRecursion (IsSmall (2 ^ 40)) sizes.now }
+    requires small { AllByRecursion (IsSmall VALUE_SIZE) sizes.now }
     ensures text { IfOk result (λ text. IsAnswer (task_of job.now) (meaning program.now) bound.now.branches text.items) }
     ensures stop { IfErr result (λ stop. AnswerStop (task_of job.now) (meaning program.now) bound.now.branches stop) }
 {
@@ -48,7 +49,7 @@ pub(crate) fn answer(
 /// The lines of a bound's values.
 fn values_text(alloc: Global, bound: &Bound, sizes: &[i64], s: u64) -> Result<Vec<u8>, Stop>
     requires each { length sizes.now ≡ bound.now.assumed.vars }
-    requires small { AllByRecursion (IsSmall (2 ^ 40)) sizes.now }
+    requires small { AllByRecursion (IsSmall VALUE_SIZE) sizes.now }
     requires some { 1 ≤ s }
     requires few { s < 2 ^ 63 }
     ensures met { OnOk result (AreMet bound.now.assumed.rows sizes.now) }
@@ -67,7 +68,7 @@ fn values_text(alloc: Global, bound: &Bound, sizes: &[i64], s: u64) -> Result<Ve
     }
 }
 
-/// The lines of a bound's values, where this is its own. Want of memory is its only error.
+/// The lines of a bound's values, where this is its own.
 fn all_lines(
     alloc: Global,
     bound: &Bound,
@@ -76,7 +77,7 @@ fn all_lines(
     value: u128,
 ) -> Result<Vec<u8>, Memory>
     requires each { length sizes.now ≡ bound.now.assumed.vars }
-    requires small { AllByRecursion (IsSmall (2 ^ 40)) sizes.now }
+    requires small { AllByRecursion (IsSmall VALUE_SIZE) sizes.now }
     requires some { 1 ≤ s }
     requires few { s < 2 ^ 63 }
     requires met { AreMet bound.now.assumed.rows sizes.now }
@@ -91,10 +92,10 @@ fn all_lines(
     Ok(text)
 }
 
-/// The line of each branch's value. Want of memory is its only error.
+/// The line of each branch's value.
 fn branch_lines(alloc: Global, bound: &Bound, sizes: &[i64], s: u64) -> Result<Vec<u8>, Memory>
     requires each { length sizes.now ≡ bound.now.assumed.vars }
-    requires small { AllByRecursion (IsSmall (2 ^ 40)) sizes.now }
+    requires small { AllByRecursion (IsSmall VALUE_SIZE) sizes.now }
     requires some { 1 ≤ s }
     requires few { s < 2 ^ 63 }
     requires met { AreMet bound.now.assumed.rows sizes.now }
@@ -113,7 +114,7 @@ fn branch_lines(alloc: Global, bound: &Bound, sizes: &[i64], s: u64) -> Result<V
 fn value_of(bound: &Bound, branch: usize, sizes: &[i64], s: u64) -> u128
     requires there { branch < length bound.now.branches }
     requires each { length sizes.now ≡ bound.now.assumed.vars }
-    requires small { AllByRecursion (IsSmall (2 ^ 40)) sizes.now }
+    requires small { AllByRecursion (IsSmall VALUE_SIZE) sizes.now }
     requires some { 1 ≤ s }
     requires few { s < 2 ^ 63 }
     requires met { AreMet bound.now.assumed.rows sizes.now }

@@ -1,22 +1,25 @@
 //! A request: the program in one file, the certificate in another, and what answers the job.
 
-ghost use Rattle.std.specs.Prelude.{◌≡◌, ◌^◌, OnOk, IfOk, IfErr, IfSome, IfNone};
+ghost use Rattle.std.specs.Prelude.{◌≡◌, OnOk, IfOk, IfErr, IfSome, IfNone};
 ghost use Rattle.std.specs.List.{AllByRecursion};
 ghost use Rattle.iolb_model.specs.Headline.{BoundHolds};
 ghost use Rattle.affine_form.specs.Form.{IsSmall};
-ghost use Rattle.affine_c.specs.Parts.{meaning};
+ghost use Rattle.affine_program.specs.Parts.{meaning};
 ghost use Rattle.command_words.specs.Requests.{IsSmallJob, asked, task_of};
 ghost use Rattle.iolb_check.specs.Bounds.{bound_of};
+ghost use Rattle.iolb_check.specs.Claims.{claim_of_certificate};
 ghost use Rattle.iolb_check.specs.Conditions.{MeetsConditions};
 ghost use Rattle.iolb_call.specs.Judged.{JudgeStop};
 ghost use Rattle.iolb_call.specs.Stop.{CertificateStop, IsAccepted, IsGoodFor, RequestStop, faults_at};
 ghost use Rattle.iolb_call.specs.Task.{GivesSizes, LacksSizes};
+ghost use Rattle.iolb_model.specs.declared.limits.TheConstants.{VALUE_SIZE};
 
 use crate::answer::answer;
 use crate::stop::Stop;
-use affine_c::Program;
-use affine_form::{Memory, Name, Refused};
-use affine_text::{ProgramError, read_program};
+use affine_c::{ProgramError, read_program};
+use affine_form::{Memory, Name};
+use affine_program::Program;
+use claims::Refused;
 use command_words::{Command, Job, values_for};
 use iolb_cert::{CertError, read_certificate};
 use iolb_check::{Bound, Certificate, check};
@@ -30,11 +33,11 @@ const PROGRAM_MOST: u64 = 4 << 20;
 const CERTIFICATE_MOST: u64 = 64 << 20;
 
 /// The sizes that a job gives to parameters with these names, or `None` where it doesn't name each exactly once, or names
-/// something else. Want of memory is its only error.
+/// something else.
 fn sizes_for(alloc: Global, names: &[Name], job: &Job) -> Result<Option<Vec<i64>>, Memory>
     requires job { IsSmallJob job.now }
     ensures given { IfOk result (λ found. IfSome found (λ sizes. GivesSizes (task_of job.now) names.now sizes.items)) }
-    ensures small { IfOk result (λ found. IfSome found (λ sizes. AllByRecursion (IsSmall (2 ^ 40)) sizes.items)) }
+    ensures small { IfOk result (λ found. IfSome found (λ sizes. AllByRecursion (IsSmall VALUE_SIZE) sizes.items)) }
     ensures none { IfOk result (λ found. IfNone found (LacksSizes (task_of job.now) names.now)) }
 {
     match job {
@@ -46,9 +49,9 @@ fn sizes_for(alloc: Global, names: &[Name], job: &Job) -> Result<Option<Vec<i64>
 /// Tests the conditions: the bound that holds, or why not.
 fn judge(alloc: Global, program: &Program, certificate: &Certificate) -> Result<Bound, Stop>
     ensures assumed { IfOk result (λ bound. bound.assumed ≡ program.now.assumed) }
-    ensures meets { IfOk result (λ bound. MeetsConditions (meaning program.now) certificate.now bound.branches) }
+    ensures meets { IfOk result (λ bound. MeetsConditions (meaning program.now) (claim_of_certificate certificate.now) bound.branches) }
     ensures holds { IfOk result (λ bound. BoundHolds (meaning program.now) (bound_of bound)) }
-    ensures stop { IfErr result (λ stop. JudgeStop (meaning program.now) certificate.now stop) }
+    ensures stop { IfErr result (λ stop. JudgeStop (meaning program.now) (claim_of_certificate certificate.now) stop) }
 {
     match check(alloc, program, certificate) {
         Ok(bound) => Ok(bound),

@@ -2,8 +2,8 @@
 
 ghost use Rattle.iolb_call.specs.Laws.{OthersNeverPass, OutcomesAreOne, ValidCertificatesPass};
 
-use affine_text::texts_mean_one_program;
-use cert_reading::{texts_have_one_answer, texts_have_one_certificate};
+use affine_c::texts_mean_one_program;
+use iolb_cert::{texts_have_one_answer, texts_have_one_certificate};
 use iolb_check::law::answers_are_exact;
 
 /// A law of `run`'s outcomes, over files that tell what they hold. Two outcomes of one call in which no read and no write

@@ -6,8 +6,9 @@ ghost use Rattle.iolb_call.specs.Stop.{stop_line as line_of_stop};
 
 use crate::pointer_text::pointer_text;
 use crate::stop::Stop;
-use affine_form::{Memory, No};
-use affine_text::ProgramFault;
+use affine_c::ProgramFault;
+use affine_form::Memory;
+use claims::No;
 use iolb_cert::CertFault;
 use iolb_host::FileFault;
 use std::alloc::Global;

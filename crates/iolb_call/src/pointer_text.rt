@@ -3,7 +3,8 @@
 ghost use Rattle.std.specs.Prelude.{◌≡◌, ◌<◌, ◌++◌, [], length, map, slice_index_or, IfOk, OnOk};
 ghost use Rattle.iolb_call.specs.PointerText.{key_name as name_of_key, pointer_text as text_of_pointer, step_text};
 
-use affine_form::{Memory, Place, Step};
+use affine_form::Memory;
+use claims::{Place, Step};
 use std::alloc::Global;
 
 const KEYS: [&[u8]; 60] = [

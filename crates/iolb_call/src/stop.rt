@@ -4,8 +4,8 @@ ghost use Rattle.std.specs.Prelude.{◌≡◌};
 ghost use Rattle.iolb_call.specs.Stop.{file_status, stop_status};
 
 use crate::status::Status;
-use affine_form::No;
-use affine_text::ProgramFault;
+use affine_c::ProgramFault;
+use claims::No;
 use iolb_cert::CertFault;
 use iolb_host::FileFault;
 

@@ -20,7 +20,7 @@ use std::io::ErrorKind;
 use std::process::{ExitCode, Termination};
 use std::{env, io};
 
-/// The words behind the program's name, of all the words of a call. Want of memory is its only error.
+/// The words behind the program's name, of all the words of a call.
 fn behind_name(alloc: Global, mut words: Args) -> Result<Vec<String>, Memory>
     ensures { IfOk result (λ behind. behind.items ≡ drop 1 (into_iter_items words)) }
 {

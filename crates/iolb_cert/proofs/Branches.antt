@@ -6,7 +6,7 @@ use Rattle.iolb_check.specs.declared.bound.Value.{Value}
 use Rattle.iolb_check.specs.Bounds.{terms_of}
 use Rattle.iolb_model.specs.Printed.{branches_text, bound_term_text}
 
-drop_get : {A : Type 0} (xs : List A) (i : ℕ) (x : A) → slice_get xs i ≡ Some x → drop i xs ≡ x ∷ drop (suc i) xs
+pub drop_get : {A : Type 0} (xs : List A) (i : ℕ) (x : A) → slice_get xs i ≡ Some x → drop i xs ≡ x ∷ drop (suc i) xs
 drop_get [] zero x e = absurd cc
 drop_get [] (suc i) x e = absurd cc
 drop_get (y ∷ xs) zero x e = ap (λ z. z ∷ xs) cc

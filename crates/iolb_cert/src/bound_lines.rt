@@ -6,8 +6,8 @@ ghost use Rattle.iolb_model.specs.Program.{IsOver};
 ghost use Rattle.iolb_model.specs.Printed.{assumption_text, bound_term_text, branches_text, bound_text as text_of_bound};
 ghost use Rattle.iolb_check.specs.Bounds.{bound_of, term_of};
 
-use affine_c::Program;
 use affine_form::{Form, Memory, Name};
+use affine_program::Program;
 use iolb_check::{Bound, Value};
 use std::alloc::Global;
 
@@ -92,7 +92,7 @@ fn branch_lines(alloc: Global, names: &[Name], bound: &Bound) -> Result<Vec<u8>,
 }
 
 /// The text of a bound on a program's loads: its assumptions, its branches with their terms, and how many branches
-/// there are. Want of memory is its only error.
+/// there are.
 pub fn bound_text(alloc: Global, program: &Program, bound: &Bound) -> Result<Vec<u8>, Memory>
     requires { bound.now.assumed.vars ≡ length program.now.params }
     ensures { IfOk result (λ text. text.items ≡ text_of_bound program.now.params (bound_of bound.now)) }

@@ -2,8 +2,29 @@
 #![tactic(auto)]
 
 mod bound_lines;
+mod forms;
+mod leaves;
+mod matrices;
+mod members;
+mod multipliers;
+mod nests;
+mod numbers;
+mod objects;
+mod one_certificate;
+mod polynomials;
+mod read_back;
+mod read_branches;
+mod read_cold;
+mod reading;
+mod terms;
+mod text;
+mod trees;
+mod written_branches;
+mod written_cold;
 
 pub use bound_lines::bound_text;
 pub use cert_parts::{CertError, CertFault};
-pub use cert_reading::read_certificate;
-pub use cert_writing::certificate_text;
+pub use one_certificate::{texts_have_one_answer, texts_have_one_certificate};
+pub use read_back::certificates_are_read_back;
+pub use reading::read_certificate;
+pub use text::certificate_text;

@@ -1,4 +1,8 @@
 pub mod Lists
 pub mod Terms
 pub mod Exactness
-pub mod SameClaims
+pub mod FitFound
+pub mod Missing
+pub mod FitParts
+pub mod FitSides
+pub mod TreeParts

@@ -7,8 +7,8 @@ use Rattle.iolb_model.specs.Bound.{AreMet, IsAdmitted, BoundTerm, branch_value}
 use Rattle.iolb_model.specs.Game.{IsCompletePebbling, loads}
 use Rattle.iolb_model.specs.Graph.{computation_graph}
 use Rattle.iolb_model.specs.Headline.{BoundHolds}
-use Rattle.execution_laws.proofs.BranchLoads.{branches_loaded}
-use Rattle.affine_c.specs.Parts.{ProgramParts, meaning}
+use Rattle.pebble_game.proofs.BranchLoads.{branches_loaded}
+use Rattle.affine_program.specs.Parts.{ProgramParts, meaning}
 use Rattle.domain_count.specs.Count.{CountsPoints}
 use Rattle.domain_count.specs.Points.{count}
 use Rattle.iolb_model.specs.Form.{AffineForm}

@@ -1,5 +1,5 @@
 -- Bounds as the checker makes them, and their values at numbers for the parameters.
-use Rattle.std.specs.Prelude.{◌≡◌, ℕ, zero, suc, ◌^◌, ◌≤◌, ◌⊎◌, ℤ, pos, ◌*ℤ◌, ◌≤ℤ◌, List, [], ◌∷◌, map, length, slice_get, Some, Result, Ok, Err, Vec, max, fold}
+use Rattle.std.specs.Prelude.{◌≡◌, ℕ, zero, suc, ◌≤◌, ◌⊎◌, ℤ, pos, ◌*ℤ◌, ◌≤ℤ◌, List, [], ◌∷◌, map, length, slice_get, Some, Result, Ok, Err, Vec, max, fold}
 use Rattle.std.specs.Global.{Global}
 use Rattle.std.specs.List.{AllByRecursion}
 use Rattle.iolb_model.specs.Form.{AffineForm, form_value}
@@ -12,6 +12,7 @@ use Rattle.iolb_check.specs.declared.bound.Value.{Value}
 use Rattle.iolb_check.specs.declared.bound.Value.TheVariants.{Cold}
 use Rattle.iolb_check.specs.declared.value_fault.ValueFault.{ValueFault}
 use Rattle.iolb_check.specs.declared.value_fault.ValueFault.TheVariants.{OutsideAssumption, Wide}
+use Rattle.iolb_model.specs.declared.limits.TheConstants.{MEASURE}
 
 -- the assumptions, and for each branch the values of its terms
 pub record BoundParts : Type 0 where
@@ -51,7 +52,7 @@ IsBound parts = AllByRecursion (λ terms. AllByRecursion (IsTermValue parts.assu
 
 -- a polynomial's terms at the sizes reach 2^126
 abbrev pub IsWideTerm : List ℤ → Value → Type 0
-IsWideTerm sizes (Cold count) = 2 ^ 126 ≤ size_at count.tree (at sizes)
+IsWideTerm sizes (Cold count) = MEASURE ≤ size_at count.tree (at sizes)
 
 -- one of the terms is wide
 abbrev pub HasWideTerm : List ℤ → List Value → Type 0
@@ -60,7 +61,7 @@ HasWideTerm sizes (term ∷ terms) = IsWideTerm sizes term ⊎ HasWideTerm sizes
 
 -- one of a branch's terms is wide, or their sum reaches 2^126
 abbrev pub IsWideBranch : List ℤ → ℕ → List Value → Type 0
-IsWideBranch sizes s terms = HasWideTerm sizes terms ⊎ (2 ^ 126 ≤ branch_value (terms_of terms) sizes s)
+IsWideBranch sizes s terms = HasWideTerm sizes terms ⊎ (MEASURE ≤ branch_value (terms_of terms) sizes s)
 
 -- one of the branches is wide
 abbrev pub HasWideBranch : List ℤ → ℕ → List (List Value) → Type 0

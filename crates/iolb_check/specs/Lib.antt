@@ -1,3 +1,10 @@
 pub mod Bounds
 pub mod Conditions
 pub mod Exact
+pub mod Claims
+pub mod Limits
+pub mod FitClaims
+pub mod PartFit
+pub mod TreeFit
+pub mod TermFit
+pub mod Fit

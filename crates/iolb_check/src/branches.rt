@@ -1,22 +1,28 @@
 //! The conditions of branches.
 
-ghost use Rattle.std.specs.Prelude.{◌≡◌, ◌≤◌, [], ◌∷◌, ◌++◌, length, IfOk, IfErr};
+ghost use Rattle.std.specs.Prelude.{◌≡◌, ◌≤◌, [], ◌∷◌, ◌++◌, length, map, IfOk, IfErr};
 ghost use Rattle.std.specs.List.{AllByRecursion};
-ghost use Rattle.affine_c.specs.Parts.{meaning};
-ghost use Rattle.affine_form.specs.declared.place.Step.TheVariants.{Key, Index};
-ghost use Rattle.affine_form.specs.declared.key.TheConstants.{COLD};
-ghost use Rattle.quasts_check.specs.Trees.{RowsAreTrue};
-ghost use Rattle.certificates.specs.declared.term.Term.TheVariants.{Cold as cold_term};
-ghost use Rattle.cert_fits.specs.Fit.{BranchesFit, TermFits, TreeOfTermFits};
-ghost use Rattle.dep_quast.specs.Tree.{SelectionTree};
+ghost use Rattle.iolb_model.specs.declared.limits.TheConstants.{TERMS};
+ghost use Rattle.affine_program.specs.Parts.{meaning};
+ghost use Rattle.claims.specs.Claims.{AllHold, IsRefusal, numbered};
+ghost use Rattle.claims.specs.declared.place.Step.TheVariants.{Key, Index};
+ghost use Rattle.claims.specs.declared.key.TheConstants.{COLD};
+ghost use Rattle.domain_count.specs.Count.{IsCount};
+ghost use Rattle.reuse_paths.specs.Quasts.{tree_for, trees_of};
+ghost use Rattle.reuse_paths.specs.Trees.{RowsAreTrue};
+ghost use Rattle.wavefront.specs.ColdClaims.{cold_claims};
+ghost use Rattle.wavefront.specs.View.{term_of};
+ghost use Rattle.iolb_check.specs.declared.term.Term.TheVariants.{Cold as is_cold};
+ghost use Rattle.iolb_check.specs.Claims.{claim_of_branch, claim_of_term};
+ghost use Rattle.iolb_check.specs.Fit.{BranchesFit, ColdTermFits, TermFits};
 ghost use Rattle.iolb_check.specs.Bounds.{lists};
-ghost use Rattle.iolb_check.specs.Conditions.{AreAccepted, BranchHolds, BranchesAccepted, IsAccepted, IsColdAccepted, IsColdRefused, IsFirstBranchRefused, IsFirstRefused, IsRefused, Names, TermHolds, terms_place as place_of_terms};
+ghost use Rattle.iolb_check.specs.Conditions.{AreBranchValues, AreValuesOf, BranchHolds, IsValueOf, TermHolds, branch_claims, term_claims_at, terms_claims, terms_place as place_of_terms};
 
 use crate::bound::Value;
-use affine_c::Program;
-use affine_form::{Memory, Place, Refused, Step, key};
-use certificates::{Branch, Term};
-use dep_quast::lists::within;
+use crate::term::{Branch, Term};
+use affine_form::Memory;
+use affine_program::Program;
+use claims::{Place, Refused, Step, key};
 use poly_tree::Poly;
 use reuse_paths::Quasts;
 use std::alloc::Global;
@@ -33,22 +39,20 @@ pub(crate) fn check_branches(
     quasts: &Quasts,
     branches: &[Branch],
 ) -> Result<Vec<Vec<Value>>, Refused>
-    requires fits { BranchesFit program.now quasts.now branches.now }
-    requires are_true { RowsAreTrue (meaning program.now) 0 quasts.now.rows.items }
-    requires few { AllByRecursion (λ branch. length branch.terms.items ≤ 1) branches.now }
-    ensures accepted { IfOk result (λ values. BranchesAccepted (meaning program.now) quasts.now 0 branches.now (lists values.items)) }
+    requires fits { BranchesFit program.now (trees_of quasts.now) branches.now }
+    requires are_true { RowsAreTrue (meaning program.now) 0 (trees_of quasts.now) }
+    requires few { AllByRecursion (λ branch. length branch.terms.items ≤ TERMS) branches.now }
+    ensures accepted { IfOk result (λ values. AllHold (numbered (branch_claims (meaning program.now) (trees_of quasts.now)) 0 (map claim_of_branch branches.now))) }
+    ensures values { IfOk result (λ values. AreBranchValues (meaning program.now) (map claim_of_branch branches.now) (lists values.items)) }
     ensures hold { IfOk result (λ values. AllByRecursion (BranchHolds program.now) (lists values.items)) }
-    ensures refused { IfErr result (Names (IsFirstBranchRefused (meaning program.now) quasts.now 0 branches.now)) }
+    ensures refused { IfErr result (IsRefusal (numbered (branch_claims (meaning program.now) (trees_of quasts.now)) 0 (map claim_of_branch branches.now))) }
 {
     let mut values = Vec::new(alloc);
     for (number, branch) in branches.iter().enumerate() {
         let Ok(place) = terms_place(alloc, number) else {
             return Err(Refused::Memory);
         };
-        let terms = match check_terms(alloc, program, quasts, &place, branch.terms.as_slice()) {
-            Ok(terms) => terms,
-            Err(refused) => return Err(refused),
-        };
+        let terms = check_terms(alloc, program, quasts, &place, branch.terms.as_slice())?;
         let Ok(()) = values.push(terms) else {
             return Err(Refused::Memory);
         };
@@ -56,7 +60,7 @@ pub(crate) fn check_branches(
     Ok(values)
 }
 
-/// The place of a branch's terms. Want of memory is its only error.
+/// The place of a branch's terms.
 fn terms_place(alloc: Global, number: usize) -> Result<Place, Memory>
     ensures { IfOk result (λ place. place ≡ place_of_terms number) }
 {
@@ -76,19 +80,17 @@ fn check_terms(
     place: &Place,
     terms: &[Term],
 ) -> Result<Vec<Value>, Refused>
-    requires fits { AllByRecursion (TermFits program.now quasts.now) terms.now }
-    requires are_true { RowsAreTrue (meaning program.now) 0 quasts.now.rows.items }
-    ensures accepted { IfOk result (λ values. AreAccepted (meaning program.now) quasts.now place.now 0 terms.now values.items) }
+    requires fits { AllByRecursion (TermFits program.now (trees_of quasts.now)) terms.now }
+    requires are_true { RowsAreTrue (meaning program.now) 0 (trees_of quasts.now) }
+    ensures accepted { IfOk result (λ values. AllHold (terms_claims (meaning program.now) (trees_of quasts.now) place.now (map claim_of_term terms.now))) }
+    ensures values { IfOk result (λ values. AreValuesOf (meaning program.now) (map claim_of_term terms.now) values.items) }
     ensures hold { IfOk result (λ values. AllByRecursion (TermHolds program.now) values.items) }
     ensures as_many { IfOk result (λ values. length values.items ≡ length terms.now) }
-    ensures refused { IfErr result (Names (IsFirstRefused (meaning program.now) quasts.now place.now 0 terms.now)) }
+    ensures refused { IfErr result (IsRefusal (terms_claims (meaning program.now) (trees_of quasts.now) place.now (map claim_of_term terms.now))) }
 {
     let mut values = Vec::new(alloc);
     for (index, term) in terms.iter().enumerate() {
-        let value = match check_term(alloc, program, quasts, place, index, term) {
-            Ok(value) => value,
-            Err(refused) => return Err(refused),
-        };
+        let value = check_term(alloc, program, quasts, place, index, term)?;
         let Ok(()) = values.push(value) else {
             return Err(Refused::Memory);
         };
@@ -105,22 +107,21 @@ fn check_term(
     index: usize,
     term: &Term,
 ) -> Result<Value, Refused>
-    requires fits { TermFits program.now quasts.now term.now }
-    requires are_true { RowsAreTrue (meaning program.now) 0 quasts.now.rows.items }
-    ensures accepted { IfOk result (λ value. IsAccepted (meaning program.now) quasts.now (place.now ++ Index index ∷ []) term.now value) }
+    requires fits { TermFits program.now (trees_of quasts.now) term.now }
+    requires are_true { RowsAreTrue (meaning program.now) 0 (trees_of quasts.now) }
+    ensures accepted { IfOk result (λ value. AllHold (term_claims_at (meaning program.now) (trees_of quasts.now) place.now index (claim_of_term term.now))) }
+    ensures value { IfOk result (λ value. IsValueOf (meaning program.now) (claim_of_term term.now) value) }
     ensures holds { IfOk result (λ value. TermHolds program.now value) }
-    ensures refused { IfErr result (Names (IsRefused (meaning program.now) quasts.now (place.now ++ Index index ∷ []) term.now)) }
+    ensures refused { IfErr result (IsRefusal (term_claims_at (meaning program.now) (trees_of quasts.now) place.now index (claim_of_term term.now))) }
 {
     let cold = cold_of(term);
-    match check_cold_term(alloc, program, quasts, place, index, cold) {
-        Ok(count) => Ok(Value::Cold(count)),
-        Err(refused) => Err(refused),
-    }
+    let count = check_cold_term(alloc, program, quasts, place, index, cold)?;
+    Ok(Value::Cold(count))
 }
 
 /// The cold term that a term is.
 fn cold_of(term: &Term) -> &Cold
-    ensures { term.now ≡ cold_term result.now }
+    ensures { term.now ≡ is_cold result.now }
 {
     match term {
         Term::Cold(cold) => cold,
@@ -136,26 +137,24 @@ fn check_cold_term(
     index: usize,
     cold: &Cold,
 ) -> Result<Poly, Refused>
-    requires fits { (tree : SelectionTree) × TreeOfTermFits program.now quasts.now cold.now tree }
-    requires are_true { RowsAreTrue (meaning program.now) 0 quasts.now.rows.items }
-    ensures accepted { IfOk result (λ count. IsColdAccepted (meaning program.now) quasts.now ((place.now ++ Index index ∷ []) ++ Key COLD ∷ []) cold.now count) }
+    requires fits { ColdTermFits program.now (trees_of quasts.now) cold.now }
+    requires are_true { RowsAreTrue (meaning program.now) 0 (trees_of quasts.now) }
+    ensures accepted { IfOk result (λ count. AllHold (cold_claims (meaning program.now) ((place.now ++ Index index ∷ []) ++ Key COLD ∷ []) (tree_for (trees_of quasts.now) (term_of cold.now).reader) (term_of cold.now))) }
+    ensures value { IfOk result (λ count. IsCount (meaning program.now) cold.now.nest cold.now.sums count) }
     ensures holds { IfOk result (λ count. TermHolds program.now (Value.Cold count)) }
-    ensures refused { IfErr result (Names (IsColdRefused (meaning program.now) quasts.now ((place.now ++ Index index ∷ []) ++ Key COLD ∷ []) cold.now)) }
+    ensures refused { IfErr result (IsRefusal (cold_claims (meaning program.now) ((place.now ++ Index index ∷ []) ++ Key COLD ∷ []) (tree_for (trees_of quasts.now) (term_of cold.now).reader) (term_of cold.now))) }
 {
     let _params = program.params();
     let Ok(place) = cold_place(alloc, place, index) else {
         return Err(Refused::Memory);
     };
-    match check_cold(alloc, program, quasts, cold, &place) {
-        Ok(count) => Ok(count),
-        Err(refused) => Err(refused),
-    }
+    check_cold(alloc, program, quasts, cold, &place)
 }
 
-/// The place of a cold term in a list at a place. Want of memory is its only error.
+/// The place of a cold term in a list at a place.
 fn cold_place(alloc: Global, place: &Place, index: usize) -> Result<Place, Memory>
     ensures { IfOk result (λ cold. cold ≡ (place.now ++ Index index ∷ []) ++ Key COLD ∷ []) }
 {
-    let term = within(alloc, place, Step::Index(index as u64))?;
-    within(alloc, &term, Step::Key(key::COLD))
+    let term = place.within(alloc, Step::Index(index as u64))?;
+    term.within(alloc, Step::Key(key::COLD))
 }

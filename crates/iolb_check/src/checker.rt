@@ -2,17 +2,20 @@
 
 ghost use Rattle.std.specs.Prelude.{◌≡◌, IfOk, IfErr};
 ghost use Rattle.iolb_model.specs.Headline.{BoundHolds};
-ghost use Rattle.affine_c.specs.Parts.{meaning};
+ghost use Rattle.affine_program.specs.Parts.{meaning};
 ghost use Rattle.iolb_check.specs.Bounds.{bound_of};
-ghost use Rattle.iolb_check.specs.Conditions.{IsRefusal, MeetsConditions, Names};
+ghost use Rattle.claims.specs.Claims.{IsRefusal};
+ghost use Rattle.iolb_check.specs.Claims.{claim_of_certificate};
+ghost use Rattle.iolb_check.specs.Conditions.{MeetsConditions, conditions};
 
 use crate::bound::Bound;
 use crate::branches::check_branches;
-use affine_c::Program;
-use affine_form::{Memory, No, Refused};
-use cert_fits::first_misfit;
-use certificates::Certificate;
-use quasts_check::check_quasts;
+use crate::certificate::Certificate;
+use crate::misfit::first_misfit;
+use affine_form::Memory;
+use affine_program::Program;
+use claims::{No, Refused};
+use reuse_paths::check_quasts;
 use std::alloc::Global;
 
 /// Checks a certificate for a program. The answer is the bound that it gives, and the bound holds: at all parameter values
@@ -27,9 +30,9 @@ use std::alloc::Global;
 /// terms in order.
 pub fn check(alloc: Global, program: &Program, certificate: &Certificate) -> Result<Bound, Refused>
     ensures assumed { IfOk result (λ bound. bound.assumed ≡ program.now.assumed) }
-    ensures meets { IfOk result (λ bound. MeetsConditions (meaning program.now) certificate.now bound.branches) }
+    ensures meets { IfOk result (λ bound. MeetsConditions (meaning program.now) (claim_of_certificate certificate.now) bound.branches) }
     ensures holds { IfOk result (λ bound. BoundHolds (meaning program.now) (bound_of bound)) }
-    ensures refused { IfErr result (Names (IsRefusal (meaning program.now) certificate.now)) }
+    ensures refused { IfErr result (IsRefusal (conditions (meaning program.now) (claim_of_certificate certificate.now))) }
 {
     match first_misfit(alloc, program, certificate) {
         Ok(None) => {}

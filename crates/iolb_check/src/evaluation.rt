@@ -8,15 +8,14 @@ ghost use Rattle.iolb_model.specs.Bound.{AreMet, bound_value, branch_value, coun
 ghost use Rattle.poly_tree.specs.Expansion.{at, size_at};
 ghost use Rattle.poly_tree.specs.Printed.{polynomial_of};
 ghost use Rattle.iolb_check.specs.Bounds.{Evaluates, EvaluatesBranch, HasWideBranch, IsCounting, IsFirstUnmet, IsTermValue, IsWideBranch, IsWideTerm, bound_of, greatest_branch, lists, term_of, terms_of};
+ghost use Rattle.iolb_model.specs.declared.limits.TheConstants.{MEASURE, VALUE_SIZE, ROWS, VARIABLES};
 
 use crate::bound::{Bound, Value};
 use crate::value_fault::ValueFault;
 use affine_form::{Form, System};
+use iolb_model::limits;
 use poly_tree::printed_law::terms_have_the_value;
 use poly_tree::{Poly, Wide};
-
-/// What a sum of values is compared with: 2^126.
-const LIMIT: u128 = 1 << 126;
 
 impl Bound {
     /// The value at sizes for the parameters and with s red pebbles: the greatest value of a branch, and 0 if there is none.
@@ -28,7 +27,7 @@ impl Bound {
     /// reach 2^126 in sum, or the branch's value does.
     pub fn value(&self, sizes: &[i64], s: u64) -> Result<u128, ValueFault>
         requires each { length sizes.now ≡ self.now.assumed.vars }
-        requires small { AllByRecursion (IsSmall (2 ^ 40)) sizes.now }
+        requires small { AllByRecursion (IsSmall VALUE_SIZE) sizes.now }
         requires some { 1 ≤ s }
         requires few { s < 2 ^ 63 }
         ensures { Evaluates self.now.assumed.rows sizes.now (bound_value (bound_of self.now) sizes.now s) (HasWideBranch sizes.now s self.now.branches) result }
@@ -51,7 +50,7 @@ impl Bound {
     pub fn branch_value(&self, branch: usize, sizes: &[i64], s: u64) -> Result<u128, ValueFault>
         requires there { branch < length self.now.branches }
         requires each { length sizes.now ≡ self.now.assumed.vars }
-        requires small { AllByRecursion (IsSmall (2 ^ 40)) sizes.now }
+        requires small { AllByRecursion (IsSmall VALUE_SIZE) sizes.now }
         requires some { 1 ≤ s }
         requires few { s < 2 ^ 63 }
         ensures { EvaluatesBranch self.now sizes.now s branch result }
@@ -70,7 +69,7 @@ impl Bound {
 
 /// The sizes, and then zeros.
 fn widened(sizes: &[i64]) -> [i128; 24]
-    requires { length sizes.now ≤ 24 }
+    requires { length sizes.now ≤ VARIABLES }
     ensures { take (length sizes.now) result ≡ sizes.now }
 {
     let mut point = [0i128; 24];
@@ -82,9 +81,9 @@ fn widened(sizes: &[i64]) -> [i128; 24]
 
 /// The number of the first assumption that isn't met at a point.
 fn first_unmet(rows: &[Form], point: &[i128]) -> Option<u16>
-    requires few { length rows.now ≤ 128 }
+    requires few { length rows.now ≤ ROWS }
     requires over { AllOver (length point.now) rows.now }
-    requires small { AllByRecursion (IsSmall (2 ^ 40)) point.now }
+    requires small { AllByRecursion (IsSmall VALUE_SIZE) point.now }
     ensures { MatchOption result (AreMet rows.now point.now) (λ number. IsFirstUnmet rows.now point.now number) }
 {
     for (number, row) in rows.iter().enumerate() {
@@ -127,9 +126,9 @@ fn branch_sum(terms: &[Value], assumed: &System, point: &[i128], s: u64) -> Resu
         let Ok(value) = value_of(term, assumed, point, s) else {
             return Err(ValueFault::Wide);
         };
-        total = (value + total).min(LIMIT);
+        total = (value + total).min(limits::MEASURE);
     }
-    if total < LIMIT {
+    if total < limits::MEASURE {
         Ok(total)
     } else {
         Err(ValueFault::Wide)
@@ -141,7 +140,7 @@ fn value_of(term: &Value, assumed: &System, point: &[i128], s: u64) -> Result<u1
     requires counting { IsTermValue assumed.now term.now }
     requires each { length point.now ≡ assumed.now.vars }
     requires met { AreMet assumed.now.rows point.now }
-    ensures value { IfOk result (λ value. value ≡ min (term_value (term_of term.now) point.now s) (2 ^ 126)) }
+    ensures value { IfOk result (λ value. value ≡ min (term_value (term_of term.now) point.now s) MEASURE) }
     ensures wide { IsErr result ↔ IsWideTerm point.now term.now }
 {
     match term {
@@ -154,11 +153,11 @@ fn count_at(count: &Poly, assumed: &System, point: &[i128]) -> Result<u128, Wide
     requires counting { IsCounting assumed.now count.now }
     requires each { length point.now ≡ assumed.now.vars }
     requires met { AreMet assumed.now.rows point.now }
-    ensures value { IfOk result (λ value. value ≡ min (count_value (polynomial_of count.now) point.now) (2 ^ 126)) }
-    ensures wide { IsErr result ↔ (2 ^ 126 ≤ size_at count.now.tree (at point.now)) }
+    ensures value { IfOk result (λ value. value ≡ min (count_value (polynomial_of count.now) point.now) MEASURE) }
+    ensures wide { IsErr result ↔ (MEASURE ≤ size_at count.now.tree (at point.now)) }
 {
     terms_have_the_value();
     let numerator = count.numer(point)?;
     let value = numerator / count.den();
-    Ok((value as u128).min(LIMIT))
+    Ok((value as u128).min(limits::MEASURE))
 }

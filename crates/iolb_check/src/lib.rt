@@ -3,12 +3,27 @@
 
 mod bound;
 mod branches;
+mod certificate;
 mod checker;
 mod evaluation;
+mod fit_branches;
+mod fit_colds;
+mod fit_counts;
+mod fit_entries;
+mod fit_lists;
+mod fit_sources;
+mod fit_trees;
 pub mod law;
+mod limits;
+mod misfit;
+mod part_limits;
+mod term;
+mod term_limits;
+mod tree_limits;
 mod value_fault;
 
 pub use bound::{Bound, Value};
-pub use certificates::{Branch, Certificate, Term};
+pub use certificate::Certificate;
 pub use checker::check;
+pub use term::{Branch, Term};
 pub use value_fault::ValueFault;

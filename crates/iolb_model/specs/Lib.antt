@@ -2,6 +2,8 @@ pub mod Form
 pub mod Program
 pub mod Path
 pub mod Execution
+pub mod Domain
+pub mod Order
 pub mod Source
 pub mod Graph
 pub mod Game

@@ -4,7 +4,7 @@ use Rattle.std.specs.List.{join_by}
 use Rattle.std.specs.Ordering.{int_eq}
 use Rattle.iolb_model.specs.Form.{AffineForm}
 use Rattle.iolb_model.specs.Polynomial.{Term, Polynomial}
-use Rattle.iolb_model.specs.Bound.{Bound, BoundTerm, cold}
+use Rattle.iolb_model.specs.Bound.{Bound, BoundTerm, cold, wavefront}
 
 -- whether a number is below 0
 abbrev pub is_below_zero : ℤ → Bool
@@ -57,6 +57,8 @@ polynomial_text names polynomial =
 -- a term of a bound, on a line
 abbrev pub bound_term_text : List (List ℕ) → BoundTerm → List ℕ
 bound_term_text names (cold count) = codes "  cold " ++ polynomial_text names count ++ codes "\n"
+bound_term_text names (wavefront pairs outer) =
+    codes "  wavefront " ++ polynomial_text names pairs ++ codes " - S*(" ++ polynomial_text names outer ++ codes ")\n"
 
 -- the branches from this number on: a line with the number, then the terms
 abbrev pub branches_text : List (List ℕ) → ℕ → List (List BoundTerm) → List ℕ

@@ -47,6 +47,10 @@ no_statement = record { writes = record { array = 0; subscripts = [] }; reads = 
 abbrev pub statement_at : AffineProgram → ℕ → Statement
 statement_at program number = slice_index_or program.statements number no_statement
 
+-- the read of a statement at this number, in the order of its reads
+abbrev pub read_at : AffineProgram → ℕ → ℕ → Access
+read_at program statement read = slice_index_or (statement_at program statement).reads read no_statement.writes
+
 -- a form over so many variables
 abbrev pub IsOver : ℕ → AffineForm → Type 0
 IsOver variables form = length form.coefficients ≡ variables

@@ -4,7 +4,7 @@ use Rattle.std.specs.Option.{option_map_or}
 use lib.Pointwise.{pointwise}
 use Rattle.std.specs.Ordering.{int_eq}
 use Rattle.iolb_model.specs.Form.{form_value}
-use Rattle.iolb_model.specs.Program.{Access, AffineProgram, statement_at}
+use Rattle.iolb_model.specs.Program.{Access, AffineProgram, statement_at, read_at}
 use Rattle.iolb_model.specs.Execution.{Instance}
 
 -- a cell of an array: which array, and a whole number for each subscript
@@ -29,6 +29,10 @@ written_cell program parameters instance =
 abbrev pub read_cells : AffineProgram → List ℤ → Instance → List Cell
 read_cells program parameters instance =
     map (λ access. cell_of access (parameters ++ instance.values)) (statement_at program instance.statement).reads
+
+-- the cell of a statement's read at these loop values
+abbrev pub read_cell : AffineProgram → List ℤ → ℕ → ℕ → List ℤ → Cell
+read_cell program parameters statement read values = cell_of (read_at program statement read) (parameters ++ values)
 
 -- whether the instance at this place of the execution is there and writes the cell
 abbrev pub writes_at : AffineProgram → List ℤ → List Instance → Cell → ℕ → Bool

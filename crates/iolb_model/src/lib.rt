@@ -3,3 +3,4 @@
 #![tactic(auto)]
 
 pub mod game;
+pub mod limits;

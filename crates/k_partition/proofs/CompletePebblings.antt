@@ -17,7 +17,7 @@ use Rattle.iolb_model.specs.Game.{AreAllowed, Board, IsCompletePebbling, board_a
 use Rattle.k_partition.specs.Laws.{AreInstances, PartitionsAreLoadedEach, PartitionsAreLoadedSum, PointsTakeEventsEach, PointsTakeEventsSum}
 use Rattle.k_partition.specs.Reuse.{ReusePartition, words_of}
 use Rattle.k_partition.specs.Runs.{IsRedRun, computed_vertices, events, is_event, points_computed}
-use Rattle.execution_laws.proofs.Marks.{count-put, distinct-filtered, member-stands, unmarked-at}
+use Rattle.pebble_game.proofs.Marks.{count-put, distinct-filtered, member-stands, unmarked-at}
 
 -- ---- red pebbles
 

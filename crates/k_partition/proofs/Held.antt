@@ -10,7 +10,7 @@ use Rattle.iolb_model.specs.Graph.{ComputationGraph}
 use Rattle.iolb_model.specs.Game.{marked, predecessors_at, stands_in}
 use Rattle.k_partition.specs.Reuse.{IsSoundFamily, ReadsWord, ReuseFamily, ReusePartition, words_of}
 use Rattle.k_partition.specs.Runs.{IsRedRun, computed_vertices, events, is_event, red_after}
-use Rattle.execution_laws.proofs.Marks.{all-contained, dropped-marked, set-marked}
+use Rattle.pebble_game.proofs.Marks.{all-contained, dropped-marked, set-marked}
 
 -- the vertices of events, in order
 pub event_vertices : ReusePartition → List Move → List ℕ

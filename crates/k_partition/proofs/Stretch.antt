@@ -17,7 +17,7 @@ use Rattle.k_partition.specs.Laws.{IsGreatestEach, IsGreatestSum}
 use Rattle.k_partition.specs.Reuse.{AreApart, FixesCoordinates, IsSoundFamily, IsSoundPartition, ReuseFamily, ReusePartition, words_of}
 use Rattle.k_partition.specs.Runs.{IsRedRun, computed_vertices, events, points_computed}
 use Rattle.k_partition.proofs.Held.{event_vertices, length-event_vertices, start-held}
-use Rattle.execution_laws.proofs.Marks.{distinct-filtered, all-contained, all-filtered, length-marked_from, marked-member, marked_from, member-stands, standing-member}
+use Rattle.pebble_game.proofs.Marks.{distinct-filtered, all-contained, all-filtered, length-marked_from, marked-member, marked_from, member-stands, standing-member}
 
 -- ---- the families of a stretch
 

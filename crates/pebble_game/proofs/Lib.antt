@@ -1,2 +1,7 @@
 pub mod Loaded
 pub mod Disjoint
+pub mod InputVertices
+pub mod BranchLoads
+pub mod Marks
+pub mod Allowed
+pub mod WellFormed

@@ -55,7 +55,7 @@ unmarked (m ∷ marks) (suc v) zero h = h
 unmarked (m ∷ marks) zero w h = unmarked_first m marks w h
 unmarked (m ∷ marks) (suc v) (suc w) h = unmarked marks v w h
 
-or_true : (b x : Bool) → (b ≡ false → x ≡ true) → (b || x) ≡ true
+pub or_true : (b x : Bool) → (b ≡ false → x ≡ true) → (b || x) ≡ true
 or_true true x h = refl
 or_true false x h = h refl
 

@@ -1,3 +1,6 @@
 pub mod Inputs
 pub mod Sets
 pub mod Graphs
+pub mod Cold
+pub mod Branches
+pub mod Boards

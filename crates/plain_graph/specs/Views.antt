@@ -3,10 +3,10 @@ use Rattle.std.specs.Prelude.{List, [], map}
 use Rattle.iolb_model.specs.Program.{AffineProgram}
 use Rattle.iolb_model.specs.Execution.{Instance as ModelInstance}
 use Rattle.iolb_model.specs.Source.{Cell as ModelCell, Source as ModelSource, written_at, input}
-use Rattle.affine_c.specs.declared.statement.Statement.{Statement}
-use Rattle.affine_c.specs.declared.item.Item.{Item}
-use Rattle.affine_c.specs.Tree.{row_of}
-use Rattle.affine_c.specs.Parts.{statement_of}
+use Rattle.affine_program.specs.declared.statement.Statement.{Statement}
+use Rattle.affine_program.specs.declared.item.Item.{Item}
+use Rattle.affine_program.specs.Tree.{row_of}
+use Rattle.affine_program.specs.Parts.{statement_of}
 use Rattle.plain_graph.specs.declared.runs.Instance.{Instance}
 use Rattle.plain_graph.specs.declared.cells.Cell.{Cell}
 use Rattle.plain_graph.specs.declared.sources.Source.{Source}

@@ -3,12 +3,12 @@
 ghost use Rattle.std.specs.Prelude.{◌≡◌, ◌++◌, [], map, IfOk};
 ghost use Rattle.iolb_model.specs.Program.{statement_at};
 ghost use Rattle.iolb_model.specs.Source.{cell_of, same_cell, written_cell, read_cells};
-ghost use Rattle.affine_c.specs.Parts.{access_of, statement_of};
+ghost use Rattle.affine_program.specs.Parts.{access_of, statement_of};
 ghost use Rattle.plain_graph.specs.Views.{cell_view, instance_of, program_with};
 
 use crate::runs::{Instance, value_at};
 use crate::stopped::Stopped;
-use affine_c::{Reference, Statement};
+use affine_program::{Reference, Statement};
 use std::alloc::Global;
 
 /// A cell of an array: the array's number, and a whole number for each subscript.

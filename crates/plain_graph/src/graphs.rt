@@ -4,14 +4,14 @@ ghost use Rattle.std.specs.Prelude.{◌≡◌, ◌<◌, ◌≤◌, drop, [], ◌
 ghost use Rattle.std.specs.List.{list_any, position_or_len};
 ghost use Rattle.iolb_model.specs.Source.{same_cell, sources_of, written_cell};
 ghost use Rattle.iolb_model.specs.Graph.{distinct, input_cell, placed, vertex_of, predecessors_of, is_last_writer, computation_graph};
-ghost use Rattle.pebble_game.specs.Graphs.{graph_of};
+ghost use Rattle.pebble_game.specs.Graphs.{graph_with};
 ghost use Rattle.plain_graph.specs.Views.{cell_view, instance_of, source_view, program_with, no_instance};
 
 use crate::cells::{Cell, cell_written_by};
 use crate::runs::{Instance, runs_of_row};
 use crate::sources::{Source, cells_of_inputs, distinct_cells, sources_at};
 use crate::stopped::Stopped;
-use affine_c::{Item, Statement};
+use affine_program::{Item, Statement};
 use pebble_game::Graph;
 use std::alloc::Global;
 
@@ -193,14 +193,17 @@ fn small_number(number: usize) -> Result<u32, Stopped>
     u32::try_from(number).map_err(|_| Stopped::OutOfReach)
 }
 
-/// The computation graph of the program of these statements and this tree, at these parameter values.
-pub fn graph(
+/// The numbers of instances and of inputs, the predecessors, and the marks of last writers of a computation graph.
+type Parts = (u32, u32, Vec<Vec<u32>>, Vec<bool>);
+
+/// The parts of the computation graph of the program of these statements and this tree, at these parameter values.
+fn parts(
     alloc: Global,
     statements: &[Statement],
     tree: &[Item],
     parameters: &[i128],
-) -> Result<Graph, Stopped>
-    ensures { IfOk result (λ graph. graph_of graph ≡ computation_graph (program_with statements.now tree.now) parameters.now) }
+) -> Result<Parts, Stopped>
+    ensures { IfOk result (λ found. graph_with found.0 found.1 found.2.items found.3.items ≡ computation_graph (program_with statements.now tree.now) parameters.now) }
 {
     let runs = runs_of_row(alloc, tree, parameters)?;
     let sources = all_sources(alloc, statements, parameters, runs.as_slice())?;
@@ -214,10 +217,23 @@ pub fn graph(
         cells.as_slice(),
     )?;
     let last = last_writers(alloc, statements, parameters, runs.as_slice())?;
-    Ok(Graph {
-        instances: small_number(runs.as_slice().len())?,
-        inputs: small_number(cells.as_slice().len())?,
-        preds,
-        last,
-    })
+    let instances = small_number(runs.as_slice().len())?;
+    let inputs = small_number(cells.as_slice().len())?;
+    Ok((instances, inputs, preds, last))
+}
+
+/// The computation graph of the program of these statements and this tree, at these parameter values.
+pub fn graph(
+    alloc: Global,
+    statements: &[Statement],
+    tree: &[Item],
+    parameters: &[i128],
+) -> Result<Graph, Stopped>
+    ensures { IfOk result (λ graph. graph ≡ computation_graph (program_with statements.now tree.now) parameters.now) }
+{
+    let (instances, inputs, preds, last) = parts(alloc, statements, tree, parameters)?;
+    if instances.checked_add(inputs).is_none() {
+        return Err(Stopped::OutOfReach);
+    }
+    Ok(Graph::new(instances, inputs, preds, last))
 }

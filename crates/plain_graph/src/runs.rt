@@ -1,16 +1,17 @@
 //! Executions.
 
-ghost use Rattle.std.specs.Prelude.{◌≡◌, ◌++◌, ◌∷◌, [], map, IfOk, ◌^◌, true, OnOk};
+ghost use Rattle.std.specs.Prelude.{◌≡◌, ◌++◌, ◌∷◌, [], map, IfOk, true, OnOk};
 ghost use Rattle.std.specs.List.{AllByRecursion};
 ghost use Rattle.iolb_model.specs.Form.{form_value};
 ghost use Rattle.iolb_model.specs.Execution.{rising, range, natural, at_value, item_runs, row_runs};
 ghost use Rattle.affine_form.specs.Form.{IsSmall};
-ghost use Rattle.affine_c.specs.Tree.{item_of, row_of};
+ghost use Rattle.affine_program.specs.Tree.{item_of, row_of};
 ghost use Rattle.plain_graph.specs.Views.{instance_of};
+ghost use Rattle.iolb_model.specs.declared.limits.TheConstants.{VALUE_SIZE};
 
 use crate::stopped::Stopped;
-use affine_c::Item;
 use affine_form::Form;
+use affine_program::Item;
 use std::alloc::Global;
 
 /// A statement, by its number, with the values of the loops around it, outermost first.
@@ -22,7 +23,7 @@ pub struct Instance {
 
 /// Whether each value is below 2^40 in size.
 fn are_small(point: &[i128]) -> bool
-    ensures { result ≡ true → AllByRecursion (IsSmall (2 ^ 40)) point.now }
+    ensures { result ≡ true → AllByRecursion (IsSmall VALUE_SIZE) point.now }
 {
     for value in point {
         if *value <= -1_099_511_627_776 || 1_099_511_627_776 <= *value {

@@ -9,7 +9,7 @@ ghost use Rattle.plain_graph.specs.Views.{cell_view, instance_of, source_view, p
 use crate::cells::{Cell, cell_written_by, cells_read_by};
 use crate::runs::Instance;
 use crate::stopped::Stopped;
-use affine_c::Statement;
+use affine_program::Statement;
 use std::alloc::Global;
 
 /// Where the word of a read comes from.

@@ -6,13 +6,14 @@ use Rattle.std.proofs.lemmas.Int.{ints}
 use Rattle.std.proofs.lemmas.List.{take_more, length-take-le, get_or_at, length_push}
 use Rattle.std.proofs.lemmas.Nat.Gcd.{dvd_antisymm}
 use Rattle.std.proofs.Math.Nat.{one-dvd}
-use Rattle.integer_laws.proofs.Ring.{mul-zero, zero-mul, mul_comm, mul-one}
+use Rattle.base_laws.proofs.Ring.{mul-zero, zero-mul, mul_comm, mul-one}
 use Rattle.iolb_model.specs.Form.{AffineForm, dot, form_value}
 use Rattle.poly_tree.specs.Expansion.{Expansion, Parts, number, over, none, part, at, put, value, weight, sizes, products_from, IsAffine, IsExtended, IsCanonical, DegreesAtMost, PartsDegreesAtMost}
 use Rattle.poly_tree.specs.Poly.{Quotient, IsLegal, IsForm, IsPutIn, IsSubstitutionOf, IsShiftOf, SubstitutionPassesDegree, ShiftPassesDegree, PutPassesDegree, put_size, form_size}
 use Rattle.std.specs.List.{AllByRecursion}
 use Rattle.affine_form.specs.Form.{IsSmall, IsLegalForm}
 use Rattle.poly_tree.proofs.Expansions.{IsCanonical-more}
+use Rattle.iolb_model.specs.declared.limits.TheConstants.{COEFFICIENT_SIZE, MEASURE}
 
 products-push : (xs : List ℤ) (x : ℤ) (v : ℕ) (point : ℕ → ℤ) → products_from (xs ++ x ∷ []) v point ≡ products_from xs v point +ℤ (x *ℤ point (v + length xs))
 products-push [] x v point = flip (x *ℤ point v) (x *ℤ point (v + 0)) (ap (λ (n : ℕ). x *ℤ point n) (plus v)) where
@@ -126,11 +127,11 @@ form-affine form t h = record {
 }
 
 -- the weight of a form of the program is small
-sizes-small : (xs : List ℤ) → AllByRecursion (IsSmall (2 ^ 62)) xs → sizes xs ≤ length xs * 2 ^ 62
+sizes-small : (xs : List ℤ) → AllByRecursion (IsSmall COEFFICIENT_SIZE) xs → sizes xs ≤ length xs * COEFFICIENT_SIZE
 sizes-small [] h = omega arith
 sizes-small (x ∷ xs) h = omega (arith, h.0, sizes-small xs h.1)
 
-pub affine-light : (form : AffineForm) (t : Expansion) → IsLegalForm form → IsAffine form.coefficients form.constant t → weight t < 2 ^ 126
+pub affine-light : (form : AffineForm) (t : Expansion) → IsLegalForm form → IsAffine form.coefficients form.constant t → weight t < MEASURE
 affine-light form t legal h = omega (arith, h.heavy, sizes-small form.coefficients legal.1.0, legal.0, legal.1.1)
 
 pub affine-weight : (form : AffineForm) (t : Expansion) → IsAffine form.coefficients form.constant t → max 1 (weight t) ≡ form_size form
@@ -146,8 +147,8 @@ substitution-value a v form t r h p = λ point le.
     p point ∙ ap (λ (z : ℤ). value a.tree (put (at point) v z) *ℤ pos r.denominator) (affine-value form t h point le)
 
 pub substitution-wide : (a : Quotient) (v : ℕ) (form : AffineForm) (t : Expansion) → IsAffine form.coefficients form.constant t
-    → (2 ^ 126 ≤ put_size a v (max 1 (weight t))) ⊎ PutPassesDegree a v t → (2 ^ 126 ≤ put_size a v (form_size form)) ⊎ SubstitutionPassesDegree a v form
-substitution-wide a v form t h (inl p) = inl (subst (λ (n : ℕ). 2 ^ 126 ≤ put_size a v n) (affine-weight form t h) p)
+    → (MEASURE ≤ put_size a v (max 1 (weight t))) ⊎ PutPassesDegree a v t → (MEASURE ≤ put_size a v (form_size form)) ⊎ SubstitutionPassesDegree a v form
+substitution-wide a v form t h (inl p) = inl (subst (λ (n : ℕ). MEASURE ≤ put_size a v n) (affine-weight form t h) p)
 substitution-wide a v form t h (inr p) = inr (p.0, (p.1.0, (λ point le. p.1.1 (at point) ∙ ap (λ (z : ℤ). value a.tree (put (at point) v z)) (affine-value form t h point le)), p.1.2))
 
 -- a variable minus 1 that is put in
@@ -172,6 +173,6 @@ shift-value a v s t r e h p = λ point.
     p point ∙ ap (λ (z : ℤ). value a.tree (put (at point) v z) *ℤ pos r.denominator) (minus_one-value v s t e h (at point))
 
 pub shift-wide : (a : Quotient) (v : ℕ) (s t : Expansion) → s ≡ number (negsuc 0) → IsExtended v (pos 1) s t
-    → (2 ^ 126 ≤ put_size a v (max 1 (weight t))) ⊎ PutPassesDegree a v t → (2 ^ 126 ≤ put_size a v 2) ⊎ ShiftPassesDegree a v
-shift-wide a v s t e h (inl p) = inl (subst (λ (n : ℕ). 2 ^ 126 ≤ put_size a v (max 1 n)) (minus_one-weight v s t e h) p)
+    → (MEASURE ≤ put_size a v (max 1 (weight t))) ⊎ PutPassesDegree a v t → (MEASURE ≤ put_size a v 2) ⊎ ShiftPassesDegree a v
+shift-wide a v s t e h (inl p) = inl (subst (λ (n : ℕ). MEASURE ≤ put_size a v (max 1 n)) (minus_one-weight v s t e h) p)
 shift-wide a v s t e h (inr p) = inr (p.0, (p.1.0, (λ point. p.1.1 (at point) ∙ ap (λ (z : ℤ). value a.tree (put (at point) v z)) (minus_one-value v s t e h (at point))), p.1.2))

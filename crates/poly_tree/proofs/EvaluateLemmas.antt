@@ -11,6 +11,7 @@ use Rattle.poly_tree.specs.Tree.{expansion, parts_of}
 use Rattle.poly_tree.proofs.Expansions.{IsCanonical-more}
 use Rattle.poly_tree.proofs.LinearLemmas.{capped-left}
 use Rattle.poly_tree.proofs.Trees.{parts_of-back}
+use Rattle.iolb_model.specs.declared.limits.TheConstants.{MEASURE}
 
 -- a value is no larger than the measure
 mutual
@@ -67,7 +68,7 @@ variable-below bound t v ps e c = (subst (IsCanonical bound) e c).0
 
 -- a step of Horner's rule fits
 pub horner-room : (t : Expansion) (v : ℕ) (trees : List Tree) (done : ℕ) (u : Tree) (point : ℕ → ℤ) (a x total : ℤ) → t ≡ over v (parts_of trees) → done < length trees → u ≡ get_or trees (length trees - 1 - done) u
-    → a ≡ value (expansion u) point → x ≡ point v → total ≡ parts_value (parts_of (drop (length trees - done) trees)) (point v) point → size_at t point < 2 ^ 126
+    → a ≡ value (expansion u) point → x ≡ point v → total ≡ parts_value (parts_of (drop (length trees - done) trees)) (point v) point → size_at t point < MEASURE
     → unsigned_abs a + unsigned_abs x * unsigned_abs total < 2 ^ 127
 horner-room t v trees done u point a x total e below read p q r small =
     let rest = parts_of (drop (length trees - done) trees) in

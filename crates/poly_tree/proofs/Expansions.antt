@@ -2,7 +2,7 @@
 use Rattle.std.proofs.Common.{◌≡◌, ◌≢◌, ℕ, zero, suc, ◌+◌, ◌<◌, ◌≤◌, List, [], ◌∷◌, ◌++◌, length, get_or, map, arith, subst, sym, refl, ◌∙◌, ap}
 use Rattle.std.proofs.Math.IntN.{ℤ, pos, ◌+ℤ◌, ◌*ℤ◌}
 use Rattle.std.proofs.lemmas.Int.{ints}
-use Rattle.integer_laws.proofs.Ring.{mul-zero}
+use Rattle.base_laws.proofs.Ring.{mul-zero}
 use Rattle.poly_tree.specs.Expansion.{Expansion, number, over, part, zero_expansion, parts_from, value, parts_value, weight, parts_weight, scaled, parts_scaled, LastNonzero, EndsNonzero, HasTop, IsCanonical, AreCanonical, IsTrimmed, IsJoined, parts_count, PartsDegreesAtMost}
 
 -- a zero at the end has no value
@@ -33,10 +33,6 @@ parts_count-push (t ∷ ts) u = omega (arith, parts_count-push ts u)
 degrees-front : (d : ℕ) (ts : List Expansion) (u : Expansion) → PartsDegreesAtMost d (parts_from (ts ++ u ∷ [])) → PartsDegreesAtMost d (parts_from ts)
 degrees-front d [] u h = tt
 degrees-front d (t ∷ ts) u h = (h.0, degrees-front d ts u h.1)
-
--- nothing is taken off yet
-pub IsTrimmed-start : (ts : List Expansion) → IsTrimmed ts ts
-IsTrimmed-start ts = record { same = λ x point. refl; light = omega arith; canonical = λ bound h. h; count = omega arith; degrees = λ d h. h }
 
 -- one zero more is taken off
 pub IsTrimmed-more : (old ts front : List Expansion) → ts ≡ front ++ zero_expansion ∷ [] → IsTrimmed old ts → IsTrimmed old front
@@ -77,28 +73,6 @@ IsJoined-over v old ts h ends many = record {
   light = h.light;
   canonical = λ bound below c. (below, h.canonical v c, HasTop-from ts many ends);
   degrees = λ d few c. (omega (arith, h.count), h.degrees d c);
-}
-
--- one trimmed part joined
-pub IsJoined-one : (v : ℕ) (old : List Expansion) (t : Expansion) → IsTrimmed old (t ∷ []) → IsJoined v (parts_from old) t
-IsJoined-one v old t h = record {
-  same = λ point. alone (value t point) (point v) ∙ sym (h.same (point v) point);
-  light = omega (arith, h.light);
-  canonical = λ bound below c. IsCanonical-more v bound t (omega arith) (h.canonical v c).0;
-  degrees = λ d few c. (h.degrees d c).0;
-} where
-  alone : (a x : ℤ) → a ≡ a +ℤ (x *ℤ pos 0)
-  alone a x = sym (ap (λ (y : ℤ). a +ℤ y) (mul-zero x) ∙ plus a) where
-    plus : (y : ℤ) → y +ℤ pos 0 ≡ y
-    plus y = omega (arith, ints)
-
--- no trimmed part joined
-pub IsJoined-none : (v : ℕ) (old : List Expansion) → IsTrimmed old [] → IsJoined v (parts_from old) zero_expansion
-IsJoined-none v old h = record {
-  same = λ point. sym (h.same (point v) point);
-  light = omega arith;
-  canonical = λ bound below c. tt;
-  degrees = λ d few c. tt;
 }
 
 -- a part is no heavier than all

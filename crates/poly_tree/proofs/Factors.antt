@@ -9,7 +9,7 @@ use Rattle.std.proofs.lemmas.Int.{ints, quot-rem}
 use Rattle.std.proofs.lemmas.Nat.Gcd.{mod-eq-zero_of_dvd, dvd_trans, le_of_dvd, dvd-zero}
 use Rattle.std.proofs.lemmas.List.{take_more, take_all, map-append}
 use Rattle.std.proofs.Math.Nat.{eq-zero_of_zero-dvd}
-use Rattle.integer_laws.proofs.Ring.{mul_comm}
+use Rattle.base_laws.proofs.Ring.{mul_comm}
 use Rattle.poly_tree.specs.declared.tree.Tree.{Tree}
 use Rattle.poly_tree.specs.declared.tree.Tree.TheViews.{Over}
 use Rattle.poly_tree.specs.Expansion.{Expansion, Parts, number, over, none, part, parts_from, scaled, DividesAll, DividesParts, IsContent, IsPartsContent}

@@ -7,7 +7,6 @@ pub mod LinearLemmas
 pub mod Powers
 pub mod PrintOrder
 pub mod PrintedLemmas
-pub mod PrintedProducts
 pub mod Products
 pub mod PutLemmas
 pub mod Reduced

@@ -1,9 +1,8 @@
 -- Sums of multiples.
 use Rattle.std.proofs.Common.{◌≡◌, ◌≢◌, ℕ, zero, suc, ◌+◌, ◌*◌, ◌<◌, ◌≤◌, ◌^◌, max, min, arith, subst, sym, ◌∙◌, ap, inl, inr, ◌⊎◌, ◌-◌, mul-le-mul}
 use Rattle.std.proofs.Math.Nat.{mul_assoc, pow-zero, pow-succ'}
-use Rattle.std.proofs.Math.IntN.{ℤ, pos, ◌+ℤ◌, ◌*ℤ◌}
-use Rattle.std.proofs.Math.IntN.{neg_ℤ}
-use Rattle.integer_laws.proofs.Ring.{mul_assoc_ℤ, mul_comm, mul-neg}
+use Rattle.std.proofs.Math.IntN.{ℤ, pos, ◌+ℤ◌, ◌*ℤ◌, neg_ℤ}
+use Rattle.base_laws.proofs.Ring.{mul_assoc_ℤ, mul_comm, mul-neg}
 use Rattle.poly_tree.specs.Expansion.{Expansion, at, scaled, value, IsSum, IsProduct, IsLinear, IsCanonical, DegreesAtMost}
 use Rattle.poly_tree.specs.Poly.{Quotient, numerator_at, IsReduced, IsProductOf, IsCombinationOf, IsDifferenceOf}
 use Rattle.poly_tree.proofs.Products.{value-scaled, canonical-scaled}
@@ -140,7 +139,3 @@ power-step product base (suc left) number limit m p q h =
     ∙ ap (λ (n : ℕ). min n limit) (mul_assoc product base (base ^ left) ∙ ap (λ (n : ℕ). product * n) (sym (pow-succ' base left))) ∙ h where
       one : (n : ℕ) → suc n - 1 ≡ n
       one n = omega arith
-
--- a capped measure
-pub capped-measure : (size limit power m : ℕ) → 1 ≤ power → min m limit ≡ min (min size limit * power) limit → min m limit ≡ min (size * power) limit
-capped-measure size limit power m p e = e ∙ capped-left size power limit p

@@ -34,10 +34,6 @@ zip_step xs ys i x h e =
     zip_at xs ys i x (omega (arith, h)) (omega (arith, h)) e
     ∙ ap (λ (j : ℕ). (x, get_or ys i 0) ∷ zip (drop j xs) (drop j ys)) next
 
--- a power of exponent 0 is left out
-pub hidden : (started : Bool) (name : List ℕ) (exponent : ℕ) (rest : List (List ℕ × ℕ)) → exponent ≡ 0 → powers_after started rest ≡ powers_after started ((name, exponent) ∷ rest)
-hidden started name exponent rest e = ap (λ n. powers_after started ((name, n) ∷ rest)) (sym e)
-
 shown_first : (p : List ℕ × ℕ) (rest : List (List ℕ × ℕ)) → (p.1 ≡ 0 → ⊥)
     → filter (λ (power : List ℕ × ℕ). not (power.1 == 0)) (p ∷ rest) ≡ p ∷ filter (λ (power : List ℕ × ℕ). not (power.1 == 0)) rest
 shown_first p rest h = ap (λ (b : Bool). cond (not b) (p ∷ filter (λ (power : List ℕ × ℕ). not (power.1 == 0)) rest) (filter (λ (power : List ℕ × ℕ). not (power.1 == 0)) rest)) (ne_eqb p.1 0 h)
@@ -60,9 +56,3 @@ printed started text name exponent rest h =
 
       pieces : (b : Bool) (text power more whole : List ℕ) → whole ≡ cond b (codes "*") [] ++ (power ++ more) → ((text ++ cond b (codes "*") []) ++ power) ++ more ≡ text ++ whole
       pieces b text power more whole e = append_assoc (text ++ cond b (codes "*") []) power more ∙ append_assoc text (cond b (codes "*") []) (power ++ more) ∙ ap (λ (l : List ℕ). text ++ l) (sym e)
-
--- a product with the coefficient 1
-pub one_product : (text : List ℕ) → length text ≡ 0 → codes "1" ≡ terms_text ((pos 1, text) ∷ [])
-unfolding digits
-one_product [] e = refl
-one_product (b ∷ bytes) e = absurd (omega (arith, e))

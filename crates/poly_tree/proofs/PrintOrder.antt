@@ -45,7 +45,7 @@ all-past : (t s : Term) (ts : List Term) → is_printed_before t s ≡ true → 
 all-past t s [] h k = tt
 all-past t s (u ∷ ts) h k = (past t s u h k.0, all-past t s ts h k.1)
 
-all-insert : (P : Term → Type 0) (t : Term) (ts : List Term) → P t → AllByRecursion P ts → AllByRecursion P (insert_term t ts)
+pub all-insert : (P : Term → Type 0) (t : Term) (ts : List Term) → P t → AllByRecursion P ts → AllByRecursion P (insert_term t ts)
 all-insert P t [] h k = (h, tt)
 all-insert P t (s ∷ ts) h k = by (is_printed_before t s) (all-insert P t ts h k.1) where
   by : (b : Bool) → AllByRecursion P (insert_term t ts) → AllByRecursion P (if b then t ∷ (s ∷ ts) else s ∷ insert_term t ts)

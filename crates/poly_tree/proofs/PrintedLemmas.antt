@@ -8,7 +8,7 @@ use Rattle.std.proofs.lemmas.Bool.Decides.{Decides-int_eq}
 use Rattle.iolb_model.specs.Printed.{nonzero}
 use Rattle.std.proofs.lemmas.Int.{ints}
 use Rattle.std.proofs.lemmas.List.{length-append, length-replicate}
-use Rattle.integer_laws.proofs.Ring.{mul-zero, one-mul, mul-one, mul_assoc_ℤ, mul_comm, mul-add}
+use Rattle.base_laws.proofs.Ring.{mul-zero, one-mul, mul-one, mul_assoc_ℤ, mul_comm, mul-add}
 use Rattle.iolb_model.specs.Polynomial.{Term, int_power, monomial, terms_value}
 use Rattle.poly_tree.specs.Expansion.{Expansion, Parts, number, over, none, part, at, value, parts_value, powers_from, IsCanonical, AreCanonical}
 use Rattle.poly_tree.specs.Printed.{with_exponent, with_power, named_term, AreNonzero, expansion_terms, parts_terms, is_printed_before, insert_term, in_print_order, TermsHaveTheValue}
@@ -70,7 +70,7 @@ mapped-value v e (t ∷ ts) point h =
     ∙ ap (λ (z : ℤ). (x *ℤ (t.coefficient *ℤ monomial t.exponents point)) +ℤ z) (mapped-value v e ts point h.1)
     ∙ sym (mul-add x (t.coefficient *ℤ monomial t.exponents point) (terms_value ts point))
 
-short-more : (v w : ℕ) (ts : List Term) → v ≤ w → Short v ts → Short w ts
+pub short-more : (v w : ℕ) (ts : List Term) → v ≤ w → Short v ts → Short w ts
 unfolding Short
 short-more v w [] le h = tt
 short-more v w (t ∷ ts) le h = (omega (arith, h.0), short-more v w ts le h.1)

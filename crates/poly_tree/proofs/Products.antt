@@ -5,23 +5,12 @@ use Rattle.std.specs.Prelude.{unsigned_abs}
 use Rattle.std.proofs.lemmas.Int.{ints, unsigned_abs-mul}
 use Rattle.std.proofs.lemmas.List.{get_or_append_left, get_or_push, map-append, length-map}
 use borrow.Author.Count.{below_more}
-use Rattle.integer_laws.proofs.Ring.{mul-add, mul-zero, zero-mul, mul_assoc_ℤ, mul_comm, add-mul as add_mul_ℤ}
+use Rattle.base_laws.proofs.Ring.{mul-add, mul-zero, zero-mul, mul_assoc_ℤ, mul_comm, add-mul as add_mul_ℤ}
 use Rattle.poly_tree.specs.declared.tree.Tree.{Tree}
 use Rattle.poly_tree.specs.Expansion.{Expansion, Parts, number, over, none, part, zero_expansion, parts_from, value, parts_value, weight, parts_weight, scaled, parts_scaled, IsCanonical, AreCanonical, HasTop, LastNonzero, IsJoined, IsSum, IsProduct, IsRaised, IsPartsProduct, IsPartsIn}
 use Rattle.poly_tree.specs.Tree.{expansion, expansions, part_at}
 use Rattle.poly_tree.proofs.Expansions.{IsCanonical-more}
 use Rattle.poly_tree.proofs.Sums.{parts_in-value, parts_in-weight, parts_in-canonical}
-
--- the parts after a zero
-pub raised-low : (v : ℕ) (t u : Expansion) (ts us : List Expansion) → IsPartsIn v t ts → us ≡ zero_expansion ∷ ts → IsJoined v (parts_from us) u → IsRaised v t u
-raised-low v t u ts us p e joined = record {
-  times = λ point. joined.same point ∙ ap (λ (zs : List Expansion). parts_value (parts_from zs) (point v) point) e
-      ∙ plus (point v *ℤ parts_value (parts_from ts) (point v) point) ∙ ap (λ (y : ℤ). point v *ℤ y) (parts_in-value v t ts p point);
-  light = omega (arith, joined.light, ap (λ (zs : List Expansion). parts_weight (parts_from zs)) e, parts_in-weight v t ts p);
-  canonical = λ bound below c. joined.canonical bound below (subst (λ (zs : List Expansion). AreCanonical v (parts_from zs)) (sym e) (tt, parts_in-canonical bound v t ts p c));
-} where
-  plus : (y : ℤ) → pos 0 +ℤ y ≡ y
-  plus y = omega (arith, ints)
 
 -- each part times a variable
 abbrev pub AllRaised : ℕ → List Expansion → List Expansion → Type 0
@@ -62,18 +51,6 @@ raised-over v w t u xs ys e above len h joined = record {
       let whole = subst (IsCanonical bound) e c in
       joined.canonical bound whole.0 (raised-canonical v w xs ys above len h whole.1);
 }
-
--- one part more
-pub raised-push : (w : ℕ) (xs : List Expansion) (zs : List Tree) (t : Tree) (n : ℕ) → length zs ≡ n
-    → ((k : ℕ) → k < n → IsRaised w (get_or xs k zero_expansion) (part_at zs k))
-    → IsRaised w (get_or xs n zero_expansion) (expansion t)
-    → (k : ℕ) → k < n + 1 → IsRaised w (get_or xs k zero_expansion) (part_at (zs ++ t ∷ []) k)
-raised-push w xs zs t n len before here =
-    below_more (λ (k : ℕ). IsRaised w (get_or xs k zero_expansion) (part_at (zs ++ t ∷ []) k)) n
-    (λ k p. subst (IsRaised w (get_or xs k zero_expansion)) (sym (pushed k ∙ get_or_append_left (expansions zs) (expansion t ∷ []) zero_expansion k (omega (arith, length-map zs expansion)))) (before k p))
-    (subst (IsRaised w (get_or xs n zero_expansion)) (sym (pushed n ∙ get_or_push (expansions zs) (expansion t) zero_expansion n (length-map zs expansion ∙ len))) here) where
-      pushed : (k : ℕ) → part_at (zs ++ t ∷ []) k ≡ get_or (expansions zs ++ expansion t ∷ []) k zero_expansion
-      pushed k = ap (λ (us : List Expansion). get_or us k zero_expansion) (map-append expansion zs (t ∷ []))
 
 -- the value of a multiple
 mutual
@@ -153,22 +130,6 @@ product-number n a b t nonzero e f = record {
   canonical = λ bound p q. subst (IsCanonical bound) (sym f) (canonical-scaled bound n b nonzero q);
 }
 
--- zero times a polynomial
-pub product-zero : (a b t : Expansion) → a ≡ number (pos 0) → t ≡ zero_expansion → IsProduct a b t
-product-zero a b t e f = record {
-  product = λ point. ap (λ (u : Expansion). value u point) f ∙ sym (zero-mul (value b point)) ∙ ap (λ (u : Expansion). value u point *ℤ value b point) (sym e);
-  light = omega (arith, ap weight f);
-  canonical = λ bound p q. subst (IsCanonical bound) (sym f) tt;
-}
-
--- no parts times a polynomial
-pub product-none : (v : ℕ) (b t : Expansion) → t ≡ zero_expansion → IsPartsProduct v none b t
-product-none v b t f = record {
-  product = λ point. ap (λ (u : Expansion). value u point) f ∙ sym (zero-mul (value b point));
-  light = omega (arith, ap weight f);
-  canonical = λ bound below c q. subst (IsCanonical bound) (sym f) tt;
-}
-
 -- one part more, from the front
 pub product-part : (v : ℕ) (ps : Parts) (u b m s total t : Expansion) → IsPartsProduct v ps b total → IsProduct u b m → IsRaised v total s → IsSum m s t
     → IsPartsProduct v (part u ps) b t
@@ -180,14 +141,6 @@ product-part v ps u b m s total t h product raised added = record {
   light = omega (arith, added.light, product.light, raised.light, h.light, add-mul (weight u) (parts_weight ps) (weight b));
   canonical = λ bound below c q. added.canonical bound (product.canonical bound (IsCanonical-more v bound u (omega arith) c.0) q)
       (raised.canonical bound below (h.canonical bound below c.1 q));
-}
-
--- all parts
-pub product-all : (v : ℕ) (ps : Parts) (a b t : Expansion) → a ≡ over v ps → IsPartsProduct v ps b t → IsProduct a b t
-product-all v ps a b t e h = record {
-  product = λ point. h.product point ∙ ap (λ (u : Expansion). value u point *ℤ value b point) (sym e);
-  light = omega (arith, h.light, ap (λ (u : Expansion). weight u * weight b) e);
-  canonical = λ bound p q. let whole = subst (IsCanonical bound) e p in h.canonical bound whole.0 whole.1 q;
 }
 
 -- a product of a part fits beside that of those after it

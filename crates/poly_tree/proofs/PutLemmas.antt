@@ -41,22 +41,6 @@ put-there v w f t u e h = record {
   canonical = λ bound below ct cf. h.canonical bound below ct;
 }
 
--- a number has no variable
-pub put-number : (v : ℕ) (f t u : Expansion) (n : ℤ) → t ≡ number n → u ≡ number n → IsPut v f t u
-put-number v f t u n e g = record {
-  same = λ point. ap (λ (s : Expansion). value s point) g ∙ sym (ap (λ (s : Expansion). value s (put point v (value f point))) e);
-  light = omega (arith, ap weight g, ap (put_weight v (max 1 (weight f))) e);
-  canonical = λ bound ct cf. subst (IsCanonical bound) (sym g) tt;
-}
-
--- no parts
-pub put-none : (v : ℕ) (f : Expansion) (w : ℕ) (u : Expansion) → u ≡ zero_expansion → IsPartsPut v f w none u
-put-none v f w u g = record {
-  same = λ point. ap (λ (s : Expansion). value s point) g;
-  light = omega (arith, ap weight g);
-  canonical = λ bound below c cf. subst (IsCanonical bound) (sym g) tt;
-}
-
 -- one part more, from the front
 pub put-part : (v : ℕ) (f : Expansion) (w : ℕ) (ps : Parts) (s m r total u : Expansion) → IsPartsPut v f w ps total → IsPut v f s m → IsPutPower v f w total r → IsSum m r u
     → IsPartsPut v f w (part s ps) u
@@ -68,14 +52,6 @@ put-part v f w ps s m r total u h here raised added = record {
       let le : k * weight total ≤ k * put_parts_weight v (max 1 (weight f)) k ps = mul-le-mul_left k h.light in
       omega (arith, added.light, here.light, raised.light);
   canonical = λ bound below c cf. added.canonical bound (here.canonical bound (IsCanonical-more w bound s (omega arith) c.0) cf) (raised.canonical bound below (h.canonical bound below c.1 cf) cf);
-}
-
--- all parts
-pub put-all : (v : ℕ) (f : Expansion) (w : ℕ) (ps : Parts) (t u : Expansion) → t ≡ over w ps → IsPartsPut v f w ps u → IsPut v f t u
-put-all v f w ps t u e h = record {
-  same = λ point. h.same point ∙ ap (λ (s : Expansion). value s (put point v (value f point))) (sym e);
-  light = omega (arith, h.light, ap (put_weight v (max 1 (weight f))) e);
-  canonical = λ bound ct cf. let whole = subst (IsCanonical bound) e ct in h.canonical bound whole.0 whole.1 cf;
 }
 
 -- the parts from a place on are no heavier than all

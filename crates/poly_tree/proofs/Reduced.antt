@@ -7,7 +7,7 @@ use Rattle.std.specs.Int.{◌∣◌}
 use lib.Signed.{◌≤ℤ◌}
 use Rattle.std.proofs.lemmas.Int.{ints, unsigned_abs-mul}
 use Rattle.std.proofs.lemmas.Nat.Gcd.{dvd_antisymm}
-use Rattle.integer_laws.proofs.Ring.{mul-zero}
+use Rattle.base_laws.proofs.Ring.{mul-zero}
 use Rattle.poly_tree.specs.Expansion.{Expansion, Parts, number, over, none, part, scaled, parts_scaled, parts_count, IsCanonical, AreCanonical, HasTop, LastNonzero, DegreesAtMost, PartsDegreesAtMost, DividesAll, DividesParts, IsContent}
 use Rattle.poly_tree.specs.Poly.{IsLegal, IsReduced}
 

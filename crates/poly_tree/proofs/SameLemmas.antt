@@ -7,7 +7,7 @@ use Rattle.std.proofs.lemmas.Int.{ints, unsigned_abs-mul}
 use Rattle.std.proofs.lemmas.List.{get_or_append_left, get_or_push, length-append}
 use Rattle.std.proofs.lemmas.Nat.Gcd.{dvd_refl, dvd-zero, mod-eq-zero_of_dvd}
 use Rattle.std.proofs.Math.Nat.{dvd_of_mul-dvd-mul_left, dvd-mul_right, dvd-mul_left, dvd-add, dvd-sub}
-use Rattle.integer_laws.proofs.Ring.{mul_comm, mul-cancel}
+use Rattle.base_laws.proofs.Ring.{mul_comm, mul-cancel}
 use lib.Signed.{◌≤ℤ◌}
 use Rattle.poly_tree.specs.Expansion.{DegreesAtMost, Expansion, Parts, number, over, none, part, at, value, scaled, parts_scaled, IsCanonical, DividesAll, DividesParts}
 use Rattle.poly_tree.specs.Poly.{Quotient, numerator_at, IsLegal, SameValues}
@@ -19,7 +19,7 @@ unfoldable pub listed : (ℕ → ℤ) → ℕ → List ℤ
 listed point zero = []
 listed point (suc n) = listed point n ++ point n ∷ []
 
-length-listed : (point : ℕ → ℤ) (n : ℕ) → length (listed point n) ≡ n
+pub length-listed : (point : ℕ → ℤ) (n : ℕ) → length (listed point n) ≡ n
 unfolding listed
 length-listed point zero = refl
 length-listed point (suc n) = omega (arith, length-listed point n, length-append (listed point n) (point n ∷ []))
@@ -167,10 +167,6 @@ same-trees a b la lb h =
       cancel : (n : ℕ) (x y : ℤ) → 1 ≤ n → (x *ℤ pos n) ≡ (y *ℤ pos n) → x ≡ y
       cancel zero x y p e = absurd (omega arith)
       cancel (suc n) x y p e = mul-cancel n x y (mul_comm (pos (suc n)) x ∙ e ∙ mul_comm y (pos (suc n)))
-
--- the same trees and denominators have the same values
-pub same-values : (a b : Quotient) → a.tree ≡ b.tree → a.denominator ≡ b.denominator → SameValues a b
-same-values a b e f = λ point. ap (λ (t : Expansion). value t (at point) *ℤ pos b.denominator) e ∙ ap (λ (n : ℕ). numerator_at b point *ℤ pos n) (sym f)
 
 -- polynomials are equal that have the same tree and the same denominator
 pub same-parts_polynomial : (a b : Quotient) → a.tree ≡ b.tree → a.denominator ≡ b.denominator → a ≡ b

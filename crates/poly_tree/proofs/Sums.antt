@@ -4,7 +4,7 @@ use Rattle.std.proofs.Math.IntN.{ℤ, pos, ◌+ℤ◌, ◌*ℤ◌}
 use Rattle.std.proofs.lemmas.Int.{ints}
 use Rattle.std.proofs.lemmas.List.{get_or_append_left, get_or_push, map-append, length-map}
 use borrow.Author.Count.{below_more}
-use Rattle.integer_laws.proofs.Ring.{mul-add, mul-zero, add_pairs}
+use Rattle.base_laws.proofs.Ring.{mul-add, mul-zero, add_pairs}
 use Rattle.poly_tree.specs.declared.tree.Tree.{Tree}
 use Rattle.poly_tree.specs.Expansion.{Expansion, Parts, number, over, zero_expansion, parts_from, value, parts_value, weight, parts_weight, nodes, parts_nodes, IsCanonical, AreCanonical, IsJoined, IsSum, IsOver, IsPartsIn, IsHighest, TopBelow, TopAtMost, DegreesAtMost, PartsDegreesAtMost}
 use Rattle.poly_tree.specs.Tree.{expansion, expansions, part_at}
@@ -190,15 +190,6 @@ sum-joined v a b t xs ys zs p q high le_x le_y le_z sums joined = record {
       let x = parts_in-degrees d v a xs p da in
       let y = parts_in-degrees d v b ys q db in
       joined.degrees d (omega (arith, parts_count-length zs, x.0, y.0, le_z)) (degrees-each d zs (λ k r. (sums k r).degrees d (degrees-at d xs k x.1) (degrees-at d ys k y.1)));
-}
-
--- the sum of two numbers
-pub sum-numbers : (a b : Expansion) (m n : ℤ) (t : Expansion) → a ≡ number m → b ≡ number n → t ≡ number (m +ℤ n) → IsSum a b t
-sum-numbers a b m n t e f g = record {
-  sum = λ point. ap (λ (u : Expansion). value u point) g ∙ sym (ap (λ (u : Expansion). value u point +ℤ value b point) e ∙ ap (λ (u : Expansion). m +ℤ value u point) f);
-  light = omega (arith, ap weight e, ap weight f, ap weight g, size-add m n);
-  canonical = λ bound p q. subst (IsCanonical bound) (sym g) tt;
-  degrees = λ d p q. subst (DegreesAtMost d) (sym g) tt;
 }
 
 -- one sum more

@@ -5,9 +5,9 @@ use Rattle.std.specs.Prelude.{slice_get, Some}
 use Rattle.std.specs.List.{AllByRecursion}
 use Rattle.std.proofs.lemmas.Int.{ints}
 use Rattle.std.proofs.lemmas.List.{take_more, length-take-le, length_push, get_or_at, get_or_past, take-append-drop, map-append}
-use Rattle.integer_laws.proofs.Ring.{mul-zero, one-mul, mul-one, mul_assoc_ℤ, mul_comm}
+use Rattle.base_laws.proofs.Ring.{mul-zero, one-mul, mul-one, mul_assoc_ℤ, mul_comm}
 use Rattle.iolb_model.specs.Polynomial.{Term, int_power, monomial, terms_value}
-use Rattle.affine_form.proofs.Lists.{All-at}
+use Rattle.base_laws.proofs.Lists.{All-at}
 use Rattle.poly_tree.specs.Expansion.{Expansion, zero_expansion, parts_from, parts_count, at, value, parts_value, weight, parts_weight, powers_from, IsCanonical, AreCanonical, DegreesAtMost, PartsDegreesAtMost, IsJoined, IsSum, IsMonomial}
 use Rattle.poly_tree.specs.Terms.{term_of, terms_of, terms_weight, HasExponents, IsTermsSum, IsTermsOver}
 use Rattle.poly_tree.specs.Poly.{Quotient, IsReduced}
@@ -139,15 +139,6 @@ parts-of_terms pairs front back i first second low =
       All-parts P [] us h = (tt, h)
       All-parts P (t ∷ ts) us h = let rest = All-parts P ts us h.1 in ((h.0, rest.0), rest.1)
 
--- no terms
-pub terms-none : (t : Expansion) → t ≡ zero_expansion → IsTermsSum [] 24 t
-terms-none t e = record {
-  sum = λ point. ap (λ (s : Expansion). value s (at point)) e;
-  light = omega (arith, ap weight e);
-  canonical = subst (IsCanonical 24) (sym e) tt;
-  degrees = subst (DegreesAtMost 8) (sym e) tt;
-}
-
 -- one term, the first of a list of one
 pub terms-one : (pairs : List (ℤ × Vec ℕ Global)) (x : ℤ × Vec ℕ Global) (m : Expansion) → length pairs ≡ 1 → Some x ≡ slice_get pairs 0 → AllByRecursion HasExponents (terms_of pairs)
     → IsMonomial x.0 x.1.items m → IsTermsSum (terms_of pairs) 24 m
@@ -177,17 +168,6 @@ terms-both ts us a b t h g added = record {
   canonical = added.canonical 24 h.canonical g.canonical;
   degrees = added.degrees 8 h.degrees g.degrees;
 }
-
--- the capped size of terms
-pub terms-capped : (w d m limit : ℕ) → 1 ≤ d → 1 ≤ limit → m ≡ min (max (min w limit) 1 * d) limit → m ≡ min (max 1 w * d) limit
-terms-capped w d m limit p q e =
-    e ∙ ap (λ (n : ℕ). min (n * d) limit) (cap w) ∙ capped-left (max 1 w) d limit p where
-      cap : (n : ℕ) → max (min n limit) 1 ≡ min (max 1 n) limit
-      cap n = omega arith
-
--- a small size is of small terms
-pub terms-small : (w d limit : ℕ) → 1 ≤ d → max 1 w * d < limit → w < limit
-terms-small w d limit p h = let r : w * 1 ≤ max 1 w * d = mul-le-mul (omega arith) p in omega arith
 
 pub terms-over : (terms : List Term) (t : Expansion) (d : ℕ) (r : Quotient) → IsTermsSum terms 24 t → IsReduced t d r → IsTermsOver terms d r
 terms-over terms t d r h reduced = λ point. reduced-value t d r reduced (at point) ∙ ap (λ (z : ℤ). z *ℤ pos r.denominator) (h.sum point)

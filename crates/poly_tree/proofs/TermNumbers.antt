@@ -5,7 +5,7 @@ use Rattle.std.specs.Prelude.{unsigned_abs}
 use Rattle.std.specs.List.{AllByRecursion}
 use Rattle.std.proofs.lemmas.Int.{ints, unsigned_abs-mul}
 use Rattle.std.proofs.lemmas.List.{take_more, take_all, length-take-le, get_or_past}
-use Rattle.integer_laws.proofs.Ring.{mul-zero, one-mul, mul-one, mul-add, mul_assoc_ℤ, mul_comm}
+use Rattle.base_laws.proofs.Ring.{mul-zero, one-mul, mul-one, mul-add, mul_assoc_ℤ, mul_comm}
 use Rattle.iolb_model.specs.Polynomial.{Term, int_power, monomial, terms_value}
 use Rattle.affine_form.specs.Form.{IsSmall}
 use Rattle.poly_tree.specs.Expansion.{Expansion, Parts, number, over, none, part, at, value, parts_value, weight, coefficients, parts_coefficients, powers_from, put, scaled, parts_scaled, IsCanonical, AreCanonical}

@@ -5,8 +5,7 @@ use Rattle.std.proofs.lemmas.List.{drop_more, get_or_default, get_or-map, length
 use Rattle.std.specs.Option.{option_to_list}
 use Rattle.poly_tree.specs.declared.tree.Tree.{Tree}
 use Rattle.poly_tree.specs.declared.tree.Tree.TheViews.{Over}
-use Rattle.poly_tree.specs.declared.tree.Tree.TheVariants.{Num, rolls-Num}
-use Rattle.poly_tree.specs.declared.tree.Tree.TheVariants.{rolls-Over}
+use Rattle.poly_tree.specs.declared.tree.Tree.TheVariants.{Num, rolls-Num, rolls-Over}
 use Rattle.poly_tree.specs.declared.tree.Tree.TheOpen.{Over as over_layer, Num as num_layer}
 use Rattle.poly_tree.specs.declared.tree.Tree.TheFolds.{fold-roll-Tree}
 use Rattle.poly_tree.specs.Expansion.{Expansion, Parts, number, over, none, part, zero_expansion, EndsInZero, EndsNonzero, IsTrimmed, IsJoined, parts_from, weight, parts_weight, nodes, parts_nodes, scaled}

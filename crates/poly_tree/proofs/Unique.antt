@@ -4,7 +4,7 @@ use Rattle.std.proofs.Math.IntN.{ℤ, pos, negsuc, ◌+ℤ◌, ◌-ℤ◌, ◌*�
 use Rattle.std.specs.Prelude.{unsigned_abs}
 use Rattle.std.proofs.lemmas.Int.{ints, unsigned_abs-mul}
 use Rattle.std.proofs.lemmas.Bool.Decides.{nat_tests}
-use Rattle.integer_laws.proofs.Ring.{mul-cancel, mul-sub, mul-zero}
+use Rattle.base_laws.proofs.Ring.{mul-cancel, mul-sub, mul-zero}
 use Rattle.poly_tree.specs.Expansion.{put, Expansion, Parts, number, over, none, part, zero_expansion, value, parts_value, IsCanonical, AreCanonical, HasTop, LastNonzero}
 
 -- at the variable itself, and below

@@ -4,16 +4,17 @@ use Rattle.std.proofs.Math.IntN.{ℤ, pos, negsuc, ◌+ℤ◌, ◌*ℤ◌}
 use Rattle.std.specs.Prelude.{unsigned_abs}
 use Rattle.std.specs.List.{AllByRecursion}
 use Rattle.std.proofs.lemmas.List.{length-append, length-replicate, get_or_append_left, get_or-append_right, get_or_past, get_or-replicate, get_or_at}
-use Rattle.integer_laws.proofs.Ring.{one-mul}
+use Rattle.base_laws.proofs.Ring.{one-mul}
 use Rattle.iolb_model.specs.Polynomial.{Term, int_power, monomial, terms_value}
 use Rattle.affine_form.specs.Form.{IsSmall}
 use Rattle.poly_tree.specs.Expansion.{Expansion, Parts, number, over, none, part, weight, parts_weight, coefficients, parts_coefficients, parts_count, IsCanonical, AreCanonical, DegreesAtMost, PartsDegreesAtMost}
 use Rattle.poly_tree.specs.Terms.{terms_weight, terms_size, HasExponents, AreApart, IsNoGreater, IsTermsSum}
 use Rattle.poly_tree.specs.Poly.{Quotient, IsLegal, numerator_at, size}
 use Rattle.poly_tree.specs.Printed.{with_exponent, with_power, expansion_terms, parts_terms, is_printed_before, insert_term, in_print_order, polynomial_of, width, widened, widened_term, written_terms, AreWritten}
-use Rattle.poly_tree.proofs.PrintedLemmas.{Short, short, nonzero-printed, printed-value}
+use Rattle.poly_tree.proofs.PrintedLemmas.{Short, short, short-more, nonzero-printed, printed-value}
 use Rattle.poly_tree.proofs.TermLemmas.{terms_weight-append}
 use Rattle.poly_tree.proofs.TermNumbers.{exponent, small-sum, Differ, Apart}
+use Rattle.poly_tree.proofs.PrintOrder.{all-insert}
 
 -- ---- what holds of all terms
 
@@ -24,13 +25,6 @@ all-joined P (t ∷ ts) us h k = (h.0, all-joined P ts us h.1 k)
 all-mapped : (P Q : Term → Type 0) (f : Term → Term) (ts : List Term) → ((t : Term) → P t → Q (f t)) → AllByRecursion P ts → AllByRecursion Q (map f ts)
 all-mapped P Q f [] g h = tt
 all-mapped P Q f (t ∷ ts) g h = (g t h.0, all-mapped P Q f ts g h.1)
-
-all-insert : (P : Term → Type 0) (t : Term) (ts : List Term) → P t → AllByRecursion P ts → AllByRecursion P (insert_term t ts)
-all-insert P t [] p h = (p, tt)
-all-insert P t (s ∷ ts) p h = by (is_printed_before t s) (all-insert P t ts p h.1) where
-  by : (b : Bool) → AllByRecursion P (insert_term t ts) → AllByRecursion P (if b then t ∷ (s ∷ ts) else s ∷ insert_term t ts)
-  by true k = (p, h)
-  by false k = (h.0, k)
 
 all-ordered : (P : Term → Type 0) (ts : List Term) → AllByRecursion P ts → AllByRecursion P (in_print_order ts)
 all-ordered P [] h = tt
@@ -259,11 +253,6 @@ apart-ordered w (t ∷ ts) h = apart-insert w t (in_print_order ts) (all-ordered
 -- ---- exponents for all variables
 
 -- no list is longer than the longest
-short-more : (v w : ℕ) (ts : List Term) → v ≤ w → Short v ts → Short w ts
-unfolding Short
-short-more v w [] le h = tt
-short-more v w (t ∷ ts) le h = (omega (arith, le, h.0), short-more v w ts le h.1)
-
 short-width : (ts : List Term) → Short (width ts) ts
 unfolding Short
 short-width [] = tt

@@ -7,6 +7,7 @@ use Rattle.affine_form.specs.Form.{IsSmall}
 use Rattle.poly_tree.specs.Expansion.{Expansion, Parts, number, over, none, part, coefficients, IsCanonical}
 use Rattle.poly_tree.specs.Poly.{Quotient, IsLegal, numerator_at, size}
 use Rattle.poly_tree.specs.Terms.{HasExponents, AreApart, IsNoGreater, terms_size}
+use Rattle.iolb_model.specs.declared.limits.TheConstants.{VARIABLES}
 
 -- exponents of variables below one, and then its own
 abbrev pub with_exponent : ℕ → ℕ → List ℕ → List ℕ
@@ -69,15 +70,6 @@ polynomial_of q = record { terms = in_print_order (expansion_terms q.tree); deno
 -- its numerator is the tree's value at every point
 abbrev pub TermsHaveTheValue : Type 0
 TermsHaveTheValue = (q : Quotient) → IsLegal q → (point : List ℤ) → numerator (polynomial_of q) point ≡ numerator_at q point
-
--- the product of powers of the variables from the first on, as a polynomial
-abbrev pub power_product : List ℕ → Polynomial
-power_product exponents = record { terms = record { coefficient = pos 1; exponents = exponents } ∷ []; denominator = 1 }
-
--- A polynomial that has at every point the value of a product of powers, each at least 1, is printed as that product.
-abbrev pub ProductsArePrinted : Type 0
-ProductsArePrinted = (q : Quotient) (exponents : List ℕ) → IsLegal q → length exponents ≤ 24 → AllByRecursion (λ e. 1 ≤ e) exponents
-    → ((point : List ℤ) → numerator_at q point ≡ (monomial exponents point *ℤ pos q.denominator)) → polynomial_of q ≡ power_product exponents
 
 -- the length of the longest exponent list
 abbrev pub width : List Term → ℕ

@@ -6,6 +6,7 @@ use Rattle.iolb_model.specs.Polynomial.{Term, terms_value}
 use Rattle.affine_form.specs.Form.{IsSmall}
 use Rattle.poly_tree.specs.Expansion.{Expansion, IsCanonical, DegreesAtMost, at, value, weight, coefficients}
 use Rattle.poly_tree.specs.Poly.{Quotient, numerator_at, size}
+use Rattle.iolb_model.specs.declared.limits.TheConstants.{EXPONENT, VARIABLES}
 
 -- a coefficient and the exponents of the variables
 abbrev pub term_of : ℤ × Vec ℕ Global → Term
@@ -21,7 +22,7 @@ terms_weight (term ∷ terms) = unsigned_abs term.coefficient + terms_weight ter
 
 -- exponents for at most 24 variables, each at most 8
 abbrev pub HasExponents : Term → Type 0
-HasExponents term = (length term.exponents ≤ 24) × AllByRecursion (λ e. e ≤ 8) term.exponents
+HasExponents term = (length term.exponents ≤ VARIABLES) × AllByRecursion (λ e. e ≤ EXPONENT) term.exponents
 
 -- all exponent lists are as long as each other, and no two are equal
 abbrev pub AreApart : List Term → Type 0

@@ -9,7 +9,7 @@ use crate::tree::Tree;
 use affine_form::{Form, Memory};
 use std::alloc::Global;
 
-/// A form as a tree. Want of memory is its only error.
+/// A form as a tree.
 pub(crate) fn form_tree(alloc: Global, form: &Form) -> Result<Tree, Memory>
     ensures legal { IsLegalForm form.now }
     ensures affine { IfOk result (λ t. IsAffine form.now.coefficients form.now.constant (expansion t)) }

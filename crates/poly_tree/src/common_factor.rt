@@ -46,7 +46,7 @@ fn gcd(a: u128, b: u128) -> u128
     x
 }
 
-/// A tree divided by a number that divides all of its numbers. Want of memory is its only error.
+/// A tree divided by a number that divides all of its numbers.
 pub(crate) fn divided(alloc: Global, tree: &Tree, factor: i128) -> Result<Tree, Memory>
     requires some { pos 1 ≤ℤ factor }
     requires divides { DividesAll (unsigned_abs factor) (expansion tree.now) }

@@ -7,7 +7,7 @@ use crate::tree::Tree;
 use affine_form::Memory;
 use std::alloc::Global;
 
-/// A copy of a tree. Want of memory is its only error.
+/// A copy of a tree.
 pub(crate) fn copied(alloc: Global, tree: &Tree) -> Result<Tree, Memory>
     ensures { IfOk result (λ copy. expansion copy ≡ expansion tree.now) }
 {

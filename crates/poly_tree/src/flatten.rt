@@ -9,8 +9,7 @@ use crate::tree::Tree;
 use affine_form::Memory;
 use std::alloc::Global;
 
-/// The terms of a tree whose coefficients aren't 0, the powers of the highest variable rising. Want of memory is its
-/// only error.
+/// The terms of a tree whose coefficients aren't 0, the powers of the highest variable rising.
 pub(crate) fn terms_of_tree(alloc: Global, tree: &Tree) -> Result<Vec<Term>, Memory>
     ensures { IfOk result (λ terms. terms.items ≡ expansion_terms (expansion tree.now)) }
 {

@@ -36,5 +36,3 @@ pub use poly::Poly;
 pub use tree::Tree;
 pub use wide::Wide;
 
-#[cfg(test)]
-mod tests;

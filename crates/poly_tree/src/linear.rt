@@ -10,7 +10,7 @@ use crate::tree::Tree;
 use affine_form::Memory;
 use std::alloc::Global;
 
-/// A multiple of a tree and one of another. Want of memory is its only error.
+/// A multiple of a tree and one of another.
 pub(crate) fn linear(
     alloc: Global,
     a: &Tree,

@@ -12,7 +12,7 @@ use crate::tree::Tree;
 use affine_form::Memory;
 use std::alloc::Global;
 
-/// The product of two trees. Want of memory is its only error.
+/// The product of two trees.
 pub(crate) fn mul(alloc: Global, a: &Tree, b: &Tree) -> Result<Tree, Memory>
     requires { weight (expansion a.now) * weight (expansion b.now) < 2 ^ 127 }
     ensures { IfOk result (λ t. IsProduct (expansion a.now) (expansion b.now) (expansion t)) }
@@ -31,7 +31,7 @@ pub(crate) fn mul(alloc: Global, a: &Tree, b: &Tree) -> Result<Tree, Memory>
     }
 }
 
-/// A number times a tree. Want of memory is its only error.
+/// A number times a tree.
 fn mul_number(alloc: Global, a: i128, b: &Tree) -> Result<Tree, Memory>
     requires { unsigned_abs a * weight (expansion b.now) < 2 ^ 127 }
     ensures { IfOk result (λ t. IsProduct (number a) (expansion b.now) (expansion t)) }

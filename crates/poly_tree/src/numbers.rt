@@ -1,11 +1,12 @@
 //! How great the numbers of polynomials are.
 
-ghost use Rattle.std.specs.Prelude.{◌≡◌, ◌^◌, ◌↔◌, IsTrue, min};
+ghost use Rattle.std.specs.Prelude.{◌≡◌, ◌↔◌, IsTrue, min};
 ghost use Rattle.std.specs.List.{AllByRecursion};
 ghost use Rattle.affine_form.specs.Form.{IsSmall};
 ghost use Rattle.poly_tree.specs.Expansion.{coefficients};
 ghost use Rattle.poly_tree.specs.Poly.{size};
 ghost use Rattle.poly_tree.specs.Tree.{expansion};
+ghost use Rattle.iolb_model.specs.declared.limits.TheConstants.{MEASURE};
 
 use crate::poly::{Poly, size_of};
 use crate::tree::Tree;
@@ -20,7 +21,7 @@ impl Poly {
 
     /// The greater of 1 and the sum of the coefficients' sizes, times the denominator; 2^126 if that is less.
     pub fn capped_size(&self) -> u128
-        ensures { result ≡ min (size self.now) (2 ^ 126) }
+        ensures { result ≡ min (size self.now) MEASURE }
     {
         size_of(self)
     }

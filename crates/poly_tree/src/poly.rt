@@ -4,6 +4,7 @@ ghost use Rattle.std.specs.Prelude.{◌≡◌, ◌*◌, ◌<◌, ◌≤◌, ◌^
 ghost use Rattle.poly_tree.specs.Expansion.{IsCanonical, DegreesAtMost, at, size_at, value, weight};
 ghost use Rattle.poly_tree.specs.Tree.{expansion};
 ghost use Rattle.poly_tree.specs.Poly.{IsDifferenceOf, IsForm, IsLegal, IsProductOf, IsPutIn, IsReduced, IsShiftOf, IsSubstitutionOf, IsSumOf, IsCombinationOf, ProductPassesDegree, PutPassesDegree, SameValues, ShiftPassesDegree, SubstitutionPassesDegree, form_size, numerator_at, put_size, size};
+ghost use Rattle.iolb_model.specs.declared.limits.TheConstants.{MEASURE, SUM_MEASURE};
 
 use crate::affine::{form_tree, with_variable};
 use crate::common_factor::{common_factor, divided, quotient};
@@ -21,6 +22,7 @@ use crate::tree::Tree;
 use crate::weight::weight_of;
 use crate::wide::Wide;
 use affine_form::{Form, Memory};
+use iolb_model::limits;
 use std::alloc::Global;
 use std::marker::Model;
 
@@ -49,7 +51,7 @@ impl Model for Poly {
 }
 
 impl Poly {
-    /// The polynomial that a form is. Want of memory is its only error.
+    /// The polynomial that a form is.
     pub fn from_form(alloc: Global, form: &Form) -> Result<Poly, Memory>
         ensures { IfOk result (λ poly. IsForm form.now poly) }
     {
@@ -57,7 +59,7 @@ impl Poly {
         Ok(Poly { tree, den: 1 })
     }
 
-    /// A copy of the polynomial. Want of memory is its only error.
+    /// A copy of the polynomial.
     pub fn try_clone(&self, alloc: Global) -> Result<Poly, Memory>
         ensures { IfOk result (λ poly. poly ≡ self.now) }
     {
@@ -103,9 +105,9 @@ impl Poly {
     pub fn numer(&self, point: &[i128]) -> Result<i128, Wide>
         requires { IsCanonical (length point.now) self.now.tree }
         ensures value { IfOk result (λ n. n ≡ numerator_at self.now point.now) }
-        ensures exact { IsErr result ↔ (2 ^ 126 ≤ size_at self.now.tree (at point.now)) }
+        ensures exact { IsErr result ↔ (MEASURE ≤ size_at self.now.tree (at point.now)) }
     {
-        if size_at(self.tree(), point) >= 1 << 126 {
+        if size_at(self.tree(), point) >= limits::MEASURE {
             return Err(Wide);
         }
         Ok(value_at(self.tree(), point))
@@ -118,8 +120,8 @@ impl Poly {
     /// `Wide` exactly where the product of the sizes reaches 2^125; `Memory` where there is none.
     pub fn add(&self, alloc: Global, other: &Poly) -> Result<Poly, PolyFault>
         ensures value { IfOk result (λ r. IsSumOf self.now other.now r) }
-        ensures narrow { IsOk result → size self.now * size other.now < 2 ^ 125 }
-        ensures wide { result ≡ Err PolyFault.Wide → 2 ^ 125 ≤ size self.now * size other.now }
+        ensures narrow { IsOk result → size self.now * size other.now < SUM_MEASURE }
+        ensures wide { result ≡ Err PolyFault.Wide → SUM_MEASURE ≤ size self.now * size other.now }
     {
         combined(alloc, self, other, self.den())
     }
@@ -131,8 +133,8 @@ impl Poly {
     /// `Wide` exactly where the product of the sizes reaches 2^125; `Memory` where there is none.
     pub fn sub(&self, alloc: Global, other: &Poly) -> Result<Poly, PolyFault>
         ensures value { IfOk result (λ r. IsDifferenceOf self.now other.now r) }
-        ensures narrow { IsOk result → size self.now * size other.now < 2 ^ 125 }
-        ensures wide { result ≡ Err PolyFault.Wide → 2 ^ 125 ≤ size self.now * size other.now }
+        ensures narrow { IsOk result → size self.now * size other.now < SUM_MEASURE }
+        ensures wide { result ≡ Err PolyFault.Wide → SUM_MEASURE ≤ size self.now * size other.now }
     {
         combined(alloc, self, other, -self.den())
     }
@@ -145,9 +147,9 @@ impl Poly {
     /// exactly where the size times f^e reaches 2^126, or the answer has a degree above 8; `Memory` where there is none.
     pub fn substitute(&self, alloc: Global, var: u16, form: &Form) -> Result<Poly, PolyFault>
         ensures value { IfOk result (λ r. IsSubstitutionOf self.now var form.now r) }
-        ensures narrow { IsOk result → put_size self.now var (form_size form.now) < 2 ^ 126 }
+        ensures narrow { IsOk result → put_size self.now var (form_size form.now) < MEASURE }
         ensures wide { result ≡ Err PolyFault.Wide
-            → (2 ^ 126 ≤ put_size self.now var (form_size form.now)) ⊎ SubstitutionPassesDegree self.now var form.now }
+            → (MEASURE ≤ put_size self.now var (form_size form.now)) ⊎ SubstitutionPassesDegree self.now var form.now }
     {
         let inner = form_tree(alloc, form)?;
         put_in(alloc, self, var, &inner)
@@ -161,9 +163,9 @@ impl Poly {
     /// degree above 8; `Memory` where there is none.
     pub fn shift(&self, alloc: Global, var: u16) -> Result<Poly, PolyFault>
         ensures value { IfOk result (λ r. IsShiftOf self.now var r) }
-        ensures narrow { IsOk result → put_size self.now var 2 < 2 ^ 126 }
+        ensures narrow { IsOk result → put_size self.now var 2 < MEASURE }
         ensures wide { result ≡ Err PolyFault.Wide
-            → (2 ^ 126 ≤ put_size self.now var 2) ⊎ ShiftPassesDegree self.now var }
+            → (MEASURE ≤ put_size self.now var 2) ⊎ ShiftPassesDegree self.now var }
     {
         let inner = with_variable(alloc, Tree::Num(-1), var, 1)?;
         put_in(alloc, self, var, &inner)
@@ -191,11 +193,11 @@ impl Poly {
     /// there is none.
     pub fn mul(&self, alloc: Global, other: &Poly) -> Result<Poly, PolyFault>
         ensures value { IfOk result (λ r. IsProductOf self.now other.now r) }
-        ensures narrow { IsOk result → size self.now * size other.now < 2 ^ 126 }
+        ensures narrow { IsOk result → size self.now * size other.now < MEASURE }
         ensures wide { result ≡ Err PolyFault.Wide
-            → (2 ^ 126 ≤ size self.now * size other.now) ⊎ ProductPassesDegree self.now other.now }
+            → (MEASURE ≤ size self.now * size other.now) ⊎ ProductPassesDegree self.now other.now }
     {
-        if size_product(self, other) >= 1 << 126 {
+        if size_product(self, other) >= limits::MEASURE {
             return Err(PolyFault::Wide);
         }
         let tree = mul(alloc, self.tree(), other.tree())?;
@@ -209,13 +211,13 @@ impl Poly {
 /// A polynomial with a canonical tree put in for a variable.
 fn put_in(alloc: Global, poly: &Poly, var: u16, inner: &Tree) -> Result<Poly, PolyFault>
     requires canonical { IsCanonical (2 ^ 16) (expansion inner.now) }
-    requires light { weight (expansion inner.now) < 2 ^ 126 }
+    requires light { weight (expansion inner.now) < MEASURE }
     ensures value { IfOk result (λ r. IsPutIn poly.now var (λ point. value (expansion inner.now) (at point)) r) }
-    ensures narrow { IsOk result → put_size poly.now var (max 1 (weight (expansion inner.now))) < 2 ^ 126 }
+    ensures narrow { IsOk result → put_size poly.now var (max 1 (weight (expansion inner.now))) < MEASURE }
     ensures wide { result ≡ Err PolyFault.Wide
-        → (2 ^ 126 ≤ put_size poly.now var (max 1 (weight (expansion inner.now)))) ⊎ PutPassesDegree poly.now var (expansion inner.now) }
+        → (MEASURE ≤ put_size poly.now var (max 1 (weight (expansion inner.now)))) ⊎ PutPassesDegree poly.now var (expansion inner.now) }
 {
-    if put_size_of(poly, var, inner) >= 1 << 126 {
+    if put_size_of(poly, var, inner) >= limits::MEASURE {
         return Err(PolyFault::Wide);
     }
     let tree = put(alloc, poly.tree(), var, inner)?;
@@ -228,8 +230,8 @@ fn put_in(alloc: Global, poly: &Poly, var: u16, inner: &Tree) -> Result<Poly, Po
 /// The size of a polynomial times the weight of a tree to the power of the degree in a variable, or at least 2^126 if
 /// that is.
 fn put_size_of(poly: &Poly, var: u16, inner: &Tree) -> u128
-    requires { weight (expansion inner.now) < 2 ^ 126 }
-    ensures { min result (2 ^ 126) ≡ min (put_size poly.now var (max 1 (weight (expansion inner.now)))) (2 ^ 126) }
+    requires { weight (expansion inner.now) < MEASURE }
+    ensures { min result MEASURE ≡ min (put_size poly.now var (max 1 (weight (expansion inner.now)))) MEASURE }
 {
     capped_power(
         size_of(poly),
@@ -243,10 +245,10 @@ fn put_size_of(poly: &Poly, var: u16, inner: &Tree) -> u128
 fn combined(alloc: Global, a: &Poly, b: &Poly, factor: i128) -> Result<Poly, PolyFault>
     requires { unsigned_abs factor ≡ a.now.denominator }
     ensures value { IfOk result (λ r. IsCombinationOf a.now b.now factor r) }
-    ensures narrow { IsOk result → size a.now * size b.now < 2 ^ 125 }
-    ensures wide { result ≡ Err PolyFault.Wide → 2 ^ 125 ≤ size a.now * size b.now }
+    ensures narrow { IsOk result → size a.now * size b.now < SUM_MEASURE }
+    ensures wide { result ≡ Err PolyFault.Wide → SUM_MEASURE ≤ size a.now * size b.now }
 {
-    if size_product(a, b) >= 1 << 125 {
+    if size_product(a, b) >= limits::SUM_MEASURE {
         return Err(PolyFault::Wide);
     }
     let tree = linear(alloc, a.tree(), b.den(), b.tree(), factor)?;
@@ -264,21 +266,20 @@ fn common_denominator(a: &Poly, b: &Poly) -> i128
 
 /// The product of the sizes of two polynomials, or 2^126 if that is less.
 fn size_product(a: &Poly, b: &Poly) -> u128
-    ensures { result ≡ min (size a.now * size b.now) (2 ^ 126) }
+    ensures { result ≡ min (size a.now * size b.now) MEASURE }
 {
     capped_product(size_of(a), size_of(b))
 }
 
 /// The size of a polynomial, or 2^126 if that is less.
 pub(crate) fn size_of(poly: &Poly) -> u128
-    ensures size { result ≡ min (size poly.now) (2 ^ 126) }
+    ensures size { result ≡ min (size poly.now) MEASURE }
     ensures legal { IsLegal poly.now }
 {
     capped_product(weight_of(&poly.tree).max(1), poly.den.unsigned_abs())
 }
 
-/// The polynomial that a canonical tree over a denominator is, without common factors. Want of memory is its only
-/// error.
+/// The polynomial that a canonical tree over a denominator is, without common factors.
 pub(crate) fn reduced(alloc: Global, tree: &Tree, den: i128) -> Result<Poly, Memory>
     requires positive { pos 1 ≤ℤ den }
     requires canonical { IsCanonical (2 ^ 16) (expansion tree.now) }

@@ -15,7 +15,7 @@ use std::alloc::Global;
 impl Poly {
     /// The printed form, with a name for each variable; variables past the names aren't printed. Terms stand by falling
     /// total degree, ties by falling exponent of the first variable, then the second, and so on. A denominator above 1
-    /// stands behind: `(N^2 - N)/2`. Want of memory is its only error.
+    /// stands behind: `(N^2 - N)/2`.
     pub fn text(&self, alloc: Global, names: &[Name]) -> Result<Vec<u8>, Memory>
         ensures { IfOk result (λ text. text.items ≡ polynomial_text names.now (polynomial_of self.now)) }
     {

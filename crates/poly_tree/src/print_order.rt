@@ -7,7 +7,7 @@ use crate::term::Term;
 use affine_form::Memory;
 use std::alloc::Global;
 
-/// The terms in the order in which they are printed. Want of memory is its only error.
+/// The terms in the order in which they are printed.
 pub(crate) fn in_print_order(alloc: Global, terms: Vec<Term>) -> Result<Vec<Term>, Memory>
     ensures { IfOk result (λ ordered. ordered.items ≡ terms_in_order terms.items) }
 {

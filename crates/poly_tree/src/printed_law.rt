@@ -1,17 +1,11 @@
 //! What the terms in the order in which they are printed have to do with the tree.
 
-ghost use Rattle.poly_tree.specs.Printed.{ProductsArePrinted, TermsAreInOrder, TermsHaveTheValue};
+ghost use Rattle.poly_tree.specs.Printed.{TermsAreInOrder, TermsHaveTheValue};
 
 /// A polynomial's terms in the order in which they are printed have the tree's value, over the denominator, at every
 /// point of whole numbers.
 pub fn terms_have_the_value()
     ensures { TermsHaveTheValue }
-{}
-
-/// A polynomial that has at every point the value of a product of powers of the first variables, each at least 1, has
-/// that product as its one term, and the denominator 1.
-pub fn products_are_printed()
-    ensures { ProductsArePrinted }
 {}
 
 /// A polynomial's terms stand by falling total degree, ties by falling exponent of the first variable, then the second,

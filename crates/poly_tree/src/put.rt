@@ -12,7 +12,7 @@ use crate::tree::Tree;
 use affine_form::Memory;
 use std::alloc::Global;
 
-/// A tree with another put in for a variable. Want of memory is its only error.
+/// A tree with another put in for a variable.
 pub(crate) fn put(alloc: Global, tree: &Tree, var: u16, inner: &Tree) -> Result<Tree, Memory>
     requires { put_weight var (max 1 (weight (expansion inner.now))) (expansion tree.now) < 2 ^ 127 }
     ensures { IfOk result (λ t. IsPut var (expansion inner.now) (expansion tree.now) (expansion t)) }

@@ -11,7 +11,7 @@ use crate::tree::Tree;
 use affine_form::Memory;
 use std::alloc::Global;
 
-/// A tree times a variable. Want of memory is its only error.
+/// A tree times a variable.
 pub(crate) fn raise(alloc: Global, tree: &Tree, var: u16) -> Result<Tree, Memory>
     ensures { IfOk result (λ t. IsRaised var (expansion tree.now) (expansion t)) }
 {

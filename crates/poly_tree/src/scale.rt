@@ -9,7 +9,7 @@ use crate::tree::Tree;
 use affine_form::Memory;
 use std::alloc::Global;
 
-/// A tree times a number. Want of memory is its only error.
+/// A tree times a number.
 pub(crate) fn scale(alloc: Global, tree: &Tree, factor: i128) -> Result<Tree, Memory>
     requires { unsigned_abs factor * weight (expansion tree.now) < 2 ^ 127 }
     ensures { IfOk result (λ multiple. expansion multiple ≡ scaled factor (expansion tree.now)) }

@@ -10,7 +10,7 @@ use crate::tree::Tree;
 use affine_form::Memory;
 use std::alloc::Global;
 
-/// The sum of two trees. Want of memory is its only error.
+/// The sum of two trees.
 pub(crate) fn sum(alloc: Global, a: &Tree, b: &Tree) -> Result<Tree, Memory>
     requires { weight (expansion a.now) + weight (expansion b.now) < 2 ^ 127 }
     ensures { IfOk result (λ t. IsSum (expansion a.now) (expansion b.now) (expansion t)) }

@@ -1,19 +1,21 @@
 //! Polynomials made of terms.
 
-ghost use Rattle.std.specs.Prelude.{◌≡◌, ◌*◌, ◌<◌, ◌≤◌, ◌^◌, ◌+◌, [], ◌∷◌, ◌++◌, length, min, pos, ◌≤ℤ◌, replicate, unsigned_abs, IfOk, IsOk};
+ghost use Rattle.std.specs.Prelude.{◌≡◌, ◌*◌, ◌<◌, ◌≤◌, ◌+◌, [], ◌∷◌, ◌++◌, length, min, pos, ◌≤ℤ◌, replicate, unsigned_abs, IfOk, IsOk};
 ghost use Rattle.std.specs.List.{AllByRecursion};
 ghost use Rattle.poly_tree.specs.Expansion.{IsJoined, IsMonomial, parts_from, zero_expansion};
 ghost use Rattle.poly_tree.specs.Poly.{IsLegal};
 ghost use Rattle.poly_tree.specs.Terms.{AreApart, HasExponents, IsNoGreater, IsTermsOver, IsTermsSum, terms_of, terms_size, terms_weight};
 ghost use Rattle.poly_tree.specs.Tree.{expansion, expansions};
+ghost use Rattle.iolb_model.specs.declared.limits.TheConstants.{MEASURE, EXPONENT, VARIABLES};
 
 use crate::fault::PolyFault;
 use crate::join::join;
 use crate::poly::{Poly, reduced};
-use crate::size::{LIMIT, capped_product};
+use crate::size::capped_product;
 use crate::sum::sum;
 use crate::tree::Tree;
 use affine_form::Memory;
+use iolb_model::limits;
 use std::alloc::Global;
 
 impl Poly {
@@ -35,11 +37,11 @@ impl Poly {
         ensures value { IfOk result (λ r. IsTermsOver (terms_of terms.now) (unsigned_abs den) r) }
         ensures legal { IfOk result (λ r. IsLegal r) }
         ensures within { IfOk result (λ r. IsNoGreater (terms_of terms.now) (unsigned_abs den) r) }
-        ensures narrow { IsOk result → terms_size (terms_of terms.now) (unsigned_abs den) < 2 ^ 126 }
-        ensures wide { result ≡ Err PolyFault.Wide → 2 ^ 126 ≤ terms_size (terms_of terms.now) (unsigned_abs den) }
+        ensures narrow { IsOk result → terms_size (terms_of terms.now) (unsigned_abs den) < MEASURE }
+        ensures wide { result ≡ Err PolyFault.Wide → MEASURE ≤ terms_size (terms_of terms.now) (unsigned_abs den) }
     {
         let size = capped_product(weight_of_terms(terms).max(1), den.unsigned_abs());
-        if size >= LIMIT {
+        if size >= limits::MEASURE {
             return Err(PolyFault::Wide);
         }
         let tree = sum_of_terms(alloc, terms)?;
@@ -49,18 +51,18 @@ impl Poly {
 
 /// The sum of the sizes of the coefficients, or 2^126 if that is less.
 fn weight_of_terms(terms: &[(i128, Vec<u8>)]) -> u128
-    ensures { result ≡ min (terms_weight (terms_of terms.now)) (2 ^ 126) }
+    ensures { result ≡ min (terms_weight (terms_of terms.now)) MEASURE }
 {
     let mut sum = 0;
     for (coefficient, _) in terms {
-        sum = (sum + coefficient.unsigned_abs().min(LIMIT)).min(LIMIT);
+        sum = (sum + coefficient.unsigned_abs().min(limits::MEASURE)).min(limits::MEASURE);
     }
     sum
 }
 
 /// The tree that terms add up to: the sum of what the halves add up to, so that no tree is copied once for each term.
 fn sum_of_terms(alloc: Global, terms: &[(i128, Vec<u8>)]) -> Result<Tree, Memory>
-    requires light { terms_weight (terms_of terms.now) < 2 ^ 126 }
+    requires light { terms_weight (terms_of terms.now) < MEASURE }
     requires exponents { AllByRecursion HasExponents (terms_of terms.now) }
     ensures { IfOk result (λ t. IsTermsSum (terms_of terms.now) 24 (expansion t)) }
 {
@@ -78,8 +80,8 @@ fn sum_of_terms(alloc: Global, terms: &[(i128, Vec<u8>)]) -> Result<Tree, Memory
 
 /// A coefficient times powers of the variables, as a tree.
 fn monomial(alloc: Global, coefficient: i128, exponents: &[u8]) -> Result<Tree, Memory>
-    requires few { length exponents.now ≤ 24 }
-    requires low { AllByRecursion (λ e. e ≤ 8) exponents.now }
+    requires few { length exponents.now ≤ VARIABLES }
+    requires low { AllByRecursion (λ e. e ≤ EXPONENT) exponents.now }
     ensures { IfOk result (λ t. IsMonomial coefficient exponents.now (expansion t)) }
 {
     let mut tree = Tree::Num(coefficient);

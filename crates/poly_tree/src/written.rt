@@ -5,6 +5,7 @@ ghost use Rattle.std.specs.List.{AllByRecursion};
 ghost use Rattle.iolb_model.specs.Polynomial.{Term as SomeTerm};
 ghost use Rattle.poly_tree.specs.Printed.{AreWritten, polynomial_of, width as width_of_terms, widened as with_zeros, widened_term, written_terms};
 ghost use Rattle.poly_tree.specs.Terms.{terms_of};
+ghost use Rattle.iolb_model.specs.declared.limits.TheConstants.{EXPONENT};
 
 use crate::flatten::terms_of_tree;
 use crate::poly::Poly;
@@ -15,7 +16,7 @@ use std::alloc::Global;
 
 impl Poly {
     /// The terms in the order in which they are printed: a coefficient that isn't 0, and an exponent for each variable
-    /// up to the greatest that the polynomial uses. Want of memory is its only error.
+    /// up to the greatest that the polynomial uses.
     pub fn terms(&self, alloc: Global) -> Result<Vec<(i128, Vec<u8>)>, Memory>
         ensures terms { IfOk result (λ terms. terms_of terms.items ≡ written_terms self.now) }
         ensures written { AreWritten self.now }
@@ -43,7 +44,7 @@ fn widened_terms(
     terms: &[Term],
     width: usize,
 ) -> Result<Vec<(i128, Vec<u8>)>, Memory>
-    requires { AllByRecursion (λ (term : SomeTerm). AllByRecursion (λ e. e ≤ 8) term.exponents) terms.now }
+    requires { AllByRecursion (λ (term : SomeTerm). AllByRecursion (λ e. e ≤ EXPONENT) term.exponents) terms.now }
     ensures { IfOk result (λ all. terms_of all.items ≡ map (widened_term width) terms.now) }
 {
     let mut all = Vec::new(alloc);
@@ -56,7 +57,7 @@ fn widened_terms(
 
 /// Exponents for so many variables, which are 0 past the end.
 fn widened(alloc: Global, exponents: &[usize], width: usize) -> Result<Vec<u8>, Memory>
-    requires { AllByRecursion (λ e. e ≤ 8) exponents.now }
+    requires { AllByRecursion (λ e. e ≤ EXPONENT) exponents.now }
     ensures { IfOk result (λ all. all.items ≡ with_zeros width exponents.now) }
 {
     let mut all = narrowed(alloc, exponents)?;
@@ -68,7 +69,7 @@ fn widened(alloc: Global, exponents: &[usize], width: usize) -> Result<Vec<u8>, 
 
 /// Exponents as bytes.
 fn narrowed(alloc: Global, exponents: &[usize]) -> Result<Vec<u8>, Memory>
-    requires { AllByRecursion (λ e. e ≤ 8) exponents.now }
+    requires { AllByRecursion (λ e. e ≤ EXPONENT) exponents.now }
     ensures { IfOk result (λ all. all.items ≡ exponents.now) }
 {
     let mut all = Vec::new(alloc);

@@ -2,7 +2,7 @@
 use Rattle.std.specs.Prelude.{◌≡◌, ℕ, ℤ, pos, ◌*◌, ◌^◌, ◌*ℤ◌}
 use Rattle.std.proofs.Common.{arith, ap, sym, ◌∙◌, zero, suc}
 use Rattle.std.proofs.Math.Nat.{pow-suc, pow-zero}
-use Rattle.integer_laws.proofs.Ring.{mul_comm, mul_assoc_ℤ}
+use Rattle.base_laws.proofs.Ring.{mul_comm, mul_assoc_ℤ}
 use Rattle.power_sums.specs.Polynomial.{power}
 
 pub mul_left_comm : (a b c : ℤ) → a *ℤ (b *ℤ c) ≡ b *ℤ (a *ℤ c)

@@ -6,7 +6,7 @@ use Rattle.std.specs.Ordering.{int_eq}
 use Rattle.std.proofs.lemmas.Bool.{and_parts}
 use Rattle.std.proofs.lemmas.Bool.Decides.{Decides-int_eq}
 use Rattle.std.proofs.lemmas.Int.{ints}
-use Rattle.integer_laws.proofs.Ring.{mul-sub, sub-mul}
+use Rattle.base_laws.proofs.Ring.{mul-sub, sub-mul}
 use Rattle.power_sums.specs.Polynomial.{value, coefficient, power}
 use Rattle.power_sums.proofs.IntLaws.{mul_left_comm}
 

@@ -10,7 +10,7 @@ use Rattle.std.proofs.lemmas.Int.{ints}
 use Rattle.std.proofs.lemmas.List.{get_or-drop}
 use Rattle.std.proofs.lemmas.Nat.Gcd.{dvd_antisymm}
 use Rattle.std.proofs.Math.Nat.{one-dvd}
-use Rattle.integer_laws.proofs.Ring.{mul-add}
+use Rattle.base_laws.proofs.Ring.{mul-add}
 use Rattle.power_sums.specs.Polynomial.{value, coefficient, power}
 use Rattle.power_sums.specs.PowerSum.{IsPowerSum, total_of_powers}
 use Rattle.power_sums.specs.declared.row.Row.{Row}

@@ -16,7 +16,7 @@ macro_rules! row {
 }
 
 /// How many powers the table has, from 0 on.
-pub const ROW_COUNT: usize = 4;
+pub const ROW_COUNT: usize = 6;
 
 /// Row d is the sum of `i^d` for i from 1 to n (Faulhaber, 1631), in lowest terms.
 const ROWS: [Row<8>; ROW_COUNT] = [
@@ -24,6 +24,8 @@ const ROWS: [Row<8>; ROW_COUNT] = [
     row!([0, 1, 1, 0, 0, 0, 0, 0] / 2),
     row!([0, 1, 3, 2, 0, 0, 0, 0] / 6),
     row!([0, 0, 1, 2, 1, 0, 0, 0] / 4),
+    row!([0, -1, 0, 10, 15, 6, 0, 0] / 30),
+    row!([0, 0, -1, 0, 5, 6, 2, 0] / 12),
 ];
 
 /// The sum of `i^d` for i from 1 to n, as a polynomial in n; None exactly for d past the table.
@@ -40,10 +42,9 @@ mod tests {
 
     #[test]
     fn worked_rows(rt: HostRuntime) {
-        assert_eq!(rt; power_sum(0), Some(row!([0, 1, 0, 0, 0, 0, 0, 0] / 1)));
-        assert_eq!(rt; power_sum(1), Some(row!([0, 1, 1, 0, 0, 0, 0, 0] / 2)));
         assert_eq!(rt; power_sum(2), Some(row!([0, 1, 3, 2, 0, 0, 0, 0] / 6)));
-        assert_eq!(rt; power_sum(3), Some(row!([0, 0, 1, 2, 1, 0, 0, 0] / 4)));
-        assert_eq!(rt; power_sum(4), None);
+        assert_eq!(rt; power_sum(4), Some(row!([0, -1, 0, 10, 15, 6, 0, 0] / 30)));
+        assert_eq!(rt; power_sum(5), Some(row!([0, 0, -1, 0, 5, 6, 2, 0] / 12)));
+        assert_eq!(rt; power_sum(6), None);
     }
 }

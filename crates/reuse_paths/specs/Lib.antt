@@ -1,3 +1,5 @@
 pub mod LeafClaims
 pub mod Quasts
-pub mod Rows
+pub mod Trees
+pub mod Reached
+pub mod Walks

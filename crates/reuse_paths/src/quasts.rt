@@ -1,7 +1,7 @@
 //! The source trees of a program's reads.
 
 ghost use Rattle.std.specs.Prelude.{◌≡◌, MatchOption, Some, None};
-ghost use Rattle.reuse_paths.specs.Quasts.{tree_at};
+ghost use Rattle.reuse_paths.specs.Quasts.{tree_at, trees_of};
 ghost use Rattle.dep_quast.specs.Tree.{tree_of};
 
 use dep_quast::Quast;
@@ -29,7 +29,7 @@ impl Quasts {
 
     /// The source tree of a read of a statement, where there is one.
     pub fn tree(&self, statement: u16, read: u16) -> Option<&Quast>
-        ensures { MatchOption result (tree_at self.now statement read ≡ None) (λ quast. tree_at self.now statement read ≡ Some (tree_of quast.now)) }
+        ensures { MatchOption result (tree_at (trees_of self.now) statement read ≡ None) (λ quast. tree_at (trees_of self.now) statement read ≡ Some (tree_of quast.now)) }
     {
         let row = self.rows.get(usize::from(statement))?;
         row.get(usize::from(read))

@@ -7,16 +7,14 @@ use Rattle.std.proofs.lemmas.Int.{ints}
 use Rattle.std.proofs.lemmas.List.{map-append}
 use Rattle.iolb_model.specs.Form.{AffineForm, dot, form_value}
 use Rattle.iolb_model.specs.Program.{AffineProgram}
-use Rattle.iolb_model.specs.Source.{Cell, same_cell}
-use Rattle.execution_laws.specs.Cold.{read_cell}
+use Rattle.iolb_model.specs.Source.{Cell, same_cell, read_cell}
 use Rattle.execution_laws.proofs.Cells.{same_cell-equal}
 use Rattle.execution_laws.specs.Inverse.{IsScaledInverse}
 use Rattle.execution_laws.proofs.Different.{Differ}
 use Rattle.execution_laws.proofs.Undone.{same_point, dot-append}
 use Rattle.affine_form.specs.Substitution.{values_at}
-use Rattle.affine_rows.proofs.Meaning.{values_at-put_in}
+use Rattle.affine_form.proofs.Meaning.{values-front, values_at-put_in}
 use Rattle.dep_quast.specs.Context.{reference_of}
-use Rattle.dep_quast.proofs.Points.{values-front}
 use Rattle.wavefront.specs.Term.{ColdTerm, nest_variables, instance_point, cell_forms}
 use Rattle.wavefront.specs.Inverse.{matrix_rows, coefficients_past, cell_coefficients, CellsAreUndone}
 use Rattle.wavefront.specs.Loads.{instance_values}

@@ -5,42 +5,41 @@ use Rattle.std.proofs.Math.IntN.{ℤ, pos, negsuc, ◌+ℤ◌, ◌-ℤ◌}
 use lib.Signed.{◌≤ℤ◌}
 use Rattle.std.proofs.lemmas.Int.{ints}
 use Rattle.std.proofs.lemmas.List.{length-append, length-drop}
-use Rattle.integer_laws.proofs.Lists.{All-append}
+use Rattle.base_laws.proofs.Lists.{All-append}
 use Rattle.iolb_model.specs.Form.{AffineForm, form_value}
 use Rattle.iolb_model.specs.Program.{AffineProgram}
 use Rattle.iolb_model.specs.Printed.{is_below_zero}
-use Rattle.iolb_model.specs.Source.{input}
-use Rattle.execution_laws.specs.Cold.{read_cell}
-use Rattle.affine_form.specs.declared.place.Step.{Step}
-use Rattle.affine_form.specs.declared.place.Step.TheVariants.{Index}
+use Rattle.iolb_model.specs.Source.{input, read_cell}
+use Rattle.claims.specs.declared.place.Step.{Step}
+use Rattle.claims.specs.declared.place.Step.TheVariants.{Index}
 use Rattle.affine_form.specs.Substitution.{substitution, values_at}
 use Rattle.affine_form.specs.System.{IsMet}
 use Rattle.affine_form.proofs.ShownLemmas.{Shows-none}
 use Rattle.affine_form.proofs.SubstitutionLemmas.{form_value-substitution}
-use Rattle.affine_rows.proofs.Meaning.{form_value-widened, form_value-difference}
-use Rattle.dep_quast.specs.Claims.{AllHold, Holds, PlacedClaim, few}
-use Rattle.dep_quast.proofs.Shown.{AllHold-left, AllHold-right}
+use Rattle.affine_form.proofs.Meaning.{form_value-widened, form_value-difference}
+use Rattle.dep_quast.specs.Claims.{IsFew}
+use Rattle.claims.specs.Claims.{AllHold, Claim}
+use Rattle.claims.proofs.Laws.{AllHold-left, AllHold-right}
 use Rattle.dep_quast.specs.Context.{ReadOf}
 use Rattle.dep_quast.specs.Tree.{Leaf as TreeLeaf, source, input as input_leaf, empty, blank, SelectionTree, leaf, test, leaf_at}
 use Rattle.dep_quast.specs.Truth.{IsTrueLeaf, source_at}
-use Rattle.reuse_paths.specs.declared.leaf.Leaf.{Leaf}
-use Rattle.reuse_paths.specs.declared.leaf.Leaf.TheVariants.{Empty, Stop, Credit, Go, Arrive}
-use Rattle.wavefront.specs.Leaves.{OpenLeaf, yes_at, no_at, open_leaf, open_leaves, leaf_claim, leaves_claims}
+use Rattle.reuse_paths.specs.LeafClaims.{LeafClaim, no_point, stops, is_credited, goes_on, arrives}
+use Rattle.wavefront.specs.Leaves.{OpenLeaf, yes_at, no_at, open_leaf, open_leaves, IsClosed, leaf_claim, leaves_claims}
 
 -- what is claimed at the leaves of two rows of leaves is what is claimed at each
-claims-append : (vars : ℕ) (rows : List AffineForm) (place : List Step) (index : ℕ) (xs ys : List OpenLeaf) (entries : List Leaf) → length xs ≤ length entries
+claims-append : (vars : ℕ) (rows : List AffineForm) (place : List Step) (index : ℕ) (xs ys : List OpenLeaf) (entries : List LeafClaim) → length xs ≤ length entries
     → leaves_claims vars rows place index (xs ++ ys) entries ≡ leaves_claims vars rows place index xs entries ++ leaves_claims vars rows place (index + length xs) ys (drop (length xs) entries)
 claims-append vars rows place index [] ys entries le = ap (λ (n : ℕ). leaves_claims vars rows place n ys entries) (plus index) where
   plus : (n : ℕ) → n ≡ n + 0
   plus n = omega arith
 claims-append vars rows place index (x ∷ xs) ys [] le = absurd (omega (arith, le))
 claims-append vars rows place index (x ∷ xs) ys (e ∷ entries) le =
-    ap (λ (cs : List PlacedClaim). first ∷ second ∷ cs) (claims-append vars rows place (suc index) xs ys entries (omega (arith, le))
+    ap (λ (cs : List Claim). first ∷ second ∷ cs) (claims-append vars rows place (suc index) xs ys entries (omega (arith, le))
     ∙ ap (λ (n : ℕ). leaves_claims vars rows place (suc index) xs entries ++ leaves_claims vars rows place n ys (drop (length xs) entries)) (shift index (length xs))) where
-      first : PlacedClaim
-      first = record { condition = 2; place = place ++ Index index ∷ []; claim = few (length (rows ++ x.tests)) }
+      first : Claim
+      first = record { condition = 2; place = place ++ Index index ∷ []; statement = IsFew (length (rows ++ x.tests)) }
 
-      second : PlacedClaim
+      second : Claim
       second = leaf_claim (place ++ Index index ∷ []) (record { vars = vars; rows = rows ++ x.tests }) x.is_input e
 
       shift : (m n : ℕ) → suc m + n ≡ m + suc n
@@ -66,14 +65,14 @@ module _ (program : AffineProgram) (reader : ReadOf) (parameters : List ℤ) (wh
   met-with tests met = All-append (λ (row : AffineForm). pos 0 ≤ℤ form_value row at) rows tests rows-met met
 
   -- no entry closes a leaf that is reached and isn't an input
-  not-closed : (index : ℕ) (e : Leaf) (tests : List AffineForm) → Holds (leaf_claim (place ++ Index index ∷ []) (record { vars = vars; rows = rows ++ tests }) false e).claim → IsMet tests at → ⊥
-  not-closed index (Empty shown) tests h met = Shows-none (record { vars = vars; rows = rows ++ tests }) shown h.0 h.1 at (met-with tests met)
-  not-closed index (Stop label) tests h met = absurd cc
-  not-closed index (Credit credit rs label) tests h met = absurd cc
-  not-closed index (Go rs label) tests h met = absurd cc
-  not-closed index (Arrive equal) tests h met = absurd cc
+  not-closed : (index : ℕ) (e : LeafClaim) (tests : List AffineForm) → IsClosed (record { vars = vars; rows = rows ++ tests }) false e → IsMet tests at → ⊥
+  not-closed index (no_point shown) tests h met = Shows-none (record { vars = vars; rows = rows ++ tests }) shown h.0 h.1 at (met-with tests met)
+  not-closed index (stops label) tests h met = absurd cc
+  not-closed index (is_credited credit rs label) tests h met = h
+  not-closed index (goes_on rs label) tests h met = h
+  not-closed index (arrives equal) tests h met = h
 
-  leaf-input : (index : ℕ) (tests : List AffineForm) (chosen : TreeLeaf) (entries : List Leaf) → length (open_leaf tests chosen) ≤ length entries
+  leaf-input : (index : ℕ) (tests : List AffineForm) (chosen : TreeLeaf) (entries : List LeafClaim) → length (open_leaf tests chosen) ≤ length entries
       → AllHold (leaves_claims vars rows place index (open_leaf tests chosen) entries) → IsMet tests at → IsTrueLeaf program parameters reader where_ values chosen
       → source_at program parameters reader where_ values ≡ input (read_cell program parameters reader.statement reader.read values)
   leaf-input index tests (input_leaf shown) entries le h met true_leaf = true_leaf
@@ -83,7 +82,7 @@ module _ (program : AffineProgram) (reader : ReadOf) (parameters : List ℤ) (wh
   leaf-input index tests blank [] le h met true_leaf = absurd (omega (arith, le))
   leaf-input index tests blank (e ∷ entries) le h met true_leaf = absurd (not-closed index e tests h.1.0 met)
 
-  pub tree-input : (index : ℕ) (tests : List AffineForm) (tree : SelectionTree) (entries : List Leaf) → length (open_leaves vars forms tests tree) ≤ length entries
+  pub tree-input : (index : ℕ) (tests : List AffineForm) (tree : SelectionTree) (entries : List LeafClaim) → length (open_leaves vars forms tests tree) ≤ length entries
       → AllHold (leaves_claims vars rows place index (open_leaves vars forms tests tree) entries) → IsMet tests at → IsTrueLeaf program parameters reader where_ values (leaf_at tree (parameters ++ values))
       → source_at program parameters reader where_ values ≡ input (read_cell program parameters reader.statement reader.read values)
   tree-input index tests (leaf chosen) entries le h met true_leaf = leaf-input index tests chosen entries le h met true_leaf

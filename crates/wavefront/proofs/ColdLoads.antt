@@ -3,31 +3,37 @@ use Rattle.std.proofs.Common.{◌≡◌, refl, sym, ◌∙◌, ap, subst, ℕ, �
 use Rattle.std.specs.List.{AllByRecursion, IsDistinct}
 use Rattle.std.proofs.Math.IntN.{ℤ}
 use Rattle.std.proofs.lemmas.List.{length-map}
-use Rattle.integer_laws.proofs.Lists.{All-weaken, All-map}
+use Rattle.base_laws.proofs.Lists.{All-weaken, All-map}
 use Rattle.iolb_model.specs.Form.{AffineForm}
 use Rattle.iolb_model.specs.Path.{PathStep, row_path}
 use Rattle.iolb_model.specs.Program.{AffineProgram, IsWellFormed}
 use Rattle.iolb_model.specs.Bound.{IsAdmitted}
-use Rattle.iolb_model.specs.Source.{same_cell}
+use Rattle.iolb_model.specs.Source.{same_cell, read_cell}
 use Rattle.iolb_model.specs.Game.{loads_of}
-use Rattle.execution_laws.specs.Cold.{read_cell, ReadsInput}
-use Rattle.execution_laws.specs.Domain.{IsWithin, IsAt}
+use Rattle.pebble_game.specs.Cold.{ReadsInput}
+use Rattle.iolb_model.specs.Domain.{IsWithin, IsAt}
 use Rattle.execution_laws.proofs.Domains.{domains_executed, way-there}
-use Rattle.execution_laws.proofs.InputVertices.{input_reads_loaded, input_reads_vertices}
-use Rattle.affine_form.specs.declared.place.Step.{Step}
-use Rattle.affine_form.specs.declared.place.Step.TheVariants.{Key}
-use Rattle.affine_form.specs.declared.key.TheConstants.{INSIDE, LEAVES}
+use Rattle.pebble_game.proofs.InputVertices.{input_reads_loaded, input_reads_vertices}
+use Rattle.claims.specs.declared.place.Step.{Step}
+use Rattle.claims.specs.declared.place.Step.TheVariants.{Key}
+use Rattle.claims.specs.declared.key.TheConstants.{INSIDE, LEAVES}
 use Rattle.affine_form.specs.System.{IsMet}
-use Rattle.affine_rows.specs.Rows.{variables_from, step_of}
-use Rattle.affine_rows.proofs.Meaning.{within_rows-says}
-use Rattle.affine_c.specs.Domain.{path_of}
+use Rattle.affine_form.specs.Rows.{variables_from, step_of}
+use Rattle.affine_form.proofs.Meaning.{values-front, within_rows-says}
+use Rattle.affine_program.specs.Domain.{path_of}
 use Rattle.dep_quast.specs.Tree.{SelectionTree}
 use Rattle.dep_quast.specs.Truth.{IsTrueTree}
-use Rattle.dep_quast.proofs.Points.{within-length, values-front, holds-there}
+use Rattle.dep_quast.proofs.Points.{within-length, holds-there}
 use Rattle.dep_quast.proofs.Shown.{goals-met, within_rows-few}
 use Rattle.domain_count.specs.Points.{points}
 use Rattle.wavefront.specs.Term.{ColdTerm, nest_variables, nest_system, instance_point, inside_goals}
-use Rattle.wavefront.specs.Loads.{ColdFits, ColdHolds, ColdTermsAreLoaded, instance_values, all_instances, footprint_of}
+use Rattle.wavefront.specs.Loads.{ColdFits, ColdTermsAreLoaded, instance_values, all_instances, footprint_of}
+use Rattle.claims.specs.Claims.{Claim, AllHold}
+use Rattle.claims.proofs.Laws.{AllHold-left, AllHold-right}
+use Rattle.wavefront.specs.Leaves.{inside_claims, term_leaves}
+use Rattle.wavefront.specs.Inverse.{CellsAreUndone}
+use Rattle.wavefront.specs.ColdClaims.{matrix_claims, instance_claims}
+use Rattle.wavefront.proofs.MatrixClaims.{hold-undone}
 use Rattle.wavefront.proofs.NestPoints.{points-within, points-differ, nest-met}
 use Rattle.wavefront.proofs.ColdLeaves.{tree-input}
 use Rattle.wavefront.proofs.ColdCells.{instance-at, cells-differ}
@@ -37,7 +43,22 @@ map-map f g [] = refl
 map-map f g (x ∷ xs) = ap (λ l. g (f x) ∷ l) (map-map f g xs)
 
 module _ (program : AffineProgram) (place : List Step) (tree : SelectionTree) (term : ColdTerm) (formed : IsWellFormed program) (fits : ColdFits program tree term)
-    (true_tree : IsTrueTree program term.reader tree) (holds : ColdHolds program place tree term) (values : List ℤ) (admitted : IsAdmitted program values) where
+    (true_tree : IsTrueTree program term.reader tree) (holds : AllHold (instance_claims program place tree term)) (values : List ℤ) (admitted : IsAdmitted program values) where
+  abbrev matrix : List Claim
+  matrix = matrix_claims program place term
+
+  -- what holds, part by part
+  holds-inside : AllHold (inside_claims program place term)
+  holds-inside = AllHold-left (inside_claims program place term) (term_leaves program place tree term)
+      (AllHold-left (inside_claims program place term ++ term_leaves program place tree term) matrix holds)
+
+  holds-leaves : AllHold (term_leaves program place tree term)
+  holds-leaves = AllHold-right (inside_claims program place term) (term_leaves program place tree term)
+      (AllHold-left (inside_claims program place term ++ term_leaves program place tree term) matrix holds)
+
+  holds-undone : CellsAreUndone program term
+  holds-undone = hold-undone program place term (AllHold-right (inside_claims program place term ++ term_leaves program place tree term) matrix holds)
+
   -- a point's instance reads an input
   reads : (u : List ℤ) → IsWithin (map step_of term.nest) values u → ReadsInput program values term.reader.statement term.reader.read (instance_values term values u)
   reads u within =
@@ -48,7 +69,7 @@ module _ (program : AffineProgram) (place : List Step) (tree : SelectionTree) (t
       let path : List PathStep = path_of program term.reader.statement in
       let goals : IsMet (inside_goals program term) at =
       goals-met 10 (place ++ Key INSIDE ∷ []) (nest_system program term) 0 (inside_goals program term) term.inside at
-      (omega (arith, fits.parts.inside, within_rows-few vars path params term.point)) holds.inside met in
+      (omega (arith, fits.parts.inside, within_rows-few vars path params term.point)) holds-inside met in
       let inside : IsWithin path values (instance_values term values u) =
       subst (λ (q : List ℤ). IsWithin path q (instance_values term values u)) (values-front vars (length program.parameters) values u (sym admitted.each) (omega arith))
       (within_rows-says vars path params term.point at fits.parts.point goals) in
@@ -60,7 +81,7 @@ module _ (program : AffineProgram) (place : List Step) (tree : SelectionTree) (t
         place = there.0;
         executed = there.1;
         source = tree-input program term.reader values there.0 (instance_values term values u) vars (nest_system program term).rows (instance_point program term) (place ++ Key LEAVES ∷ []) at met
-            (instance-at program term values u admitted.each) 0 [] tree term.leaves (omega (arith, fits.leaves)) holds.leaves tt (true_tree values there.0 (instance_values term values u) admitted there.1);
+            (instance-at program term values u admitted.each) 0 [] tree term.leaves (omega (arith, fits.leaves)) holds-leaves tt (true_tree values there.0 (instance_values term values u) admitted there.1);
       }
 
   pub all-read : AllByRecursion (ReadsInput program values term.reader.statement term.reader.read) (all_instances term values)
@@ -69,7 +90,7 @@ module _ (program : AffineProgram) (place : List Step) (tree : SelectionTree) (t
 
   pub all-differ : IsDistinct same_cell (map (read_cell program values term.reader.statement term.reader.read) (all_instances term values))
   all-differ = subst (IsDistinct same_cell) (sym (map-map (instance_values term values) (read_cell program values term.reader.statement term.reader.read) (points term.nest values)))
-      (cells-differ program term values admitted.each fits.parts.scale holds.undone (points term.nest values) (points-differ term.nest values)
+      (cells-differ program term values admitted.each fits.parts.scale holds-undone (points term.nest values) (points-differ term.nest values)
       (All-weaken (λ (u : List ℤ). IsWithin (map step_of term.nest) values u) (λ (u : List ℤ). length u ≡ length term.nest) (points term.nest values)
       (λ u h. within-length (map step_of term.nest) values u h ∙ length-map term.nest step_of) (points-within term.nest values)))
 

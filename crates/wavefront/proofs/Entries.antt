@@ -6,9 +6,8 @@ use Rattle.std.proofs.lemmas.List.{get_or-map, get_or-drop}
 use Rattle.iolb_model.specs.Form.{AffineForm, dot}
 use Rattle.affine_form.specs.Matrix.{IntegerMatrix}
 use Rattle.execution_laws.specs.Inverse.{column, product_entry}
-use Rattle.wavefront.specs.Inverse.{matrix_rows}
+use Rattle.wavefront.specs.Inverse.{matrix_rows, coefficients_past}
 use Rattle.wavefront.specs.Columns.{coefficients_at}
-use Rattle.wavefront.specs.Inverse.{coefficients_past}
 
 pub get_or-range : (first count k d : ℕ) → k < count → get_or (range_with_len first count) k d ≡ first + k
 get_or-range first zero k d l = absurd (omega (arith, l))

@@ -7,8 +7,8 @@ use Rattle.iolb_model.specs.declared.game.Move.{Move}
 use Rattle.iolb_model.specs.declared.game.Move.TheVariants.{Load, Store, Compute, Drop, Erase}
 use Rattle.iolb_model.specs.Graph.{ComputationGraph}
 use Rattle.iolb_model.specs.Game.{Board, IsAllowed, board_after, first_board, marked, predecessors_at, vertices}
-use Rattle.execution_laws.proofs.Marks.{all-contained, dropped-marked, set-marked, unmarked-at}
-use Rattle.wavefront.specs.Waves.{IsReachedIn}
+use Rattle.pebble_game.proofs.Marks.{all-contained, dropped-marked, set-marked, unmarked-at}
+use Rattle.reuse_paths.specs.Reached.{IsReachedIn}
 
 pub record IsKept (graph : ComputationGraph) (board : Board) : Type 0 where
   pub wide : graph.instances ≤ length board.computed

@@ -1,6 +1,7 @@
 pub mod Bounds
 pub mod OpenLeaves
 pub mod Entries
+pub mod MatrixClaims
 pub mod NestPoints
 pub mod ColdLeaves
 pub mod ColdCells

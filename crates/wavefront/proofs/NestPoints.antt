@@ -5,20 +5,20 @@ use Rattle.std.specs.List.{AllByRecursion}
 use Rattle.std.proofs.Math.IntN.{ℤ, pos, ◌+ℤ◌, ◌-ℤ◌}
 use lib.Signed.{◌≤ℤ◌}
 use Rattle.std.proofs.lemmas.List.{length-map}
-use Rattle.integer_laws.proofs.Lists.{All-append, All-weaken, All-map, All-every, All-flat_map}
+use Rattle.base_laws.proofs.Lists.{All-append, All-weaken, All-map, All-every, All-flat_map}
 use Rattle.iolb_model.specs.Form.{AffineForm, form_value}
 use Rattle.iolb_model.specs.Program.{AffineProgram, IsWellFormed}
 use Rattle.iolb_model.specs.Bound.{IsAdmitted}
 use Rattle.iolb_model.specs.Execution.{natural, range}
-use Rattle.execution_laws.specs.Domain.{IsWithin}
+use Rattle.iolb_model.specs.Domain.{IsWithin}
 use Rattle.execution_laws.proofs.Ordered.{All-from}
 use Rattle.execution_laws.proofs.Ranges.{range-within}
 use Rattle.execution_laws.proofs.Different.{Differ, Differ-append, Differ-map, Differ-rising, same_head, same_tail}
 use Rattle.affine_form.specs.Substitution.{values_at}
 use Rattle.affine_form.specs.System.{IsMet}
-use Rattle.affine_rows.specs.Rows.{widened, variables_from, within_rows, step_of}
-use Rattle.affine_rows.proofs.Meaning.{within_rows-met}
-use Rattle.dep_quast.proofs.Points.{within-length, widened-met, values-front, values-end}
+use Rattle.affine_form.specs.Rows.{widened, variables_from, within_rows, step_of}
+use Rattle.affine_form.proofs.Meaning.{values-end, values-front, widened-met, within_rows-met}
+use Rattle.dep_quast.proofs.Points.{within-length}
 use Rattle.domain_count.specs.Points.{points}
 use Rattle.domain_count.specs.Count.{rows_before}
 

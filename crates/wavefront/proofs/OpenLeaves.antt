@@ -3,14 +3,14 @@ use Rattle.std.proofs.Common.{◌≡◌, sym, ℕ, ◌≤◌, List, [], ◌∷�
 use Rattle.std.specs.List.{AllByRecursion}
 use Rattle.std.proofs.Math.IntN.{pos, negsuc}
 use Rattle.std.proofs.lemmas.List.{length-map}
-use Rattle.integer_laws.proofs.Lists.{All-append}
+use Rattle.base_laws.proofs.Lists.{All-append}
 use Rattle.iolb_model.specs.Form.{AffineForm}
 use Rattle.affine_form.specs.Form.{variables}
 use Rattle.affine_form.specs.Substitution.{substitution}
 use Rattle.affine_form.specs.System.{AllOver}
-use Rattle.affine_rows.specs.Rows.{IsSmallOver}
-use Rattle.affine_rows.proofs.RowLemmas.{length-widened, length-difference, variables-substitution}
-use Rattle.affine_c.specs.Parts.{ProgramParts, IsProgram, meaning, statement_of}
+use Rattle.affine_form.specs.Rows.{IsSmallOver}
+use Rattle.affine_form.proofs.RowLemmas.{length-widened, length-difference, variables-substitution}
+use Rattle.affine_program.specs.Parts.{ProgramParts, IsProgram, meaning, statement_of}
 use Rattle.dep_quast.specs.Context.{ReadOf, variables_at}
 use Rattle.dep_quast.specs.Tree.{Leaf as TreeLeaf, source, input, empty, blank, SelectionTree, leaf, test}
 use Rattle.dep_quast.specs.Truth.{ReadFits}

@@ -15,13 +15,11 @@ use Rattle.iolb_model.specs.Graph.{ComputationGraph}
 use Rattle.iolb_model.specs.Game.{AreAllowed, Board, IsCompletePebbling, board_after, final_board, first_board, loads_of, mark_count, marked, predecessors_at, stands_in, vertices}
 use Rattle.pebble_game.proofs.Loaded.{is_loaded, loaded, loads_of-loaded}
 use Rattle.execution_laws.proofs.Members.{Member}
-use Rattle.execution_laws.proofs.Marks.{all-contained, count-put, distinct-filtered, length-marked_from, marked-member, marked_from, member-stands, standing-member, unmarked-at}
-use Rattle.wavefront.specs.Waves.{IsReached, IsSoundPoint, IsSoundWave, Wave, WavePoint, WavesAreLoaded, all_words, words_of}
+use Rattle.pebble_game.proofs.Loaded.{or_true}
+use Rattle.pebble_game.proofs.Marks.{all-contained, count-put, distinct-filtered, length-marked_from, marked-member, marked_from, member-stands, standing-member, unmarked-at}
+use Rattle.reuse_paths.specs.Reached.{IsReached}
+use Rattle.wavefront.specs.Waves.{IsSoundPoint, IsSoundWave, Wave, WavePoint, WavesAreLoaded, all_words, words_of}
 use Rattle.wavefront.proofs.Kept.{IsKept, kept-first, kept-next, reached-computed}
-
-or_true : (b x : Bool) → (b ≡ false → x ≡ true) → (b || x) ≡ true
-or_true true x h = refl
-or_true false x h = h refl
 
 true_or : (b : Bool) → (b ≡ true) ⊎ (b ≡ false)
 true_or true = inl refl

@@ -1,18 +1,18 @@
 -- What a cold term claims at the leaves of a source tree.
-use Rattle.std.specs.Prelude.{ℕ, suc, Bool, true, false, if◌then◌else◌, List, [], ◌∷◌, ◌++◌, length}
+use Rattle.std.specs.Prelude.{◌≡◌, ℕ, suc, Bool, true, false, List, [], ◌∷◌, ◌++◌, length}
 use Rattle.iolb_model.specs.Form.{AffineForm}
 use Rattle.iolb_model.specs.Program.{AffineProgram}
-use Rattle.affine_form.specs.declared.place.Step.{Step}
-use Rattle.affine_form.specs.declared.place.Step.TheVariants.{Key, Index}
-use Rattle.affine_form.specs.declared.key.TheConstants.{INSIDE, LEAVES}
+use Rattle.claims.specs.declared.place.Step.{Step}
+use Rattle.claims.specs.declared.place.Step.TheVariants.{Key, Index}
+use Rattle.claims.specs.declared.key.TheConstants.{INSIDE, LEAVES}
 use Rattle.affine_form.specs.Substitution.{substitution}
 use Rattle.affine_form.specs.System.{AffineSystem}
-use Rattle.affine_rows.specs.Rows.{widened}
-use Rattle.dep_quast.specs.Claims.{PlacedClaim, few, same, pointless, follow_claims}
+use Rattle.affine_form.specs.Rows.{widened}
+use Rattle.dep_quast.specs.Claims.{IsFew, IsPointless, follow_claims}
+use Rattle.claims.specs.Claims.{Claim}
 use Rattle.dep_quast.specs.Context.{no_row}
 use Rattle.dep_quast.specs.Tree.{Leaf as TreeLeaf, source, input, empty, blank, SelectionTree, leaf, test}
-use Rattle.reuse_paths.specs.declared.leaf.Leaf.{Leaf}
-use Rattle.reuse_paths.specs.declared.leaf.Leaf.TheVariants.{Empty, Stop, Credit, Go, Arrive}
+use Rattle.reuse_paths.specs.LeafClaims.{LeafClaim, no_point, stops, is_credited, goes_on, arrives}
 use Rattle.wavefront.specs.Term.{ColdTerm, nest_variables, nest_system, instance_point, inside_goals}
 
 -- a leaf to which points may come: the tests on the way to it, at the reading instance, and whether it says that no
@@ -41,38 +41,34 @@ open_leaves vars point tests (leaf chosen) = open_leaf tests chosen
 open_leaves vars point tests (test form above below) =
     open_leaves vars point (tests ++ yes_at vars point form ∷ []) above ++ open_leaves vars point (tests ++ no_at vars point form ∷ []) below
 
--- 1 where a walk stops at an input
-abbrev pub stops : Bool → Leaf → ℕ
-stops is_input (Stop label) = if is_input then 1 else 0
-stops is_input (Empty shown) = 0
-stops is_input (Credit credit rows label) = 0
-stops is_input (Go rows label) = 0
-stops is_input (Arrive equal) = 0
+-- A leaf costs nothing or is an input: multipliers show that no point comes there, or it is an input at which a walk stops.
+abbrev pub IsClosed : AffineSystem → Bool → LeafClaim → Type 0
+IsClosed system is_input (no_point shown) = IsPointless system shown
+IsClosed system is_input (stops label) = is_input ≡ true
+IsClosed system is_input (is_credited credit rows label) = ⊥
+IsClosed system is_input (goes_on rows label) = ⊥
+IsClosed system is_input (arrives equal) = ⊥
 
--- At a leaf the multipliers show that no point comes there, or the leaf is an input and a walk stops there (condition 11).
-abbrev pub leaf_claim : List Step → AffineSystem → Bool → Leaf → PlacedClaim
-leaf_claim place system is_input (Empty shown) = record { condition = 11; place = place; claim = pointless system shown }
-leaf_claim place system is_input (Stop label) = record { condition = 11; place = place; claim = same (stops is_input (Stop label)) 1 }
-leaf_claim place system is_input (Credit credit rows label) = record { condition = 11; place = place; claim = same 0 1 }
-leaf_claim place system is_input (Go rows label) = record { condition = 11; place = place; claim = same 0 1 }
-leaf_claim place system is_input (Arrive equal) = record { condition = 11; place = place; claim = same 0 1 }
+-- the claim at a leaf (condition 11)
+abbrev pub leaf_claim : List Step → AffineSystem → Bool → LeafClaim → Claim
+leaf_claim place system is_input entry = record { condition = 11; place = place; statement = IsClosed system is_input entry }
 
 -- what is claimed at leaves, one after another, each by an entry of a list at this place; and that the systems have few
 -- rows (condition 2)
-abbrev pub leaves_claims : ℕ → List AffineForm → List Step → ℕ → List OpenLeaf → List Leaf → List PlacedClaim
+abbrev pub leaves_claims : ℕ → List AffineForm → List Step → ℕ → List OpenLeaf → List LeafClaim → List Claim
 leaves_claims vars rows place index [] entries = []
 leaves_claims vars rows place index (l ∷ leaves) [] = []
 leaves_claims vars rows place index (l ∷ leaves) (entry ∷ entries) =
-    record { condition = 2; place = place ++ Index index ∷ []; claim = few (length (rows ++ l.tests)) }
+    record { condition = 2; place = place ++ Index index ∷ []; statement = IsFew (length (rows ++ l.tests)) }
     ∷ leaf_claim (place ++ Index index ∷ []) (record { vars = vars; rows = rows ++ l.tests }) l.is_input entry
     ∷ leaves_claims vars rows place (suc index) leaves entries
 
 -- that the reading instance is in its statement's domain (condition 10)
-abbrev pub inside_claims : AffineProgram → List Step → ColdTerm → List PlacedClaim
+abbrev pub inside_claims : AffineProgram → List Step → ColdTerm → List Claim
 inside_claims program place term = follow_claims 10 (place ++ Key INSIDE ∷ []) (nest_system program term) 0 (inside_goals program term) term.inside
 
 -- what a cold term claims at the leaves of its read's source tree
-abbrev pub term_leaves : AffineProgram → List Step → SelectionTree → ColdTerm → List PlacedClaim
+abbrev pub term_leaves : AffineProgram → List Step → SelectionTree → ColdTerm → List Claim
 term_leaves program place tree term =
     let vars = nest_variables program term in
     leaves_claims vars (nest_system program term).rows (place ++ Key LEAVES ∷ []) 0 (open_leaves vars (instance_point program term) [] tree) term.leaves

@@ -1,9 +1,8 @@
 pub mod Term
 pub mod Leaves
 pub mod Inverse
-pub mod Refusal
+pub mod ColdClaims
 pub mod Loads
 pub mod View
-pub mod Found
 pub mod Columns
 pub mod Waves

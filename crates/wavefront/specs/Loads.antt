@@ -5,22 +5,23 @@ use Rattle.iolb_model.specs.declared.game.Move.{Move}
 use Rattle.iolb_model.specs.Program.{AffineProgram, IsWellFormed}
 use Rattle.iolb_model.specs.Bound.{IsAdmitted}
 use Rattle.iolb_model.specs.Footprint.{AreVertices, Footprint}
-use Rattle.iolb_model.specs.Source.{same_cell}
+use Rattle.iolb_model.specs.Source.{same_cell, read_cell}
 use Rattle.iolb_model.specs.Graph.{computation_graph}
 use Rattle.iolb_model.specs.Game.{IsCompletePebbling, loads_of}
-use Rattle.execution_laws.specs.Cold.{read_cell, read_vertices, ReadsInput}
-use Rattle.affine_form.specs.declared.place.Step.{Step}
+use Rattle.pebble_game.specs.Cold.{read_vertices, ReadsInput}
+use Rattle.claims.specs.declared.place.Step.{Step}
 use Rattle.affine_form.specs.Substitution.{values_at}
-use Rattle.affine_rows.specs.Rows.{BoundsFit, IsSmallOver}
-use Rattle.affine_c.specs.Domain.{depth_of}
-use Rattle.dep_quast.specs.Claims.{AllHold}
+use Rattle.affine_form.specs.Rows.{BoundsFit, IsSmallOver}
+use Rattle.affine_program.specs.Domain.{depth_of}
+use Rattle.claims.specs.Claims.{AllHold}
 use Rattle.dep_quast.specs.Context.{reference_of, variables_at}
 use Rattle.dep_quast.specs.Tree.{SelectionTree, leaf, test}
 use Rattle.dep_quast.specs.Truth.{ReadFits, IsTrueTree}
 use Rattle.domain_count.specs.Points.{points, count}
 use Rattle.wavefront.specs.Term.{ColdTerm, nest_variables, instance_point}
-use Rattle.wavefront.specs.Leaves.{open_leaves, inside_claims, term_leaves}
-use Rattle.wavefront.specs.Inverse.{CellsAreUndone}
+use Rattle.wavefront.specs.Leaves.{open_leaves}
+use Rattle.wavefront.specs.ColdClaims.{instance_claims}
+use Rattle.iolb_model.specs.declared.limits.TheConstants.{NEST_VARIABLES}
 
 -- a tree's tests are over so many variables
 abbrev pub TestsFit : ℕ → SelectionTree → Type 0
@@ -31,7 +32,7 @@ TestsFit vars (test form above below) = IsSmallOver vars form × TestsFit vars a
 -- and each list has the length called for.
 pub record TermFits (program : AffineProgram) (term : ColdTerm) : Type 0 where
   pub read : ReadFits program term.reader
-  pub few : length term.nest ≤ 6
+  pub few : length term.nest ≤ NEST_VARIABLES
   pub bounds : BoundsFit (length program.parameters) term.nest
   pub point : length term.point ≡ depth_of program term.reader.statement
   pub forms : AllByRecursion (IsSmallOver (nest_variables program term)) term.point
@@ -76,15 +77,8 @@ abbrev pub CostsItsCount : AffineProgram → ColdTerm → Type 0
 CostsItsCount program term = (values : List ℤ) (s : ℕ) (moves : List Move) → IsAdmitted program values
     → IsCompletePebbling (computation_graph program values) s moves → count term.nest values ≤ loads_of (footprint_of program term values) moves
 
--- What is claimed of a cold term holds, but for its count: the instances are in their domain, the leaves are inputs or
--- have no point, and the cells differ.
-pub record ColdHolds (program : AffineProgram) (place : List Step) (tree : SelectionTree) (term : ColdTerm) : Type 0 where
-  pub inside : AllHold (inside_claims program place term)
-  pub leaves : AllHold (term_leaves program place tree term)
-  pub undone : CellsAreUndone program term
-
 -- A cold term whose claims hold, over a true source tree, is sound, and costs its count in loads of its footprint.
 abbrev pub ColdTermsAreLoaded : Type 0
 ColdTermsAreLoaded = (program : AffineProgram) (place : List Step) (tree : SelectionTree) (term : ColdTerm) → IsWellFormed program
-    → ColdFits program tree term → IsTrueTree program term.reader tree → ColdHolds program place tree term
+    → ColdFits program tree term → IsTrueTree program term.reader tree → AllHold (instance_claims program place tree term)
     → IsSoundCold program term × HasFootprint program term × CostsItsCount program term

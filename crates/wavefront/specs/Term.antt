@@ -5,9 +5,9 @@ use Rattle.iolb_model.specs.Program.{AffineProgram}
 use Rattle.affine_form.specs.Matrix.{IntegerMatrix}
 use Rattle.affine_form.specs.Multipliers.{FarkasMultipliers}
 use Rattle.affine_form.specs.System.{AffineSystem}
-use Rattle.affine_rows.specs.Rows.{variables_from, within_rows, put_in}
-use Rattle.affine_c.specs.Domain.{path_of}
-use Rattle.reuse_paths.specs.declared.leaf.Leaf.{Leaf}
+use Rattle.affine_form.specs.Rows.{variables_from, within_rows, put_in}
+use Rattle.affine_program.specs.Domain.{path_of}
+use Rattle.reuse_paths.specs.LeafClaims.{LeafClaim}
 use Rattle.dep_quast.specs.Context.{ReadOf, reference_of}
 use Rattle.domain_count.specs.Claims.{SumClaims}
 use Rattle.domain_count.specs.Count.{rows_before}
@@ -24,7 +24,7 @@ pub record ColdTerm : Type 0 where
   pub inside : List FarkasMultipliers
   pub matrix : IntegerMatrix
   pub scale : ℕ
-  pub leaves : List Leaf
+  pub leaves : List LeafClaim
 
 -- how many variables there are: the parameters and the nest's
 abbrev pub nest_variables : AffineProgram → ColdTerm → ℕ

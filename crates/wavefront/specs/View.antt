@@ -1,11 +1,11 @@
 -- What the parts of the code are.
-use Rattle.std.specs.Prelude.{◌≡◌, Some}
-use Rattle.affine_c.specs.Parts.{ProgramParts, meaning}
+use Rattle.std.specs.Prelude.{◌≡◌, List, map, Some}
+use Rattle.affine_program.specs.Parts.{ProgramParts, meaning}
 use Rattle.dep_quast.specs.Tree.{SelectionTree}
 use Rattle.dep_quast.specs.Truth.{IsTrueTree}
 use Rattle.domain_count.specs.Claims.{FitsCount}
-use Rattle.reuse_paths.specs.declared.quasts.Quasts.{Quasts}
-use Rattle.reuse_paths.specs.Quasts.{tree_at}
+use Rattle.reuse_paths.specs.LeafClaims.{claim_of}
+use Rattle.reuse_paths.specs.Quasts.{tree_at, tree_for}
 use Rattle.wavefront.specs.declared.cold.Cold.{Cold}
 use Rattle.wavefront.specs.Term.{ColdTerm}
 use Rattle.wavefront.specs.Loads.{ColdFits}
@@ -20,12 +20,12 @@ term_of cold = record {
   inside = cold.inside.items;
   matrix = cold.inverse.matrix;
   scale = cold.inverse.scale;
-  leaves = cold.leaves.items;
+  leaves = map claim_of cold.leaves.items;
 }
 
--- A cold term and the source trees fit the program, this is the tree of its read, and it is true.
-pub record FitsCold (program : ProgramParts) (quasts : Quasts) (cold : Cold) (tree : SelectionTree) : Type 0 where
-  pub there : tree_at quasts cold.statement cold.read ≡ Some tree
-  pub fits : ColdFits (meaning program) tree (term_of cold)
-  pub true_tree : IsTrueTree (meaning program) (term_of cold).reader tree
+-- A cold term and the source trees fit the program, the tree of its read is there, and it is true.
+pub record FitsCold (program : ProgramParts) (trees : List (List SelectionTree)) (cold : Cold) : Type 0 where
+  pub there : tree_at trees cold.statement cold.read ≡ Some (tree_for trees (term_of cold).reader)
+  pub fits : ColdFits (meaning program) (tree_for trees (term_of cold).reader) (term_of cold)
+  pub true_tree : IsTrueTree (meaning program) (term_of cold).reader (tree_for trees (term_of cold).reader)
   pub count : FitsCount program cold.nest cold.sums

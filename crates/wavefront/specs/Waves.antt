@@ -1,20 +1,11 @@
 -- Wavefronts of a computation graph: words that are there when a vertex is computed, and whose readers aren't computed
 -- before. (Elango et al. 2014, by loads alone.)
-use Rattle.std.specs.Prelude.{◌≡◌, ℕ, zero, suc, ◌+◌, ◌*◌, ◌<◌, ◌≤◌, ◌⊎◌, nat_eq, List, flat_map, map, length, Contains}
+use Rattle.std.specs.Prelude.{ℕ, ◌+◌, ◌*◌, ◌<◌, ◌≤◌, ◌⊎◌, nat_eq, List, flat_map, map, length, Contains}
 use Rattle.std.specs.List.{AllByRecursion, IsDistinct}
 use Rattle.iolb_model.specs.declared.game.Move.{Move}
 use Rattle.iolb_model.specs.Graph.{ComputationGraph}
 use Rattle.iolb_model.specs.Game.{IsCompletePebbling, loads_of, predecessors_at}
-
--- in so many steps from an instance to one of its predecessors
-abbrev pub IsReachedIn : ComputationGraph → ℕ → ℕ → ℕ → Type 0
-IsReachedIn graph zero from to = from ≡ to
-IsReachedIn graph (suc steps) from to =
-    (from < graph.instances) × (source : ℕ) × Contains (predecessors_at graph from) source × IsReachedIn graph steps source to
-
--- going from vertex to predecessor one vertex is reached from another
-abbrev pub IsReached : ComputationGraph → ℕ → ℕ → Type 0
-IsReached graph from to = (steps : ℕ) × IsReachedIn graph steps from to
+use Rattle.reuse_paths.specs.Reached.{IsReached}
 
 -- a word, and an instance that reads it
 pub record WavePoint : Type 0 where

@@ -1,24 +1,25 @@
 //! The check of cold terms.
 
-ghost use Rattle.std.specs.Prelude.{◌≡◌, Some, length, IfOk, OnOk, IfErr};
+ghost use Rattle.std.specs.Prelude.{length, IfOk, OnOk, IfErr};
 ghost use Rattle.iolb_model.specs.Bound.{cold};
 ghost use Rattle.iolb_model.specs.Footprint.{IsFootprintOf};
-ghost use Rattle.affine_c.specs.Parts.{meaning};
-ghost use Rattle.dep_quast.specs.Tree.{SelectionTree, tree_of};
+ghost use Rattle.affine_program.specs.Parts.{meaning};
+ghost use Rattle.claims.specs.Claims.{AllHold, Finds, IsRefusal};
+ghost use Rattle.dep_quast.specs.Tree.{tree_of};
 ghost use Rattle.domain_count.specs.Count.{IsCount, CountsPoints};
 ghost use Rattle.poly_tree.specs.Expansion.{IsCanonical};
 ghost use Rattle.poly_tree.specs.Printed.{polynomial_of};
-ghost use Rattle.reuse_paths.specs.Quasts.{tree_at};
-ghost use Rattle.wavefront.specs.Found.{FindsCold};
-ghost use Rattle.wavefront.specs.Loads.{ColdFits, ColdHolds, IsSoundCold, footprint_of};
-ghost use Rattle.wavefront.specs.Refusal.{IsColdRefusal};
+ghost use Rattle.reuse_paths.specs.Quasts.{tree_for, trees_of};
+ghost use Rattle.wavefront.specs.ColdClaims.{cold_claims, instance_claims};
+ghost use Rattle.wavefront.specs.Loads.{ColdFits, IsSoundCold, footprint_of};
 ghost use Rattle.wavefront.specs.View.{FitsCold, term_of};
 
-use crate::claims::{cells_undone, inside_shown, tree_shown};
 use crate::cold::Cold;
+use crate::cold_shown::{cells_undone, inside_shown, tree_shown};
 use crate::law::cold_terms_are_loaded;
-use affine_c::Program;
-use affine_form::{Memory, No, Place, Refused};
+use affine_form::Memory;
+use affine_program::Program;
+use claims::{No, Place, Refused};
 use dep_quast::Quast;
 use domain_count::check_count;
 use poly_tree::Poly;
@@ -48,14 +49,14 @@ pub fn check_cold(
     term: &Cold,
     place: &Place,
 ) -> Result<Poly, Refused>
-    requires { (tree : SelectionTree) × FitsCold program.now quasts.now term.now tree }
+    requires { FitsCold program.now (trees_of quasts.now) term.now }
     ensures right { IfOk result (λ poly. IsCount (meaning program.now) term.now.nest term.now.sums poly) }
     ensures counts { IfOk result (λ poly. CountsPoints (meaning program.now) term.now.nest poly) }
     ensures parameters { IfOk result (λ poly. IsCanonical (length program.now.params) poly.tree) }
-    ensures holds { OnOk result ((tree : SelectionTree) × (tree_at quasts.now term.now.statement term.now.read ≡ Some tree) × ColdHolds (meaning program.now) place.now tree (term_of term.now)) }
+    ensures holds { OnOk result (AllHold (cold_claims (meaning program.now) place.now (tree_for (trees_of quasts.now) (term_of term.now).reader) (term_of term.now))) }
     ensures sound { OnOk result (IsSoundCold (meaning program.now) (term_of term.now)) }
     ensures footprint { IfOk result (λ poly. IsFootprintOf (meaning program.now) (cold (polynomial_of poly)) (footprint_of (meaning program.now) (term_of term.now))) }
-    ensures refused { IfErr result (λ refused. (tree : SelectionTree) × FitsCold program.now quasts.now term.now tree × IsColdRefusal (meaning program.now) place.now tree (term_of term.now) refused) }
+    ensures refused { IfErr result (λ refused. IsRefusal (cold_claims (meaning program.now) place.now (tree_for (trees_of quasts.now) (term_of term.now).reader) (term_of term.now)) refused) }
 {
     let Some(quast) = quasts.tree(term.statement, term.read) else {
         unreachable!();
@@ -72,7 +73,7 @@ pub fn check_cold(
     }
 }
 
-/// Whether what a cold term claims past its count is shown. Want of memory is its only error.
+/// What isn't shown of what a cold term claims past its count.
 fn claims_shown(
     alloc: Global,
     program: &Program,
@@ -81,7 +82,7 @@ fn claims_shown(
     place: &Place,
 ) -> Result<Option<No>, Memory>
     requires { ColdFits (meaning program.now) (tree_of quast.now) (term_of term.now) }
-    ensures { IfOk result (λ found. FindsCold (meaning program.now) place.now (tree_of quast.now) (term_of term.now) found) }
+    ensures { IfOk result (λ found. Finds (instance_claims (meaning program.now) place.now (tree_of quast.now) (term_of term.now)) found) }
 {
     if let Some(no) = inside_shown(alloc, program, term, place)? {
         return Ok(Some(no));

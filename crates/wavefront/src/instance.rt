@@ -1,18 +1,18 @@
 //! The instance of a cold term at a point of its nest, and the cell that it reads.
 
-ghost use Rattle.std.specs.Prelude.{◌≡◌, ◌≤◌, length, IfOk};
+ghost use Rattle.std.specs.Prelude.{◌≡◌, ◌≤◌, length, IfOk, ◌+◌};
 ghost use Rattle.std.specs.List.{AllByRecursion};
-ghost use Rattle.affine_rows.specs.Rows.{IsSmallOver, put_in};
-ghost use Rattle.affine_c.specs.Parts.{meaning, IsProgram};
+ghost use Rattle.affine_form.specs.Rows.{IsSmallOver, put_in};
+ghost use Rattle.affine_program.specs.Parts.{meaning, IsProgram};
 ghost use Rattle.dep_quast.specs.Context.{variables_at};
 ghost use Rattle.wavefront.specs.Term.{instance_point, cell_forms, nest_variables};
 ghost use Rattle.wavefront.specs.Loads.{TermFits};
 ghost use Rattle.wavefront.specs.View.{term_of};
+ghost use Rattle.iolb_model.specs.declared.limits.TheConstants.{VARIABLES, PARAMETERS, NEST_VARIABLES};
 
 use crate::cold::Cold;
-use affine_c::Program;
-use affine_form::{Form, Memory};
-use affine_rows::{put, variables_from};
+use affine_form::{Form, Memory, put, variables_from};
+use affine_program::Program;
 use dep_quast::lists::followed_by;
 use dep_quast::reader::{Reader, reference};
 use std::alloc::Global;
@@ -21,14 +21,13 @@ use std::alloc::Global;
 pub(crate) fn variables(program: &Program, term: &Cold) -> usize
     requires { TermFits (meaning program.now) (term_of term.now) }
     ensures variables { result ≡ nest_variables (meaning program.now) (term_of term.now) }
-    ensures few { result ≤ 12 }
+    ensures few { result ≤ PARAMETERS + NEST_VARIABLES }
     ensures kept { IsProgram program.now }
 {
     program.params().len() + term.nest.bounds().len()
 }
 
-/// The parameters and the loop values of the reading instance, over the parameters and the nest's variables. Want of
-/// memory is its only error.
+/// The parameters and the loop values of the reading instance, over the parameters and the nest's variables.
 pub(crate) fn instance_of(
     alloc: Global,
     program: &Program,
@@ -44,7 +43,7 @@ pub(crate) fn instance_of(
     followed_by(alloc, first, term.point.as_slice())
 }
 
-/// The cell that the instance reads, by its subscripts. Want of memory is its only error.
+/// The cell that the instance reads, by its subscripts.
 pub(crate) fn cell_of(alloc: Global, program: &Program, term: &Cold) -> Result<Vec<Form>, Memory>
     requires { TermFits (meaning program.now) (term_of term.now) }
     ensures { IfOk result (λ forms. forms.items ≡ cell_forms (meaning program.now) (term_of term.now)) }
@@ -59,10 +58,10 @@ pub(crate) fn cell_of(alloc: Global, program: &Program, term: &Cold) -> Result<V
     put_all(alloc, vars, subscripts, point.as_slice())
 }
 
-/// Forms with forms put in for their variables. Want of memory is its only error.
+/// Forms with forms put in for their variables.
 fn put_all(alloc: Global, vars: usize, forms: &[Form], point: &[Form]) -> Result<Vec<Form>, Memory>
-    requires few { vars ≤ 24 }
-    requires few_forms { length point.now ≤ 24 }
+    requires few { vars ≤ VARIABLES }
+    requires few_forms { length point.now ≤ VARIABLES }
     requires over { AllByRecursion (IsSmallOver (length point.now)) forms.now }
     requires point_over { AllByRecursion (IsSmallOver vars) point.now }
     ensures { IfOk result (λ all. all.items ≡ put_in point.now forms.now) }

@@ -7,6 +7,7 @@ ghost use Rattle.execution_laws.specs.Inverse.{scaled_entry, IsScaledInverse, Is
 ghost use Rattle.affine_form.specs.Form.{IsSmall};
 ghost use Rattle.wavefront.specs.Inverse.{matrix_rows, coefficients_past};
 ghost use Rattle.wavefront.specs.Columns.{coefficients_at, AgreesBelow};
+ghost use Rattle.iolb_model.specs.declared.limits.TheConstants.{NUMBER_SIZE, COEFFICIENT_SIZE, VARIABLES, NEST_VARIABLES};
 
 use affine_form::{Form, Matrix};
 
@@ -19,7 +20,7 @@ pub(crate) fn first_difference(
     scale: u32,
     size: usize,
 ) -> Option<(usize, usize)>
-    requires few { parameters + size ≤ 24 }
+    requires few { parameters + size ≤ VARIABLES }
     requires rows { matrix.now.rows ≡ size }
     requires columns { (1 ≤ matrix.now.rows) → matrix.now.columns ≡ length forms.now }
     ensures none { IfNone result (IsScaledInverse scale size (matrix_rows matrix.now) (coefficients_past parameters forms.now)) }
@@ -39,8 +40,8 @@ fn entries_of(matrix: &Matrix, row: usize) -> &[i32]
     requires { row < matrix.now.rows }
     ensures entries { result.now ≡ take matrix.now.columns (drop (row * matrix.now.columns) matrix.now.cells) }
     ensures len { length result.now ≡ matrix.now.columns }
-    ensures few { length result.now ≤ 6 }
-    ensures small { AllByRecursion (IsSmall (2 ^ 20)) result.now }
+    ensures few { length result.now ≤ NEST_VARIABLES }
+    ensures small { AllByRecursion (IsSmall NUMBER_SIZE) result.now }
 {
     let size = matrix.cols();
     let start = row * size;
@@ -57,10 +58,10 @@ fn first_in_row(
     number: usize,
     size: usize,
 ) -> Option<usize>
-    requires few { length row.now ≤ 6 }
-    requires few_columns { parameters + size ≤ 24 }
+    requires few { length row.now ≤ NEST_VARIABLES }
+    requires few_columns { parameters + size ≤ VARIABLES }
     requires as_many { length row.now ≡ length forms.now }
-    requires small { AllByRecursion (IsSmall (2 ^ 20)) row.now }
+    requires small { AllByRecursion (IsSmall NUMBER_SIZE) row.now }
     ensures none { IfNone result (AgreesBelow scale row.now forms.now parameters number size) }
     ensures inside { IfSome result (λ col. col < size) }
     ensures before { IfSome result (λ col. AgreesBelow scale row.now forms.now parameters number col) }
@@ -77,9 +78,9 @@ fn first_in_row(
 
 /// A row of a matrix times the forms' coefficients at this place.
 fn combination(row: &[i32], forms: &[Form], place: usize) -> i128
-    requires few { length row.now ≤ 6 }
+    requires few { length row.now ≤ NEST_VARIABLES }
     requires as_many { length row.now ≡ length forms.now }
-    requires small { AllByRecursion (IsSmall (2 ^ 20)) row.now }
+    requires small { AllByRecursion (IsSmall NUMBER_SIZE) row.now }
     ensures { result ≡ dot row.now (coefficients_at place forms.now) }
 {
     let mut sum = 0;
@@ -92,7 +93,7 @@ fn combination(row: &[i32], forms: &[Form], place: usize) -> i128
 /// The coefficient of a variable in a form, 0 past its variables.
 fn coefficient(form: &Form, place: usize) -> i128
     ensures value { result ≡ slice_index_or form.now.coefficients place (pos 0) }
-    ensures small { unsigned_abs result < 2 ^ 62 }
+    ensures small { unsigned_abs result < COEFFICIENT_SIZE }
 {
     let coef = form.coef();
     if place < coef.len() { coef[place] } else { 0 }

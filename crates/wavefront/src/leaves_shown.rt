@@ -1,21 +1,25 @@
 //! Whether what a cold term claims at leaves is shown.
 
-ghost use Rattle.std.specs.Prelude.{◌≡◌, ◌≤◌, ◌++◌, [], ◌∷◌, length, IfOk};
+ghost use Rattle.std.specs.Prelude.{◌≡◌, ◌≤◌, ◌++◌, [], ◌∷◌, length, map, IfOk};
 ghost use Rattle.std.specs.List.{AllByRecursion};
 ghost use Rattle.affine_form.specs.System.{AllOver};
-ghost use Rattle.dep_quast.specs.Claims.{few};
-ghost use Rattle.dep_quast.specs.Found.{Finds};
-ghost use Rattle.wavefront.specs.Leaves.{OpenLeaf as open_leaf, leaf_claim, leaves_claims, stops};
+ghost use Rattle.dep_quast.specs.Claims.{IsFew};
+ghost use Rattle.claims.specs.Claims.{Finds};
+ghost use Rattle.reuse_paths.specs.LeafClaims.{claim_of};
+ghost use Rattle.wavefront.specs.Leaves.{OpenLeaf as open_leaf, leaf_claim, leaves_claims};
+ghost use Rattle.iolb_model.specs.declared.limits.TheConstants.{VARIABLES};
 
 use crate::open_leaves::OpenLeaf;
-use affine_form::{Form, Memory, No, Place, Step};
-use dep_quast::claims_shown::{MOST_ROWS, refusal, system_shown};
-use dep_quast::lists::{followed_by, within};
+use affine_form::{Form, Memory};
+use claims::{No, Place, Step, refusal};
+use dep_quast::claims_shown::system_shown;
+use dep_quast::lists::followed_by;
+use iolb_model::limits;
 use reuse_paths::Leaf;
 use std::alloc::Global;
 
 /// Whether what is claimed at leaves is shown, each by its entry: the first that isn't, by its place in the list at this
-/// place. Want of memory is its only error.
+/// place.
 pub(crate) fn leaves_shown(
     alloc: Global,
     vars: usize,
@@ -24,14 +28,14 @@ pub(crate) fn leaves_shown(
     leaves: &[OpenLeaf],
     entries: &[Leaf],
 ) -> Result<Option<No>, Memory>
-    requires few { vars ≤ 24 }
+    requires few { vars ≤ VARIABLES }
     requires rows_over { AllOver vars rows.now }
     requires leaves_over { AllByRecursion (λ (l : open_leaf). AllOver vars l.tests) leaves.now }
     requires one_each { length entries.now ≡ length leaves.now }
-    ensures { IfOk result (λ found. Finds (leaves_claims vars rows.now list.now 0 leaves.now entries.now) found) }
+    ensures { IfOk result (λ found. Finds (leaves_claims vars rows.now list.now 0 leaves.now (map claim_of entries.now)) found) }
 {
     for i in 0..leaves.len() {
-        let place = within(alloc, list, Step::Index(i as u64))?;
+        let place = list.within(alloc, Step::Index(i as u64))?;
         if let Some(no) = leaf_shown(alloc, vars, rows, &place, &leaves[i], &entries[i])? {
             return Ok(Some(no));
         }
@@ -49,18 +53,18 @@ fn leaf_shown(
     leaf: &OpenLeaf,
     entry: &Leaf,
 ) -> Result<Option<No>, Memory>
-    requires few { vars ≤ 24 }
+    requires few { vars ≤ VARIABLES }
     requires rows_over { AllOver vars rows.now }
     requires leaf_over { AllOver vars leaf.now.tests }
-    ensures { IfOk result (λ found. Finds (record { condition = 2; place = place.now; claim = few (length (rows.now ++ leaf.now.tests)) }
-        ∷ leaf_claim place.now (record { vars = vars; rows = rows.now ++ leaf.now.tests }) leaf.now.is_input entry.now ∷ []) found) }
+    ensures { IfOk result (λ found. Finds (record { condition = 2; place = place.now; statement = IsFew (length (rows.now ++ leaf.now.tests)) }
+        ∷ leaf_claim place.now (record { vars = vars; rows = rows.now ++ leaf.now.tests }) leaf.now.is_input (claim_of entry.now) ∷ []) found) }
 {
     let front = followed_by(alloc, Vec::new(alloc), rows)?;
     let all = followed_by(alloc, front, leaf.tests.as_slice())?;
     if let Leaf::Empty(shown) = entry {
         return system_shown(alloc, 11, place, vars, all.as_slice(), shown);
     }
-    if all.len() > MOST_ROWS {
+    if all.len() > limits::ROWS {
         return refusal(alloc, 2, place);
     }
     if !(leaf.is_input && matches!(entry, Leaf::Stop { .. })) {

@@ -1,10 +1,10 @@
-//! Terms of bounds that follow from single vertices: cold terms, whose words are inputs.
+//! Terms of bounds that follow from single vertices: cold terms, whose words are inputs, and wavefronts.
 #![tactic(auto)]
 
 mod checker;
-mod claims;
 mod cold;
-mod fitting;
+mod cold_shown;
+mod front;
 mod instance;
 mod inverse;
 pub mod law;
@@ -14,4 +14,4 @@ pub mod waves;
 
 pub use checker::check_cold;
 pub use cold::{Cold, Inverse};
-pub use fitting::cold_fits;
+pub use front::Wavefront;

@@ -1,16 +1,16 @@
 //! The leaves of a source tree to which points may come.
 
-ghost use Rattle.std.specs.Prelude.{◌≡◌, ◌≤◌, ◌^◌, ◌++◌, ◌∷◌, [], length, OnOk, IfOk};
+ghost use Rattle.std.specs.Prelude.{◌≡◌, ◌≤◌, ◌++◌, ◌∷◌, [], length, OnOk, IfOk};
 ghost use Rattle.std.specs.List.{AllByRecursion};
 ghost use Rattle.affine_form.specs.Form.{variables, IsSmallForm};
-ghost use Rattle.affine_rows.specs.Rows.{IsSmallOver};
+ghost use Rattle.affine_form.specs.Rows.{IsSmallOver};
 ghost use Rattle.dep_quast.specs.Context.{no_row};
 ghost use Rattle.dep_quast.specs.Tree.{tree_of};
 ghost use Rattle.wavefront.specs.Leaves.{open_leaves, yes_at, no_at};
 ghost use Rattle.wavefront.specs.Loads.{TestsFit};
+ghost use Rattle.iolb_model.specs.declared.limits.TheConstants.{PUT_SIZE, VARIABLES};
 
-use affine_form::{Form, Memory};
-use affine_rows::{difference, put, widened};
+use affine_form::{Form, Memory, difference, put, widened};
 use dep_quast::Quast;
 use dep_quast::lists::{followed_by, with_form};
 use std::alloc::Global;
@@ -32,8 +32,7 @@ impl Model for OpenLeaf {
     ghost view = { λ leaf. record { tests = leaf.tests.items; is_input = leaf.is_input } };
 }
 
-/// The leaves of a tree that aren't empty, `yes` before `no`, appended; the tests are at a point. Want of memory is its
-/// only error.
+/// The leaves of a tree that aren't empty, `yes` before `no`, appended; the tests are at a point.
 pub(crate) fn push_open_leaves(
     alloc: Global,
     leaves: &mut Vec<OpenLeaf>,
@@ -42,8 +41,8 @@ pub(crate) fn push_open_leaves(
     tests: &[Form],
     quast: &Quast,
 ) -> Result<(), Memory>
-    requires few { vars ≤ 24 }
-    requires few_forms { length point.now ≤ 24 }
+    requires few { vars ≤ VARIABLES }
+    requires few_forms { length point.now ≤ VARIABLES }
     requires fit { TestsFit (length point.now) (tree_of quast.now) }
     requires point_over { AllByRecursion (IsSmallOver vars) point.now }
     ensures { OnOk result (leaves.new.items ≡ leaves.old.items ++ open_leaves vars point.now tests.now (tree_of quast.now)) }
@@ -62,7 +61,7 @@ pub(crate) fn push_open_leaves(
     }
 }
 
-/// A leaf under these tests, appended. Want of memory is its only error.
+/// A leaf under these tests, appended.
 fn push_leaf(
     alloc: Global,
     leaves: &mut Vec<OpenLeaf>,
@@ -76,11 +75,11 @@ fn push_leaf(
     Ok(())
 }
 
-/// The row that a form is at most -1. Want of memory is its only error.
+/// The row that a form is at most -1.
 fn opposite(alloc: Global, vars: usize, form: &Form) -> Result<Form, Memory>
-    requires few { vars ≤ 24 }
+    requires few { vars ≤ VARIABLES }
     requires within { variables form.now ≤ vars }
-    requires small { IsSmallForm (2 ^ 60) form.now }
+    requires small { IsSmallForm PUT_SIZE form.now }
     ensures { IfOk result (λ row. row ≡ no_row vars form.now) }
 {
     let zero = Form::new(Vec::new(alloc), 0);

@@ -1,137 +1,131 @@
-//! Counts by summation beside the points that are listed.
+//! Counts by summation, of whole certificates, beside the runs of the program's statement.
 
-use crate::counts::{Case, RIGHT, WRONG};
-use crate::points::points_of;
-use crate::tables::{Terms, form, list, polynomial};
-use crate::texts::{COPIED_ARRAY, COPIED_ROW};
-use affine_c::Program;
-use affine_form::{Place, Refused, Step};
-use affine_text::{ProgramError, read_program};
-use domain_count::{Nest, Sums, check_count, fits_count};
+use crate::certificates::{Nest, certificate_text, program_text};
+use crate::counts::{SHORT, TRIANGLE, WIDE, right_counts};
+use affine_c::read_program;
+use affine_program::Program;
+use claims::Refused;
+use claims::Step::{self, Index, Key};
+use claims::key::{BRANCHES, COLD, SHOWN, SUMS, TERMS};
+use iolb_cert::read_certificate;
+use iolb_check::{Value, check};
+use plain_graph::runs::runs_of_row;
 use poly_tree::Poly;
 use std::alloc::Global;
 use std::test::Fail;
 
-/// The nest of a case.
-fn nest(alloc: Global, case: &Case) -> Result<Nest, Fail> {
-    let mut bounds = Vec::new(alloc);
-    for (lower, upper) in case.bounds {
-        bounds.push((form(alloc, lower)?, form(alloc, upper)?))?;
-    }
-    Ok(Nest::new(bounds))
-}
-
-/// The claims of a case.
-fn claims(alloc: Global, case: &Case) -> Result<Sums, Fail> {
-    let mut sums = Vec::new(alloc);
-    for terms in case.sums {
-        sums.push(polynomial(alloc, terms)?)?;
-    }
-    Ok(Sums::new(list(alloc, case.shown)?, sums))
-}
-
-/// A program with as many parameters, each assumed to be at least 1.
-fn program(alloc: Global, parameters: usize) -> Result<Program, ProgramError> {
-    if parameters == 1 {
-        read_program(alloc, COPIED_ROW)
-    } else {
-        read_program(alloc, COPIED_ARRAY)
-    }
-}
-
-/// What is answered on a case, at a place of one step.
-fn answer(alloc: Global, case: &Case) -> Result<Result<Poly, Refused>, Fail> {
-    let program = program(alloc, case.parameters)?;
-    let nest = nest(alloc, case)?;
-    let claims = claims(alloc, case)?;
-    if !fits_count(&program, &nest, &claims) {
-        return Err(Fail::new("the claims don't fit"));
-    }
-    let place = Place::new(vec![in alloc; Step::Index(7)]?);
-    Ok(check_count(alloc, &program, &nest, &claims, &place))
-}
-
-/// Whether a polynomial's value is how many points a nest has at these sizes.
-fn agrees(alloc: Global, nest: &Nest, count: &Poly, sizes: &[i128]) -> Result<bool, Fail> {
+/// Whether a polynomial's value at these sizes is how many instances the program has.
+fn counts_runs(
+    alloc: Global,
+    program: &Program,
+    count: &Poly,
+    sizes: &[i128],
+) -> Result<bool, Fail> {
     if !count.uses_below(sizes.len()) {
         return Ok(false);
     }
-    let listed = points_of(alloc, nest.bounds(), sizes)?;
+    let runs = runs_of_row(alloc, program.tree(), sizes)?;
     let Ok(value) = count.numer(sizes) else {
         return Ok(false);
     };
-    Ok((listed.len() as i128).checked_mul(count.den()) == Some(value))
+    Ok((runs.len() as i128).checked_mul(count.den()) == Some(value))
 }
 
-/// Whether a polynomial's value is how many points a case's nest has at small sizes.
-fn agrees_at_small_sizes(alloc: Global, case: &Case, count: &Poly) -> Result<bool, Fail> {
-    let nest = nest(alloc, case)?;
-    let sizes: [[i128; 2]; 5] = [[1, 3], [2, 1], [3, 5], [4, 2], [5, 4]];
-    for size in sizes {
-        let few = if case.parameters == 1 { 1 } else { 2 };
-        if !agrees(alloc, &nest, count, &size[..few])? {
+/// Whether a nest has this count: its certificate is accepted, and at small sizes the count's value is how many instances
+/// run.
+fn has_count(alloc: Global, nest: &Nest, text: &str) -> Result<bool, Fail> {
+    let program = read_program(alloc, program_text(alloc, nest)?.as_bytes())?;
+    let Ok(certificate) = read_certificate(alloc, certificate_text(alloc, nest)?.as_bytes()) else {
+        return Err(Fail::new("the certificate is read"));
+    };
+    let Ok(bound) = check(alloc, &program, &certificate) else {
+        return Err(Fail::new("the certificate is accepted"));
+    };
+    if bound.branches() != 1 {
+        return Ok(false);
+    }
+    let Some(Value::Cold(count)) = bound.terms(0).first() else {
+        return Ok(false);
+    };
+    let parameters = program.params().len();
+    for sizes in [[1, 3], [2, 1], [3, 5], [4, 2], [5, 4]] {
+        if parameters > 2 || !counts_runs(alloc, &program, count, &sizes[..parameters])? {
             return Ok(false);
         }
     }
-    Ok(true)
-}
-
-/// Whether a case has this count: it is answered, and its value is how many points are listed.
-fn has_count(alloc: Global, case: &Case, count: &Terms) -> Result<bool, Fail> {
-    let Ok(found) = answer(alloc, case)? else {
-        return Ok(false);
-    };
-    if !found.same(&polynomial(alloc, count)?) {
-        return Ok(false);
-    }
-    agrees_at_small_sizes(alloc, case, &found)
-}
-
-/// The first right case that isn't counted so.
-fn first_miscounted(alloc: Global) -> Result<Option<usize>, Fail> {
-    for (i, (case, count)) in RIGHT.iter().enumerate() {
-        if !has_count(alloc, case, count)? {
-            return Ok(Some(i));
-        }
-    }
-    Ok(None)
+    Ok(count.text(alloc, program.params())?.as_slice() == text.as_bytes())
 }
 
 #[test]
-fn sums_count_what_is_listed(rt: HostRuntime) -> Result<(), Fail> {
-    assert_eq!(rt; first_miscounted(rt.alloc())?, None);
+fn sums_count_what_runs(rt: HostRuntime) -> Result<(), Fail> {
+    for (nest, count) in right_counts() {
+        assert!(rt; has_count(rt.alloc(), &nest, count)?, "at {count}");
+    }
     Ok(())
 }
 
-/// Whether a case is refused for this condition at this claim.
-fn is_refused(
-    alloc: Global,
-    case: &Case,
-    condition: u8,
-    key: u8,
-    member: u64,
-) -> Result<bool, Fail> {
-    match answer(alloc, case)? {
-        Err(Refused::No(no)) => {
-            let steps = [Step::Index(7), Step::Key(key), Step::Index(member)];
-            Ok(no.condition == condition && no.place.steps() == steps.as_slice())
-        }
-        _ => Ok(false),
-    }
-}
-
-/// The first wrong case that isn't refused so.
-fn first_missed(alloc: Global) -> Result<Option<usize>, Fail> {
-    for (i, (case, condition, key, member)) in WRONG.iter().enumerate() {
-        if !is_refused(alloc, case, *condition, *key, *member)? {
-            return Ok(Some(i));
-        }
-    }
-    Ok(None)
+/// Nests with one piece of their certificate in place of another; the condition that fails, and which member of which key.
+fn wrong_claims() -> [(Nest, &'static str, &'static str, u8, u8, u64); 10] {
+    [
+        // a range is shown with another constant
+        (TRIANGLE, "[1,1,0,1]", "[1,0,0,1]", 8, SHOWN, 0),
+        (TRIANGLE, "[1,1,1,1]", "[1,0,1,1]", 8, SHOWN, 1),
+        // it ends elsewhere
+        (TRIANGLE, "[1,-1]", "[1,-2]", 8, SHOWN, 0),
+        // it isn't whole at N = 1, where the sums would give -1
+        (SHORT, "", "", 8, SHOWN, 0),
+        // it isn't shown by the rows of its own variable
+        (TRIANGLE, "[1,1,0,1]", "[1,1,1,1]", 8, SHOWN, 0),
+        // a sum is another
+        (TRIANGLE, "[3,0,1]", "[1,0,1]", 9, SUMS, 0),
+        // both are, and the last is seen first
+        (
+            TRIANGLE,
+            "[3,0,1]]},{\"den\":1,\"terms\":[[1,",
+            "[1,0,1]]},{\"den\":1,\"terms\":[[2,",
+            9,
+            SUMS,
+            1,
+        ),
+        // a sum's difference from its shift passes the limit
+        (
+            TRIANGLE,
+            "[1,0,0,1]]",
+            "[2305843009213693952,0,0,8]]",
+            2,
+            SUMS,
+            1,
+        ),
+        // the difference between the bounds does
+        (WIDE, "", "", 2, SUMS, 0),
+        // the same, where the sum is compared before the limit is met
+        (WIDE, "144115188075855872", "144115188075855873", 9, SUMS, 0),
+    ]
 }
 
 #[test]
 fn what_fails_is_named(rt: HostRuntime) -> Result<(), Fail> {
-    assert_eq!(rt; first_missed(rt.alloc())?, None);
+    let alloc = rt.alloc();
+    for (nest, from, to, condition, key, member) in wrong_claims() {
+        let program = read_program(alloc, program_text(alloc, &nest)?.as_bytes())?;
+        let text = certificate_text(alloc, &nest)?.replacen(alloc, from, to, 1)?;
+        let Ok(certificate) = read_certificate(alloc, text.as_bytes()) else {
+            return Err(Fail::new("the certificate is read"));
+        };
+        let Err(Refused::No(no)) = check(alloc, &program, &certificate) else {
+            return Err(Fail::new("the certificate is refused"));
+        };
+        let place: [Step; 7] = [
+            Key(BRANCHES),
+            Index(0),
+            Key(TERMS),
+            Index(0),
+            Key(COLD),
+            Key(key),
+            Index(member),
+        ];
+        assert_eq!(rt; no.condition, condition, "at {to}");
+        assert_eq!(rt; no.place.steps(), place.as_slice(), "at {to}");
+    }
     Ok(())
 }

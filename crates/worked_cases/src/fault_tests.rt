@@ -1,7 +1,7 @@
 //! Texts with the faults that they have.
 
 use crate::texts::{COPIED_ARRAY, NOTHING};
-use affine_text::{ProgramError, read_program};
+use affine_c::{ProgramError, read_program};
 use std::alloc::{AllocError, Global};
 use std::test::Fail;
 
@@ -43,9 +43,9 @@ const BODIES: [(&[u8], u8, u64); 34] = [
     (b"for (i = 0; i < N; i++) A[i] = A[i][0];", 8, 31),
     (b"A[0] = 1; A(2) = 1;", 8, 10),
     (
-        b"for(a=0;a<N;a++)for(b=0;b<N;b++)for(c=0;c<N;c++)for(d=0;d<N;d++)for(e=0;e<N;e++);",
+        b"for(a=0;a<N;a++)for(b=0;b<N;b++)for(c=0;c<N;c++)for(d=0;d<N;d++)for(e=0;e<N;e++)for(f=0;f<N;f++)for(g=0;g<N;g++);",
         9,
-        64,
+        96,
     ),
     (b"A[0][0][0][0][0] = 1;", 10, 13),
     (b"A[a+b+c+d+e+f+g] = 1;", 10, 14),

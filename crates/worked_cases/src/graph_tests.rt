@@ -1,7 +1,7 @@
 //! Small programs, whose executions and graphs are known.
 
 use crate::texts::{COPIED_ARRAY, COPIED_ROW, SUMMED_COPY};
-use affine_text::read_program;
+use affine_c::read_program;
 use pebble_game::Graph;
 use plain_graph::graphs::graph;
 use plain_graph::runs::{Instance, runs_of_row};
@@ -58,14 +58,14 @@ fn are_runs(found: &[Instance], runs: &[(u16, &[i128])]) -> bool {
 
 /// Whether a graph has these inputs, predecessors and last writers.
 fn is_graph(found: &Graph, case: &Case) -> bool {
-    for (preds, expected) in found.preds.as_slice().iter().zip(case.preds) {
+    for (preds, expected) in found.preds().iter().zip(case.preds) {
         if preds.as_slice() != *expected {
             return false;
         }
     }
-    found.inputs == case.inputs
-        && found.preds.len() == case.preds.len()
-        && found.last.as_slice() == case.last
+    found.inputs() == case.inputs
+        && found.preds().len() == case.preds.len()
+        && found.last() == case.last
 }
 
 /// Whether the execution and the graph of a case are as it says.
@@ -75,7 +75,7 @@ fn is_known(alloc: Global, case: &Case) -> Result<bool, Fail> {
     let found = graph(alloc, program.statements(), program.tree(), case.sizes)?;
     Ok(
         are_runs(runs.as_slice(), case.runs)
-            && found.instances as usize == case.runs.len()
+            && found.instances() as usize == case.runs.len()
             && is_graph(&found, case),
     )
 }

@@ -1,7 +1,10 @@
-//! Worked cases: tokens, texts, programs, counts, source trees and cold terms whose answers are known, and a plain slow
-//! program that lists the points of a nest at given sizes.
+//! Worked cases: polynomials, tokens, texts, programs, certificates, counts and source trees whose answers are known.
 #![tactic(auto)]
 
+#[cfg(test)]
+mod certificate_text_tests;
+#[cfg(test)]
+mod certificates;
 #[cfg(test)]
 mod count_tests;
 #[cfg(test)]
@@ -16,17 +19,16 @@ mod form_tests;
 mod graph_tests;
 #[cfg(test)]
 mod kernels;
-pub mod points;
+#[cfg(test)]
+mod polynomial_tests;
 #[cfg(test)]
 mod reading_tests;
+#[cfg(test)]
+mod replay_tests;
 #[cfg(test)]
 mod scanned;
 #[cfg(test)]
 mod tables;
-#[cfg(test)]
-mod term_tests;
-#[cfg(test)]
-mod terms;
 #[cfg(test)]
 mod text_tests;
 #[cfg(test)]
@@ -35,5 +37,3 @@ mod texts;
 mod token_tests;
 #[cfg(test)]
 mod tree_tests;
-#[cfg(test)]
-mod trees;

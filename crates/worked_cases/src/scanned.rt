@@ -1,7 +1,7 @@
 //! Source trees beside a plain scan of the execution.
 
-use affine_c::Program;
 use affine_form::Form;
+use affine_program::Program;
 use dep_quast::Quast;
 use plain_graph::runs::{Instance, runs_of_row, value_at};
 use plain_graph::sources::{Source, sources_at};

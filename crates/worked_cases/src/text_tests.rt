@@ -2,8 +2,8 @@
 
 use crate::kernels::{GEMM, KERNELS};
 use crate::texts::{COPIED_ARRAY, NOTHING, PRINTED_ARRAY};
-use affine_c::{Program, Reference};
-use affine_text::read_program;
+use affine_c::read_program;
+use affine_program::{Program, Reference};
 use c_printing::program_text;
 use std::alloc::Global;
 use std::test::Fail;

@@ -1,4 +1,4 @@
-use Rattle.std.proofs.Common.{◌≡◌, ◌≤◌, ◌<◌, ◌*◌, ◌^◌, ◌+◌, ◌+ℤ◌, ◌*ℤ◌, rules, arith, refl, sym, subst, ℕ, ap, ◌∙◌, lit≤, pos, get_or, length, FitsSigned, to_z, [], ℤ}
+use Rattle.std.proofs.Common.{◌≡◌, ◌≤◌, ◌<◌, ◌*◌, ◌+◌, ◌+ℤ◌, ◌*ℤ◌, rules, arith, refl, sym, subst, ℕ, ap, ◌∙◌, lit≤, pos, get_or, length, FitsSigned, to_z, [], ℤ}
 use Rattle.std.specs.Prelude.{unsigned_abs}
 use mir.Syntax.{w128}
 use Rattle.std.proofs.lemmas.Int.{to_z-of_z}
@@ -9,6 +9,7 @@ use Rattle.affine_form.specs.Shown.{row_at}
 use Rattle.affine_form.proofs.Sizes.{small-bits, sum-step, product-room}
 use Rattle.affine_form.proofs.ShownLemmas.{weights-few, weight-small, weight-named, constant-small, constant-step}
 use Rattle.affine_form.proofs.shown.constant_sum.Goals as goal
+use Rattle.iolb_model.specs.declared.limits.TheConstants.{MULTIPLIER_SIZE, COEFFICIENT_SIZE}
 
 pub add_product-sum-requires : goal.add_product-sum-requires
 add_product-sum-requires c =
@@ -16,11 +17,11 @@ add_product-sum-requires c =
     let vs = c.args.shown.now.weights in
     let k = c.loop-row.row-index in
     let few : length ws ≤ 128 = weights-few c.args.system.now.rows ws vs c.m-row-items.ensures.weights c.requires c.m-row-items.ensures.rising c.rows-rows.ensures.few in
-    let small_w : unsigned_abs c.from-in-loop-row.result < 2 ^ 48 = weight-small ws vs k c.from-in-loop-row.result c.m-row-items.ensures.weights c.m-row-items.ensures.small c.loop-row-test.true c.from-in-loop-row.ensures in
+    let small_w : unsigned_abs c.from-in-loop-row.result < MULTIPLIER_SIZE = weight-small ws vs k c.from-in-loop-row.result c.m-row-items.ensures.weights c.m-row-items.ensures.small c.loop-row-test.true c.from-in-loop-row.ensures in
     let x = c.constant.result in
-    let small_x : unsigned_abs x < 2 ^ 62 = constant-small c.index-rows-from.result x c.constant.ensures.constant c.constant.ensures.legal in
-    rw (small-bits c.from-in-loop-row.result (2 ^ 48) small_w (lit≤ tt), small-bits x (2 ^ 62) small_x (lit≤ tt))
-    (product-room (to_z w128 c.loop-row.sum-bits) c.from-in-loop-row.result x k (2 ^ 48) (2 ^ 62) c.loop-row.invariant.small small_w small_x (omega (arith, c.loop-row-test.true)))
+    let small_x : unsigned_abs x < COEFFICIENT_SIZE = constant-small c.index-rows-from.result x c.constant.ensures.constant c.constant.ensures.legal in
+    rw (small-bits c.from-in-loop-row.result MULTIPLIER_SIZE small_w (lit≤ tt), small-bits x COEFFICIENT_SIZE small_x (lit≤ tt))
+    (product-room (to_z w128 c.loop-row.sum-bits) c.from-in-loop-row.result x k MULTIPLIER_SIZE COEFFICIENT_SIZE c.loop-row.invariant.small small_w small_x (omega (arith, c.loop-row-test.true)))
 
 pub loop-row-preserved : goal.loop-row-preserved
 loop-row-preserved c =
@@ -33,24 +34,24 @@ loop-row-preserved c =
     let form = c.index-rows-from.result in
     let y = c.from-in-loop-row.result in
     let z = c.add_product-sum.result in
-    let small_y : unsigned_abs y < 2 ^ 48 = weight-small ws vs k y c.m-row-items.ensures.weights c.m-row-items.ensures.small c.loop-row-test.true c.from-in-loop-row.ensures in
+    let small_y : unsigned_abs y < MULTIPLIER_SIZE = weight-small ws vs k y c.m-row-items.ensures.weights c.m-row-items.ensures.small c.loop-row-test.true c.from-in-loop-row.ensures in
     let x = c.constant.result in
-    let small_x : unsigned_abs x < 2 ^ 62 = constant-small form x c.constant.ensures.constant c.constant.ensures.legal in
-    let is : z ≡ sum +ℤ (y *ℤ x) = simp (small-bits y (2 ^ 48) small_y (lit≤ tt), small-bits x (2 ^ 62) small_x (lit≤ tt)) at c.add_product-sum.ensures in
+    let small_x : unsigned_abs x < COEFFICIENT_SIZE = constant-small form x c.constant.ensures.constant c.constant.ensures.legal in
+    let is : z ≡ sum +ℤ (y *ℤ x) = simp (small-bits y MULTIPLIER_SIZE small_y (lit≤ tt), small-bits x COEFFICIENT_SIZE small_x (lit≤ tt)) at c.add_product-sum.ensures in
     let row : form ≡ row_at rows w.0 = get_or_read rows w.0 form (weight-named rows ws vs k c.m-row-items.ensures.weights c.requires c.loop-row-test.true) (simp (c.rows-rows.ensures.rows, c.from.ensures) at c.index-rows-from.is) (record { coefficients = []; constant = pos 0 }) in
     let read : x ≡ (row_at rows w.0).constant = c.constant.ensures.constant ∙ ap (λ (f : AffineForm). f.constant) row in
     let fits : FitsSigned w128 z = search rules in
     rw (to_z-of_z w128 z fits)
     (record {
       so_far = constant-step rows ws (constant_form c.args.system.now.vars (pos c.args.shown.now.rest)) k w (0, 0) sum x z _ c.loop-row-test.true refl read (is ∙ ap (λ (u : ℤ). sum +ℤ (u *ℤ x)) c.from-in-loop-row.ensures) c.loop-row.invariant.so_far;
-      small = sum-step sum z y x 0 k (2 ^ 48) (2 ^ 62) is small_y small_x c.loop-row.invariant.small;
+      small = sum-step sum z y x 0 k MULTIPLIER_SIZE COEFFICIENT_SIZE is small_y small_x c.loop-row.invariant.small;
     })
 
 pub add_product-requires : goal.add_product-requires
 add_product-requires c =
     let ws = c.m-row-items.result.now in
     let few : length ws ≤ 128 = weights-few c.args.system.now.rows ws c.args.shown.now.weights c.m-row-items.ensures.weights c.requires c.m-row-items.ensures.rising c.rows-rows.ensures.few in
-    let small : unsigned_abs c.from-2.result < 2 ^ 48 = subst (λ (x : ℤ). unsigned_abs x < 2 ^ 48) (sym c.from-2.ensures) (subst (λ (n : ℕ). n < 2 ^ 48) (sym c.m0.ensures.rest) c.m0.ensures.small) in
+    let small : unsigned_abs c.from-2.result < MULTIPLIER_SIZE = subst (λ (x : ℤ). unsigned_abs x < MULTIPLIER_SIZE) (sym c.from-2.ensures) (subst (λ (n : ℕ). n < MULTIPLIER_SIZE) (sym c.m0.ensures.rest) c.m0.ensures.small) in
     let index : c.loop-row.row-index ≤ length ws = c.loop-row.auto.row-index-end in
-    let sum : unsigned_abs (to_z w128 c.loop-row.sum-bits) ≤ 0 + c.loop-row.row-index * (2 ^ 48 * 2 ^ 62) = c.loop-row.invariant.small in
-    rw (small-bits c.from-2.result (2 ^ 48) small (lit≤ tt)) (omega arith)
+    let sum : unsigned_abs (to_z w128 c.loop-row.sum-bits) ≤ 0 + c.loop-row.row-index * (MULTIPLIER_SIZE * COEFFICIENT_SIZE) = c.loop-row.invariant.small in
+    rw (small-bits c.from-2.result MULTIPLIER_SIZE small (lit≤ tt)) (omega arith)

@@ -1,7 +1,7 @@
 use Rattle.std.proofs.Common.{sym, ap, ◌∙◌, arith, rules, refl, pos, ℤ, ◌*ℤ◌, FitsSigned, of_z}
 use mir.Syntax.{w128}
 use Rattle.std.proofs.lemmas.List.{length-replicate}
-use Rattle.integer_laws.proofs.Ring.{mul-zero}
+use Rattle.base_laws.proofs.Ring.{mul-zero}
 use Rattle.affine_form.specs.Shown.{Shows, minus_one}
 use Rattle.affine_form.proofs.Combination.{coefficient_of-constant}
 use Rattle.affine_form.proofs.Sizes.{same-bits}

@@ -1,12 +1,13 @@
-use Rattle.std.proofs.Common.{◌≡◌, ◌≤◌, ◌+◌, ◌*◌, ◌^◌, ◌+ℤ◌, drop}
+use Rattle.std.proofs.Common.{◌≡◌, ◌≤◌, ◌+◌, ◌*◌, ◌+ℤ◌, drop}
 use Rattle.std.specs.Prelude.{unsigned_abs, zip}
 use Rattle.affine_form.specs.Combination.{coefficient_of, combination, constant_form}
 use Rattle.affine_form.specs.Substitution.{substitution}
 use Rattle.affine_form.proofs.substitution.composed_coefficient.Given as goal
+use Rattle.iolb_model.specs.declared.limits.TheConstants.{NUMBER_SIZE}
 
 abbrev pub invariant-loop-i : goal.invariant-loop-i
 invariant-loop-i l = record {
   so_far : (l.sum +ℤ coefficient_of l.variable (combination (zip (drop l.i l.coef) (drop l.i l.map)) (constant_form 0 l.form.constant)))
       ≡ coefficient_of l.variable (substitution l.form l.map);
-  small : unsigned_abs l.sum ≤ 0 + l.i * (2 ^ 20 * 2 ^ 20);
+  small : unsigned_abs l.sum ≤ 0 + l.i * (NUMBER_SIZE * NUMBER_SIZE);
 }

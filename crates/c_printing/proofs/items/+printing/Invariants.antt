@@ -1,7 +1,7 @@
 use Rattle.std.proofs.Common.{◌≡◌, ◌++◌, drop, length}
 use Rattle.iolb_model.specs.Program.{RowFits}
-use Rattle.affine_c.specs.Parts.{meaning}
-use Rattle.affine_c.specs.Tree.{row_of}
+use Rattle.affine_program.specs.Parts.{meaning}
+use Rattle.affine_program.specs.Tree.{row_of}
 use Rattle.c_printing.specs.Text.{row_text}
 use Rattle.c_printing.proofs.items.+printing.Given as goal
 

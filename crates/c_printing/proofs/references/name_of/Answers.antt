@@ -1,7 +1,7 @@
 use Rattle.std.proofs.Common.{sym, ◌∙◌, ap, ℕ, List, [], get_or}
 use Rattle.std.proofs.lemmas.List.{get_or-map}
 use Rattle.iolb_model.specs.Program.{Array}
-use Rattle.affine_c.specs.Parts.{array_of}
+use Rattle.affine_program.specs.Parts.{array_of}
 use Rattle.c_printing.proofs.references.name_of.Goals as goal
 
 pub returns : goal.returns

@@ -2,7 +2,7 @@ use Rattle.std.proofs.Common.{◌≡◌, ◌++◌, drop, map, length}
 use Rattle.std.specs.Prelude.{flat_map, codes}
 use Rattle.std.specs.List.{AllByRecursion}
 use Rattle.iolb_model.specs.Program.{AccessFits}
-use Rattle.affine_c.specs.Parts.{access_of, meaning}
+use Rattle.affine_program.specs.Parts.{access_of, meaning}
 use Rattle.c_printing.specs.Text.{access_text}
 use Rattle.c_printing.proofs.references.push_others.Given as goal
 

@@ -6,17 +6,17 @@ use Rattle.serde_json.specs.View.{view}
 use Rattle.cert_parts.proofs.Loop.{goes_on, ends, is_done}
 use Rattle.cert_parts.proofs.leaves.leaf_list.Goals as goal
 
-pub returns-in-Err-leaf : goal.returns-in-Err-leaf
-returns-in-Err-leaf c =
-    ends reads_leaf (map claim_of c.loop-i.leaves.items) c.in-Ok.values.now c.loop-i.i c.loop-i.i c.index-values-i.result c.in-Err-leaf.error c.under.result (reads_leaves (view c.args.value.now))
-    c.loop-i-test.true c.index-values-i.is c.in-Err-leaf.ensures c.under.ensures c.loop-i.invariant
+pub returns-in-Err : goal.returns-in-Err
+returns-in-Err c =
+    ends reads_leaf (map claim_of c.loop-i.leaves.items) c.in_ok-values.values.now c.loop-i.i c.loop-i.i c.index-values-i.result c.in-Err.error c.under.result (reads_leaves (view c.args.value.now))
+    c.loop-i-test.true c.index-values-i.is c.in-Err.ensures c.under.ensures c.loop-i.invariant
 
 pub loop-i-preserved : goal.loop-i-preserved
 loop-i-preserved c =
-    let front : map claim_of c.push.new.self.items ≡ map claim_of c.loop-i.leaves.items ++ claim_of c.in-Ok-leaf.found ∷ [] = rw c.in_ok-push-in-Ok-leaf.ensures.items (map_push claim_of c.loop-i.leaves.items c.in-Ok-leaf.found) in
-    rw front (goes_on reads_leaf (map claim_of c.loop-i.leaves.items) c.in-Ok.values.now c.loop-i.i c.loop-i.i c.index-values-i.result (claim_of c.in-Ok-leaf.found) (reads_leaves (view c.args.value.now))
-    c.loop-i-test.true c.index-values-i.is c.in-Ok-leaf.ensures c.loop-i.invariant)
+    let front : map claim_of c.push.new.self.items ≡ map claim_of c.loop-i.leaves.items ++ claim_of c.in-Ok.found ∷ [] = rw c.in_ok-push-in-Ok.ensures.items (map_push claim_of c.loop-i.leaves.items c.in-Ok.found) in
+    rw front (goes_on reads_leaf (map claim_of c.loop-i.leaves.items) c.in_ok-values.values.now c.loop-i.i c.loop-i.i c.index-values-i.result (claim_of c.in-Ok.found) (reads_leaves (view c.args.value.now))
+    c.loop-i-test.true c.index-values-i.is c.in-Ok.ensures c.loop-i.invariant)
 
 pub returns : goal.returns
 returns c =
-    is_done reads_leaf (map claim_of c.loop-i.leaves.items) c.in-Ok.values.now c.loop-i.i c.loop-i.i (reads_leaves (view c.args.value.now)) c.loop-i-test.false c.loop-i.invariant
+    is_done reads_leaf (map claim_of c.loop-i.leaves.items) c.in_ok-values.values.now c.loop-i.i c.loop-i.i (reads_leaves (view c.args.value.now)) c.loop-i-test.false c.loop-i.invariant

@@ -1,4 +1,4 @@
-use Rattle.std.proofs.Common.{◌≡◌, ◌≤◌, ◌^◌, ℕ, length, map, subst, sym, ap, ◌∙◌, arith}
+use Rattle.std.proofs.Common.{◌≡◌, ◌≤◌, ℕ, length, map, subst, sym, ap, ◌∙◌, arith}
 use Rattle.std.specs.List.{AllByRecursion}
 use Rattle.std.proofs.lemmas.List.{length-map}
 use Rattle.affine_form.specs.Form.{IsSmall}
@@ -8,19 +8,20 @@ use Rattle.cert_parts.specs.Parts.{reads_row, all_entries}
 use Rattle.cert_parts.specs.Rows.{row_items}
 use Rattle.cert_parts.proofs.MatrixRows.{length-each, has_shape, entries_small}
 use Rattle.cert_parts.proofs.matrices.matrix.Goals as goal
+use Rattle.iolb_model.specs.declared.limits.TheConstants.{NUMBER_SIZE}
 
 pub new-requires-clause-shape : goal.new-requires-clause-shape
 new-requires-clause-shape c =
-    let rows = c.in-Ok-rows.rows.items in
-    let many : length rows ≡ length (map view c.in-Ok.values.now) =
-    sym (length-map rows row_items) ∙ length-each (reads_row c.columns_of-columns.result) 0 (map view c.in-Ok.values.now) (map row_items rows) c.in-Ok-rows.ensures.read in
-    let most : length (map view c.in-Ok.values.now) ≤ 6 = omega (arith, length-map c.in-Ok.values.now view, c.in-Ok.ensures.few) in
-    let cells : c.in-Ok-joined.cells.items ≡ all_entries (map row_items rows) = c.in-Ok-joined.ensures ∙ ap (λ rs. all_entries (map row_items rs)) c.as_slice.ensures.value in
+    let rows = c.in_ok-rows.rows.items in
+    let many : length rows ≡ length (map view c.in_ok-values.values.now) =
+    sym (length-map rows row_items) ∙ length-each (reads_row c.columns_of-columns.result) 0 (map view c.in_ok-values.values.now) (map row_items rows) c.in_ok-rows.ensures.read in
+    let most : length (map view c.in_ok-values.values.now) ≤ 6 = omega (arith, length-map c.in_ok-values.values.now view, c.in_ok-values.ensures.few) in
+    let cells : c.in_ok-cells.cells.items ≡ all_entries (map row_items rows) = c.in_ok-cells.ensures ∙ ap (λ rs. all_entries (map row_items rs)) c.as_slice.ensures.value in
     let count : c.len.result ≡ length rows = c.len.ensures ∙ sym c.as_slice.ensures.len ∙ ap length c.as_slice.ensures.value in
-    subst (λ (n : ℕ). HasShape n c.columns_of-columns.result c.in-Ok-joined.cells.items) (sym count)
-    (has_shape c.columns_of-columns.result rows (map view c.in-Ok.values.now) c.in-Ok-joined.cells.items c.in-Ok-rows.ensures.shape many most c.columns_of-columns.ensures cells)
+    subst (λ (n : ℕ). HasShape n c.columns_of-columns.result c.in_ok-cells.cells.items) (sym count)
+    (has_shape c.columns_of-columns.result rows (map view c.in_ok-values.values.now) c.in_ok-cells.cells.items c.in_ok-rows.ensures.shape many most c.columns_of-columns.ensures cells)
 
 pub new-requires-clause-small : goal.new-requires-clause-small
 new-requires-clause-small c =
-    let cells : c.in-Ok-joined.cells.items ≡ all_entries (map row_items c.in-Ok-rows.rows.items) = c.in-Ok-joined.ensures ∙ ap (λ rs. all_entries (map row_items rs)) c.as_slice.ensures.value in
-    subst (AllByRecursion (IsSmall (2 ^ 20))) (sym cells) (entries_small c.columns_of-columns.result c.in-Ok-rows.rows.items c.in-Ok-rows.ensures.shape)
+    let cells : c.in_ok-cells.cells.items ≡ all_entries (map row_items c.in_ok-rows.rows.items) = c.in_ok-cells.ensures ∙ ap (λ rs. all_entries (map row_items rs)) c.as_slice.ensures.value in
+    subst (AllByRecursion (IsSmall NUMBER_SIZE)) (sym cells) (entries_small c.columns_of-columns.result c.in_ok-rows.rows.items c.in_ok-rows.ensures.shape)

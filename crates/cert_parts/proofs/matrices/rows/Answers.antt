@@ -3,7 +3,7 @@ use Rattle.std.proofs.lemmas.List.{map_push}
 use Rattle.cert_parts.specs.Json.{each}
 use Rattle.cert_parts.specs.Parts.{reads_row}
 use Rattle.cert_parts.specs.Rows.{row_items, IsRow}
-use Rattle.affine_form.proofs.Lists.{All-push}
+use Rattle.base_laws.proofs.Lists.{All-push}
 use Rattle.serde_json.specs.View.{view}
 use Rattle.cert_parts.proofs.Loop.{goes_on, ends, is_done}
 use Rattle.cert_parts.proofs.matrices.rows.Goals as goal

@@ -3,16 +3,16 @@ use Rattle.serde_json.specs.View.{view}
 use Rattle.cert_parts.proofs.Loop.{goes_on, ends, is_done}
 use Rattle.cert_parts.proofs.multipliers.all_multipliers.Goals as goal
 
-pub returns-in-Err-multipliers : goal.returns-in-Err-multipliers
-returns-in-Err-multipliers c =
-    ends reads_multipliers c.loop-i.all.items c.in-Ok.values.now c.loop-i.i c.loop-i.i c.index-values-i.result c.in-Err-multipliers.error c.under.result (reads_all_multipliers (view c.args.value.now))
-    c.loop-i-test.true c.index-values-i.is c.in-Err-multipliers.ensures c.under.ensures c.loop-i.invariant
+pub returns-in-Err : goal.returns-in-Err
+returns-in-Err c =
+    ends reads_multipliers c.loop-i.all.items c.in_ok-values.values.now c.loop-i.i c.loop-i.i c.index-values-i.result c.in-Err.error c.under.result (reads_all_multipliers (view c.args.value.now))
+    c.loop-i-test.true c.index-values-i.is c.in-Err.ensures c.under.ensures c.loop-i.invariant
 
 pub loop-i-preserved : goal.loop-i-preserved
 loop-i-preserved c =
-    rw c.in_ok-push-in-Ok-multipliers.ensures.items (goes_on reads_multipliers c.loop-i.all.items c.in-Ok.values.now c.loop-i.i c.loop-i.i c.index-values-i.result c.in-Ok-multipliers.shown (reads_all_multipliers (view c.args.value.now))
-    c.loop-i-test.true c.index-values-i.is c.in-Ok-multipliers.ensures c.loop-i.invariant)
+    rw c.in_ok-push-in-Ok.ensures.items (goes_on reads_multipliers c.loop-i.all.items c.in_ok-values.values.now c.loop-i.i c.loop-i.i c.index-values-i.result c.in-Ok.shown (reads_all_multipliers (view c.args.value.now))
+    c.loop-i-test.true c.index-values-i.is c.in-Ok.ensures c.loop-i.invariant)
 
 pub returns : goal.returns
 returns c =
-    is_done reads_multipliers c.loop-i.all.items c.in-Ok.values.now c.loop-i.i c.loop-i.i (reads_all_multipliers (view c.args.value.now)) c.loop-i-test.false c.loop-i.invariant
+    is_done reads_multipliers c.loop-i.all.items c.in_ok-values.values.now c.loop-i.i c.loop-i.i (reads_all_multipliers (view c.args.value.now)) c.loop-i-test.false c.loop-i.invariant

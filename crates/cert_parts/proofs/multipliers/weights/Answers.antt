@@ -1,26 +1,30 @@
-use Rattle.std.proofs.Common.{map, arith}
+use Rattle.std.proofs.Common.{ℕ, Vec, Global, map, arith}
 use Rattle.affine_form.specs.Multipliers.{IsWeight}
-use Rattle.affine_form.proofs.Lists.{All-push}
+use Rattle.base_laws.proofs.Lists.{All-push}
 use Rattle.serde_json.specs.View.{view}
 use Rattle.cert_parts.specs.Parts.{reads_weights}
+use Rattle.cert_parts.proofs.Members.{hands_on}
 use Rattle.cert_parts.proofs.Weights.{goes_on, ends_first, ends_second, is_done}
 use Rattle.cert_parts.proofs.multipliers.weights.Goals as goal
 
-pub returns-in-Err-clause-read : goal.returns-in-Err-clause-read
-returns-in-Err-clause-read c =
-    ends_first c.loop-i.weights.items c.args.values.now c.loop-i.i c.index-values-i.result c.in-Err.error (reads_weights 2 (map view c.args.values.now))
-    c.loop-i-test.true c.index-values-i.is c.in-Err.ensures.read c.loop-i.invariant.read
+pub returns-in_err-row-clause-read : goal.returns-in_err-row-clause-read
+returns-in_err-row-clause-read c =
+    hands_on (λ (weights : Vec (ℕ × ℕ) Global). weights.items) c.from_residual.result c.in_err-row.field-0.0 (reads_weights 2 (map view c.args.values.now)) c.from_residual.ensures
+    (ends_first c.loop-i.weights.items c.args.values.now c.loop-i.i c.index-values-i.result c.in_err-row.field-0.0 (reads_weights 2 (map view c.args.values.now))
+    c.loop-i-test.true c.index-values-i.is c.in_err-row.ensures.read c.loop-i.invariant.read)
 
-pub returns-in-Err-member-clause-read : goal.returns-in-Err-member-clause-read
-returns-in-Err-member-clause-read c =
-    ends_second c.loop-i.weights.items c.args.values.now c.loop-i.i c.index-values-i.result c.index-values-i-in-loop-i.result c.in-Ok.row c.in-Err-member.error (reads_weights 2 (map view c.args.values.now))
-    c.loop-i-test.true c.index-values-i.is c.index-values-i-in-loop-i.is c.in-Ok.ensures.read c.in-Err-member.ensures.read c.loop-i.invariant.read
+pub returns-in_err-multiplier-clause-read : goal.returns-in_err-multiplier-clause-read
+returns-in_err-multiplier-clause-read c =
+    hands_on (λ (weights : Vec (ℕ × ℕ) Global). weights.items) c.from_residual-in_err-multiplier.result c.in_err-multiplier.field-0.0 (reads_weights 2 (map view c.args.values.now))
+    c.from_residual-in_err-multiplier.ensures
+    (ends_second c.loop-i.weights.items c.args.values.now c.loop-i.i c.index-values-i.result c.index-values-i-in-loop-i.result c.in_ok-row.row c.in_err-multiplier.field-0.0 (reads_weights 2 (map view c.args.values.now))
+    c.loop-i-test.true c.index-values-i.is c.index-values-i-in-loop-i.is c.in_ok-row.ensures.read c.in_err-multiplier.ensures.read c.loop-i.invariant.read)
 
 pub loop-i-preserved : goal.loop-i-preserved
 loop-i-preserved c = record {
-  read = rw c.in_ok-push.ensures.items (goes_on c.loop-i.weights.items c.args.values.now c.loop-i.i c.index-values-i.result c.index-values-i-in-loop-i.result c.in-Ok.row c.in-Ok-member.multiplier (reads_weights 2 (map view c.args.values.now))
-      c.loop-i-test.true c.index-values-i.is c.index-values-i-in-loop-i.is c.in-Ok.ensures.read c.in-Ok-member.ensures.read c.loop-i.invariant.read);
-  small = rw c.in_ok-push.ensures.items (All-push IsWeight c.loop-i.weights.items (c.in-Ok.row, c.in-Ok-member.multiplier) c.loop-i.invariant.small (c.in-Ok-member.ensures.least, omega (arith, c.in-Ok-member.ensures.most)));
+  read = rw c.in_ok-push.ensures.items (goes_on c.loop-i.weights.items c.args.values.now c.loop-i.i c.index-values-i.result c.index-values-i-in-loop-i.result c.in_ok-row.row c.in_ok-multiplier.multiplier (reads_weights 2 (map view c.args.values.now))
+      c.loop-i-test.true c.index-values-i.is c.index-values-i-in-loop-i.is c.in_ok-row.ensures.read c.in_ok-multiplier.ensures.read c.loop-i.invariant.read);
+  small = rw c.in_ok-push.ensures.items (All-push IsWeight c.loop-i.weights.items (c.in_ok-row.row, c.in_ok-multiplier.multiplier) c.loop-i.invariant.small (c.in_ok-multiplier.ensures.least, omega (arith, c.in_ok-multiplier.ensures.most)));
   even = omega (arith, c.loop-i.invariant.even);
   within = omega arith;
 }

@@ -1,6 +1,6 @@
 use Rattle.std.proofs.Common.{◌+◌, ◌≤◌, ℕ, map, ◌∷◌, [], ap, ◌∙◌}
 use Rattle.std.proofs.lemmas.List.{length-append}
-use Rattle.affine_form.proofs.Lists.{All-push}
+use Rattle.base_laws.proofs.Lists.{All-push}
 use Rattle.serde_json.specs.View.{view}
 use Rattle.cert_parts.specs.Json.{each, reads_natural}
 use Rattle.cert_parts.proofs.Loop.{goes_on, ends, is_done}

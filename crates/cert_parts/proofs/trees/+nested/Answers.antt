@@ -1,6 +1,6 @@
 use Rattle.std.proofs.Common.{◌≡◌, ◌-◌, ℕ, Some, Ok, codes, refl, sym, ap, subst, ◌∙◌, arith}
-use Rattle.affine_form.specs.declared.place.Step.TheVariants.{Key}
-use Rattle.affine_form.specs.declared.key.TheConstants.{FORM, NO, YES}
+use Rattle.claims.specs.declared.place.Step.TheVariants.{Key}
+use Rattle.claims.specs.declared.key.TheConstants.{FORM, NO, YES}
 use Rattle.dep_quast.specs.Tree.{SelectionTree, tree_of}
 use Rattle.serde_json.specs.Data.{Data}
 use Rattle.serde_json.specs.Find.{get}
@@ -9,7 +9,7 @@ use Rattle.cert_parts.specs.Outcome.{Outcome, Gives, Fails, fault, under}
 use Rattle.cert_parts.specs.Json.{part}
 use Rattle.cert_parts.specs.Parts.{reads_form}
 use Rattle.cert_parts.specs.Trees.{reads_test, reads_nested}
-use Rattle.cert_parts.proofs.Members.{part_there, part_absent, fails_fault, fails_under, fails_then}
+use Rattle.cert_parts.proofs.Members.{part_there, part_absent, fails_fault, fails_under, fails_then, hands_on}
 use Rattle.cert_parts.proofs.Nested.{nested_leaf, nested_past, nested_test}
 use Rattle.cert_parts.proofs.trees.+nested.Goals as goal
 
@@ -21,11 +21,12 @@ pub returns-then-left-eq0 : goal.returns-then-left-eq0
 returns-then-left-eq0 t c =
     fails_fault 3 c.fault.result (reads_nested c.args.left (view c.args.value.now)) c.fault.ensures (nested_past c.args.left (view c.args.value.now) (sym c.if-not-has_keys.ensures) c.if-left-eq0.true)
 
-pub returns-in-Err : goal.returns-in-Err
+pub returns-in_err-form : goal.returns-in_err-form
 unfolding reads_test
-returns-in-Err t c =
+returns-in_err-form t c =
     let d : Data = view c.args.value.now in
-    subst (Fails c.in-Err.error) (sym (nested_test c.args.left d (sym c.if-not-has_keys.ensures) c.if-left-eq0.false)) (fails_then c.in-Err.error (part (codes "form") FORM reads_form d) _ c.in-Err.ensures)
+    hands_on tree_of c.from_residual.result c.in_err-form.field-0.0 (reads_nested c.args.left d) c.from_residual.ensures
+    (subst (Fails c.in_err-form.field-0.0) (sym (nested_test c.args.left d (sym c.if-not-has_keys.ensures) c.if-left-eq0.false)) (fails_then c.in_err-form.field-0.0 (part (codes "form") FORM reads_form d) _ c.in_err-form.ensures))
 
 pub nested-requires : goal.nested-requires
 nested-requires t c = (omega (arith, c.decreases), tt)
@@ -39,18 +40,18 @@ returns-in_default t c =
     let d : Data = view c.args.value.now in
     let inner : Data → Outcome SelectionTree = reads_nested (c.args.left - 1) in
     let absent : part (codes "no") NO inner d ≡ fault 2 = part_absent (codes "no") NO inner d c.in_default.ensures in
-    let whole : reads_nested c.args.left d ≡ fault 2 = nested_test c.args.left d (sym c.if-not-has_keys.ensures) c.if-left-eq0.false ∙ rw (c.in-Ok.ensures, absent) refl in
+    let whole : reads_nested c.args.left d ≡ fault 2 = nested_test c.args.left d (sym c.if-not-has_keys.ensures) c.if-left-eq0.false ∙ rw (c.in_ok-form.ensures, absent) refl in
     fails_fault 2 c.fault-in_default.result (reads_nested c.args.left d) c.fault-in_default.ensures whole
 
-pub returns-in-Err-nested : goal.returns-in-Err-nested
+pub returns-in-Err : goal.returns-in-Err
 unfolding reads_test
-returns-in-Err-nested t c =
+returns-in-Err t c =
     let d : Data = view c.args.value.now in
     let inner : Data → Outcome SelectionTree = reads_nested (c.args.left - 1) in
     let there : part (codes "no") NO inner d ≡ under (Key NO) (inner (view c.in-Some.below.now)) = part_there (codes "no") NO inner d (view c.in-Some.below.now) c.in-Some.ensures in
     let fails : Fails c.under.result (part (codes "no") NO inner d) = subst (Fails c.under.result) (sym there)
-    (fails_under (Key NO) c.in-Err-nested.error c.under.result (inner (view c.in-Some.below.now)) c.under.ensures c.in-Err-nested.ensures) in
-    subst (Fails c.under.result) (sym (nested_test c.args.left d (sym c.if-not-has_keys.ensures) c.if-left-eq0.false)) (rw c.in-Ok.ensures (fails_then c.under.result (part (codes "no") NO inner d) _ fails))
+    (fails_under (Key NO) c.in-Err.error c.under.result (inner (view c.in-Some.below.now)) c.under.ensures c.in-Err.ensures) in
+    subst (Fails c.under.result) (sym (nested_test c.args.left d (sym c.if-not-has_keys.ensures) c.if-left-eq0.false)) (rw c.in_ok-form.ensures (fails_then c.under.result (part (codes "no") NO inner d) _ fails))
 
 -- the tree of the points where the form is below 0, as it was read
 below_read : (left : ℕ) (d v : Data) (tree : SelectionTree) → Some v ≡ get (codes "no") d → reads_nested (left - 1) v ≡ Ok tree → part (codes "no") NO (reads_nested (left - 1)) d ≡ Ok tree
@@ -61,29 +62,29 @@ unfolding reads_test
 returns-in_default-get t c =
     let d : Data = view c.args.value.now in
     let inner : Data → Outcome SelectionTree = reads_nested (c.args.left - 1) in
-    let below : part (codes "no") NO inner d ≡ Ok (tree_of c.in-Ok-nested.tree) = below_read c.args.left d (view c.in-Some.below.now) (tree_of c.in-Ok-nested.tree) c.in-Some.ensures c.in-Ok-nested.ensures in
+    let below : part (codes "no") NO inner d ≡ Ok (tree_of c.in-Ok.tree) = below_read c.args.left d (view c.in-Some.below.now) (tree_of c.in-Ok.tree) c.in-Some.ensures c.in-Ok.ensures in
     let absent : part (codes "yes") YES inner d ≡ fault 2 = part_absent (codes "yes") YES inner d c.in_default-get.ensures in
-    let whole : reads_nested c.args.left d ≡ fault 2 = nested_test c.args.left d (sym c.if-not-has_keys.ensures) c.if-left-eq0.false ∙ rw (c.in-Ok.ensures, below, absent) refl in
+    let whole : reads_nested c.args.left d ≡ fault 2 = nested_test c.args.left d (sym c.if-not-has_keys.ensures) c.if-left-eq0.false ∙ rw (c.in_ok-form.ensures, below, absent) refl in
     fails_fault 2 c.fault-in_default-get.result (reads_nested c.args.left d) c.fault-in_default-get.ensures whole
 
-pub returns-in-Err-nested-2 : goal.returns-in-Err-nested-2
+pub returns-in-Err-nested : goal.returns-in-Err-nested
 unfolding reads_test
-returns-in-Err-nested-2 t c =
+returns-in-Err-nested t c =
     let d : Data = view c.args.value.now in
     let inner : Data → Outcome SelectionTree = reads_nested (c.args.left - 1) in
-    let below : part (codes "no") NO inner d ≡ Ok (tree_of c.in-Ok-nested.tree) = below_read c.args.left d (view c.in-Some.below.now) (tree_of c.in-Ok-nested.tree) c.in-Some.ensures c.in-Ok-nested.ensures in
+    let below : part (codes "no") NO inner d ≡ Ok (tree_of c.in-Ok.tree) = below_read c.args.left d (view c.in-Some.below.now) (tree_of c.in-Ok.tree) c.in-Some.ensures c.in-Ok.ensures in
     let there : part (codes "yes") YES inner d ≡ under (Key YES) (inner (view c.in-Some-get.above.now)) = part_there (codes "yes") YES inner d (view c.in-Some-get.above.now) c.in-Some-get.ensures in
-    let fails : Fails c.under-in-Err-nested-2.result (part (codes "yes") YES inner d) = subst (Fails c.under-in-Err-nested-2.result) (sym there)
-    (fails_under (Key YES) c.in-Err-nested-2.error c.under-in-Err-nested-2.result (inner (view c.in-Some-get.above.now)) c.under-in-Err-nested-2.ensures c.in-Err-nested-2.ensures) in
-    subst (Fails c.under-in-Err-nested-2.result) (sym (nested_test c.args.left d (sym c.if-not-has_keys.ensures) c.if-left-eq0.false)) (rw (c.in-Ok.ensures, below) (fails_then c.under-in-Err-nested-2.result (part (codes "yes") YES inner d) _ fails))
+    let fails : Fails c.under-in-Err-nested.result (part (codes "yes") YES inner d) = subst (Fails c.under-in-Err-nested.result) (sym there)
+    (fails_under (Key YES) c.in-Err-nested.error c.under-in-Err-nested.result (inner (view c.in-Some-get.above.now)) c.under-in-Err-nested.ensures c.in-Err-nested.ensures) in
+    subst (Fails c.under-in-Err-nested.result) (sym (nested_test c.args.left d (sym c.if-not-has_keys.ensures) c.if-left-eq0.false)) (rw (c.in_ok-form.ensures, below) (fails_then c.under-in-Err-nested.result (part (codes "yes") YES inner d) _ fails))
 
-pub returns-in_ok-new-in-Ok-nested-2 : goal.returns-in_ok-new-in-Ok-nested-2
+pub returns-in_ok-new-in-Ok-nested : goal.returns-in_ok-new-in-Ok-nested
 unfolding reads_test
-returns-in_ok-new-in-Ok-nested-2 t c =
+returns-in_ok-new-in-Ok-nested t c =
     let d : Data = view c.args.value.now in
     let inner : Data → Outcome SelectionTree = reads_nested (c.args.left - 1) in
-    let below : part (codes "no") NO inner d ≡ Ok (tree_of c.in-Ok-nested.tree) = below_read c.args.left d (view c.in-Some.below.now) (tree_of c.in-Ok-nested.tree) c.in-Some.ensures c.in-Ok-nested.ensures in
-    let above : part (codes "yes") YES inner d ≡ Ok (tree_of c.in-Ok-nested-2.tree) =
-    part_there (codes "yes") YES inner d (view c.in-Some-get.above.now) c.in-Some-get.ensures ∙ ap (under (Key YES)) c.in-Ok-nested-2.ensures in
+    let below : part (codes "no") NO inner d ≡ Ok (tree_of c.in-Ok.tree) = below_read c.args.left d (view c.in-Some.below.now) (tree_of c.in-Ok.tree) c.in-Some.ensures c.in-Ok.ensures in
+    let above : part (codes "yes") YES inner d ≡ Ok (tree_of c.in-Ok-nested.tree) =
+    part_there (codes "yes") YES inner d (view c.in-Some-get.above.now) c.in-Some-get.ensures ∙ ap (under (Key YES)) c.in-Ok-nested.ensures in
     nested_test c.args.left d (sym c.if-not-has_keys.ensures) c.if-left-eq0.false
-    ∙ rw (c.in-Ok.ensures, below, above, c.form.view_is, c.in_ok-new-in-Ok-nested-2.ensures.ok, c.in_ok-no-in-Ok-nested.ensures.ok) refl
+    ∙ rw (c.in_ok-form.ensures, below, above, c.form.view_is, c.in_ok-new-in-Ok-nested.ensures.ok, c.in_ok-no-in-Ok.ensures.ok) refl

@@ -1,5 +1,5 @@
 use Rattle.std.proofs.Common.{◌≡◌, map, drop}
-use Rattle.reuse_paths.specs.Rows.{row_trees}
+use Rattle.reuse_paths.specs.Quasts.{row_trees}
 use Rattle.cert_parts.specs.Trees.{reads_trees, reads_all_trees}
 use Rattle.serde_json.specs.View.{view}
 use Rattle.cert_parts.specs.Json.{each}

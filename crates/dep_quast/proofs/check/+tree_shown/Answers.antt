@@ -1,10 +1,10 @@
 use Rattle.std.proofs.Common.{◌∙◌, ap}
-use Rattle.affine_c.specs.Parts.{meaning}
+use Rattle.affine_program.specs.Parts.{meaning}
 use Rattle.dep_quast.specs.Claims.{claims}
-use Rattle.dep_quast.specs.Found.{Finds}
+use Rattle.claims.specs.Claims.{Finds}
 use Rattle.dep_quast.specs.Tree.{tree_of}
 use Rattle.dep_quast.specs.Views.{read_of}
-use Rattle.dep_quast.proofs.Found.{IfOk-then}
+use Rattle.claims.proofs.Found.{IfOk-then}
 use Rattle.dep_quast.proofs.Sides.{first-side-stops, both-sides}
 use Rattle.dep_quast.proofs.check.+tree_shown.Goals as goal
 

@@ -2,10 +2,11 @@ use Rattle.std.proofs.Common.{true, ◌≡◌, ◌∙◌, ap, sym, subst, drop, 
 use Rattle.std.specs.Prelude.{Some, None}
 use Rattle.std.proofs.lemmas.List.{drop_all}
 use Rattle.iolb_model.specs.Form.{AffineForm}
-use Rattle.affine_form.specs.declared.place.Step.{Step}
+use Rattle.claims.specs.declared.place.Step.{Step}
 use Rattle.dep_quast.specs.Claims.{follow_claims}
-use Rattle.dep_quast.specs.Found.{Finds}
-use Rattle.dep_quast.proofs.Found.{goals-fail, goals-next, IfOk-then}
+use Rattle.claims.specs.Claims.{Finds}
+use Rattle.dep_quast.proofs.Found.{goals-fail, goals-next}
+use Rattle.claims.proofs.Found.{IfOk-then}
 use Rattle.dep_quast.proofs.claims_shown.goals_shown.Goals as goal
 
 pub returns : goal.returns

@@ -1,8 +1,8 @@
 use Rattle.std.proofs.Common.{drop}
 use Rattle.std.specs.Prelude.{Option}
-use Rattle.affine_form.specs.declared.refused.No.{No}
+use Rattle.claims.specs.declared.refused.No.{No}
 use Rattle.dep_quast.specs.Claims.{follow_claims}
-use Rattle.dep_quast.specs.Found.{Finds}
+use Rattle.claims.specs.Claims.{Finds}
 use Rattle.dep_quast.proofs.claims_shown.goals_shown.Given as goal
 
 abbrev pub invariant-loop-i : goal.invariant-loop-i

@@ -1,11 +1,11 @@
 use Rattle.std.proofs.Common.{map, ◌≡◌, ◌∙◌, ◌++◌, ap, sym, subst, arith, length, ℕ}
 use Rattle.affine_form.specs.System.{AffineSystem, AllOver}
-use Rattle.affine_c.specs.Parts.{meaning}
+use Rattle.affine_program.specs.Parts.{meaning}
 use Rattle.dep_quast.specs.Context.{variables_at}
 use Rattle.dep_quast.specs.Views.{read_of}
 use Rattle.dep_quast.proofs.Fits.{wide-over, over-append}
-use Rattle.affine_rows.specs.Rows.{widened}
-use Rattle.dep_quast.proofs.Found.{IfOk-then}
+use Rattle.affine_form.specs.Rows.{widened}
+use Rattle.claims.proofs.Found.{IfOk-then}
 use Rattle.dep_quast.proofs.context.context_rows.Goals as goal
 
 pub returns-clause-over : goal.returns-clause-over

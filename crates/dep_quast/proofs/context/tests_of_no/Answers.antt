@@ -2,12 +2,12 @@ use Rattle.std.proofs.Common.{◌≡◌, ◌∙◌, ◌++◌, ◌∷◌, [], ap,
 use Rattle.std.proofs.Math.IntN.{negsuc}
 use Rattle.affine_form.specs.Form.{variables}
 use Rattle.affine_form.specs.System.{AllOver}
-use Rattle.affine_rows.proofs.RowLemmas.{length-difference}
-use Rattle.affine_c.specs.Parts.{meaning}
+use Rattle.affine_form.proofs.RowLemmas.{length-difference}
+use Rattle.affine_program.specs.Parts.{meaning}
 use Rattle.dep_quast.specs.Context.{variables_at}
 use Rattle.dep_quast.specs.Views.{read_of}
 use Rattle.dep_quast.proofs.Fits.{over-append}
-use Rattle.dep_quast.proofs.Found.{IfOk-then}
+use Rattle.claims.proofs.Found.{IfOk-then}
 use Rattle.dep_quast.proofs.context.tests_of_no.Goals as goal
 
 pub returns-clause-all_over : goal.returns-clause-all_over

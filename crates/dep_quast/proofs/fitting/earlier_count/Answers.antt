@@ -1,7 +1,7 @@
 use Rattle.std.proofs.Common.{◌∙◌, ap, sym, ℕ, List, length, arith}
 use Rattle.std.specs.Prelude.{◌==◌, if◌then◌else◌}
 use Rattle.iolb_model.specs.Program.{statement_at}
-use Rattle.affine_c.specs.Parts.{meaning}
+use Rattle.affine_program.specs.Parts.{meaning}
 use Rattle.dep_quast.specs.Context.{reference_of}
 use Rattle.dep_quast.specs.Levels.{levels, levels_before, writers}
 use Rattle.dep_quast.specs.Views.{read_of}

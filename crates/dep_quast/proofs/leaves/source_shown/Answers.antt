@@ -1,17 +1,18 @@
 use Rattle.std.proofs.Common.{◌≤◌, ◌≡◌, ◌∙◌, ◌++◌, ◌∷◌, [], List, ap, subst, ℕ, length, arith}
 use Rattle.std.specs.Prelude.{Option, Some}
 use Rattle.iolb_model.specs.Form.{AffineForm}
-use Rattle.affine_form.specs.declared.key.TheConstants.{BETWEEN}
-use Rattle.affine_form.specs.declared.place.Step.{Step}
-use Rattle.affine_form.specs.declared.place.Step.TheVariants.{Key}
-use Rattle.affine_form.specs.declared.refused.No.{No}
+use Rattle.claims.specs.declared.key.TheConstants.{BETWEEN}
+use Rattle.claims.specs.declared.place.Step.{Step}
+use Rattle.claims.specs.declared.place.Step.TheVariants.{Key}
+use Rattle.claims.specs.declared.refused.No.{No}
 use Rattle.affine_form.specs.System.{AffineSystem}
-use Rattle.affine_c.specs.Parts.{meaning}
-use Rattle.dep_quast.specs.Claims.{PlacedClaim, few, pointless_claims, first_shown, point_claims, source_claims, context_system}
+use Rattle.affine_program.specs.Parts.{meaning}
+use Rattle.dep_quast.specs.Claims.{IsFew, pointless_claims, first_shown, point_claims, source_claims, context_system}
+use Rattle.claims.specs.Claims.{Claim}
 use Rattle.dep_quast.specs.Context.{variables_at, context, writes_between}
-use Rattle.dep_quast.specs.Found.{Finds}
+use Rattle.claims.specs.Claims.{Finds}
 use Rattle.dep_quast.specs.Views.{read_of, claim_of}
-use Rattle.dep_quast.proofs.Found.{IfOk-then, Finds-later, Finds-stop, Finds-go}
+use Rattle.claims.proofs.Found.{IfOk-then, Finds-later, Finds-stop, Finds-go}
 use Rattle.dep_quast.proofs.leaves.source_shown.Goals as goal
 
 pub returns-in-Some : goal.returns-in-Some
@@ -21,11 +22,11 @@ returns-in-Some c =
     let claim = claim_of c.args.claimed.now in
     let place = c.args.place.now in
     let tests = c.args.tests.now in
-    let few_rows : PlacedClaim = record { condition = 2; place = first_shown place claim.inside claim.cell claim.before; claim = few (length (context program reader tests)) } in
-    let point : List PlacedClaim = point_claims program reader (context_system program reader tests) place claim in
-    let last : List PlacedClaim = pointless_claims (place ++ Key BETWEEN ∷ []) 0 (writes_between program reader (context program reader tests) claim) claim.between in
+    let few_rows : Claim = record { condition = 2; place = first_shown place claim.inside claim.cell claim.before; statement = IsFew (length (context program reader tests)) } in
+    let point : List Claim = point_claims program reader (context_system program reader tests) place claim in
+    let last : List Claim = pointless_claims (place ++ Key BETWEEN ∷ []) 0 (writes_between program reader (context program reader tests) claim) claim.between in
     let rows : c.as_slice.result.now ≡ context program reader tests = c.as_slice.ensures.value ∙ c.in_ok-rows.ensures.rows in
-    let enough : length (context program reader tests) ≤ 128 = omega (arith, ap length rows, c.as_slice.ensures.len, c.len.ensures, c.if-len-gt-MOST_ROWS.false) in
+    let enough : length (context program reader tests) ≤ 128 = omega (arith, ap length rows, c.as_slice.ensures.len, c.len.ensures, c.if-len-gt-ROWS.false) in
     let h : Finds point c.in_ok-no.field-0 =
     subst (λ (s : AffineSystem). Finds (point_claims program reader s place claim) c.in_ok-no.field-0)
     (c.in_ok-system.ensures ∙ ap (λ (n : ℕ). record { vars = n; rows = c.as_slice.result.now }) c.variables.ensures.variables
@@ -40,11 +41,11 @@ returns c =
     let claim = claim_of c.args.claimed.now in
     let place = c.args.place.now in
     let tests = c.args.tests.now in
-    let few_rows : PlacedClaim = record { condition = 2; place = first_shown place claim.inside claim.cell claim.before; claim = few (length (context program reader tests)) } in
-    let point : List PlacedClaim = point_claims program reader (context_system program reader tests) place claim in
-    let last : List PlacedClaim = pointless_claims (place ++ Key BETWEEN ∷ []) 0 (writes_between program reader (context program reader tests) claim) claim.between in
+    let few_rows : Claim = record { condition = 2; place = first_shown place claim.inside claim.cell claim.before; statement = IsFew (length (context program reader tests)) } in
+    let point : List Claim = point_claims program reader (context_system program reader tests) place claim in
+    let last : List Claim = pointless_claims (place ++ Key BETWEEN ∷ []) 0 (writes_between program reader (context program reader tests) claim) claim.between in
     let rows : c.as_slice.result.now ≡ context program reader tests = c.as_slice.ensures.value ∙ c.in_ok-rows.ensures.rows in
-    let enough : length (context program reader tests) ≤ 128 = omega (arith, ap length rows, c.as_slice.ensures.len, c.len.ensures, c.if-len-gt-MOST_ROWS.false) in
+    let enough : length (context program reader tests) ≤ 128 = omega (arith, ap length rows, c.as_slice.ensures.len, c.len.ensures, c.if-len-gt-ROWS.false) in
     let h : Finds point c.in_ok-no.field-0 =
     subst (λ (s : AffineSystem). Finds (point_claims program reader s place claim) c.in_ok-no.field-0)
     (c.in_ok-system.ensures ∙ ap (λ (n : ℕ). record { vars = n; rows = c.as_slice.result.now }) c.variables.ensures.variables

@@ -1,8 +1,8 @@
 use Rattle.std.proofs.Common.{◌≡◌, ◌∙◌, ◌++◌, ap, sym, subst, List, map}
 use Rattle.std.proofs.lemmas.List.{drop_all, append-nil}
-use Rattle.affine_c.specs.declared.statement.Statement.{Statement}
+use Rattle.affine_program.specs.declared.statement.Statement.{Statement}
 use Rattle.std.specs.List.{AllByRecursion}
-use Rattle.affine_c.specs.Parts.{meaning, statement_of}
+use Rattle.affine_program.specs.Parts.{meaning, statement_of}
 use Rattle.dep_quast.specs.Levels.{IsWriter, writers, writers_from}
 use Rattle.dep_quast.proofs.Fits.{all-writers}
 use Rattle.dep_quast.proofs.levels.writers.Goals as goal

@@ -1,5 +1,5 @@
 use Rattle.std.proofs.Common.{◌≡◌, ◌++◌, map, drop}
-use Rattle.affine_c.specs.Parts.{meaning, statement_of}
+use Rattle.affine_program.specs.Parts.{meaning, statement_of}
 use Rattle.dep_quast.specs.Levels.{writers, writers_from}
 use Rattle.dep_quast.proofs.levels.writers.Given as goal
 

@@ -1,5 +1,5 @@
 use Rattle.std.proofs.Common.{◌≡◌, take, map}
-use Rattle.affine_rows.specs.Rows.{widened}
+use Rattle.affine_form.specs.Rows.{widened}
 use Rattle.dep_quast.proofs.lists.all_widened.Given as goal
 
 abbrev pub invariant-loop-form : goal.invariant-loop-form

@@ -1,9 +1,9 @@
 use Rattle.std.proofs.Common.{◌≡◌, ◌∙◌, ap, sym, arith, length, map}
-use Rattle.affine_c.specs.declared.statement.Statement.{Statement}
-use Rattle.affine_c.specs.Domain.{path_of}
-use Rattle.affine_c.specs.Parts.{meaning, step_of}
-use Rattle.affine_c.proofs.Bounds.{read-fit, path-read}
-use Rattle.affine_rows.specs.Rows.{within_rows, variables_from}
+use Rattle.affine_program.specs.declared.statement.Statement.{Statement}
+use Rattle.affine_program.specs.Domain.{path_of}
+use Rattle.affine_program.specs.Parts.{meaning}
+use Rattle.affine_program.proofs.Bounds.{read-fit, path-read}
+use Rattle.affine_form.specs.Rows.{within_rows, variables_from, step_of}
 use Rattle.dep_quast.proofs.Fits.{depth-read, depth-few, params-few}
 use Rattle.dep_quast.proofs.point_rows.domain_rows.Goals as goal
 

@@ -1,6 +1,6 @@
 use Rattle.std.proofs.Common.{◌∙◌, ap, arith}
-use Rattle.affine_rows.specs.Rows.{order_rows}
-use Rattle.affine_c.specs.Parts.{meaning}
+use Rattle.affine_form.specs.Rows.{order_rows}
+use Rattle.affine_program.specs.Parts.{meaning}
 use Rattle.dep_quast.proofs.Fits.{all-there, common-first, common-second, common-upward}
 use Rattle.dep_quast.proofs.point_rows.precedence_rows.Goals as goal
 

@@ -2,9 +2,9 @@ use Rattle.std.proofs.Common.{◌*◌, List, ◌≡◌, ◌∙◌, ap, sym, arit
 use Rattle.std.specs.List.{AllByRecursion}
 use Rattle.std.proofs.lemmas.List.{length-append}
 use Rattle.iolb_model.specs.Program.{Access}
-use Rattle.affine_rows.specs.Rows.{IsSmallOver}
-use Rattle.affine_c.specs.Parts.{meaning}
-use Rattle.affine_c.specs.Domain.{depth_of}
+use Rattle.affine_form.specs.Rows.{IsSmallOver}
+use Rattle.affine_program.specs.Parts.{meaning}
+use Rattle.affine_program.specs.Domain.{depth_of}
 use Rattle.dep_quast.specs.Context.{variables_at, reference_of}
 use Rattle.iolb_model.specs.Form.{AffineForm}
 use Rattle.dep_quast.specs.Views.{read_of}

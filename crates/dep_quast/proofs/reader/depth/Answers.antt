@@ -1,5 +1,5 @@
 use Rattle.std.proofs.Common.{ap, arith, sym, ◌∙◌, length}
-use Rattle.affine_c.specs.declared.statement.Statement.{Statement}
+use Rattle.affine_program.specs.declared.statement.Statement.{Statement}
 use Rattle.dep_quast.proofs.Fits.{depth-read, depth-few}
 use Rattle.dep_quast.proofs.reader.depth.Goals as goal
 

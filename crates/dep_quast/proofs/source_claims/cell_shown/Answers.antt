@@ -1,14 +1,15 @@
 use Rattle.std.proofs.Common.{◌≡◌, ◌∙◌, ◌++◌, ◌∷◌, [], ap, ℕ}
-use Rattle.affine_form.specs.declared.key.TheConstants.{CELL}
-use Rattle.affine_form.specs.declared.place.Step.TheVariants.{Key}
-use Rattle.affine_rows.specs.Rows.{equality_rows, put_in}
+use Rattle.claims.specs.declared.key.TheConstants.{CELL}
+use Rattle.claims.specs.declared.place.Step.TheVariants.{Key}
+use Rattle.affine_form.specs.Rows.{equality_rows, put_in}
 use Rattle.iolb_model.specs.Program.{statement_at}
-use Rattle.affine_c.specs.Parts.{meaning}
+use Rattle.affine_program.specs.Parts.{meaning}
 use Rattle.dep_quast.specs.Claims.{follow_claims, cell_goals}
 use Rattle.dep_quast.specs.Context.{parameter_point, reader_point, reference_of}
-use Rattle.dep_quast.specs.Found.{Finds}
+use Rattle.claims.specs.Claims.{Finds}
 use Rattle.dep_quast.specs.Views.{read_of, claim_of}
-use Rattle.dep_quast.proofs.Found.{IfOk-then, goals-same}
+use Rattle.dep_quast.proofs.Found.{goals-same}
+use Rattle.claims.proofs.Found.{IfOk-then}
 use Rattle.dep_quast.proofs.source_claims.cell_shown.Goals as goal
 
 pub returns : goal.returns

@@ -1,10 +1,10 @@
 use Rattle.std.proofs.Common.{◌≡◌, ◌++◌, sym, subst, arith, ℕ}
 use Rattle.affine_form.specs.System.{AllOver}
-use Rattle.affine_c.specs.Parts.{meaning}
+use Rattle.affine_program.specs.Parts.{meaning}
 use Rattle.dep_quast.specs.Context.{variables_at, variables_with}
 use Rattle.dep_quast.specs.Views.{read_of}
 use Rattle.dep_quast.proofs.Fits.{wide-over, over-append}
-use Rattle.dep_quast.proofs.Found.{IfOk-then}
+use Rattle.claims.proofs.Found.{IfOk-then}
 use Rattle.dep_quast.proofs.writes.rows_of_write.Goals as goal
 
 pub returns-clause-over : goal.returns-clause-over

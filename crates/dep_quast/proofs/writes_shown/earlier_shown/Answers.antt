@@ -3,10 +3,10 @@ use Rattle.std.specs.Prelude.{Some, None}
 use Rattle.std.proofs.lemmas.List.{length-map}
 use Rattle.iolb_model.specs.Form.{AffineForm}
 use Rattle.affine_form.specs.System.{AffineSystem}
-use Rattle.affine_form.proofs.Lists.{All-at}
-use Rattle.affine_c.specs.Parts.{meaning, statement_of}
+use Rattle.base_laws.proofs.Lists.{All-at}
+use Rattle.affine_program.specs.Parts.{meaning, statement_of}
 use Rattle.dep_quast.specs.Context.{before_reader, earlier_write}
-use Rattle.dep_quast.specs.Found.{Finds}
+use Rattle.claims.specs.Claims.{Finds}
 use Rattle.dep_quast.specs.Levels.{levels, level_count, IsWriter}
 use Rattle.dep_quast.specs.Views.{read_of}
 use Rattle.dep_quast.proofs.Chunks.{claims_from, length-levels, writers-stop, writers-go, writers-end, writers-room, writers-first}

@@ -1,11 +1,11 @@
 use Rattle.std.proofs.Common.{◌+◌, ◌≤◌, length, drop, map}
 use Rattle.std.specs.Prelude.{Option, flat_map}
-use Rattle.affine_form.specs.declared.refused.No.{No}
-use Rattle.affine_c.specs.Parts.{meaning}
+use Rattle.claims.specs.declared.refused.No.{No}
+use Rattle.affine_program.specs.Parts.{meaning}
 use Rattle.dep_quast.specs.Claims.{pointless_claims}
 use Rattle.dep_quast.specs.Context.{earlier_write, earlier_writes}
 use Rattle.dep_quast.specs.Levels.{levels}
-use Rattle.dep_quast.specs.Found.{Finds}
+use Rattle.claims.specs.Claims.{Finds}
 use Rattle.dep_quast.specs.Views.{read_of}
 use Rattle.dep_quast.proofs.writes_shown.earlier_shown.Given as goal
 

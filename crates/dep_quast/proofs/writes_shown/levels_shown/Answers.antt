@@ -1,7 +1,7 @@
 use Rattle.std.proofs.Common.{◌∙◌, ◌+◌, ℕ, arith}
 use Rattle.std.specs.Prelude.{Some, None}
 use Rattle.affine_form.specs.System.{AffineSystem}
-use Rattle.affine_c.specs.Parts.{meaning}
+use Rattle.affine_program.specs.Parts.{meaning}
 use Rattle.dep_quast.specs.Context.{before_reader}
 use Rattle.dep_quast.specs.Views.{read_of}
 use Rattle.dep_quast.proofs.Chunks.{levels-stop, levels-go, levels-end}

@@ -1,12 +1,12 @@
 use Rattle.std.proofs.Common.{◌+◌, ◌-◌, drop, map}
 use Rattle.std.specs.Prelude.{Option}
 use Rattle.std.specs.List.{range_with_len}
-use Rattle.affine_form.specs.declared.refused.No.{No}
-use Rattle.affine_c.specs.Parts.{meaning}
+use Rattle.claims.specs.declared.refused.No.{No}
+use Rattle.affine_program.specs.Parts.{meaning}
 use Rattle.dep_quast.specs.Claims.{pointless_claims}
 use Rattle.dep_quast.specs.Context.{before_reader}
 use Rattle.dep_quast.specs.Levels.{levels}
-use Rattle.dep_quast.specs.Found.{Finds}
+use Rattle.claims.specs.Claims.{Finds}
 use Rattle.dep_quast.specs.Views.{read_of}
 use Rattle.dep_quast.proofs.writes_shown.levels_shown.Given as goal
 

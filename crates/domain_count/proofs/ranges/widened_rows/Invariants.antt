@@ -1,6 +1,6 @@
 use Rattle.std.proofs.Common.{◌≡◌, take, map}
 use Rattle.affine_form.specs.System.{AllOver}
-use Rattle.affine_rows.specs.Rows.{widened}
+use Rattle.affine_form.specs.Rows.{widened}
 use Rattle.domain_count.proofs.ranges.widened_rows.Given as goal
 
 abbrev pub invariant-loop-row : goal.invariant-loop-row

@@ -1,4 +1,4 @@
-use Rattle.affine_c.specs.Parts.{meaning}
+use Rattle.affine_program.specs.Parts.{meaning}
 use Rattle.command_words.specs.Requests.{asked}
 use Rattle.iolb_call.proofs.Stops.{program_there, stop_result}
 use Rattle.iolb_call.proofs.checking.run_command.Goals as goal

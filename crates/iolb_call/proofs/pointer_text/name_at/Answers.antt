@@ -1,5 +1,4 @@
-use Rattle.std.proofs.Common.{refl, ℕ, List, map}
-use Rattle.std.proofs.Common.{Bor}
+use Rattle.std.proofs.Common.{refl, ℕ, List, map, Bor}
 use Rattle.iolb_call.proofs.Keys.{name_at}
 use Rattle.iolb_call.proofs.pointer_text.name_at.Goals as goal
 

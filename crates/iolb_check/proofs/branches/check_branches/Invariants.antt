@@ -1,18 +1,23 @@
-use Rattle.std.proofs.Common.{◌≤◌, ◌++◌, List, drop, length}
+use Rattle.std.proofs.Common.{◌≤◌, ◌++◌, List, drop, map, length}
+use Rattle.iolb_model.specs.declared.limits.TheConstants.{TERMS}
 use Rattle.std.specs.List.{AllByRecursion}
-use Rattle.affine_c.specs.Parts.{meaning}
-use Rattle.affine_form.specs.declared.refused.No.{No as FailedCondition}
+use Rattle.affine_program.specs.Parts.{meaning}
+use Rattle.claims.specs.Claims.{AllHold, IsRefusal, numbered}
+use Rattle.claims.specs.declared.refused.Refused.{Refused}
+use Rattle.reuse_paths.specs.Quasts.{trees_of}
 use Rattle.iolb_check.specs.declared.bound.Value.{Value}
-use Rattle.cert_fits.specs.Fit.{BranchesFit}
 use Rattle.iolb_check.specs.Bounds.{lists}
-use Rattle.iolb_check.specs.Conditions.{BranchHolds, BranchesAccepted, IsFirstBranchRefused}
+use Rattle.iolb_check.specs.Claims.{claim_of_branch}
+use Rattle.iolb_check.specs.Fit.{BranchesFit}
+use Rattle.iolb_check.specs.Conditions.{AreBranchValues, BranchHolds, branch_claims}
 use Rattle.iolb_check.proofs.branches.check_branches.Given as goal
 
 abbrev pub invariant-loop-number : goal.invariant-loop-number
 invariant-loop-number l = record {
-  fits : BranchesFit l.program l.quasts (drop l.number l.branches);
-  few : AllByRecursion (λ branch. length branch.terms.items ≤ 1) (drop l.number l.branches);
-  accepted : (rest : List (List Value)) → BranchesAccepted (meaning l.program) l.quasts l.number (drop l.number l.branches) rest → BranchesAccepted (meaning l.program) l.quasts 0 l.branches (lists l.values.items ++ rest);
+  fits : BranchesFit l.program (trees_of l.quasts) (drop l.number l.branches);
+  few : AllByRecursion (λ branch. length branch.terms.items ≤ TERMS) (drop l.number l.branches);
+  accepted : AllHold (numbered (branch_claims (meaning l.program) (trees_of l.quasts)) l.number (map claim_of_branch (drop l.number l.branches))) → AllHold (numbered (branch_claims (meaning l.program) (trees_of l.quasts)) 0 (map claim_of_branch l.branches));
+  values : (rest : List (List Value)) → AreBranchValues (meaning l.program) (map claim_of_branch (drop l.number l.branches)) rest → AreBranchValues (meaning l.program) (map claim_of_branch l.branches) (lists l.values.items ++ rest);
   hold : AllByRecursion (BranchHolds l.program) (lists l.values.items);
-  refused : (failed : FailedCondition) → IsFirstBranchRefused (meaning l.program) l.quasts l.number (drop l.number l.branches) failed → IsFirstBranchRefused (meaning l.program) l.quasts 0 l.branches failed;
+  refused : (r : Refused) → IsRefusal (numbered (branch_claims (meaning l.program) (trees_of l.quasts)) l.number (map claim_of_branch (drop l.number l.branches))) r → IsRefusal (numbered (branch_claims (meaning l.program) (trees_of l.quasts)) 0 (map claim_of_branch l.branches)) r;
 }

@@ -1,13 +1,17 @@
-use Rattle.std.proofs.Common.{◌≡◌, refl, sym, ap, subst, inr, ℕ, suc, ◌+◌, List, [], ◌∷◌, ◌++◌, drop, append_assoc, append-nil, arith}
+use Rattle.std.proofs.Common.{rules, ◌≡◌, refl, sym, ap, subst, ℕ, suc, ◌+◌, List, [], ◌∷◌, ◌++◌, drop, map, append_assoc, append-nil, arith}
 use Rattle.std.specs.List.{AllByRecursion}
 use Rattle.std.proofs.lemmas.List.{drop_all}
-use Rattle.integer_laws.proofs.Lists.{All-append}
-use Rattle.affine_c.specs.Parts.{meaning}
-use Rattle.certificates.specs.declared.term.Term.{Term}
-use Rattle.cert_fits.specs.Fit.{TermFits}
+use Rattle.base_laws.proofs.Lists.{All-append, rest_after}
+use Rattle.affine_program.specs.Parts.{meaning}
+use Rattle.claims.specs.Claims.{Claim, AllHold, IsRefusal, numbered}
+use Rattle.claims.proofs.Found.{refused-first, refused-later}
+use Rattle.claims.proofs.Laws.{AllHold-append}
+use Rattle.reuse_paths.specs.Quasts.{trees_of}
+use Rattle.iolb_check.specs.declared.term.Term.{Term}
 use Rattle.iolb_check.specs.declared.bound.Value.{Value}
-use Rattle.iolb_check.specs.Conditions.{AreAccepted, IsFirstRefused, TermHolds}
-use Rattle.quasts_check.proofs.TreeLemmas.{left}
+use Rattle.iolb_check.specs.Claims.{TermClaim, claim_of_term}
+use Rattle.iolb_check.specs.Fit.{TermFits}
+use Rattle.iolb_check.specs.Conditions.{AreValuesOf, TermHolds, term_claims_at, terms_claims}
 use Rattle.iolb_check.proofs.branches.check_terms.Goals as goal
 
 next : (n : ℕ) → suc n ≡ n + 1
@@ -16,31 +20,50 @@ next n = omega arith
 pub loop-index-preserved : goal.loop-index-preserved
 loop-index-preserved c =
     let program = c.args.program.now in
-    let quasts = c.args.quasts.now in
-    let place = c.args.place.now in
+    let trees = trees_of c.args.quasts.now in
+    let each : ℕ → TermClaim → List Claim = term_claims_at (meaning program) trees c.args.place.now in
     let i : ℕ = c.loop-index.index in
     let terms : List Term = c.args.terms.now in
     let term : Term = c.index-terms-index.result in
-    let value : Value = c.in-Ok.value in
-    let split = left terms i term c.loop-index-test.true c.index-terms-index.is in
-    let fits = subst (AllByRecursion (TermFits program quasts)) split c.loop-index.invariant.fits in
+    let value : Value = c.in_ok-value.value in
+    let split = rest_after terms i term c.loop-index-test.true c.index-terms-index.is in
+    let fits = subst (AllByRecursion (TermFits program trees)) split c.loop-index.invariant.fits in
     let more : drop (suc i) terms ≡ drop (i + 1) terms = ap (λ (n : ℕ). drop n terms) (next i) in
+    let here : List Claim = each i (claim_of_term term) in
+    let rest : List Claim = numbered each (suc i) (map claim_of_term (drop (suc i) terms)) in
     record {
-      fits = subst (AllByRecursion (TermFits program quasts)) more fits.1;
-      accepted = λ rest h. subst (λ (items : List Value). AreAccepted (meaning program) quasts place 0 terms (items ++ rest)) (sym c.in-Ok-push.ensures.items)
-          (subst (AreAccepted (meaning program) quasts place 0 terms) (sym (append_assoc c.loop-index.values.items (value ∷ []) rest))
-          (c.loop-index.invariant.accepted (value ∷ rest) (subst (λ (l : List Term). AreAccepted (meaning program) quasts place i l (value ∷ rest)) (sym split)
-          (c.in-Ok.ensures.accepted, subst (λ (n : ℕ). AreAccepted (meaning program) quasts place n (drop n terms) rest) (sym (next i)) h))));
-      hold = subst (AllByRecursion (TermHolds program)) (sym c.in-Ok-push.ensures.items)
-          (All-append (TermHolds program) c.loop-index.values.items (value ∷ []) c.loop-index.invariant.hold (c.in-Ok.ensures.holds, tt));
-      as_many = omega (arith, c.in-Ok-push.ensures.len, c.loop-index.invariant.as_many);
-      refused = λ failed h. c.loop-index.invariant.refused failed (subst (λ (l : List Term). IsFirstRefused (meaning program) quasts place i l failed) (sym split)
-          (inr ((value, c.in-Ok.ensures.accepted), subst (λ (n : ℕ). IsFirstRefused (meaning program) quasts place n (drop n terms) failed) (sym (next i)) h)));
+      fits = subst (AllByRecursion (TermFits program trees)) more fits.1;
+      accepted = λ h. c.loop-index.invariant.accepted (subst (λ (l : List Term). AllHold (numbered each i (map claim_of_term l))) (sym split)
+          (AllHold-append here rest c.in_ok-value.ensures.accepted (subst (λ (n : ℕ). AllHold (numbered each n (map claim_of_term (drop n terms)))) (sym (next i)) h)));
+      values = λ others h. subst (λ (items : List Value). AreValuesOf (meaning program) (map claim_of_term terms) (items ++ others)) (sym c.in-Ok.ensures.items)
+          (subst (AreValuesOf (meaning program) (map claim_of_term terms)) (sym (append_assoc c.loop-index.values.items (value ∷ []) others))
+          (c.loop-index.invariant.values (value ∷ others) (subst (λ (l : List Term). AreValuesOf (meaning program) (map claim_of_term l) (value ∷ others)) (sym split)
+          (c.in_ok-value.ensures.value, subst (λ (n : ℕ). AreValuesOf (meaning program) (map claim_of_term (drop n terms)) others) (sym (next i)) h))));
+      hold = subst (AllByRecursion (TermHolds program)) (sym c.in-Ok.ensures.items)
+          (All-append (TermHolds program) c.loop-index.values.items (value ∷ []) c.loop-index.invariant.hold (c.in_ok-value.ensures.holds, tt));
+      as_many = omega (arith, c.in-Ok.ensures.len, c.loop-index.invariant.as_many);
+      refused = λ r h. c.loop-index.invariant.refused r (subst (λ (l : List Term). IsRefusal (numbered each i (map claim_of_term l)) r) (sym split)
+          (refused-later here rest r c.in_ok-value.ensures.accepted (subst (λ (n : ℕ). IsRefusal (numbered each n (map claim_of_term (drop n terms))) r) (sym (next i)) h)));
     }
 
-pub returns-clause-accepted : goal.returns-clause-accepted
-returns-clause-accepted c =
+pub returns-in_err-value-clause-refused : goal.returns-in_err-value-clause-refused
+returns-in_err-value-clause-refused c =
+    let program = c.args.program.now in
+    let trees = trees_of c.args.quasts.now in
+    let each : ℕ → TermClaim → List Claim = term_claims_at (meaning program) trees c.args.place.now in
+    let i : ℕ = c.loop-index.index in
+    let terms : List Term = c.args.terms.now in
+    let term : Term = c.index-terms-index.result in
+    let split = rest_after terms i term c.loop-index-test.true c.index-terms-index.is in
+    let r = c.in_err-value.field-0.0 in
+    let refused : IsRefusal (terms_claims (meaning program) trees c.args.place.now (map claim_of_term terms)) r =
+    c.loop-index.invariant.refused r (subst (λ (l : List Term). IsRefusal (numbered each i (map claim_of_term l)) r) (sym split)
+    (refused-first (each i (claim_of_term term)) (numbered each (suc i) (map claim_of_term (drop (suc i) terms))) r c.in_err-value.ensures.refused)) in
+    search rules
+
+pub returns-clause-values : goal.returns-clause-values
+returns-clause-values c =
     let terms : List Term = c.args.terms.now in
     let ended : drop c.loop-index.index terms ≡ [] = drop_all c.loop-index.index terms c.loop-index-test.false in
-    subst (AreAccepted (meaning c.args.program.now) c.args.quasts.now c.args.place.now 0 terms) (append-nil c.loop-index.values.items)
-    (c.loop-index.invariant.accepted [] (subst (λ (l : List Term). AreAccepted (meaning c.args.program.now) c.args.quasts.now c.args.place.now c.loop-index.index l []) (sym ended) refl))
+    subst (AreValuesOf (meaning c.args.program.now) (map claim_of_term terms)) (append-nil c.loop-index.values.items)
+    (c.loop-index.invariant.values [] (subst (λ (l : List Term). AreValuesOf (meaning c.args.program.now) (map claim_of_term l) []) (sym ended) refl))

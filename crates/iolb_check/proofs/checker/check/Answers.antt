@@ -1,9 +1,123 @@
-use Rattle.std.proofs.Common.{sym, ap, subst}
+use Rattle.std.proofs.Common.{rules, ◌≡◌, sym, ◌∙◌, ap, subst, ◌≤◌, List, ◌++◌, length, map}
+use Rattle.std.specs.Prelude.{Option, IfNone}
 use Rattle.std.specs.List.{AllByRecursion}
-use Rattle.iolb_check.specs.Bounds.{BoundParts}
-use Rattle.iolb_check.specs.Conditions.{BranchHolds}
-use Rattle.iolb_check.proofs.Terms.{bound-holds}
+use Rattle.iolb_model.specs.declared.limits.TheConstants.{TERMS}
+use Rattle.affine_form.specs.System.{AffineSystem}
+use Rattle.affine_program.specs.Parts.{ProgramParts, meaning}
+use Rattle.base_laws.proofs.Lists.{All-weaken}
+use Rattle.claims.specs.Claims.{Claim, AllHold, IsRefusal, numbered}
+use Rattle.claims.specs.declared.place.Step.{Step}
+use Rattle.claims.specs.declared.refused.No.{No}
+use Rattle.claims.proofs.Found.{refused-first, refused-later}
+use Rattle.claims.proofs.Laws.{AllHold-append, first-fails}
+use Rattle.reuse_paths.specs.declared.quasts.Quasts.{Quasts}
+use Rattle.reuse_paths.specs.Quasts.{trees_of}
+use Rattle.reuse_paths.specs.Trees.{RowsFit, rows_claims}
+use Rattle.iolb_check.specs.declared.term.Branch.{Branch}
+use Rattle.iolb_check.specs.declared.bound.Value.{Value}
+use Rattle.iolb_check.specs.Bounds.{BoundParts, IsBound, lists}
+use Rattle.iolb_check.specs.Claims.{claim_of_branch, claim_of_certificate}
+use Rattle.iolb_check.specs.Conditions.{AreBranchValues, BranchHolds, branch_claims}
+use Rattle.iolb_check.specs.Fit.{BranchesFit, PartsFit}
+use Rattle.iolb_check.specs.FitClaims.{misfit, FindsMisfit}
+use Rattle.iolb_check.specs.Limits.{CertificateParts, IsSmallBranch}
+use Rattle.iolb_check.specs.TermFit.{certificate_fit}
+use Rattle.iolb_check.proofs.Terms.{bound-holds, is-bound}
 use Rattle.iolb_check.proofs.checker.check.Goals as goal
+
+-- the three parts of the conditions
+abbrev fit : ProgramParts → CertificateParts → List Claim
+fit program parts = certificate_fit (meaning program) (claim_of_certificate parts)
+
+abbrev trees : ProgramParts → CertificateParts → List Claim
+trees program parts = rows_claims (meaning program) 0 (trees_of parts.quasts)
+
+abbrev branches : ProgramParts → CertificateParts → List Claim
+branches program parts = numbered (branch_claims (meaning program) (trees_of parts.quasts)) 0 (map claim_of_branch parts.branches)
+
+-- what is found where nothing is
+fits : (program : ProgramParts) (parts : CertificateParts) (found : Option (List Step)) → found ≡ Option.None → IfNone found (PartsFit program parts) → PartsFit program parts
+fits program parts found is h = subst (λ (o : Option (List Step)). IfNone o (PartsFit program parts)) is h
+
+accepted : (program : ProgramParts) (parts : CertificateParts) (found : Option (List Step)) → found ≡ Option.None → FindsMisfit (fit program parts) found → AllHold (fit program parts)
+accepted program parts found is h = subst (FindsMisfit (fit program parts)) is h
+
+pub returns-in-Ok-Some-clause-refused : goal.returns-in-Ok-Some-clause-refused
+returns-in-Ok-Some-clause-refused c =
+    let program = c.args.program.now in
+    let parts = c.args.certificate.now in
+    let n : No = misfit c.in-Ok-Some.place in
+    first-fails (fit program parts ++ trees program parts) (branches program parts) n
+    (first-fails (fit program parts) (trees program parts) n (subst (FindsMisfit (fit program parts)) c.in-Ok-Some.field-0-is c.in-Ok-Some.ensures.found))
+
+pub check_quasts-requires : goal.check_quasts-requires
+check_quasts-requires c =
+    subst (λ (q : Quasts). RowsFit (meaning c.args.program.now) 0 (trees_of q)) (sym c.quasts-quasts.ensures.quasts)
+    (fits c.args.program.now c.args.certificate.now c.in-Ok-None.field-0 c.in-Ok-None.field-0-is c.in-Ok-None.ensures.fits).trees
+
+pub returns-in_err-check_quasts-clause-refused : goal.returns-in_err-check_quasts-clause-refused
+returns-in_err-check_quasts-clause-refused c =
+    let program = c.args.program.now in
+    let parts = c.args.certificate.now in
+    let r = c.in_err-check_quasts.field-0.0 in
+    let refused : IsRefusal (fit program parts ++ trees program parts ++ branches program parts) r =
+    refused-first (fit program parts ++ trees program parts) (branches program parts) r
+    (refused-later (fit program parts) (trees program parts) r (accepted program parts c.in-Ok-None.field-0 c.in-Ok-None.field-0-is c.in-Ok-None.ensures.found)
+    (subst (λ (q : Quasts). IsRefusal (rows_claims (meaning program) 0 (trees_of q)) r) c.quasts-quasts.ensures.quasts c.in_err-check_quasts.ensures.refused)) in
+    search rules
+
+pub check_branches-requires-clause-fits : goal.check_branches-requires-clause-fits
+check_branches-requires-clause-fits c =
+    let program = c.args.program.now in
+    subst (λ (q : Quasts). BranchesFit program (trees_of q) c.branches.result.now) (sym c.quasts-quasts.ensures.quasts)
+    (subst (BranchesFit program (trees_of c.args.certificate.now.quasts)) (sym c.branches.ensures.branches)
+    (fits program c.args.certificate.now c.in-Ok-None.field-0 c.in-Ok-None.field-0-is c.in-Ok-None.ensures.fits).branches)
+
+pub check_branches-requires-clause-few : goal.check_branches-requires-clause-few
+check_branches-requires-clause-few c =
+    subst (AllByRecursion (λ (branch : Branch). length branch.terms.items ≤ TERMS)) (sym c.branches.ensures.branches)
+    (All-weaken IsSmallBranch (λ (branch : Branch). length branch.terms.items ≤ TERMS) c.args.certificate.now.branches (λ branch small. small.few) c.branches.ensures.limits.branches)
+
+-- what holds of the branches of the certificate, and how what the check of the branches says reads
+module _ (program : ProgramParts) (parts : CertificateParts) (q : Quasts) (bs : List Branch) (same : q ≡ parts.quasts) (all : bs ≡ parts.branches) where
+  branches-accepted : AllHold (numbered (branch_claims (meaning program) (trees_of q)) 0 (map claim_of_branch bs)) → AllHold (branches program parts)
+  branches-accepted h =
+      subst (λ (l : List Branch). AllHold (numbered (branch_claims (meaning program) (trees_of parts.quasts)) 0 (map claim_of_branch l))) all
+      (subst (λ (q : Quasts). AllHold (numbered (branch_claims (meaning program) (trees_of q)) 0 (map claim_of_branch bs))) same h)
+
+pub returns-in_err-values-clause-refused : goal.returns-in_err-values-clause-refused
+returns-in_err-values-clause-refused c =
+    let program = c.args.program.now in
+    let parts = c.args.certificate.now in
+    let r = c.in_err-values.field-0.0 in
+    let hold : AllHold (trees program parts) =
+    subst (λ (q : Quasts). AllHold (rows_claims (meaning program) 0 (trees_of q))) c.quasts-quasts.ensures.quasts c.in_ok-check_quasts.ensures.hold in
+    let last : IsRefusal (branches program parts) r =
+    subst (λ (l : List Branch). IsRefusal (numbered (branch_claims (meaning program) (trees_of parts.quasts)) 0 (map claim_of_branch l)) r) c.branches.ensures.branches
+    (subst (λ (q : Quasts). IsRefusal (numbered (branch_claims (meaning program) (trees_of q)) 0 (map claim_of_branch c.branches.result.now)) r) c.quasts-quasts.ensures.quasts c.in_err-values.ensures.refused) in
+    let refused : IsRefusal (fit program parts ++ trees program parts ++ branches program parts) r =
+    refused-later (fit program parts ++ trees program parts) (branches program parts) r
+    (AllHold-append (fit program parts) (trees program parts) (accepted program parts c.in-Ok-None.field-0 c.in-Ok-None.field-0-is c.in-Ok-None.ensures.found) hold) last in
+    search rules
+
+pub new-requires : goal.new-requires
+new-requires c =
+    subst (λ (a : AffineSystem). IsBound (record { assumed = a; branches = lists c.in_ok-values.values.items })) (sym (c.in-Ok.ensures ∙ c.assumed.ensures.assumed))
+    (is-bound c.args.program.now (lists c.in_ok-values.values.items) c.in_ok-values.ensures.hold)
+
+pub returns-clause-meets : goal.returns-clause-meets
+returns-clause-meets c =
+    let program = c.args.program.now in
+    let parts = c.args.certificate.now in
+    let hold : AllHold (trees program parts) =
+    subst (λ (q : Quasts). AllHold (rows_claims (meaning program) 0 (trees_of q))) c.quasts-quasts.ensures.quasts c.in_ok-check_quasts.ensures.hold in
+    record {
+      accepted = AllHold-append (fit program parts ++ trees program parts) (branches program parts)
+          (AllHold-append (fit program parts) (trees program parts) (accepted program parts c.in-Ok-None.field-0 c.in-Ok-None.field-0-is c.in-Ok-None.ensures.found) hold)
+          (branches-accepted program parts c.quasts-quasts.result.now c.branches.result.now c.quasts-quasts.ensures.quasts c.branches.ensures.branches c.in_ok-values.ensures.accepted);
+      valued = subst (AreBranchValues (meaning program) (map claim_of_branch parts.branches)) (sym (ap (λ (b : BoundParts). b.branches) c.new.ensures))
+          (subst (λ (l : List Branch). AreBranchValues (meaning program) (map claim_of_branch l) (lists c.in_ok-values.values.items)) c.branches.ensures.branches c.in_ok-values.ensures.values);
+    }
 
 pub returns-clause-holds : goal.returns-clause-holds
 returns-clause-holds c =

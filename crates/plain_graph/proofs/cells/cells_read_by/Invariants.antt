@@ -1,6 +1,6 @@
 use Rattle.std.proofs.Common.{◌≡◌, map, take}
 use Rattle.iolb_model.specs.Source.{cell_of}
-use Rattle.affine_c.specs.Parts.{access_of}
+use Rattle.affine_program.specs.Parts.{access_of}
 use Rattle.plain_graph.specs.Views.{cell_view}
 use Rattle.plain_graph.proofs.cells.cells_read_by.Given as goal
 

@@ -1,7 +1,7 @@
 use Rattle.std.proofs.Common.{◌≡◌, ◌++◌, ◌∷◌, [], ◌+◌, map, drop}
 use Rattle.std.specs.Prelude.{flat_map}
 use Rattle.iolb_model.specs.Execution.{at_value, row_runs}
-use Rattle.affine_c.specs.Tree.{row_of}
+use Rattle.affine_program.specs.Tree.{row_of}
 use Rattle.plain_graph.specs.Views.{instance_of}
 use Rattle.plain_graph.proofs.runs.+runs_of_row.Given as goal
 

@@ -1,9 +1,10 @@
-use Rattle.std.proofs.Common.{◌≡◌, ◌<◌, ◌≤◌, ◌*◌, ◌+◌, ◌-◌, ◌^◌, ℕ, min, length, drop, arith, sym, ap, ◌∙◌}
+use Rattle.std.proofs.Common.{◌≡◌, ◌<◌, ◌≤◌, ◌*◌, ◌+◌, ◌-◌, ℕ, min, length, drop, arith, sym, ap, ◌∙◌}
 use Rattle.poly_tree.specs.Expansion.{Parts, part, nodes, at, size_at, parts_size_at}
 use Rattle.poly_tree.specs.Tree.{expansion, parts_of}
 use Rattle.poly_tree.proofs.EvaluateLemmas.{size-step, canonical-read}
 use Rattle.poly_tree.proofs.Trees.{nodes-below, parts_of-back}
 use Rattle.poly_tree.proofs.evaluate.+size_at.Goals as goal
+use Rattle.iolb_model.specs.declared.limits.TheConstants.{MEASURE}
 
 pub size_at-part-requires : goal.size_at-part-requires
 size_at-part-requires t c =
@@ -23,7 +24,7 @@ loop-done-preserved t c =
     let p = at c.args.point.now in
     let base = c.max-base.result in
     let rest = parts_of (drop (length parts - c.loop-done.done) parts) in
-    let limit = 2 ^ 126 in
+    let limit = MEASURE in
     let some : 1 ≤ base = omega (arith, c.max-base.ensures) in
     let same : parts_of (drop (length parts - (c.loop-done.done + 1)) parts) ≡ part (expansion u) rest = parts_of-back parts c.loop-done.done u c.loop-done-test.true c.index-parts-parts.is in
     c.min-total.ensures

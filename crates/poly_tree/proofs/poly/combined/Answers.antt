@@ -1,4 +1,4 @@
-use Rattle.std.proofs.Common.{◌<◌, ◌*◌, ◌^◌, ◌+◌, ℕ, ap, ◌∙◌, subst, arith, lit≤, pos, FitsSigned, rules}
+use Rattle.std.proofs.Common.{◌<◌, ◌*◌, ◌+◌, ℕ, ap, ◌∙◌, subst, arith, lit≤, pos, FitsSigned, rules}
 use Rattle.std.specs.Prelude.{unsigned_abs}
 use mir.Syntax.{w128}
 use Rattle.std.proofs.lemmas.Int.{to_z-of_z}
@@ -7,14 +7,15 @@ use Rattle.poly_tree.specs.Poly.{size, IsReduced}
 use Rattle.poly_tree.specs.Tree.{expansion}
 use Rattle.poly_tree.proofs.LinearLemmas.{below-cap, linear-room, denominator-room, combination-value}
 use Rattle.poly_tree.proofs.poly.combined.Goals as goal
+use Rattle.iolb_model.specs.declared.limits.TheConstants.{MEASURE, SUM_MEASURE}
 
 pub linear-requires-clause-light : goal.linear-requires-clause-light
 linear-requires-clause-light c =
     let a = c.args.a.now in
     let b = c.args.b.now in
-    let small : size a * size b < 2 ^ 125 = below-cap (size a * size b) c.size_product.result (2 ^ 126) (2 ^ 125) c.size_product.ensures c.if-size_product.false (lit≤ tt) in
-    let room : b.denominator * weight a.tree + a.denominator * weight b.tree < 2 ^ 125 + 2 ^ 125
-    = linear-room (weight a.tree) (weight b.tree) a.denominator b.denominator (2 ^ 125) c.tree.ensures.legal.positive c.tree-2.ensures.legal.positive small in
+    let small : size a * size b < SUM_MEASURE = below-cap (size a * size b) c.size_product.result MEASURE SUM_MEASURE c.size_product.ensures c.if-size_product-ge-SUM_MEASURE.false (lit≤ tt) in
+    let room : b.denominator * weight a.tree + a.denominator * weight b.tree < SUM_MEASURE + SUM_MEASURE
+    = linear-room (weight a.tree) (weight b.tree) a.denominator b.denominator SUM_MEASURE c.tree.ensures.legal.positive c.tree-2.ensures.legal.positive small in
     let fits : FitsSigned w128 c.den.result = search rules in
     rw (to_z-of_z w128 c.den.result fits, to_z-of_z w128 c.args.factor c.ranges.factor, c.den.ensures.denominator, c.tree.ensures.tree, c.tree-2.ensures.tree, c.requires) (omega arith)
 
@@ -22,8 +23,8 @@ pub common_denominator-requires : goal.common_denominator-requires
 common_denominator-requires c =
     let a = c.args.a.now in
     let b = c.args.b.now in
-    let small : size a * size b < 2 ^ 125 = below-cap (size a * size b) c.size_product.result (2 ^ 126) (2 ^ 125) c.size_product.ensures c.if-size_product.false (lit≤ tt) in
-    let room : a.denominator * b.denominator < 2 ^ 125 = denominator-room (weight a.tree) (weight b.tree) a.denominator b.denominator (2 ^ 125) small in
+    let small : size a * size b < SUM_MEASURE = below-cap (size a * size b) c.size_product.result MEASURE SUM_MEASURE c.size_product.ensures c.if-size_product-ge-SUM_MEASURE.false (lit≤ tt) in
+    let room : a.denominator * b.denominator < SUM_MEASURE = denominator-room (weight a.tree) (weight b.tree) a.denominator b.denominator SUM_MEASURE small in
     omega arith
 
 pub returns-clause-value : goal.returns-clause-value

@@ -8,14 +8,15 @@ use Rattle.poly_tree.specs.Tree.{expansion}
 use Rattle.poly_tree.proofs.LinearLemmas.{reduced-value}
 use Rattle.poly_tree.proofs.PutLemmas.{put-room}
 use Rattle.poly_tree.proofs.poly.put_in.Goals as goal
+use Rattle.iolb_model.specs.declared.limits.TheConstants.{MEASURE}
 
 pub put-requires : goal.put-requires
 put-requires c =
     let a = c.args.poly.now in
     let heavy = max 1 (weight (expansion c.args.inner.now)) in
     let m = put_size a c.args.var heavy in
-    let small : m < 2 ^ 126 = omega (arith, c.put_size_of.ensures, c.if-put_size_of.false) in
-    let room = put-room c.args.var heavy (weight a.tree) a.denominator (2 ^ 126) (2 ^ 16) a.tree (omega arith) c.tree.ensures.legal.positive c.tree.ensures.legal.canonical refl small in
+    let small : m < MEASURE = omega (arith, c.put_size_of.ensures, c.if-put_size_of-ge-MEASURE.false) in
+    let room = put-room c.args.var heavy (weight a.tree) a.denominator MEASURE (2 ^ 16) a.tree (omega arith) c.tree.ensures.legal.positive c.tree.ensures.legal.canonical refl small in
     rw c.tree.ensures.tree (omega (arith, room))
 
 put_it : (a : Quotient) (v : ℕ) (f t : Expansion) (u : Expansion) → u ≡ a.tree → IsPut v f u t → IsPut v f a.tree t

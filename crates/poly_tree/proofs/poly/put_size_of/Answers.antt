@@ -4,11 +4,12 @@ use Rattle.poly_tree.specs.Poly.{size}
 use Rattle.poly_tree.specs.Tree.{expansion}
 use Rattle.poly_tree.proofs.LinearLemmas.{capped-left, power-some}
 use Rattle.poly_tree.proofs.poly.put_size_of.Goals as goal
+use Rattle.iolb_model.specs.declared.limits.TheConstants.{MEASURE}
 
 pub returns : goal.returns
 returns c =
     let a = c.args.poly.now in
-    let limit = 2 ^ 126 in
+    let limit = MEASURE in
     let heavy : c.max.result ≡ max 1 (weight (expansion c.args.inner.now)) = omega (arith, c.max.ensures, c.weight_of.ensures, c.requires) in
     let degree : c.degree_in.result ≡ degree_in c.args.var a.tree = c.degree_in.ensures ∙ ap (degree_in c.args.var) c.tree.ensures.tree in
     c.capped_power.ensures

@@ -1,37 +1,41 @@
-use Rattle.std.proofs.Common.{◌≡◌, subst, inr}
-use Rattle.std.specs.Prelude.{Option, Some}
-use Rattle.affine_c.specs.Parts.{meaning}
+use Rattle.std.proofs.Common.{◌≡◌, sym, ap, subst, rules}
+use Rattle.affine_program.specs.Parts.{meaning}
+use Rattle.claims.specs.Claims.{AllHold, FirstFails, Finds, IsRefusal}
+use Rattle.claims.proofs.Found.{refused-first}
+use Rattle.claims.proofs.Laws.{AllHold-append, later-fails}
 use Rattle.dep_quast.specs.Tree.{SelectionTree, tree_of}
 use Rattle.dep_quast.specs.Truth.{IsTrueTree}
-use Rattle.wavefront.specs.Found.{FindsCold}
-use Rattle.wavefront.specs.Loads.{ColdFits, ColdHolds, IsSoundCold, HasFootprint, CostsItsCount}
+use Rattle.domain_count.specs.CountClaims.{count_claims}
+use Rattle.reuse_paths.specs.Quasts.{tree_or_blank, tree_for, trees_of}
+use Rattle.wavefront.specs.ColdClaims.{cold_claims, instance_claims}
+use Rattle.wavefront.specs.Loads.{ColdFits, IsSoundCold, HasFootprint, CostsItsCount}
+use Rattle.wavefront.specs.Term.{ColdTerm}
 use Rattle.wavefront.specs.View.{term_of}
 use Rattle.wavefront.proofs.Bounds.{footprint-is}
 use Rattle.wavefront.proofs.ColdLoads.{cold-terms-loaded}
 use Rattle.wavefront.proofs.checker.check_cold.Goals as goal
 
-same-some : (t u : SelectionTree) (o : Option SelectionTree) → o ≡ Some t → o ≡ Some u → t ≡ u
-same-some t u o e f = cc
+-- what is claimed past the count holds after the last condition
+holds : (c : goal.In-Ok-None) → AllHold (instance_claims (meaning c.args.program.now) c.args.place.now (tree_of c.in-Some.quast.now) (term_of c.args.term.now))
+holds c = subst (Finds (instance_claims (meaning c.args.program.now) c.args.place.now (tree_of c.in-Some.quast.now) (term_of c.args.term.now))) c.in-Ok-None.field-0-is c.in-Ok-None.ensures
 
--- what holds after the last condition
 all : (c : goal.In-Ok-None) → IsSoundCold (meaning c.args.program.now) (term_of c.args.term.now) × HasFootprint (meaning c.args.program.now) (term_of c.args.term.now)
     × CostsItsCount (meaning c.args.program.now) (term_of c.args.term.now)
 all c =
-    let tree : SelectionTree = tree_of c.in-Some.quast.now in
-    let same : c.requires.0 ≡ tree = same-some c.requires.0 tree _ c.requires.1.there c.in-Some.ensures in
-    let holds : ColdHolds (meaning c.args.program.now) c.args.place.now tree (term_of c.args.term.now) =
-    subst (FindsCold (meaning c.args.program.now) c.args.place.now tree (term_of c.args.term.now)) c.in-Ok-None.field-0-is c.in-Ok-None.ensures in
-    cold-terms-loaded (meaning c.args.program.now) c.args.place.now tree (term_of c.args.term.now) c.params-params.ensures.kept.well_formed
-    (subst (λ (t : SelectionTree). ColdFits (meaning c.args.program.now) t (term_of c.args.term.now)) same c.requires.1.fits)
-    (subst (λ (t : SelectionTree). IsTrueTree (meaning c.args.program.now) (term_of c.args.term.now).reader t) same c.requires.1.true_tree)
-    holds
+    let term : ColdTerm = term_of c.args.term.now in
+    cold-terms-loaded (meaning c.args.program.now) c.args.place.now (tree_of c.in-Some.quast.now) term c.params-params.ensures.kept.well_formed
+    (subst (λ (t : SelectionTree). ColdFits (meaning c.args.program.now) t term) (ap tree_or_blank c.in-Some.ensures) c.requires.fits)
+    (subst (λ (t : SelectionTree). IsTrueTree (meaning c.args.program.now) term.reader t) (ap tree_or_blank c.in-Some.ensures) c.requires.true_tree)
+    (holds c)
 
 pub returns-in-Ok-None-clause-holds : goal.returns-in-Ok-None-clause-holds
-returns-in-Ok-None-clause-holds c = (
-  tree_of c.in-Some.quast.now,
-  c.in-Some.ensures,
-  subst (FindsCold (meaning c.args.program.now) c.args.place.now (tree_of c.in-Some.quast.now) (term_of c.args.term.now)) c.in-Ok-None.field-0-is c.in-Ok-None.ensures,
-)
+returns-in-Ok-None-clause-holds c =
+    let program = meaning c.args.program.now in
+    let place = c.args.place.now in
+    let term : ColdTerm = term_of c.args.term.now in
+    let tree : SelectionTree = tree_for (trees_of c.args.quasts.now) term.reader in
+    AllHold-append (count_claims program term.nest term.count place) (instance_claims program place tree term) c.in_ok-count.ensures.holds
+    (subst (λ (t : SelectionTree). AllHold (instance_claims program place t term)) (sym (ap tree_or_blank c.in-Some.ensures)) (holds c))
 
 pub returns-in-Ok-None-clause-sound : goal.returns-in-Ok-None-clause-sound
 returns-in-Ok-None-clause-sound c = (all c).0
@@ -42,14 +46,20 @@ returns-in-Ok-None-clause-footprint c =
 
 pub returns-in-Ok-Some-clause-refused : goal.returns-in-Ok-Some-clause-refused
 returns-in-Ok-Some-clause-refused c =
-    let tree : SelectionTree = tree_of c.in-Some.quast.now in
-    let same : tree ≡ c.requires.0 = same-some tree c.requires.0 _ c.in-Some.ensures c.requires.1.there in (
-      c.requires.0,
-      c.requires.1,
-      inr (
-        c.in_ok-count.count,
-        c.in_ok-count.ensures.right,
-        subst (λ (t : SelectionTree). FindsCold (meaning c.args.program.now) c.args.place.now t (term_of c.args.term.now) (Some c.in-Ok-Some.no)) same
-            (subst (FindsCold (meaning c.args.program.now) c.args.place.now tree (term_of c.args.term.now)) c.in-Ok-Some.field-0-is c.in-Ok-Some.ensures),
-      ),
-    )
+    let program = meaning c.args.program.now in
+    let place = c.args.place.now in
+    let term : ColdTerm = term_of c.args.term.now in
+    let tree : SelectionTree = tree_for (trees_of c.args.quasts.now) term.reader in
+    later-fails (count_claims program term.nest term.count place) (instance_claims program place tree term) c.in-Ok-Some.no c.in_ok-count.ensures.holds
+    (subst (λ (t : SelectionTree). FirstFails (instance_claims program place t term) c.in-Ok-Some.no) (sym (ap tree_or_blank c.in-Some.ensures))
+    (subst (Finds (instance_claims program place (tree_of c.in-Some.quast.now) term)) c.in-Ok-Some.field-0-is c.in-Ok-Some.ensures))
+
+pub returns-in_err-count-clause-refused : goal.returns-in_err-count-clause-refused
+returns-in_err-count-clause-refused c =
+    let program = meaning c.args.program.now in
+    let place = c.args.place.now in
+    let term : ColdTerm = term_of c.args.term.now in
+    let tree : SelectionTree = tree_for (trees_of c.args.quasts.now) term.reader in
+    let refused : IsRefusal (cold_claims program place tree term) c.in_err-count.field-0.0 =
+    refused-first (count_claims program term.nest term.count place) (instance_claims program place tree term) c.in_err-count.field-0.0 c.in_err-count.ensures.refused in
+    search rules

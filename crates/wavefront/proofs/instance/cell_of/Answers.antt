@@ -1,8 +1,8 @@
 use Rattle.std.proofs.Common.{◌≡◌, sym, ◌∙◌, ap, subst, ℕ, ◌≤◌, length}
 use Rattle.std.specs.List.{AllByRecursion}
 use Rattle.iolb_model.specs.Program.{Access}
-use Rattle.affine_rows.specs.Rows.{IsSmallOver}
-use Rattle.affine_c.specs.Parts.{meaning}
+use Rattle.affine_form.specs.Rows.{IsSmallOver}
+use Rattle.affine_program.specs.Parts.{meaning}
 use Rattle.dep_quast.specs.Context.{variables_at}
 use Rattle.dep_quast.proofs.Fits.{read-over}
 use Rattle.wavefront.specs.View.{term_of}

@@ -1,5 +1,5 @@
 use Rattle.std.proofs.Common.{◌≡◌, ◌++◌, drop}
-use Rattle.affine_rows.specs.Rows.{put_in}
+use Rattle.affine_form.specs.Rows.{put_in}
 use Rattle.wavefront.proofs.instance.put_all.Given as goal
 
 abbrev pub invariant-loop-form : goal.invariant-loop-form

@@ -1,14 +1,16 @@
-use Rattle.std.proofs.Common.{◌≡◌, sym, ◌∙◌, ap, subst, ◌^◌, ◌<◌, ℕ, pos, ◌+ℤ◌, length, List, ℤ, FitsSigned, to_z, of_z, ◌*ℤ◌, get_or, rules, lit≤, arith}
+use Rattle.std.proofs.Common.{◌≡◌, sym, ◌∙◌, ap, subst, ◌<◌, ℕ, pos, ◌+ℤ◌, length, List, ℤ, FitsSigned, to_z, of_z, ◌*ℤ◌, get_or, rules, lit≤, arith}
 use mir.Syntax.{w128, w32}
 use Rattle.std.specs.Prelude.{unsigned_abs}
 use Rattle.std.proofs.lemmas.Int.{to_z-of_z, fits_signed_from_abs}
 use Rattle.std.proofs.lemmas.List.{get_or-map, length-map, get_or_default}
 use Rattle.iolb_model.specs.Form.{AffineForm}
 use Rattle.affine_form.specs.Form.{IsSmall}
-use Rattle.affine_form.proofs.Lists.{dot-step, All-at}
+use Rattle.base_laws.proofs.Lists.{All-at}
+use Rattle.affine_form.proofs.Lists.{dot-step}
 use Rattle.affine_form.proofs.Sizes.{small-bits, sum-step}
 use Rattle.wavefront.specs.Columns.{coefficients_at}
 use Rattle.wavefront.proofs.inverse.combination.Goals as goal
+use Rattle.iolb_model.specs.declared.limits.TheConstants.{NUMBER_SIZE, COEFFICIENT_SIZE}
 
 pub loop-i-preserved : goal.loop-i-preserved
 loop-i-preserved c =
@@ -20,10 +22,10 @@ loop-i-preserved c =
     let x : ℤ = get_or row i (pos 0) in
     let y : ℤ = c.coefficient.result in
     let there : i < length forms = omega (arith, c.requires.as_many, c.loop-i-test.true) in
-    let small_x : unsigned_abs x < 2 ^ 20 = All-at (IsSmall (2 ^ 20)) row i (pos 0) c.requires.small c.loop-i-test.true in
-    let small_y : unsigned_abs y < 2 ^ 62 = c.coefficient.ensures.small in
+    let small_x : unsigned_abs x < NUMBER_SIZE = All-at (IsSmall NUMBER_SIZE) row i (pos 0) c.requires.small c.loop-i-test.true in
+    let small_y : unsigned_abs y < COEFFICIENT_SIZE = c.coefficient.ensures.small in
     let bits_x : to_z w32 (of_z w32 x) ≡ x = to_z-of_z w32 x (fits_signed_from_abs w32 x (omega (arith, small_x))) in
-    let bits_y : to_z w128 (of_z w128 y) ≡ y = small-bits y (2 ^ 62) small_y (lit≤ tt) in
+    let bits_y : to_z w128 (of_z w128 y) ≡ y = small-bits y COEFFICIENT_SIZE small_y (lit≤ tt) in
     let is : c.add_product-sum.result ≡ sum +ℤ (x *ℤ y) = c.add_product-sum.ensures ∙ ap (λ (z : ℤ). sum +ℤ (z *ℤ to_z w128 (of_z w128 y))) bits_x ∙ ap (λ (z : ℤ). sum +ℤ (x *ℤ z)) bits_y in
     let column : y ≡ get_or (coefficients_at place forms) i (pos 0) =
     c.coefficient.ensures.value
@@ -34,7 +36,7 @@ loop-i-preserved c =
     rw (to_z-of_z w128 c.add_product-sum.result fits)
     (record {
       so_far = dot-step row (coefficients_at place forms) i sum _ x y (pos 0) c.add_product-sum.result c.loop-i-test.true there_column (get_or_self row i c.loop-i-test.true) column is c.loop-i.invariant.so_far;
-      small = sum-step sum c.add_product-sum.result x y 0 i (2 ^ 20) (2 ^ 62) is small_x small_y c.loop-i.invariant.small;
+      small = sum-step sum c.add_product-sum.result x y 0 i NUMBER_SIZE COEFFICIENT_SIZE is small_x small_y c.loop-i.invariant.small;
     }) where
       get_or_self : (xs : List ℤ) (k : ℕ) → k < length xs → get_or xs k (pos 0) ≡ get_or xs k (get_or xs k (pos 0))
       get_or_self xs k l = get_or_default xs k (pos 0) (get_or xs k (pos 0)) l

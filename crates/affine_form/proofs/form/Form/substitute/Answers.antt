@@ -1,13 +1,14 @@
-use Rattle.std.proofs.Common.{◌≡◌, ◌<◌, sym, ap, ◌∙◌, arith, rules, List, [], ◌∷◌, ◌++◌, length, take, ℤ, pos, ◌^◌, FitsSigned}
+use Rattle.std.proofs.Common.{◌≡◌, ◌<◌, sym, ap, ◌∙◌, arith, rules, List, [], ◌∷◌, ◌++◌, length, take, ℤ, pos, FitsSigned}
 use mir.Syntax.{w128}
 use Rattle.std.proofs.lemmas.Int.{to_z-of_z}
 use Rattle.std.proofs.lemmas.List.{take_all, take_more}
 use Rattle.iolb_model.specs.Form.{AffineForm, form_value}
 use Rattle.affine_form.specs.Form.{IsSmall}
 use Rattle.affine_form.specs.Substitution.{substitution}
-use Rattle.affine_form.proofs.Lists.{All-push}
+use Rattle.base_laws.proofs.Lists.{All-push}
 use Rattle.affine_form.proofs.SubstitutionLemmas.{form_value-substitution, length-substitution}
 use Rattle.affine_form.proofs.form.Form.substitute.Goals as goal
+use Rattle.iolb_model.specs.declared.limits.TheConstants.{COEFFICIENT_SIZE}
 
 pub loop-variable-preserved : goal.loop-variable-preserved
 loop-variable-preserved c =
@@ -21,7 +22,7 @@ loop-variable-preserved c =
       so_far = ap (λ (xs : List ℤ). xs ++ x ∷ []) c.loop-variable.invariant.so_far
           ∙ ap (λ (y : ℤ). take k form.coefficients ++ y ∷ []) c.composed_coefficient.ensures.value
           ∙ sym (take_more form.coefficients k (pos 0) within);
-      small = All-push (IsSmall (2 ^ 62)) c.loop-variable.coef.items x c.loop-variable.invariant.small c.composed_coefficient.ensures.small_result;
+      small = All-push (IsSmall COEFFICIENT_SIZE) c.loop-variable.coef.items x c.loop-variable.invariant.small c.composed_coefficient.ensures.small_result;
     })
 
 whole : (c : goal.After-composed_constant) → c.loop-variable.coef.items ≡ (substitution c.args.self.now c.args.map.now).coefficients

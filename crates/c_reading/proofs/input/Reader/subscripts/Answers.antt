@@ -20,9 +20,9 @@ returns-then-brackets-eq0 c =
     let e = one_more (λ n. subscripts c.args.brackets n c.loop-turn.rows c.loop-turn.self) _ c.loop-turn._turn c.loop-turn-test.true c.loop-turn.invariant in
     first_of (search rules, grind (arith, common_steps))
 
-pub returns-then-len-ge-MOST_SUBSCRIPTS : goal.returns-then-len-ge-MOST_SUBSCRIPTS
+pub returns-then-len-from : goal.returns-then-len-from
 unfolding subscripts
-returns-then-len-ge-MOST_SUBSCRIPTS c =
+returns-then-len-from c =
     let e = one_more (λ n. subscripts c.args.brackets n c.loop-turn.rows c.loop-turn.self) _ c.loop-turn._turn c.loop-turn-test.true c.loop-turn.invariant in
     first_of (search rules, grind (arith, common_steps))
 

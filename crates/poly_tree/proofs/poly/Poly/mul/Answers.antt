@@ -7,21 +7,22 @@ use Rattle.poly_tree.specs.Poly.{size, IsReduced}
 use Rattle.poly_tree.specs.Tree.{expansion}
 use Rattle.poly_tree.proofs.LinearLemmas.{below-cap, weight-room, denominator-room, product-value}
 use Rattle.poly_tree.proofs.poly.Poly.mul.Goals as goal
+use Rattle.iolb_model.specs.declared.limits.TheConstants.{MEASURE}
 
 pub mul-requires : goal.mul-requires
 mul-requires c =
     let a = c.args.self.now in
     let b = c.args.other.now in
-    let small : size a * size b < 2 ^ 126 = below-cap (size a * size b) c.size_product.result (2 ^ 126) (2 ^ 126) c.size_product.ensures c.if-size_product.false (lit≤ tt) in
-    let room : weight a.tree * weight b.tree < 2 ^ 126 = weight-room (weight a.tree) (weight b.tree) a.denominator b.denominator (2 ^ 126) c.tree.ensures.legal.positive c.tree-2.ensures.legal.positive small in
+    let small : size a * size b < MEASURE = below-cap (size a * size b) c.size_product.result MEASURE MEASURE c.size_product.ensures c.if-size_product-ge-MEASURE.false (lit≤ tt) in
+    let room : weight a.tree * weight b.tree < MEASURE = weight-room (weight a.tree) (weight b.tree) a.denominator b.denominator MEASURE c.tree.ensures.legal.positive c.tree-2.ensures.legal.positive small in
     rw (c.tree.ensures.tree, c.tree-2.ensures.tree) (omega arith)
 
 pub common_denominator-requires : goal.common_denominator-requires
 common_denominator-requires c =
     let a = c.args.self.now in
     let b = c.args.other.now in
-    let small : size a * size b < 2 ^ 126 = below-cap (size a * size b) c.size_product.result (2 ^ 126) (2 ^ 126) c.size_product.ensures c.if-size_product.false (lit≤ tt) in
-    let room : a.denominator * b.denominator < 2 ^ 126 = denominator-room (weight a.tree) (weight b.tree) a.denominator b.denominator (2 ^ 126) small in
+    let small : size a * size b < MEASURE = below-cap (size a * size b) c.size_product.result MEASURE MEASURE c.size_product.ensures c.if-size_product-ge-MEASURE.false (lit≤ tt) in
+    let room : a.denominator * b.denominator < MEASURE = denominator-room (weight a.tree) (weight b.tree) a.denominator b.denominator MEASURE small in
     omega arith
 
 pub returns-then-not-degrees_fit-clause-wide : goal.returns-then-not-degrees_fit-clause-wide

@@ -1,0 +1,165 @@
+-- Names of some kinds among others.
+use Rattle.std.proofs.Common.{◌≡◌, refl, sym, ap, ◌∙◌, ℕ, zero, suc, Bool, true, false, cond, List, [], ◌∷◌, arith}
+use Rattle.std.specs.Prelude.{bytes_eq, Some, slice_get, map, ◌||◌}
+use Rattle.std.specs.List.{AllByRecursion, list_any}
+use Rattle.std.proofs.lemmas.Bool.{or_parts}
+use Rattle.iolb_model.specs.Program as program
+use Rattle.affine_program.specs.Parts.{array_of}
+use Rattle.affine_program.specs.Printable.{AreDifferent, AreDifferentArrays, is_array_name}
+use Rattle.c_reading.specs.declared.named.Kind.{Kind}
+use Rattle.c_reading.specs.declared.named.Kind.TheVariants.{Parameter, OpenLoop, ClosedLoop, Array}
+use Rattle.c_reading.specs.Names.{parameters_among, arrays_among}
+use Rattle.c_grammar.specs.Well.{AreDistinct}
+use Rattle.c_grammar.proofs.Dictionary.{bytes_same, bytes_are}
+
+-- the names of kinds that pass a test
+abbrev pub among : (Kind → Bool) → List (List ℕ) → List Kind → List (List ℕ)
+among test [] kinds = []
+among test (n ∷ names) [] = []
+among test (n ∷ names) (k ∷ kinds) = cond (test k) (n ∷ among test names kinds) (among test names kinds)
+
+-- whether a kind is a parameter's
+abbrev pub is_parameter : Kind → Bool
+is_parameter (Parameter k) = true
+is_parameter (OpenLoop depth) = false
+is_parameter ClosedLoop = false
+is_parameter (Array k rank) = false
+
+-- whether a kind is an array's
+abbrev pub is_array : Kind → Bool
+is_array (Parameter k) = false
+is_array (OpenLoop depth) = false
+is_array ClosedLoop = false
+is_array (Array k rank) = true
+
+-- the parameters are the names of their kind
+pub parameters-among : (names : List (List ℕ)) (kinds : List Kind) → parameters_among names kinds ≡ among is_parameter names kinds
+parameters-among [] kinds = refl
+parameters-among (n ∷ names) [] = refl
+parameters-among (n ∷ names) (Parameter k ∷ kinds) = ap (λ ns. n ∷ ns) (parameters-among names kinds)
+parameters-among (n ∷ names) (OpenLoop depth ∷ kinds) = parameters-among names kinds
+parameters-among (n ∷ names) (ClosedLoop ∷ kinds) = parameters-among names kinds
+parameters-among (n ∷ names) (Array k rank ∷ kinds) = parameters-among names kinds
+
+-- the names of arrays
+abbrev pub names_of : List program.Array → List (List ℕ)
+names_of [] = []
+names_of (a ∷ arrays) = a.name ∷ names_of arrays
+
+-- the arrays' names are those of their kind
+pub arrays-among : (names : List (List ℕ)) (kinds : List Kind) → names_of (map array_of (arrays_among names kinds)) ≡ among is_array names kinds
+arrays-among [] kinds = refl
+arrays-among (n ∷ names) [] = refl
+arrays-among (n ∷ names) (Parameter k ∷ kinds) = arrays-among names kinds
+arrays-among (n ∷ names) (OpenLoop depth ∷ kinds) = arrays-among names kinds
+arrays-among (n ∷ names) (ClosedLoop ∷ kinds) = arrays-among names kinds
+arrays-among (n ∷ names) (Array k rank ∷ kinds) = ap (λ ns. n ∷ ns) (arrays-among names kinds)
+
+-- ---- names that differ
+
+-- a name that stands nowhere
+none_any : (n : List ℕ) (names : List (List ℕ)) → ((at : ℕ) → slice_get names at ≡ Some n → ⊥) → list_any (bytes_eq n) names ≡ false
+none_any n [] f = refl
+none_any n (m ∷ names) f = elim (bytes_eq n m) as (λ v. bytes_eq n m ≡ v → list_any (bytes_eq n) (m ∷ names) ≡ false) [
+  | true ↦ λ e. absurd (f 0 (ap Some (sym (bytes_are n m e))))
+  | false ↦ λ e. rw e (none_any n names (λ at g. f (suc at) g))
+] refl
+
+-- names at different places differ
+pub distinct-different : (names : List (List ℕ)) → AreDistinct names → AreDifferent names
+distinct-different [] d = tt
+distinct-different (n ∷ names) d = (none_any n names (λ at e. (let same : 0 ≡ suc at = d 0 (suc at) n refl e in omega arith)), distinct-different names (λ a b m e f. (let same : suc a ≡ suc b = d (suc a) (suc b) m e f in omega arith)))
+
+-- a name that isn't there isn't among some of them
+among_any : (test : Kind → Bool) (n : List ℕ) (names : List (List ℕ)) (kinds : List Kind) → list_any (bytes_eq n) names ≡ false → list_any (bytes_eq n) (among test names kinds) ≡ false
+among_any test n [] kinds h = refl
+among_any test n (m ∷ names) [] h = refl
+among_any test n (m ∷ names) (k ∷ kinds) h =
+    let both = or_parts (bytes_eq n m) (list_any (bytes_eq n) names) h in
+    let here : bytes_eq n m ≡ false = both.0 in
+    let rest : list_any (bytes_eq n) (among test names kinds) ≡ false = among_any test n names kinds both.1 in
+    elim (test k) as (λ v. test k ≡ v → list_any (bytes_eq n) (among test (m ∷ names) (k ∷ kinds)) ≡ false) [ true ↦ λ e. rw e (rw here rest) | false ↦ λ e. rw e rest ] refl
+
+-- some of names that differ
+pub among_differs : (test : Kind → Bool) (names : List (List ℕ)) (kinds : List Kind) → AreDifferent names → AreDifferent (among test names kinds)
+among_differs test [] kinds d = tt
+among_differs test (m ∷ names) [] d = tt
+among_differs test (m ∷ names) (k ∷ kinds) d =
+    elim (test k) as (λ v. test k ≡ v → AreDifferent (among test (m ∷ names) (k ∷ kinds))) [ true ↦ λ e. rw e (among_any test m names kinds d.0, among_differs test names kinds d.1) | false ↦ λ e. rw e (among_differs test names kinds d.1) ] refl
+
+-- what holds of each name holds of some
+pub among_all : (P : List ℕ → Type 0) (test : Kind → Bool) (names : List (List ℕ)) (kinds : List Kind) → AllByRecursion P names → AllByRecursion P (among test names kinds)
+among_all P test [] kinds h = tt
+among_all P test (m ∷ names) [] h = tt
+among_all P test (m ∷ names) (k ∷ kinds) h =
+    elim (test k) as (λ v. test k ≡ v → AllByRecursion P (among test (m ∷ names) (k ∷ kinds))) [ true ↦ λ e. rw e (h.0, among_all P test names kinds h.1) | false ↦ λ e. rw e (among_all P test names kinds h.1) ] refl
+
+-- a name among others isn't one that is none of them
+other_name : (name : List ℕ) (names : List (List ℕ)) (k : ℕ) (m : List ℕ) → list_any (bytes_eq name) names ≡ false → slice_get names k ≡ Some m → bytes_eq m name ≡ false
+other_name name [] k m none e = cc
+other_name name (n ∷ names) zero m none e =
+    let same : n ≡ m = cc in
+    elim (bytes_eq m name) as (λ v. bytes_eq m name ≡ v → bytes_eq m name ≡ false) [
+      | true ↦ λ is.
+          let found : bytes_eq name n ≡ true = ap (bytes_eq name) (same ∙ bytes_are m name is) ∙ bytes_same name in
+          let no : bytes_eq name n ≡ false = (or_parts (bytes_eq name n) _ none).0 in
+          absurd cc
+      | false ↦ λ no. no
+    ] refl
+other_name name (n ∷ names) (suc k) m none e = other_name name names k m (or_parts (bytes_eq name n) _ none).1 e
+
+-- a name whose kind doesn't pass isn't among those that do
+pub among_none : (test : Kind → Bool) (names : List (List ℕ)) (kinds : List Kind) (at : ℕ) (name : List ℕ) (k : Kind) → AreDifferent names → slice_get names at ≡ Some name → slice_get kinds at ≡ Some k → test k ≡ false → list_any (bytes_eq name) (among test names kinds) ≡ false
+among_none test [] kinds at name k d e f fails_so = cc
+among_none test (n ∷ names) [] at name k d e f fails_so = cc
+among_none test (n ∷ names) (l ∷ kinds) zero name k d e f fails_so =
+    let same : n ≡ name = cc in
+    let kind_is : l ≡ k = cc in
+    let fails : test l ≡ false = ap test kind_is ∙ fails_so in
+    rw fails (among_any test name names kinds (ap (λ m. list_any (bytes_eq m) names) (sym same) ∙ d.0))
+among_none test (n ∷ names) (l ∷ kinds) (suc at) name k d e f fails_so =
+    let other : bytes_eq name n ≡ false = other_name n names at name d.0 e in
+    let rest : list_any (bytes_eq name) (among test names kinds) ≡ false = among_none test names kinds at name k d.1 e f fails_so in
+    elim (test l) as (λ v. test l ≡ v → list_any (bytes_eq name) (among test (n ∷ names) (l ∷ kinds)) ≡ false) [ true ↦ λ g. rw g (rw other rest) | false ↦ λ g. rw g rest ] refl
+
+-- where a name among those that pass stands
+pub record Found (test : Kind → Bool) (names : List (List ℕ)) (kinds : List Kind) (name : List ℕ) : Type 0 where
+  pub at : ℕ
+  pub kind : Kind
+  pub name_is : slice_get names at ≡ Some name
+  pub kind_is : slice_get kinds at ≡ Some kind
+  pub so : test kind ≡ true
+
+-- a name more in front
+found_next : {test : Kind → Bool} {names : List (List ℕ)} {kinds : List Kind} {name : List ℕ} (n : List ℕ) (k : Kind) → Found test names kinds name → Found test (n ∷ names) (k ∷ kinds) name
+found_next n k f = record { at = suc f.at; kind = f.kind; name_is = f.name_is; kind_is = f.kind_is; so = f.so }
+
+-- each name among those that pass stands among all
+pub among_found : (test : Kind → Bool) (names : List (List ℕ)) (kinds : List Kind) (j : ℕ) (name : List ℕ) → slice_get (among test names kinds) j ≡ Some name → Found test names kinds name
+among_found test [] kinds j name e = cc
+among_found test (n ∷ names) [] j name e = cc
+among_found test (n ∷ names) (k ∷ kinds) j name e =
+    elim (test k) as (λ v. test k ≡ v → Found test (n ∷ names) (k ∷ kinds) name) [
+      | true ↦ λ g. first j g (rw g at e) (λ i f. among_found test names kinds i name f)
+      | false ↦ λ g. found_next n k (among_found test names kinds j name (rw g at e))
+    ] refl where
+      first : (i : ℕ) → test k ≡ true → slice_get (n ∷ among test names kinds) i ≡ Some name → ((i : ℕ) → slice_get (among test names kinds) i ≡ Some name → Found test names kinds name) → Found test (n ∷ names) (k ∷ kinds) name
+      first zero g f rec = record { at = 0; kind = k; name_is = f; kind_is = refl; so = g }
+      first (suc i) g f rec = found_next n k (rec i f)
+
+-- ---- arrays
+
+-- an array's name is one of theirs
+pub array_names : (name : List ℕ) (arrays : List program.Array) → is_array_name name arrays ≡ list_any (bytes_eq name) (names_of arrays)
+array_names name [] = refl
+array_names name (a ∷ arrays) = ap (λ b. bytes_eq name a.name || b) (array_names name arrays)
+
+-- arrays whose names differ
+pub different_arrays : (arrays : List program.Array) → AreDifferent (names_of arrays) → AreDifferentArrays arrays
+different_arrays [] d = tt
+different_arrays (a ∷ arrays) d = (array_names a.name arrays ∙ d.0, different_arrays arrays d.1)
+
+-- what holds of each array's name
+pub all_named : (P : List ℕ → Type 0) (arrays : List program.Array) → ((k : ℕ) (name : List ℕ) → slice_get (names_of arrays) k ≡ Some name → P name) → AllByRecursion (λ (a : program.Array). P a.name) arrays
+all_named P [] f = tt
+all_named P (a ∷ arrays) f = (f 0 a.name refl, all_named P arrays (λ k name e. f (suc k) name e))

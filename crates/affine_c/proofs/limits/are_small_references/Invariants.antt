@@ -1,7 +1,0 @@
-use Rattle.std.proofs.Common.{take}
-use Rattle.std.specs.List.{AllByRecursion}
-use Rattle.affine_c.specs.Limits.{IsSmallReference}
-use Rattle.affine_c.proofs.limits.are_small_references.Given as goal
-
-abbrev pub invariant-loop-reference : goal.invariant-loop-reference
-invariant-loop-reference l = AllByRecursion IsSmallReference (take l.reference-index l.references)

@@ -1,7 +1,0 @@
-use Rattle.std.proofs.Common.{◌≡◌, drop}
-use Rattle.iolb_model.specs.Path.{row_path}
-use Rattle.affine_c.specs.Tree.{row_of}
-use Rattle.affine_c.proofs.well_formed.+stands.Given as goal
-
-abbrev pub invariant-loop-item : goal.invariant-loop-item
-invariant-loop-item l = row_path (row_of (drop l.item-index l.items)) l.number ≡ row_path (row_of l.fn.items) l.number

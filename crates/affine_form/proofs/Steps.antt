@@ -1,0 +1,77 @@
+-- One step of a walk along lists of forms.
+use Rattle.std.proofs.Common.{◌≡◌, sym, ◌∙◌, ap, ℕ, zero, suc, ◌+◌, ◌-◌, ◌<◌, ◌≤◌, List, [], ◌∷◌, ◌++◌, length, replicate, get_or, drop, arith}
+use Rattle.std.proofs.Math.IntN.{pos, negsuc}
+use Rattle.std.proofs.lemmas.List.{drop_all, append_assoc, append-nil}
+use Rattle.base_laws.proofs.Lists.{rest_at}
+use Rattle.iolb_model.specs.Form.{AffineForm}
+use Rattle.iolb_model.specs.Order.{upward}
+use Rattle.affine_form.specs.Rows.{difference, order_rows}
+
+-- two rows pushed
+two_more : (rows rest whole : List AffineForm) (f g : AffineForm) → rows ++ f ∷ g ∷ rest ≡ whole → ((rows ++ f ∷ []) ++ g ∷ []) ++ rest ≡ whole
+two_more rows rest whole f g h =
+    append_assoc (rows ++ f ∷ []) (g ∷ []) rest ∙ append_assoc rows (f ∷ []) (g ∷ rest) ∙ h
+
+below-more : (n i : ℕ) → i < n → n - i ≡ suc (n - (i + 1))
+below-more n i h = omega arith
+
+pub order-step : (vars common level i : ℕ) (ys xs : List AffineForm) (y x : AffineForm) (rows more whole : List AffineForm)
+    → i < level → level ≤ common → i < length ys → i < length xs → y ≡ get_or ys i y → x ≡ get_or xs i x
+    → more ≡ (rows ++ difference vars y x (pos 0) ∷ []) ++ difference vars x y (pos 0) ∷ []
+    → rows ++ order_rows vars (replicate (common - i) upward) (level - i) (drop i ys) (drop i xs) ≡ whole
+    → more ++ order_rows vars (replicate (common - (i + 1)) upward) (level - (i + 1)) (drop (i + 1) ys) (drop (i + 1) xs) ≡ whole
+order-step vars common level i ys xs y x rows more whole p q r s a b pushed h =
+    let rest : List AffineForm = order_rows vars (replicate (common - (i + 1)) upward) (level - (i + 1)) (drop (i + 1) ys) (drop (i + 1) xs) in
+    let first : order_rows vars (replicate (common - i) upward) (level - i) (drop i ys) (drop i xs) ≡ difference vars y x (pos 0) ∷ difference vars x y (pos 0) ∷ rest =
+    ap (λ (n : ℕ). order_rows vars (replicate n upward) (level - i) (drop i ys) (drop i xs)) (below-more common i (omega arith))
+    ∙ ap (λ (n : ℕ). order_rows vars (upward ∷ replicate (common - (i + 1)) upward) n (drop i ys) (drop i xs)) (below-more level i p)
+    ∙ ap (λ (zs : List AffineForm). order_rows vars (upward ∷ replicate (common - (i + 1)) upward) (suc (level - (i + 1))) zs (drop i xs)) (rest_at ys i y r a)
+    ∙ ap (λ (zs : List AffineForm). order_rows vars (upward ∷ replicate (common - (i + 1)) upward) (suc (level - (i + 1))) (y ∷ drop (i + 1) ys) zs) (rest_at xs i x s b) in
+    ap (λ (zs : List AffineForm). zs ++ rest) pushed ∙ two_more rows rest whole (difference vars y x (pos 0)) (difference vars x y (pos 0)) (ap (λ (zs : List AffineForm). rows ++ zs) (sym first) ∙ h)
+
+-- the row of the loop in which the values differ
+pub order-last : (vars common level i : ℕ) (ys xs : List AffineForm) (y x : AffineForm) (rows more whole : List AffineForm)
+    → i ≡ level → level < common → level < length ys → level < length xs → y ≡ get_or ys level y → x ≡ get_or xs level x
+    → more ≡ rows ++ difference vars x y (negsuc 0) ∷ []
+    → rows ++ order_rows vars (replicate (common - i) upward) (level - i) (drop i ys) (drop i xs) ≡ whole
+    → more ≡ whole
+order-last vars common level i ys xs y x rows more whole e q r s a b pushed h =
+    pushed ∙ ap (λ (zs : List AffineForm). rows ++ zs) (sym first) ∙ h where
+      none : (n m : ℕ) → n ≡ m → m - n ≡ zero
+      none n m p = omega arith
+
+      first : order_rows vars (replicate (common - i) upward) (level - i) (drop i ys) (drop i xs) ≡ difference vars x y (negsuc 0) ∷ []
+      first =
+          ap (λ (n : ℕ). order_rows vars (replicate n upward) (level - i) (drop i ys) (drop i xs)) (below-more common i (omega arith))
+          ∙ ap (λ (n : ℕ). order_rows vars (upward ∷ replicate (common - (i + 1)) upward) n (drop i ys) (drop i xs)) (none i level e)
+          ∙ ap (λ (n : ℕ). order_rows vars (upward ∷ replicate (common - (i + 1)) upward) zero (drop n ys) (drop n xs)) e
+          ∙ ap (λ (zs : List AffineForm). order_rows vars (upward ∷ replicate (common - (i + 1)) upward) zero zs (drop level xs)) (rest_at ys level y r a)
+          ∙ ap (λ (zs : List AffineForm). order_rows vars (upward ∷ replicate (common - (i + 1)) upward) zero (y ∷ drop (level + 1) ys) zs) (rest_at xs level x s b)
+
+-- no loop is left
+pub order-none : (vars common level i : ℕ) (ys xs : List AffineForm) (rows whole : List AffineForm) → i ≡ level → common ≤ level
+    → rows ++ order_rows vars (replicate (common - i) upward) (level - i) (drop i ys) (drop i xs) ≡ whole → rows ≡ whole
+order-none vars common level i ys xs rows whole e q h =
+    sym (append-nil rows) ∙ ap (λ (zs : List AffineForm). rows ++ zs) (sym none) ∙ h where
+      zero_left : common - i ≡ zero
+      zero_left = omega arith
+
+      none : order_rows vars (replicate (common - i) upward) (level - i) (drop i ys) (drop i xs) ≡ []
+      none = ap (λ (n : ℕ). order_rows vars (replicate n upward) (level - i) (drop i ys) (drop i xs)) zero_left
+
+-- what two pushes give
+pub pushed-two : (rows one two : List AffineForm) (f g first second : AffineForm) → one ≡ rows ++ f ∷ [] → two ≡ one ++ g ∷ [] → f ≡ first → g ≡ second
+    → two ≡ (rows ++ first ∷ []) ++ second ∷ []
+pushed-two rows one two f g first second p q a b = cc
+
+pub pushed-one : (rows one : List AffineForm) (f first : AffineForm) → one ≡ rows ++ f ∷ [] → f ≡ first → one ≡ rows ++ first ∷ []
+pushed-one rows one f first p a = cc
+
+-- no member is left
+pub at_end : {X Y : Type 0} (left : List X → List Y) (xs : List X) (i : ℕ) (rows whole : List Y) → length xs ≤ i → left [] ≡ [] → rows ++ left (drop i xs) ≡ whole → rows ≡ whole
+at_end left xs i rows whole past none h =
+    sym (append-nil rows) ∙ ap (λ zs. rows ++ zs) (sym (ap left (drop_all i xs past) ∙ none)) ∙ h
+
+pub at_count_end : {Y : Type 0} (left : ℕ → List Y) (n : ℕ) (rows whole : List Y) → n ≡ 0 → left 0 ≡ [] → rows ++ left n ≡ whole → rows ≡ whole
+at_count_end left n rows whole past none h =
+    sym (append-nil rows) ∙ ap (λ zs. rows ++ zs) (sym (ap left past ∙ none)) ∙ h

@@ -1,0 +1,42 @@
+use Rattle.std.proofs.Common.{◌≡◌, ◌<◌, ◌++◌, ◌∷◌, [], ap, sym, ◌∙◌, arith, rules, length, take, pos, ℤ, List, FitsSigned, lit≤}
+use mir.Syntax.{w128}
+use Rattle.std.specs.Prelude.{unsigned_abs}
+use Rattle.std.proofs.lemmas.Int.{to_z-of_z}
+use Rattle.std.proofs.lemmas.List.{take_all, take_more}
+use Rattle.affine_form.specs.Form.{IsSmall}
+use Rattle.affine_form.specs.Combination.{coefficient_of}
+use Rattle.base_laws.proofs.Lists.{All-push}
+use Rattle.affine_form.proofs.Sizes.{small-bits}
+use Rattle.affine_form.specs.Rows.{difference}
+use Rattle.affine_form.proofs.RowLemmas.{coefficient_of-difference, length-difference}
+use Rattle.affine_form.proofs.differences.difference.Goals as goal
+use Rattle.iolb_model.specs.declared.limits.TheConstants.{COEFFICIENT_SIZE}
+
+pub loop-place-preserved : goal.loop-place-preserved
+loop-place-preserved c =
+    let form = difference c.args.vars c.args.left.now c.args.right.now (pos 0) in
+    let k = c.loop-place.place in
+    let x = c.coefficient_less.result in
+    let fits : FitsSigned w128 x = search rules in
+    let within : k < length form.coefficients = omega (arith, c.loop-place-test.true, length-difference c.args.vars c.args.left.now c.args.right.now (pos 0) c.requires.left_in c.requires.right_in) in
+    let is : x ≡ coefficient_of k form = c.coefficient_less.ensures.value ∙ sym (coefficient_of-difference c.args.vars c.args.left.now c.args.right.now (pos 0) k) in
+    let pushed = simp (to_z-of_z w128 x fits) at c.in_ok-push.ensures.items in
+    rw pushed (record {
+      so_far = ap (λ (xs : List ℤ). xs ++ x ∷ []) c.loop-place.invariant.so_far
+          ∙ ap (λ (y : ℤ). take k form.coefficients ++ y ∷ []) is
+          ∙ sym (take_more form.coefficients k (pos 0) within);
+      small = All-push (IsSmall COEFFICIENT_SIZE) c.loop-place.coef.items x c.loop-place.invariant.small c.coefficient_less.ensures.small;
+    })
+
+pub returns : goal.returns
+returns c =
+    let x = c.constant_less.result in
+    let fits : FitsSigned w128 x = search rules in
+    let form = difference c.args.vars c.args.left.now c.args.right.now (pos 0) in
+    let items : c.loop-place.coef.items ≡ form.coefficients = c.loop-place.invariant.so_far
+    ∙ take_all c.loop-place.place form.coefficients
+    (omega (arith, c.loop-place-test.false, length-difference c.args.vars c.args.left.now c.args.right.now (pos 0) c.requires.left_in c.requires.right_in)) in
+    let is = simp (to_z-of_z w128 x fits) at c.new.ensures in
+    let number : unsigned_abs c.args.number < 2 = omega (arith, c.requires.small_number) in
+    let value = simp (small-bits c.args.number 2 number (lit≤ tt)) at c.constant_less.ensures.value in
+    is ∙ ap (λ (xs : List ℤ). record { coefficients = xs; constant = x }) items ∙ ap (λ (y : ℤ). record { coefficients = form.coefficients; constant = y }) value

@@ -1,0 +1,22 @@
+-- Iteration domains, as systems of rows.
+use Rattle.std.specs.Prelude.{ℕ, ◌+◌, List, [], length, unwrap_or}
+use Rattle.iolb_model.specs.Path.{PathStep, row_path}
+use Rattle.iolb_model.specs.Program.{AffineProgram}
+use Rattle.affine_form.specs.System.{AffineSystem}
+use Rattle.affine_form.specs.Rows.{variables_from, within_rows}
+
+-- the way to a statement, and none to one that isn't there
+abbrev pub path_of : AffineProgram → ℕ → List PathStep
+path_of program statement = unwrap_or (row_path program.tree statement) []
+
+-- how many loops are around a statement
+abbrev pub depth_of : AffineProgram → ℕ → ℕ
+depth_of program statement = length (path_of program statement)
+
+-- The rows of a statement's domain over the parameters and its loop values: `x - lower` and `upper - x` for each loop.
+abbrev pub domain_of : AffineProgram → ℕ → AffineSystem
+domain_of program statement =
+    let params = length program.parameters in let vars = params + depth_of program statement in record {
+      vars = vars;
+      rows = within_rows vars (path_of program statement) (variables_from vars 0 params) (variables_from vars params (depth_of program statement));
+    }

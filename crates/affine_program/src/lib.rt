@@ -1,0 +1,20 @@
+//! Affine loop programs.
+#![tactic(auto)]
+
+mod domain;
+mod draft;
+mod item;
+mod limits;
+mod names;
+mod printable;
+mod program;
+mod reference;
+mod statement;
+mod well_formed;
+
+pub use item::Item;
+pub use limits::is_small_form;
+pub use names::with_name;
+pub use program::Program;
+pub use reference::Reference;
+pub use statement::Statement;

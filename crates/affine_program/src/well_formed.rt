@@ -1,0 +1,221 @@
+//! Whether parts make a well-formed program.
+
+ghost use Rattle.std.specs.Prelude.{◌≡◌, ◌↔◌, IsTrue, ℕ, map, Some, ◌++◌, length, OnOk, IfOk, ◌≤◌};
+ghost use Rattle.std.specs.List.{AllByRecursion, enumerate_from, range_with_len};
+ghost use Rattle.iolb_model.specs.Path.{row_path};
+ghost use Rattle.iolb_model.specs.Program.{IsOver, AccessFits, StatementFits, ItemFits, RowFits, row_statements, IsWellFormed};
+ghost use Rattle.affine_program.specs.Draft.{parts_of};
+ghost use Rattle.affine_form.specs.Rows.{step_of};
+ghost use Rattle.affine_program.specs.Parts.{meaning, access_of, IsProgram};
+ghost use Rattle.affine_program.specs.Tree.{item_of, row_of};
+ghost use Rattle.affine_program.specs.declared.statement.Statement.{Statement};
+ghost use Rattle.iolb_model.specs.declared.limits.TheConstants.{STATEMENTS};
+
+use crate::domain::has;
+use crate::draft::Draft;
+use crate::item::Item;
+use crate::limits::are_parts_within_limits;
+use crate::printable::is_printable;
+use crate::reference::Reference;
+use affine_form::{Form, Memory};
+use std::alloc::Global;
+
+/// Whether forms are over so many variables.
+fn are_over(variables: usize, forms: &[Form]) -> bool
+    ensures { IsTrue result ↔ AllByRecursion (IsOver variables) forms.now }
+{
+    for form in forms {
+        if form.coef().len() != variables {
+            return false;
+        }
+    }
+    true
+}
+
+/// Whether a reference is to an array that is there, with as many subscripts as it has, each over so many variables.
+fn access_fits(draft: &Draft, variables: usize, reference: &Reference) -> bool
+    ensures { IsTrue result ↔ AccessFits (meaning (parts_of draft.now)) variables (access_of reference.now) }
+{
+    let arrays = draft.arrays.as_slice();
+    let array = usize::from(reference.array);
+    let subs = reference.subs.as_slice();
+    array < arrays.len() && subs.len() == usize::from(arrays[array].1) && are_over(variables, subs)
+}
+
+/// Whether references fit, over so many variables.
+fn all_accesses_fit(draft: &Draft, variables: usize, references: &[Reference]) -> bool
+    ensures { IsTrue result ↔ AllByRecursion (AccessFits (meaning (parts_of draft.now)) variables) (map access_of references.now) }
+{
+    for reference in references {
+        if !access_fits(draft, variables, reference) {
+            return false;
+        }
+    }
+    true
+}
+
+/// Whether a statement is there, and its references fit, over so many variables.
+fn statement_fits(draft: &Draft, variables: usize, number: u16) -> bool
+    ensures { IsTrue result ↔ StatementFits (meaning (parts_of draft.now)) variables number }
+{
+    let statements = draft.statements.as_slice();
+    let at = usize::from(number);
+    at < statements.len()
+        && access_fits(draft, variables, &statements[at].writes)
+        && all_accesses_fit(draft, variables, statements[at].reads.as_slice())
+}
+
+/// Whether the forms of an item are over the variables around them, so many at the item.
+#[cycle(fitting)]
+fn item_fits(draft: &Draft, variables: usize, item: &Item) -> bool
+    ensures { IsTrue result ↔ ItemFits (meaning (parts_of draft.now)) variables (item_of item.now) }
+{
+    match item {
+        Item::Loop {
+            lower,
+            upper,
+            body,
+            ..
+        } => {
+            lower.coef().len() == variables
+                && upper.coef().len() == variables
+                && row_fits(draft, variables + 1, body)
+        }
+        Item::Assign(number) => statement_fits(draft, variables, *number),
+    }
+}
+
+/// Whether the forms of a row of items are over the variables around them, so many at the row.
+#[cycle(fitting)]
+fn row_fits(draft: &Draft, variables: usize, items: &[Item]) -> bool
+    ensures { IsTrue result ↔ RowFits (meaning (parts_of draft.now)) variables (row_of items.now) }
+{
+    for item in items {
+        if !item_fits(draft, variables, item) {
+            return false;
+        }
+    }
+    true
+}
+
+/// Puts the numbers of the statements of a row of items at the end, in the order of the text.
+fn push_numbers(items: &[Item], numbers: &mut Vec<u16>) -> Result<(), Memory>
+    ensures { OnOk result (numbers.new.items ≡ numbers.old.items ++ row_statements (row_of items.now)) }
+{
+    for item in items {
+        match item {
+            Item::Assign(number) => numbers.push(*number)?,
+            Item::Loop { body, .. } => push_numbers(body, numbers)?,
+        }
+    }
+    Ok(())
+}
+
+/// Whether numbers count up from 0.
+fn are_counted(numbers: &[u16]) -> bool
+    ensures { IsTrue result ↔ (numbers.now ≡ range_with_len 0 (length numbers.now)) }
+{
+    for (i, number) in numbers.iter().enumerate() {
+        if usize::from(*number) != i {
+            return false;
+        }
+    }
+    true
+}
+
+/// Whether numbers count up from 0 to below a number.
+fn count_up_to(numbers: &[u16], many: usize) -> bool
+    ensures { IsTrue result ↔ (numbers.now ≡ range_with_len 0 many) }
+{
+    numbers.len() == many && are_counted(numbers)
+}
+
+/// Whether the constants of two forms are the same.
+fn has_same_constant(a: &Form, b: &Form) -> bool
+    ensures { IsTrue result ↔ (a.now.constant ≡ b.now.constant) }
+{
+    a.constant() == b.constant()
+}
+
+/// Whether two forms are the same.
+fn is_same(a: &Form, b: &Form) -> bool
+    ensures { IsTrue result ↔ (a.now ≡ b.now) }
+{
+    a.coef() == b.coef() && has_same_constant(a, b)
+}
+
+/// Whether the bounds of the loops around a statement in a row of items are these, outermost first.
+fn stands(items: &[Item], number: u16, bounds: &[(Form, Form)]) -> bool
+    ensures { IsTrue result ↔ (row_path (row_of items.now) number ≡ Some (map step_of bounds.now)) }
+{
+    for item in items {
+        if has(item, number) {
+            return match item {
+                Item::Loop {
+                    lower,
+                    upper,
+                    body,
+                    ..
+                } => {
+                    !bounds.is_empty()
+                        && is_same(lower, &bounds[0].0)
+                        && is_same(upper, &bounds[0].1)
+                        && stands(body, number, &bounds[1..])
+                }
+                Item::Assign(_) => bounds.is_empty(),
+            };
+        }
+    }
+    false
+}
+
+/// Whether each statement has the bounds of the loops around it.
+fn all_stand(draft: &Draft) -> bool
+    requires { length draft.now.statements.items ≤ STATEMENTS }
+    ensures { IsTrue result ↔ AllByRecursion (λ (placed : ℕ × Statement). row_path (row_of draft.now.tree.items) placed.0 ≡ Some (map step_of placed.1.bounds.items)) (enumerate_from 0 draft.now.statements.items) }
+{
+    let tree = draft.tree.as_slice();
+    for (number, statement) in draft.statements.as_slice().iter().enumerate() {
+        if !stands(tree, number as u16, statement.bounds.as_slice()) {
+            return false;
+        }
+    }
+    true
+}
+
+/// Whether the statements are numbered in the order of the text, and each stands in the tree once.
+fn are_numbered(alloc: Global, draft: &Draft) -> Result<bool, Memory>
+    ensures { IfOk result (λ yes. IsTrue yes ↔ (row_statements (row_of draft.now.tree.items) ≡ range_with_len 0 (length draft.now.statements.items))) }
+{
+    let mut numbers = Vec::new(alloc);
+    push_numbers(draft.tree.as_slice(), &mut numbers)?;
+    Ok(count_up_to(numbers.as_slice(), draft.statements.as_slice().len()))
+}
+
+/// Whether the parts make a well-formed program.
+fn is_well_formed(alloc: Global, draft: &Draft) -> Result<bool, Memory>
+    ensures { IfOk result (λ yes. IsTrue yes ↔ IsWellFormed (meaning (parts_of draft.now))) }
+{
+    let params = draft.params.as_slice().len();
+    let numbered = are_numbered(alloc, draft)?;
+    Ok(
+        numbered
+            && are_over(params, draft.assumed.rows())
+            && row_fits(draft, params, draft.tree.as_slice()),
+    )
+}
+
+/// Whether the parts make a program: they are within their limits and well formed, the assumptions are over the
+/// parameters, each statement has the bounds of the loops around it, and some text means it.
+pub(crate) fn is_program(alloc: Global, draft: &Draft) -> Result<bool, Memory>
+    ensures { IfOk result (λ yes. IsTrue yes ↔ IsProgram (parts_of draft.now)) }
+{
+    let well = is_well_formed(alloc, draft)?;
+    let printable = is_printable(alloc, draft)?;
+    Ok(
+        well && printable
+            && draft.assumed.vars() == draft.params.as_slice().len()
+            && are_parts_within_limits(draft)
+            && all_stand(draft),
+    )
+}

@@ -1,3 +1,0 @@
-pub mod RowLemmas
-pub mod Steps
-pub mod Meaning

@@ -1,5 +1,0 @@
-use Rattle.affine_text.proofs.OneProgram.{one_program}
-use Rattle.affine_text.proofs.law.texts_mean_one_program.Goals as goal
-
-pub returns : goal.returns
-returns c = one_program

@@ -1,0 +1,298 @@
+-- What the names and lines so far keep, and what a meaning adds to them.
+use Rattle.std.proofs.Common.{◌≡◌, refl, sym, ◌∙◌, ap, subst, cond, ℕ, zero, suc, ◌+◌, ◌≤◌, List, [], ◌∷◌, ◌++◌, length, arith, append_assoc, append-nil, Bool, true, false, ⊎_elim, inl, inr, length-append, leb-true}
+use Rattle.std.specs.Prelude.{⊤, ◌⊎◌, ℤ, bytes_eq, slice_get, option_and_then, Option, Some, None, if◌then◌else◌, nat_le}
+use Rattle.std.specs.List.{AllByRecursion}
+use Rattle.std.proofs.lemmas.Bool.{and_parts}
+use Rattle.base_laws.proofs.Lists.{All-append, All-weaken}
+use Rattle.iolb_model.specs.declared.limits.TheConstants.{PARAMETERS, STATEMENTS, ARRAYS, NAME_BYTES}
+use Rattle.c_tokens.specs.declared.token.TokenKind.TheVariants as token
+use Rattle.c_reading.specs.declared.named.Kind.{Kind}
+use Rattle.c_reading.specs.declared.named.Kind.TheVariants.{Array}
+use Rattle.c_reading.specs.Affine.{kind_of, number_of, is_short}
+use Rattle.c_reading.specs.Access.{Access}
+use Rattle.c_grammar.specs.Words.{Word}
+use Rattle.c_tokens.specs.Names.{IsWord, IsName}
+use Rattle.affine_program.specs.Printable.{IsOrdered, next_seen}
+use Rattle.c_grammar.specs.Well.{AreDistinct}
+use Rattle.c_grammar.specs.Meaning.{Names, Meaning, then_in, given}
+use Rattle.c_grammar.proofs.Rows.{IsWhereSome, IsRow, more_row}
+use Rattle.c_grammar.proofs.NameKinds.{KindFits, parameter_count, ranks, AreNumbered, more_fits, count-append, ranks-append, numbered-append, All-get, get-append, rank_at}
+use Rattle.c_grammar.proofs.Dictionary.{lookup, kind_of-lookup, bytes_same}
+
+-- ---- words that are names
+
+-- a word that is a name is spelled as one
+abbrev pub IsNamed : Word → Type 0
+IsNamed w = w.kind ≡ token.Name → IsWord w.bytes
+
+-- the names among words are spelled so
+abbrev pub AreNamed : List Word → Type 0
+AreNamed ws = AllByRecursion IsNamed ws
+
+-- the names among the first of both lists
+pub first_named : (xs ys : List Word) → AreNamed (xs ++ ys) → AreNamed xs
+first_named [] ys h = tt
+first_named (x ∷ xs) ys h = (h.0, first_named xs ys h.1)
+
+-- and among the second
+pub second_named : (xs ys : List Word) → AreNamed (xs ++ ys) → AreNamed ys
+second_named [] ys h = h
+second_named (x ∷ xs) ys h = second_named xs ys h.1
+
+-- a short word is a name
+pub short_word : (name : List ℕ) → IsWord name → is_short name ≡ true → IsName name
+short_word name w short = record { begins = w.begins; bytes = w.name; few = leb-true (length name) NAME_BYTES (and_parts (nat_le 1 (length name)) (nat_le (length name) NAME_BYTES) short).1; no_word = w.no_word }
+
+-- ---- states
+
+-- the names and lines inside so many loops
+pub record State (depth : ℕ) (i : Names) : Type 0 where
+  pub kinds : length i.kinds ≡ length i.names
+  pub fit : AllByRecursion (KindFits i.parameters depth) i.kinds
+  pub parameters : parameter_count i.kinds ≡ i.parameters
+  pub few_parameters : i.parameters ≤ PARAMETERS
+  pub numbered : AreNumbered 0 i.kinds
+  pub arrays : length (ranks i.kinds) ≡ i.arrays
+  pub few_arrays : i.arrays ≤ ARRAYS
+  pub few_statements : i.statements ≤ STATEMENTS
+  pub names : AllByRecursion IsName i.names
+  pub distinct : AreDistinct i.names
+
+-- names are added, and none of them is that of a loop that is open
+pub record Grown (i j : Names) : Type 0 where
+  pub more : List Kind
+  pub kinds : j.kinds ≡ i.kinds ++ more
+  pub settled : AllByRecursion (KindFits j.parameters 0) more
+  pub parameters : i.parameters ≤ j.parameters
+  pub names : length i.names ≤ length j.names
+
+-- the same, and no line is added, where references to arrays of these numbers stand
+pub record Kept (i : Names) (numbers : List ℕ) (j : Names) : Type 0 where
+  pub grown : Grown i j
+  pub order : IsOrdered i.arrays numbers j.arrays
+  pub lines : j.lines ≡ i.lines
+  pub statements : j.statements ≡ i.statements
+
+-- names with the same kinds
+pub grown-same : (i j : Names) → j.kinds ≡ i.kinds → j.parameters ≡ i.parameters → j.names ≡ i.names → Grown i j
+grown-same i j kinds parameters names = record {
+  more = [];
+  kinds = kinds ∙ sym (append-nil i.kinds);
+  settled = tt;
+  parameters = omega (arith, parameters);
+  names = omega (arith, ap (λ (l : List (List ℕ)). length l) names);
+}
+
+-- names are added, and then others
+pub grown-trans : {i j k : Names} → Grown i j → Grown j k → Grown i k
+grown-trans {i} {j} {k} g h = record {
+  more = g.more ++ h.more;
+  kinds = h.kinds ∙ ap (λ (l : List Kind). l ++ h.more) g.kinds ∙ append_assoc i.kinds g.more h.more;
+  settled =
+      All-append (KindFits k.parameters 0) g.more h.more
+      (All-weaken (KindFits j.parameters 0) (KindFits k.parameters 0) g.more
+      (more_fits j.parameters 0 k.parameters 0 h.parameters (omega arith)) g.settled) h.settled;
+  parameters = omega arith;
+  names = omega arith;
+}
+
+-- references behind references
+pub ordered_both : (seen middle last : ℕ) (xs ys : List ℕ) → IsOrdered seen xs middle → IsOrdered middle ys last → IsOrdered seen (xs ++ ys) last
+ordered_both seen middle last [] ys h g = subst (λ n. IsOrdered n ys last) (sym h) g
+ordered_both seen middle last (x ∷ xs) ys h g = (h.0, ordered_both (next_seen seen x) middle last xs ys h.1 g)
+
+-- one step behind another
+pub kept-trans : {i j k : Names} {xs ys : List ℕ} → Kept i xs j → Kept j ys k → Kept i (xs ++ ys) k
+kept-trans {i} {j} {k} {xs} {ys} g h = record { grown = grown-trans g.grown h.grown; order = ordered_both i.arrays j.arrays k.arrays xs ys g.order h.order; lines = h.lines ∙ g.lines; statements = h.statements ∙ g.statements }
+
+-- names and themselves
+pub kept_self : (i : Names) → Kept i [] i
+kept_self i = record { grown = grown-same i i refl refl refl; order = refl; lines = refl; statements = refl }
+
+-- ---- what was meant stays right where names are added
+
+-- a row stays one
+pub row-grown : {depth : ℕ} {i j : Names} {row : List ℤ} → Grown i j → IsRow i.parameters depth row → IsRow j.parameters depth row
+row-grown g h = more_row g.parameters (omega arith) h
+
+-- rows stay rows
+pub rows-grown : (depth : ℕ) {i j : Names} (rows : List (List ℤ)) → Grown i j → AllByRecursion (IsRow i.parameters depth) rows → AllByRecursion (IsRow j.parameters depth) rows
+rows-grown depth {i} {j} rows g h = All-weaken (IsRow i.parameters depth) (IsRow j.parameters depth) rows (λ row r. row-grown g r) h
+
+-- a reference to an array that is there
+pub record AccessIn (depth : ℕ) (i : Names) (access : Access) : Type 0 where
+  pub rank : slice_get (ranks i.kinds) access.array ≡ Some (length access.subscripts)
+  pub rows : AllByRecursion (IsRow i.parameters depth) access.subscripts
+
+-- an array keeps its number of subscripts
+pub rank-grown : {i j : Names} (n s : ℕ) → Grown i j → slice_get (ranks i.kinds) n ≡ Some s → slice_get (ranks j.kinds) n ≡ Some s
+rank-grown {i} {j} n s g e =
+    subst (λ (l : List Kind). slice_get (ranks l) n ≡ Some s) (sym g.kinds)
+    (subst (λ (l : List ℕ). slice_get l n ≡ Some s) (sym (ranks-append i.kinds g.more)) (get-append (ranks i.kinds) (ranks g.more) n s e))
+
+-- there is at least what there was
+pub record Wider (i j : Names) : Type 0 where
+  pub parameters : i.parameters ≤ j.parameters
+  pub names : length i.names ≤ length j.names
+  pub ranks : (n s : ℕ) → slice_get (ranks i.kinds) n ≡ Some s → slice_get (ranks j.kinds) n ≡ Some s
+
+-- names that are added take nothing away
+pub wider : {i j : Names} → Grown i j → Wider i j
+wider g = record { parameters = g.parameters; names = g.names; ranks = λ n s e. rank-grown n s g e }
+
+-- a reference fits where there is more
+pub access-wider : {depth : ℕ} {i j : Names} {access : Access} → Wider i j → AccessIn depth i access → AccessIn depth j access
+access-wider {depth} {i} {j} {access} w h = record {
+  rank = w.ranks access.array (length access.subscripts) h.rank;
+  rows = All-weaken (IsRow i.parameters depth) (IsRow j.parameters depth) access.subscripts (λ row r. more_row w.parameters (omega arith) r) h.rows;
+}
+
+-- references fit where names are added
+pub accesses-grown : (depth : ℕ) {i j : Names} (accesses : List Access) → Grown i j → AllByRecursion (AccessIn depth i) accesses → AllByRecursion (AccessIn depth j) accesses
+accesses-grown depth {i} {j} accesses g h = All-weaken (AccessIn depth i) (AccessIn depth j) accesses (λ a r. access-wider (wider g) r) h
+
+-- ---- names that were seen
+
+-- a name of some kind has that kind at its number
+pub kind_found : (name : List ℕ) (i : Names) (k : Kind) → kind_of name i ≡ Some k → (at : ℕ) × (number_of name i ≡ Some at) × (slice_get i.kinds at ≡ Some k)
+unfolding kind_of
+kind_found name i k e = found (number_of name i) refl e where
+  found : (o : Option ℕ) → number_of name i ≡ o → option_and_then (λ at. slice_get i.kinds at) o ≡ Some k
+      → (at : ℕ) × (number_of name i ≡ Some at) × (slice_get i.kinds at ≡ Some k)
+  found None h g = cc
+  found (Some at) h g = (at, h, g)
+
+-- a name of some kind fits the state
+pub kind_fits : {depth : ℕ} (name : List ℕ) (i : Names) (k : Kind) → State depth i → kind_of name i ≡ Some k → KindFits i.parameters depth k
+kind_fits {depth} name i k s e = (let found = kind_found name i k e in All-get (KindFits i.parameters depth) i.kinds found.0 k s.fit found.2)
+
+-- a name of an array has its number of subscripts
+pub kind_rank : {depth : ℕ} (name : List ℕ) (i : Names) (n r : ℕ) → State depth i → kind_of name i ≡ Some (Array n r) → slice_get (ranks i.kinds) n ≡ Some r
+kind_rank name i n r s e = (let found = kind_found name i (Array n r) e in rank_at i.kinds found.0 n r s.numbered found.2)
+
+-- ---- one name more
+
+-- a name without a kind stands nowhere
+not_there : (name : List ℕ) (names : List (List ℕ)) (kinds : List Kind) (at : ℕ) → length kinds ≡ length names → lookup name names kinds ≡ None → slice_get names at ≡ Some name → ⊥
+not_there name [] kinds at same none e = cc
+not_there name (n ∷ names) [] at same none e = absurd (omega arith)
+not_there name (n ∷ names) (k ∷ kinds) zero same none e =
+    let here : n ≡ name = cc in
+    let yes : bytes_eq name n ≡ true = ap (bytes_eq name) here ∙ bytes_same name in
+    let found : ◌≡◌ {A = Option Kind} (Some k) None = rw yes at none in cc
+not_there name (n ∷ names) (k ∷ kinds) (suc at) same none e = not_there name names kinds at (omega arith) (other_none (bytes_eq name n) none) e where
+  other_none : (b : Bool) → cond b (Some k) (lookup name names kinds) ≡ None → lookup name names kinds ≡ None
+  other_none true f = cc
+  other_none false f = f
+
+-- what stands in a list that one more ends
+at_end : (names : List (List ℕ)) (name other : List ℕ) (k : ℕ) → slice_get (names ++ name ∷ []) k ≡ Some other → (slice_get names k ≡ Some other) ⊎ ((k ≡ length names) × (other ≡ name))
+at_end [] name m zero e = inr (refl, (let same : name ≡ m = cc in sym same))
+at_end [] name m (suc k) e = cc
+at_end (n ∷ names) name m zero e = inl e
+at_end (n ∷ names) name m (suc k) e = ⊎_elim (λ l. inl l) (λ r. inr (ap suc r.0, r.1)) (at_end names name m k e)
+
+-- a new name stands once
+distinct_more : (name : List ℕ) (names : List (List ℕ)) (kinds : List Kind) → length kinds ≡ length names → lookup name names kinds ≡ None → AreDistinct names → AreDistinct (names ++ name ∷ [])
+distinct_more name names kinds same none distinct a b m e f = ⊎_elim
+    (λ left. ⊎_elim
+    (λ right. distinct a b m left right)
+    (λ last. absurd (not_there name names kinds a same none (left ∙ ap Some last.1)))
+    (at_end names name m b f))
+    (λ last. ⊎_elim
+    (λ right. absurd (not_there name names kinds b same none (right ∙ ap Some last.1)))
+    (λ other. last.0 ∙ sym other.0)
+    (at_end names name m b f))
+    (at_end names name m a e)
+
+-- names with one more, of this kind
+abbrev pub with_new : List ℕ → Kind → ℕ → ℕ → Names → Names
+with_new name k parameters arrays i = record i { names = i.names ++ name ∷ []; kinds = i.kinds ++ k ∷ []; parameters = parameters; arrays = arrays }
+
+-- they keep what the state keeps
+pub new_state : {depth : ℕ} (i : Names) (name : List ℕ) (k : Kind) (p a : ℕ) → State depth i → IsName name → kind_of name i ≡ None → KindFits p depth k → i.parameters ≤ p → i.parameters + parameter_count (k ∷ []) ≡ p → p ≤ PARAMETERS
+    → AreNumbered i.arrays (k ∷ []) → i.arrays + length (ranks (k ∷ [])) ≡ a → a ≤ ARRAYS → State depth (with_new name k p a i)
+new_state {depth} i name k p a s is none fits more counts few numbered arrays few_arrays =
+    let unknown : lookup name i.names i.kinds ≡ None = sym (kind_of-lookup name i s.kinds) ∙ none in
+    record {
+      kinds = omega (arith, length-append i.kinds (k ∷ []), length-append i.names (name ∷ []), s.kinds);
+      fit = All-append (KindFits p depth) i.kinds (k ∷ []) (All-weaken (KindFits i.parameters depth) (KindFits p depth) i.kinds (more_fits i.parameters depth p depth more (omega arith)) s.fit) (fits, tt);
+      parameters = count-append i.kinds (k ∷ []) ∙ ap (λ (n : ℕ). n + parameter_count (k ∷ [])) s.parameters ∙ counts;
+      few_parameters = few;
+      numbered = numbered-append 0 i.kinds (k ∷ []) s.numbered (subst (λ n. AreNumbered n (k ∷ [])) (sym s.arrays ∙ none_before (length (ranks i.kinds))) numbered);
+      arrays = ap (λ (l : List ℕ). length l) (ranks-append i.kinds (k ∷ [])) ∙ length-append (ranks i.kinds) (ranks (k ∷ [])) ∙ ap (λ (n : ℕ). n + length (ranks (k ∷ []))) s.arrays ∙ arrays;
+      few_arrays = few_arrays;
+      few_statements = s.few_statements;
+      names = All-append IsName i.names (name ∷ []) s.names (is, tt);
+      distinct = distinct_more name i.names i.kinds s.kinds unknown s.distinct;
+    } where
+      none_before : (n : ℕ) → n ≡ 0 + n
+      none_before n = omega arith
+
+-- they are grown
+pub new_grown : (i : Names) (name : List ℕ) (k : Kind) (p a : ℕ) → KindFits p 0 k → i.parameters ≤ p → Grown i (with_new name k p a i)
+new_grown i name k p a fits more = record { more = k ∷ []; kinds = refl; settled = (fits, tt); parameters = more; names = omega (arith, length-append i.names (name ∷ [])) }
+
+-- ---- what meanings give
+
+-- this holds of what is meant, where something is
+abbrev pub IsWhereMeant : {A : Type 0} → (A → Names → Type 0) → Option (A × Names) → Type 0
+IsWhereMeant Q None = ⊤
+IsWhereMeant Q (Some p) = Q p.0 p.1
+
+-- the same
+pub record Gives {A : Type 0} (o : Option (A × Names)) (Q : A → Names → Type 0) : Type 0 where
+  pub holds : IsWhereMeant Q o
+
+-- nothing is meant
+pub nothing : {A : Type 0} {Q : A → Names → Type 0} → Gives None Q
+nothing = record { holds = tt }
+
+-- a value
+pub ok : {A : Type 0} {p : A × Names} {Q : A → Names → Type 0} → Q p.0 p.1 → Gives (Some p) Q
+ok q = record { holds = q }
+
+-- one meaning behind another
+pub chained : {A B : Type 0} (o : Option (A × Names)) {f : A → Meaning B} {Q : A → Names → Type 0} {R : B → Names → Type 0} → Gives o Q → ((a : A) (j : Names) → Q a j → Gives (f a j) R) → Gives (then_in o f) R
+chained (Some p) g h = h p.0 p.1 g.holds
+chained None g h = nothing
+
+-- what follows of what a meaning gives
+pub weaken : {A : Type 0} (o : Option (A × Names)) {Q R : A → Names → Type 0} → Gives o Q → ((a : A) (j : Names) → Q a j → R a j) → Gives o R
+weaken (Some p) g h = ok (h p.0 p.1 g.holds)
+weaken None g h = nothing
+
+-- one of two
+pub either : {A : Type 0} (b : Bool) {x y : Option (A × Names)} {Q : A → Names → Type 0} → (b ≡ true → Gives x Q) → (b ≡ false → Gives y Q) → Gives (if b then x else y) Q
+either true f g = f refl
+either false f g = g refl
+
+-- one of two meanings
+pub either_of : {A : Type 0} (b : Bool) (m n : Meaning A) {i : Names} {Q : A → Names → Type 0} → (b ≡ true → Gives (m i) Q) → (b ≡ false → Gives (n i) Q) → Gives ((if b then m else n) i) Q
+either_of true m n f g = f refl
+either_of false m n f g = g refl
+
+-- the state afterwards, how it came from the one before, and what holds of the value
+pub record After (depth : ℕ) (j : Names) (K V : Type 0) : Type 0 where
+  pub state : State depth j
+  pub kept : K
+  pub value : V
+
+-- a meaning without lines and references
+abbrev pub Reads : {A : Type 0} → ℕ → Names → Option (A × Names) → (A → Names → Type 0) → Type 0
+Reads depth i o Q = Gives o (λ a j. After depth j (Kept i [] j) (Q a j))
+
+-- one behind another
+pub bind : {A B : Type 0} {depth : ℕ} {i : Names} (o : Option (A × Names)) {f : A → Meaning B} {Q : A → Names → Type 0} {R : B → Names → Type 0} → Reads depth i o Q
+    → ((a : A) (j : Names) → State depth j → Kept i [] j → Q a j → Reads depth j (f a j) R) → Reads depth i (then_in o f) R
+bind o {f = f} g h = chained o g
+    (λ a j q. weaken (f a j) (h a j q.state q.kept q.value) (λ b k r. record { state = r.state; kept = kept-trans q.kept r.kept; value = r.value }))
+
+-- nothing changes
+pub stays : {A : Type 0} {depth : ℕ} {i : Names} {a : A} {Q : A → Names → Type 0} → State depth i → Q a i → Reads depth i (Some (a, i)) Q
+stays {i = i} s q = ok (record { state = s; kept = kept_self i; value = q })
+
+-- what was given already
+pub gives : {A : Type 0} {depth : ℕ} {i : Names} (o : Option A) {Q : A → Names → Type 0} → State depth i → IsWhereSome (λ a. Q a i) o → Reads depth i (given o i) Q
+gives (Some a) s q = stays s q
+gives None s q = nothing

@@ -1,0 +1,275 @@
+-- References mean references to arrays that are there, with as many subscripts as these have.
+use Rattle.std.proofs.Common.{◌≡◌, refl, sym, ◌∙◌, ap, subst, ℕ, zero, suc, ◌+◌, ◌<◌, ◌≤◌, List, [], ◌∷◌, ◌++◌, length, arith, append_assoc, append-nil, Bool, true, false, length-append, length-set, ltb-true, leb-false}
+use Rattle.std.specs.Prelude.{ℤ, slice_get, slice_set, nat_lt, nat_le, ◌==◌, Option, Some, None, if◌then◌else◌, ◌&&◌, codes}
+use Rattle.std.specs.List.{AllByRecursion}
+use Rattle.std.proofs.lemmas.Bool.{and_parts, eqb-true}
+use Rattle.std.proofs.lemmas.Bool.Decides.{nat_tests}
+use Rattle.std.proofs.lemmas.Option.{slice_get_within}
+use Rattle.base_laws.proofs.Lists.{All-append}
+use Rattle.iolb_model.specs.declared.limits.TheConstants.{ARRAYS, SUBSCRIPTS, READS}
+use Rattle.c_reading.specs.declared.named.Kind.{Kind}
+use Rattle.c_reading.specs.declared.named.Kind.TheVariants.{Parameter, OpenLoop, ClosedLoop, Array}
+use Rattle.c_reading.specs.Access.{Access}
+use Rattle.c_reading.specs.Affine.{kind_of, with_name, is_short}
+use Rattle.c_reading.specs.Refs.{with_kind, most_arrays, most_subscripts}
+use Rattle.c_reading.specs.Values.{Accesses, most_reads}
+use Rattle.c_grammar.specs.Words.{a_symbol}
+use Rattle.c_tokens.specs.Names.{IsWord}
+use Rattle.affine_program.specs.Printable.{IsOrdered}
+use Rattle.c_grammar.specs.Well.{numbers_of}
+use Rattle.c_grammar.specs.Affine as tree
+use Rattle.c_grammar.specs.Affine.{affine_words, subscripts_words, reference_words}
+use Rattle.c_grammar.specs.Value as value
+use Rattle.c_grammar.specs.Value.{operator_word, value_words, operands_words, unary_words, arguments_words}
+use Rattle.c_grammar.specs.Meaning as mean
+use Rattle.c_grammar.specs.Meaning.{Names, Meaning, then_in, affine_means, subscripts_means, array_by, access_by, access_from, reference_means, with_read, plain_means, named_means, name_means, value_means, operands_means, unary_means, arguments_means}
+use Rattle.c_grammar.proofs.Rows.{IsRow}
+use Rattle.c_grammar.proofs.NameKinds.{KindFits, parameter_count, ranks, AreNumbered, rank_at, get-behind, set-behind, count-rank, ranks-rank, numbered-rank, fits-rank}
+use Rattle.c_grammar.proofs.Kept.{AreNamed, first_named, second_named, short_word, State, Kept, kept-trans, kept_self, rows-grown, rank-grown, AccessIn, accesses-grown, kind_rank, with_new, new_state, Gives, nothing, ok, chained, weaken, either, either_of, Reads, bind, stays}
+use Rattle.c_grammar.proofs.KeptForms.{affine_form}
+
+-- ---- subscripts
+
+-- rows, not too many
+pub record AreSubscripts (depth : ℕ) (i : Names) (rows : List (List ℤ)) : Type 0 where
+  pub few : length rows ≤ SUBSCRIPTS
+  pub each : AllByRecursion (IsRow i.parameters depth) rows
+
+-- subscripts are rows, not too many with those before
+subscripts_are : (depth b : ℕ) (rows : List (List ℤ)) (ss : tree.Subscripts) (i : Names) → AreNamed (subscripts_words ss) → State depth i → AreSubscripts depth i rows → Reads depth i (subscripts_means b rows ss i) (λ all j. AreSubscripts depth j all)
+unfolding subscripts_means
+subscripts_are depth b rows tree.subscript_end i n s h = stays s h
+subscripts_are depth zero rows (tree.subscript a ss) i n s h = nothing
+subscripts_are depth (suc b) rows (tree.subscript a ss) i n s h = either_of (nat_le most_subscripts (length rows)) _ _ (λ _. nothing) (λ few.
+    let below : length rows < SUBSCRIPTS = leb-false _ _ few in
+    let ws = a_symbol (codes "]") ∷ subscripts_words ss in
+    bind (affine_means b a i) (affine_form b a i (first_named (affine_words a) ws n.1) s) (λ row j t k g.
+    subscripts_are depth (suc b) (rows ++ row.numbers ∷ []) ss j (second_named (affine_words a) ws n.1).1 t (record {
+      few = omega (arith, length-append rows (row.numbers ∷ []));
+      each = All-append (IsRow j.parameters depth) rows (row.numbers ∷ []) (rows-grown depth rows k.grown h.each) (g, tt);
+    })))
+
+-- ---- a new array gets its subscripts
+
+-- what lies between the state before a new array and the one in which it gets its subscripts
+record IsBehind (i k : Names) (more : List Kind) : Type 0 where
+  pub kinds : k.kinds ≡ (i.kinds ++ Array i.arrays 0 ∷ []) ++ more
+  pub settled : AllByRecursion (KindFits k.parameters 0) more
+  pub parameters : i.parameters ≤ k.parameters
+  pub names : length i.names ≤ length k.names
+  pub arrays : k.arrays ≡ i.arrays + 1
+  pub lines : k.lines ≡ i.lines
+  pub statements : k.statements ≡ i.statements
+
+module _ (depth : ℕ) (i k : Names) (more : List Kind) (rank : ℕ) (s : State depth i) (t : State depth k) (b : IsBehind i k more) (few : rank ≤ SUBSCRIPTS) where
+  -- the kinds with the new array
+  kinds_are : slice_set k.kinds (length i.names) (Array i.arrays rank) ≡ (i.kinds ++ Array i.arrays rank ∷ []) ++ more
+  kinds_are =
+      ap (λ (n : ℕ). slice_set k.kinds n (Array i.arrays rank)) (sym s.kinds)
+      ∙ ap (λ (l : List Kind). slice_set l (length i.kinds) (Array i.arrays rank)) b.kinds
+      ∙ set-behind i.kinds more (Array i.arrays 0) (Array i.arrays rank)
+
+  -- the arrays stay numbered
+  numbered : AreNumbered 0 ((i.kinds ++ Array i.arrays rank ∷ []) ++ more)
+  numbered = numbered-rank 0 i.kinds more i.arrays 0 rank few (subst (AreNumbered 0) b.kinds t.numbered)
+
+  -- the state with the new array
+  ranked_state : State depth (with_kind (length i.names) (Array i.arrays rank) k)
+  unfolding with_kind
+  ranked_state = record {
+    kinds = length-set k.kinds (length i.names) (Array i.arrays rank) ∙ t.kinds;
+    fit = subst (AllByRecursion (KindFits k.parameters depth)) (sym kinds_are)
+        (fits-rank (KindFits k.parameters depth) i.kinds more (Array i.arrays 0) (Array i.arrays rank) tt
+        (subst (AllByRecursion (KindFits k.parameters depth)) b.kinds t.fit));
+    parameters = ap parameter_count kinds_are ∙ count-rank i.kinds more i.arrays 0 rank ∙ sym (ap parameter_count b.kinds) ∙ t.parameters;
+    few_parameters = t.few_parameters;
+    numbered = subst (AreNumbered 0) (sym kinds_are) numbered;
+    arrays =
+        ap (λ (l : List Kind). length (ranks l)) kinds_are ∙ ranks-rank i.kinds more i.arrays 0 rank
+        ∙ sym (ap (λ (l : List Kind). length (ranks l)) b.kinds) ∙ t.arrays;
+    few_arrays = t.few_arrays;
+    few_statements = t.few_statements;
+    names = t.names;
+    distinct = t.distinct;
+  }
+
+  -- the next array was referred to
+  next_order : IsOrdered i.arrays (i.arrays ∷ []) k.arrays
+  next_order = let above : nat_lt i.arrays i.arrays ≡ false = grind (arith, nat_tests) in (omega arith, rw above (omega (arith, b.arrays)))
+
+  -- only names were added
+  ranked_kept : Kept i (i.arrays ∷ []) (with_kind (length i.names) (Array i.arrays rank) k)
+  unfolding with_kind
+  ranked_kept = record {
+    grown = record {
+      more = Array i.arrays rank ∷ more;
+      kinds = kinds_are ∙ append_assoc i.kinds (Array i.arrays rank ∷ []) more;
+      settled = (tt, b.settled);
+      parameters = b.parameters;
+      names = b.names;
+    };
+    order = next_order;
+    lines = b.lines;
+    statements = b.statements;
+  }
+
+  -- the reference fits
+  ranked_access : (rows : List (List ℤ)) → length rows ≡ rank → AllByRecursion (IsRow k.parameters depth) rows → AccessIn depth (with_kind (length i.names) (Array i.arrays rank) k) (record { array = i.arrays; subscripts = rows })
+  unfolding with_kind
+  ranked_access rows long h = record {
+    rank = subst (λ (l : List Kind). slice_get (ranks l) i.arrays ≡ Some (length rows)) (sym kinds_are) (rank_at ((i.kinds ++ Array i.arrays rank ∷ []) ++ more) (length i.kinds) i.arrays rank numbered (get-behind i.kinds more (Array i.arrays rank)) ∙ ap Some (sym long));
+    rows = h;
+  }
+
+-- ---- references
+
+-- a reference, and what it adds
+pub record IsReference (depth : ℕ) (i : Names) (a : Access) (j : Names) : Type 0 where
+  pub state : State depth j
+  pub kept : Kept i (a.array ∷ []) j
+  pub fits : AccessIn depth j a
+
+-- a meaning behind one of two
+either_then : {A B : Type 0} (c : Bool) (x y : Option (A × Names)) (f : A → Meaning B) {Q : B → Names → Type 0} → (c ≡ true → Gives (then_in x f) Q) → (c ≡ false → Gives (then_in y f) Q) → Gives (then_in (if c then x else y) f) Q
+either_then true x y p f g = f refl
+either_then false x y p f g = g refl
+
+-- a reference by the kind of its name
+reference_by : (depth b : ℕ) (name : List ℕ) (ss : tree.Subscripts) (o : Option Kind) (i : Names) → kind_of name i ≡ o → IsWord name → AreNamed (subscripts_words ss) → State depth i
+    → Gives (then_in (array_by name o i) (λ seen. λ s. then_in (subscripts_means b [] ss s) (λ rows. access_by (length i.names) rows seen.array seen.subscripts))) (IsReference depth i)
+unfolding with_name
+reference_by depth b name ss None i e w n s = either_then (is_short name && nat_lt i.arrays most_arrays) _ _ _
+    (λ h.
+    let both = and_parts (is_short name) (nat_lt i.arrays most_arrays) h in
+    let few : i.arrays < ARRAYS = ltb-true _ _ both.1 in
+    let none : i.parameters + 0 ≡ i.parameters = omega arith in
+    let j : Names = with_new name (Array i.arrays 0) i.parameters (i.arrays + 1) i in
+    let t : State depth j = new_state i name (Array i.arrays 0) i.parameters (i.arrays + 1) s (short_word name w both.0) e tt (omega arith) none s.few_parameters (refl, omega arith, tt) refl (omega arith) in
+    chained (subscripts_means b [] ss j) (subscripts_are depth b [] ss j n t (record { few = omega arith; each = tt })) (λ rows k after.
+    let behind : IsBehind i k after.kept.grown.more = record {
+      kinds = after.kept.grown.kinds;
+      settled = after.kept.grown.settled;
+      parameters = after.kept.grown.parameters;
+      names = omega (arith, after.kept.grown.names, length-append i.names (name ∷ []));
+      arrays = sym after.kept.order;
+      lines = after.kept.lines;
+      statements = after.kept.statements;
+    } in
+    ok (record {
+      state = ranked_state depth i k _ (length rows) s after.state behind after.value.few;
+      kept = ranked_kept depth i k _ (length rows) s after.state behind after.value.few;
+      fits = ranked_access depth i k _ (length rows) s after.state behind after.value.few rows refl after.value.each;
+    })))
+    (λ _. nothing)
+reference_by depth b name ss (Some (Parameter k)) i e w n s = nothing
+reference_by depth b name ss (Some (OpenLoop d)) i e w n s = nothing
+reference_by depth b name ss (Some ClosedLoop) i e w n s = nothing
+reference_by depth b name ss (Some (Array number r)) i e w n s =
+    chained (subscripts_means b [] ss i) (subscripts_are depth b [] ss i n s (record { few = omega arith; each = tt })) (λ rows j after.
+    either (length rows == r) (λ same.
+    let rank : slice_get (ranks i.kinds) number ≡ Some r = kind_rank name i number r s e in
+    let below : number < i.arrays = omega (arith, slice_get_within (ranks i.kinds) number r rank, s.arrays) in
+    let seen : nat_lt number i.arrays ≡ true = grind (arith, nat_tests) in
+    ok (record {
+      state = after.state;
+      kept = record { grown = after.kept.grown; order = (omega arith, rw seen after.kept.order); lines = after.kept.lines; statements = after.kept.statements };
+      fits = record { rank = rank-grown number r after.kept.grown rank ∙ ap Some (sym (eqb-true _ _ same)); rows = after.value.each };
+    })) (λ _. nothing))
+
+-- a reference fits an array that is there
+pub reference_in : {depth : ℕ} (b : ℕ) (r : tree.Reference) (i : Names) → AreNamed (reference_words r) → State depth i → Gives (reference_means b r i) (IsReference depth i)
+unfolding reference_means access_from mean.array
+reference_in {depth} b r i n s = reference_by depth b r.name r.subscripts (kind_of r.name i) i refl (n.0 refl) n.1 s
+
+-- ---- values
+
+-- references that fit, not too many
+pub record AreReads (depth : ℕ) (i : Names) (reads : Accesses) : Type 0 where
+  pub few : length reads ≤ READS
+  pub each : AllByRecursion (AccessIn depth i) reads
+
+-- references behind others
+pub record Read (depth : ℕ) (i : Names) (before after : Accesses) (j : Names) : Type 0 where
+  pub state : State depth j
+  pub numbers : List ℕ
+  pub kept : Kept i numbers j
+  pub same : numbers_of after ≡ numbers_of before ++ numbers
+  pub reads : AreReads depth j after
+
+-- a meaning that reads more
+abbrev ReadsMore : ℕ → Names → Accesses → Option (Accesses × Names) → Type 0
+ReadsMore depth i before o = Gives o (λ after j. Read depth i before after j)
+
+-- nothing more
+none_read : {depth : ℕ} (i : Names) (reads : Accesses) → State depth i → AreReads depth i reads → ReadsMore depth i reads (Some (reads, i))
+none_read i reads s h = ok (record { state = s; numbers = []; kept = kept_self i; same = sym (append-nil (numbers_of reads)); reads = h })
+
+-- one behind another
+read_both : {depth : ℕ} {i : Names} {before : Accesses} (o : Option (Accesses × Names)) {f : Accesses → Meaning Accesses} → ReadsMore depth i before o → ((a : Accesses) (j : Names) → State depth j → AreReads depth j a → ReadsMore depth j a (f a j)) → ReadsMore depth i before (then_in o f)
+read_both {before = before} o {f = f} g h = chained o g (λ a j q. weaken (f a j) (h a j q.state q.reads) (λ c k r. record {
+  state = r.state;
+  numbers = q.numbers ++ r.numbers;
+  kept = kept-trans q.kept r.kept;
+  same = r.same ∙ ap (λ ns. ns ++ r.numbers) q.same ∙ append_assoc (numbers_of before) q.numbers r.numbers;
+  reads = r.reads;
+}))
+
+-- the arrays of references behind others
+numbers_both : (xs : Accesses) (y : Access) → numbers_of (xs ++ y ∷ []) ≡ numbers_of xs ++ y.array ∷ []
+numbers_both [] y = refl
+numbers_both (x ∷ xs) y = ap (λ ns. x.array ∷ ns) (numbers_both xs y)
+
+-- one reference more
+one_read : {depth : ℕ} (b : ℕ) (reads : Accesses) (r : tree.Reference) (i : Names) → AreNamed (reference_words r) → State depth i → AreReads depth i reads → ReadsMore depth i reads (with_read b reads r i)
+unfolding with_read
+one_read {depth} b reads r i n s h = either_of (nat_le most_reads (length reads)) _ _ (λ _. nothing) (λ few.
+    let below : length reads < READS = leb-false _ _ few in
+    chained (reference_means b r i) (reference_in b r i n s) (λ a j q. ok (record {
+      state = q.state;
+      numbers = a.array ∷ [];
+      kept = q.kept;
+      same = numbers_both reads a;
+      reads = record { few = omega (arith, length-append reads (a ∷ [])); each = All-append (AccessIn depth j) reads (a ∷ []) (accesses-grown depth reads q.kept.grown h.each) (q.fits, tt) };
+    })))
+
+-- a plain number
+plain_read : {depth : ℕ} (reads : Accesses) (ss : tree.Subscripts) (i : Names) → State depth i → AreReads depth i reads → ReadsMore depth i reads (plain_means reads ss i)
+plain_read reads tree.subscript_end i s h = none_read i reads s h
+plain_read reads (tree.subscript a ss) i s h = nothing
+
+-- a name that isn't called
+name_read : {depth : ℕ} (b : ℕ) (reads : Accesses) (r : tree.Reference) (o : Option Kind) (i : Names) → AreNamed (reference_words r) → State depth i → AreReads depth i reads → ReadsMore depth i reads (named_means b reads r o i)
+name_read b reads r None i n s h = one_read b reads r i n s h
+name_read b reads r (Some (Parameter k)) i n s h = plain_read reads r.subscripts i s h
+name_read b reads r (Some (OpenLoop d)) i n s h = plain_read reads r.subscripts i s h
+name_read b reads r (Some ClosedLoop) i n s h = nothing
+name_read b reads r (Some (Array number count)) i n s h = one_read b reads r i n s h
+
+mutual
+  unfolding value_means operands_means unary_means arguments_means name_means
+
+  -- values
+  pub value_read : {depth : ℕ} (b : ℕ) (reads : Accesses) (v : value.Value) (i : Names) → AreNamed (value_words v) → State depth i → AreReads depth i reads → ReadsMore depth i reads (value_means b reads v i)
+  value_read b reads (value.value u os) i n s h = read_both (unary_means b reads u i) (unary_read b reads u i (first_named (unary_words u) (operands_words os) n) s h) (λ a j t g. operands_read b a os j (second_named (unary_words u) (operands_words os) n) t g)
+
+  operands_read : {depth : ℕ} (b : ℕ) (reads : Accesses) (os : value.Operands) (i : Names) → AreNamed (operands_words os) → State depth i → AreReads depth i reads → ReadsMore depth i reads (operands_means b reads os i)
+  operands_read b reads value.operand_end i n s h = none_read i reads s h
+  operands_read b reads (value.operand o u os) i n s h = read_both (unary_means b reads u i) (unary_read b reads u i (first_named (unary_words u) (operands_words os) n.1) s h) (λ a j t g. operands_read b a os j (second_named (unary_words u) (operands_words os) n.1) t g)
+
+  unary_read : {depth : ℕ} (b : ℕ) (reads : Accesses) (u : value.Unary) (i : Names) → AreNamed (unary_words u) → State depth i → AreReads depth i reads → ReadsMore depth i reads (unary_means b reads u i)
+  unary_read b reads (value.number bytes) i n s h = none_read i reads s h
+  unary_read b reads (value.reference r) i n s h = name_read b reads r (kind_of r.name i) i n s h
+  unary_read zero reads (value.call_of_none name) i n s h = nothing
+  unary_read (suc b) reads (value.call_of_none name) i n s h = either_of (is_short name) _ _ (λ _. none_read i reads s h) (λ _. nothing)
+  unary_read zero reads (value.call name vs) i n s h = nothing
+  unary_read (suc b) reads (value.call name vs) i n s h = either_of (is_short name) _ _ (λ _. arguments_read b reads vs i (first_named (arguments_words vs) (a_symbol (codes ")") ∷ []) n.1.1) s h) (λ _. nothing)
+  unary_read zero reads (value.in_brackets v) i n s h = nothing
+  unary_read (suc b) reads (value.in_brackets v) i n s h = value_read b reads v i (first_named (value_words v) (a_symbol (codes ")") ∷ []) n.1) s h
+  unary_read b reads (value.negative u) i n s h = unary_read b reads u i n.1 s h
+  unary_read b reads (value.positive u) i n s h = unary_read b reads u i n.1 s h
+
+  arguments_read : {depth : ℕ} (b : ℕ) (reads : Accesses) (vs : value.Arguments) (i : Names) → AreNamed (arguments_words vs) → State depth i → AreReads depth i reads → ReadsMore depth i reads (arguments_means b reads vs i)
+  arguments_read b reads (value.last_argument v) i n s h = value_read b reads v i n s h
+  arguments_read b reads (value.argument v vs) i n s h =
+      let ws = a_symbol (codes ",") ∷ arguments_words vs in
+      read_both (value_means b reads v i) (value_read b reads v i (first_named (value_words v) ws n) s h) (λ a j t g. arguments_read b a vs j (second_named (value_words v) ws n).1 t g)

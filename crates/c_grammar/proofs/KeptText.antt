@@ -1,0 +1,281 @@
+-- Every text that is read is well read.
+use Rattle.std.proofs.Common.{◌≡◌, refl, sym, ◌∙◌, ap, subst, ℕ, zero, suc, ◌+◌, ◌<◌, ◌≤◌, List, [], ◌∷◌, ◌++◌, length, map, arith, Bool, true, false, length-append, leb-true}
+use Rattle.std.specs.Prelude.{⊤, ℤ, pos, negsuc, nat_le, slice_get, IsSomeAnd, option_map, option_and_then, Option, Some, None, if◌then◌else◌, codes}
+use Rattle.std.specs.List.{AllByRecursion}
+use Rattle.base_laws.proofs.Lists.{All-append, All-weaken}
+use Rattle.iolb_model.specs.declared.limits.TheConstants.{SUBSCRIPTS, ASSUMPTIONS}
+use Rattle.c_tokens.specs.declared.token.Token.{Token}
+use Rattle.c_tokens.specs.Text.{tokens_of}
+use Rattle.c_reading.specs.declared.named.Kind.{Kind}
+use Rattle.c_reading.specs.declared.named.Kind.TheVariants.{Parameter, OpenLoop, ClosedLoop, Array}
+use Rattle.c_reading.specs.declared.lines.Line.{Line}
+use Rattle.c_reading.specs.declared.lines.Line.TheVariants.{Begin, Does, End}
+use Rattle.c_reading.specs.Access.{Access}
+use Rattle.c_reading.specs.Numbers.{most_loops, combined}
+use Rattle.c_reading.specs.Compare.{Rows, most_brackets, most_rows}
+use Rattle.c_reading.specs.Head.{Head}
+use Rattle.c_reading.specs.Names.{arrays_among}
+use Rattle.c_reading.specs.Text.{Reading, all_at_least_one, at_least_one, assumptions_of, start_of}
+use Rattle.c_grammar.specs.Words.{word_of, a_name, a_symbol, line_end, program_end}
+use Rattle.c_grammar.specs.Affine as tree
+use Rattle.c_grammar.specs.Affine.{affine_words, comparison_word, compare_words}
+use Rattle.c_grammar.specs.Item.{items_words}
+use Rattle.c_grammar.specs.Text as text
+use Rattle.c_grammar.specs.Text.{Text, compares_words, lines_words, text_words}
+use Rattle.c_grammar.specs.Meaning as mean
+use Rattle.c_grammar.specs.Meaning.{Names, then_in, affine_means, with_compare, row_count, if_rows, compare_means, slot, items_means, parameters_mean, compares_mean, lines_mean, whole_means, text_means}
+use Rattle.affine_program.specs.Printable.{IsOrdered}
+use Rattle.c_grammar.specs.Well.{IsRowOver, parameters_of, arrays_of, IsAccessIn, AreLinesIn, statement_count, Nests, IsLoopLine, line_numbers, IsWellRead, ReadingsAreWellRead}
+use Rattle.c_grammar.proofs.Steps.{AreLexical}
+use Rattle.c_grammar.proofs.Plain.{text_named}
+use Rattle.c_grammar.proofs.Lexical.{text_lexical}
+use Rattle.c_grammar.proofs.SoundText.{accepted}
+use Rattle.c_grammar.proofs.Rows.{IsWhereSome, IsRow, combined_row, stated_row, all_rows}
+use Rattle.c_grammar.proofs.NameKinds.{ranks, AreNumbered, parameters-length}
+use Rattle.c_grammar.proofs.Kept.{AreNamed, first_named, second_named, State, Kept, kept-trans, rows-grown, AccessIn, Gives, nothing, ok, chained, Reads, bind, stays}
+use Rattle.c_grammar.proofs.KeptForms.{slot_there, affine_form}
+use Rattle.c_grammar.proofs.KeptItems.{Adds, items_add}
+use Rattle.c_grammar.proofs.KeptLines.{Goes}
+
+-- ---- compares
+
+-- so many rows, at most
+record AreFew (parameters most : ℕ) (rows : Rows) : Type 0 where
+  pub few : length rows ≤ most
+  pub each : AllByRecursion (IsRow parameters 0) rows
+
+-- one row more
+with_row_few : (parameters most : ℕ) (rows : Rows) (less : ℤ) (a b : List ℤ) → AreFew parameters most rows → IsRow parameters 0 a → IsRow parameters 0 b → IsWhereSome (λ more. AreFew parameters (suc most) more × (0 < length more)) (mean.with_row rows less a b)
+with_row_few parameters most rows less a b h p q = placed (combined (negsuc 0) less a b) (combined_row (negsuc 0) less a b p q) where
+  placed : (o : Option (List ℤ)) → IsWhereSome (IsRow parameters 0) o → IsWhereSome (λ more. AreFew parameters (suc most) more × (0 < length more)) (mean.row_behind rows o)
+  placed None g = tt
+  placed (Some row) g = (record { few = omega (arith, length-append rows (row ∷ []), h.few); each = All-append (IsRow parameters 0) rows (row ∷ []) h.each (g, tt) }, omega (arith, length-append rows (row ∷ [])))
+
+-- the rows of a comparison
+with_compare_few : (parameters : ℕ) (rows : Rows) (c : tree.Comparison) (a b : List ℤ) → AllByRecursion (IsRow parameters 0) rows → IsRow parameters 0 a → IsRow parameters 0 b → IsWhereSome (λ more. AreFew parameters (length rows + row_count c) more × (0 < length more)) (with_compare rows c a b)
+with_compare_few parameters rows c a b h p q = by c where
+  start : AreFew parameters (length rows) rows
+  start = record { few = omega arith; each = h }
+
+  one : suc (length rows) ≡ length rows + 1
+  one = omega arith
+
+  single : (o : Option Rows) → IsWhereSome (λ more. AreFew parameters (suc (length rows)) more × (0 < length more)) o → IsWhereSome (λ more. AreFew parameters (length rows + 1) more × (0 < length more)) o
+  single o g = subst (λ n. IsWhereSome (λ more. AreFew parameters n more × (0 < length more)) o) one g
+
+  second : (o : Option Rows) → IsWhereSome (λ more. AreFew parameters (suc (length rows)) more × (0 < length more)) o → IsWhereSome (λ more. AreFew parameters (length rows + 2) more × (0 < length more)) (option_and_then (λ more. mean.with_row more (pos 0) b a) o)
+  second None g = tt
+  second (Some more) g = subst (λ n. IsWhereSome (λ all. AreFew parameters n all × (0 < length all)) (mean.with_row more (pos 0) b a)) two (with_row_few parameters (suc (length rows)) more (pos 0) b a g.0 q p) where
+    two : suc (suc (length rows)) ≡ length rows + 2
+    two = omega arith
+
+  by : (c : tree.Comparison) → IsWhereSome (λ more. AreFew parameters (length rows + row_count c) more × (0 < length more)) (with_compare rows c a b)
+  by tree.at_least = single _ (with_row_few parameters (length rows) rows (pos 0) a b start p q)
+  by tree.above = single _ (with_row_few parameters (length rows) rows (pos 1) a b start p q)
+  by tree.at_most = single _ (with_row_few parameters (length rows) rows (pos 0) b a start q p)
+  by tree.below = single _ (with_row_few parameters (length rows) rows (pos 1) b a start q p)
+  by tree.equal = second _ (with_row_few parameters (length rows) rows (pos 0) a b start p q)
+
+-- rows behind a compare, of which there is one
+abbrev AreAssumed : Rows → Names → Type 0
+AreAssumed rows j = AreFew j.parameters most_rows rows × (0 < length rows)
+
+-- a compare gives rows
+compare_few : (rows : Rows) (c : tree.Compare) (i : Names) → AreNamed (compare_words c) → State 0 i → AllByRecursion (IsRow i.parameters 0) rows → Reads 0 i (compare_means rows c i) AreAssumed
+unfolding compare_means
+compare_few rows c i n s h =
+    let ws = comparison_word c.comparison ∷ affine_words c.right in
+    bind (affine_means most_brackets c.left i) (affine_form most_brackets c.left i (first_named (affine_words c.left) ws n) s) (λ a j t k p.
+    bind (affine_means most_brackets c.right j) (affine_form most_brackets c.right j (second_named (affine_words c.left) ws n).1 t) (λ b l u m q.
+    counted l u (with_compare rows c.comparison a.numbers b.numbers) (nat_le (length rows + row_count c.comparison) most_rows) refl
+    (with_compare_few l.parameters rows c.comparison a.numbers b.numbers (rows-grown 0 rows (kept-trans k m).grown h) (row_stays m p) q))) where
+      row_stays : {j l : Names} {row : List ℤ} → Kept j [] l → IsRow j.parameters 0 row → IsRow l.parameters 0 row
+      row_stays {row = row} m p = (rows-grown 0 (row ∷ []) m.grown (p, tt)).0
+
+      counted : (l : Names) → State 0 l → (o : Option Rows) (t : Bool) → nat_le (length rows + row_count c.comparison) most_rows ≡ t → IsWhereSome (λ more. AreFew l.parameters (length rows + row_count c.comparison) more × (0 < length more)) o
+          → Reads 0 l (mean.given (if t then o else None) l) AreAssumed
+      counted l u o false e g = nothing
+      counted l u None true e g = nothing
+      counted l u (Some more) true e g = stays u (record { few = omega (arith, g.0.few, leb-true (length rows + row_count c.comparison) most_rows e); each = g.0.each }, g.1)
+
+-- compares give rows
+compares_few : (rows : Rows) (cs : text.Compares) (i : Names) → AreNamed (compares_words cs) → State 0 i → AllByRecursion (IsRow i.parameters 0) rows → Reads 0 i (compares_mean rows cs i) AreAssumed
+unfolding compares_mean
+compares_few rows (text.last_compare c) i n s h = compare_few rows c i n s h
+compares_few rows (text.compare c cs) i n s h =
+    let ws = a_symbol (codes "&&") ∷ compares_words cs in
+    bind (compare_means rows c i) (compare_few rows c i (first_named (compare_words c) ws n) s h) (λ more j t k g. compares_few more cs j (second_named (compare_words c) ws n).1 t g.0.each)
+
+-- ---- the lines before a program
+
+-- names, each a parameter
+names_kept : (names : List (List ℕ)) (i : Names) → AreNamed (map a_name names) → State 0 i → Reads 0 i (parameters_mean names i) (λ _ _. ⊤)
+unfolding parameters_mean
+names_kept [] i n s = stays s tt
+names_kept (name ∷ names) i n s = bind (slot name i) (slot_there name i (n.0 refl) s) (λ _ j t k _. names_kept names j n.1 t)
+
+-- what is assumed is within the limits, and where a line assumes there is a row
+record IsHead (h : Head) (j : Names) : Type 0 where
+  pub few : AreFew j.parameters most_rows h.rows
+  pub some : h.assumed ≡ true → 0 < length h.rows
+
+-- the lines give what is assumed
+lines_kept : (h : Head) (ls : text.Lines) (i : Names) → AreNamed (lines_words ls) → State 0 i → IsHead h i → Reads 0 i (lines_mean h ls i) IsHead
+unfolding lines_mean
+lines_kept h text.line_none i n s g = stays s g
+lines_kept h (text.parameters head names ls) i n s g =
+    let ws = line_end ∷ lines_words ls in
+    bind (parameters_mean names i) (names_kept names i (first_named (map a_name names) ws n.1) s) (λ _ j t k _.
+    lines_kept h ls j (second_named (map a_name names) ws n.1).1 t (record { few = record { few = g.few.few; each = rows-grown 0 h.rows k.grown g.few.each }; some = g.some }))
+lines_kept h (text.assumptions head cs ls) i n s g =
+    let ws = line_end ∷ lines_words ls in
+    bind (compares_mean h.rows cs i) (compares_few h.rows cs i (first_named (compares_words cs) ws n.1) s g.few.each) (λ rows j t k f.
+    lines_kept (record { assumed = true; rows = rows }) ls j (second_named (compares_words cs) ws n.1).1 t (record { few = f.0; some = λ _. f.1 }))
+
+-- ---- arrays by their names
+
+-- an array has its number of subscripts by its name
+ranked : (names : List (List ℕ)) (kinds : List Kind) (n r : ℕ) → length kinds ≡ length names → slice_get (ranks kinds) n ≡ Some r → IsSomeAnd (slice_get (arrays_among names kinds) n) (λ array. r ≡ array.1)
+ranked [] [] n r e g = cc
+ranked [] (k ∷ kinds) n r e g = absurd (omega (arith, e))
+ranked (name ∷ names) [] n r e g = cc
+ranked (name ∷ names) (Parameter k ∷ kinds) n r e g = ranked names kinds n r (omega (arith, e)) g
+ranked (name ∷ names) (OpenLoop d ∷ kinds) n r e g = ranked names kinds n r (omega (arith, e)) g
+ranked (name ∷ names) (ClosedLoop ∷ kinds) n r e g = ranked names kinds n r (omega (arith, e)) g
+ranked (name ∷ names) (Array m s ∷ kinds) zero r e g = (let same : s ≡ r = cc in sym same)
+ranked (name ∷ names) (Array m s ∷ kinds) (suc n) r e g = ranked names kinds n r (omega (arith, e)) g
+
+-- as many names are arrays as kinds are
+arrays-length : (names : List (List ℕ)) (kinds : List Kind) → length kinds ≡ length names → length (arrays_among names kinds) ≡ length (ranks kinds)
+arrays-length [] [] e = refl
+arrays-length [] (k ∷ kinds) e = absurd (omega (arith, e))
+arrays-length (name ∷ names) [] e = refl
+arrays-length (name ∷ names) (Parameter k ∷ kinds) e = arrays-length names kinds (omega (arith, e))
+arrays-length (name ∷ names) (OpenLoop d ∷ kinds) e = arrays-length names kinds (omega (arith, e))
+arrays-length (name ∷ names) (ClosedLoop ∷ kinds) e = arrays-length names kinds (omega (arith, e))
+arrays-length (name ∷ names) (Array m s ∷ kinds) e = ap suc (arrays-length names kinds (omega (arith, e)))
+
+-- each array has few subscripts
+few_ranks : (first : ℕ) (names : List (List ℕ)) (kinds : List Kind) → AreNumbered first kinds → AllByRecursion (λ (array : List ℕ × ℕ). array.1 ≤ SUBSCRIPTS) (arrays_among names kinds)
+few_ranks first [] kinds h = tt
+few_ranks first (name ∷ names) [] h = tt
+few_ranks first (name ∷ names) (Parameter k ∷ kinds) h = few_ranks first names kinds h
+few_ranks first (name ∷ names) (OpenLoop d ∷ kinds) h = few_ranks first names kinds h
+few_ranks first (name ∷ names) (ClosedLoop ∷ kinds) h = few_ranks first names kinds h
+few_ranks first (name ∷ names) (Array m s ∷ kinds) h = (h.1, few_ranks (suc first) names kinds h.2)
+
+-- ---- what is read, as it is stated
+
+-- a reading of this state
+abbrev reading_at : Rows → Names → Reading
+reading_at rows i = record { names = i.names; kinds = i.kinds; assumptions = rows; lines = i.lines }
+
+module _ (assumed : Rows) (i : Names) (s : State 0 i) where
+  -- the parameters are as many as the state counts
+  parameters_are : length (parameters_of (reading_at assumed i)) ≡ i.parameters
+  parameters_are = parameters-length i.names i.kinds s.kinds ∙ s.parameters
+
+  -- a row as it is stated
+  row_over : (depth : ℕ) (row : List ℤ) → IsRow i.parameters depth row → IsRowOver (length (parameters_of (reading_at assumed i))) depth row
+  row_over depth row h = subst (λ (p : ℕ). IsRowOver p depth row) (sym parameters_are) (stated_row i.parameters depth row s.few_parameters h)
+
+  -- rows as they are stated
+  rows_over : (depth : ℕ) (rows : Rows) → AllByRecursion (IsRow i.parameters depth) rows → AllByRecursion (IsRowOver (length (parameters_of (reading_at assumed i))) depth) rows
+  rows_over depth rows h = All-weaken (IsRow i.parameters depth) (IsRowOver (length (parameters_of (reading_at assumed i))) depth) rows (row_over depth) h
+
+  -- a reference as it is stated
+  access_over : (depth : ℕ) (access : Access) → AccessIn depth i access → IsAccessIn (reading_at assumed i) depth access
+  access_over depth access h =
+      record { rank = ranked i.names i.kinds access.array (length access.subscripts) s.kinds h.rank; rows = rows_over depth access.subscripts h.rows }
+
+  -- lines as they are stated
+  lines_over : (depth : ℕ) (lines : List Line) → Goes depth i lines 0 → AreLinesIn (reading_at assumed i) depth lines
+  lines_over depth [] h = h
+  lines_over depth (Begin l ∷ lines) h =
+      (h.0.name, h.0.few, row_over depth l.lower h.0.lower, row_over depth l.upper h.0.upper, lines_over (suc depth) lines h.1)
+  lines_over depth (Does statement ∷ lines) h = (
+    record {
+      writes = access_over depth statement.writes h.0.writes;
+      few = h.0.few;
+      reads = All-weaken (AccessIn depth i) (IsAccessIn (reading_at assumed i) depth) statement.reads (access_over depth) h.0.reads;
+    },
+    lines_over depth lines h.1,
+  )
+  lines_over zero (End ∷ lines) h = h
+  lines_over (suc depth) (End ∷ lines) h = lines_over depth lines h
+
+-- ---- whole texts
+
+-- one row for each parameter
+rows-length : (k : ℕ) → length (all_at_least_one k) ≡ k
+rows-length zero = refl
+rows-length (suc k) = omega (arith, length-append (all_at_least_one k) (at_least_one k ∷ []), rows-length k)
+
+-- the rows that are assumed, of which there is one where there is a parameter
+assumed_few : (h : Head) (i : Names) → State 0 i → IsHead h i → AreFew i.parameters ASSUMPTIONS (assumptions_of h i) × (0 < i.parameters → 0 < length (assumptions_of h i))
+unfolding assumptions_of
+assumed_few h i s e = which h.assumed refl where
+  which : (b : Bool) → h.assumed ≡ b → AreFew i.parameters ASSUMPTIONS (if b then h.rows else all_at_least_one i.parameters) × (0 < i.parameters → 0 < length (if b then h.rows else all_at_least_one i.parameters))
+  which true is = (e.few, λ _. e.some is)
+  which false is = (
+    record { few = omega (arith, rows-length i.parameters, s.few_parameters); each = all_rows i.parameters i.parameters (omega arith) s.few_parameters },
+    λ some. omega (arith, rows-length i.parameters),
+  )
+
+-- the state in front of a text
+start_state : State 0 (start_of [] [])
+start_state = record { kinds = refl; fit = tt; parameters = refl; few_parameters = omega arith; numbered = tt; arrays = refl; few_arrays = omega arith; few_statements = omega arith; names = tt; distinct = λ a b name e f. cc }
+
+-- what is meant is well read
+module _ (h : Head) (j k : Names) (g : IsHead h j) (lines : j.lines ≡ []) (counts : j.statements ≡ 0) (arrays : j.arrays ≡ 0) (a : Adds 0 j k) where
+  meant_well : IsWellRead (reading_at (assumptions_of h k) k)
+  meant_well =
+      let s : State 0 k = a.state in
+      let rows : Rows = assumptions_of h k in
+      let head : IsHead h k = record { few = record { few = g.few.few; each = rows-grown 0 h.rows a.grown g.few.each }; some = g.some } in
+      let assumed = assumed_few h k s head in
+      let only : k.lines ≡ a.new = a.lines ∙ ap (λ (ls : List Line). ls ++ a.new) lines in
+      let params : length (parameters_of (reading_at rows k)) ≡ k.parameters = parameters_are rows k s in
+      let many : length (arrays_of (reading_at rows k)) ≡ k.arrays = arrays-length k.names k.kinds s.kinds ∙ s.arrays in
+      record {
+        kinds = s.kinds;
+        parameters = omega (arith, params, s.few_parameters);
+        few_assumptions = assumed.0.few;
+        assumptions = rows_over rows k s 0 rows assumed.0.each;
+        few_arrays = omega (arith, many, s.few_arrays);
+        ranks = few_ranks 0 k.names k.kinds s.numbered;
+        statements = omega (arith, ap statement_count only, a.statements, s.few_statements);
+        lines = lines_over rows k s 0 k.lines (subst (λ (ls : List Line). Goes 0 k ls 0) (sym only) a.goes);
+        names = s.names;
+        distinct = s.distinct;
+        loops = subst (AllByRecursion (IsLoopLine k.kinds)) (sym only) a.loops;
+        nested = subst (λ (ls : List Line). Nests [] ls []) (sym only) (a.nested [] tt);
+        order = subst (λ (ls : List Line). IsOrdered 0 (line_numbers ls) (length (arrays_of (reading_at rows k)))) (sym only) (subst (λ n. IsOrdered 0 (line_numbers a.new) n) (sym many) (subst (λ n. IsOrdered n (line_numbers a.new) k.arrays) arrays a.order));
+        some_assumptions = λ some. assumed.1 (omega (arith, params));
+      }
+
+-- what a text's tree means
+whole_well : (t : Text) → AreNamed (text_words t) → Gives (whole_means t (start_of [] [])) (λ h k. IsWellRead (reading_at (assumptions_of h k) k))
+unfolding whole_means
+whole_well t n =
+    let ws = items_words t.items ++ (program_end ∷ []) in
+    chained (lines_mean (record { assumed = false; rows = [] }) t.lines (start_of [] []))
+    (lines_kept (record { assumed = false; rows = [] }) t.lines (start_of [] []) (first_named (lines_words t.lines) ws n) start_state (record { few = record { few = omega arith; each = tt }; some = λ e. cc })) (λ h j q.
+    chained (items_means most_loops most_brackets t.items j) (items_add most_loops 0 most_brackets t.items j refl (first_named (items_words t.items) (program_end ∷ []) (second_named (lines_words t.lines) ws n)) q.state) (λ _ k a.
+    ok (meant_well h j k q.value q.kept.lines q.kept.statements (sym q.kept.order) a)))
+
+-- a text's tree means what is well read
+text_well : (t : Text) (r : Reading) → AreNamed (text_words t) → text_means t ≡ Some r → IsWellRead r
+text_well t r n e = read (whole_means t (start_of [] [])) (whole_well t n) e where
+  read : (o : Option (Head × Names)) → Gives o (λ h k. IsWellRead (reading_at (assumptions_of h k) k)) → mean.reading_from o ≡ Some r → IsWellRead r
+  read None g f = cc
+  read (Some p) g f = let same : reading_at (assumptions_of p.0 p.1) p.1 ≡ r = cc in subst IsWellRead same g.holds
+
+-- every text that is read is well read
+pub readings_are_well_read : ReadingsAreWellRead
+readings_are_well_read bytes r e = by_tree (tokens_of bytes) (text_lexical bytes) (accepted bytes r (tokens_of bytes) (text_lexical bytes) e) where
+  by_tree : (o : Option (List Token)) → ((tokens : List Token) → o ≡ Some tokens → AreLexical (map (word_of bytes) tokens)) → (t : Text) × (option_map (map (word_of bytes)) o ≡ Some (text_words t)) × (text_means t ≡ Some r) → IsWellRead r
+  by_tree None lexical t = cc
+  by_tree (Some tokens) lexical t =
+      let same : map (word_of bytes) tokens ≡ text_words t.0 = cc in
+      text_well t.0 r (text_named t.0 (subst AreLexical same (lexical tokens refl))) t.2

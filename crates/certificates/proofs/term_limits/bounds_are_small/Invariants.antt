@@ -1,9 +1,0 @@
-use Rattle.std.proofs.Common.{◌^◌, drop}
-use Rattle.std.specs.Prelude.{◌↔◌}
-use Rattle.std.specs.List.{AllByRecursion}
-use Rattle.iolb_model.specs.Form.{AffineForm}
-use Rattle.affine_form.specs.Form.{IsSmallForm}
-use Rattle.certificates.proofs.term_limits.bounds_are_small.Given as goal
-
-abbrev pub invariant-loop-lower : goal.invariant-loop-lower
-invariant-loop-lower l = AllByRecursion (λ (bounds : AffineForm × AffineForm). IsSmallForm (2 ^ 20) bounds.0 × IsSmallForm (2 ^ 20) bounds.1) (drop l.lower-index l.bounds) ↔ AllByRecursion (λ (bounds : AffineForm × AffineForm). IsSmallForm (2 ^ 20) bounds.0 × IsSmallForm (2 ^ 20) bounds.1) l.bounds

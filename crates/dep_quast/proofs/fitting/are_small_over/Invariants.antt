@@ -1,7 +1,0 @@
-use Rattle.std.proofs.Common.{take}
-use Rattle.std.specs.List.{AllByRecursion}
-use Rattle.affine_rows.specs.Rows.{IsSmallOver}
-use Rattle.dep_quast.proofs.fitting.are_small_over.Given as goal
-
-abbrev pub invariant-loop-form : goal.invariant-loop-form
-invariant-loop-form l = AllByRecursion (IsSmallOver l.vars) (take l.form-index l.forms)

@@ -1,8 +1,0 @@
-use Rattle.execution_laws.proofs.InputVertices.{input_reads_loaded, input_reads_vertices}
-use Rattle.execution_laws.proofs.cold.input_reads_are_loaded.Goals as goal
-
-pub returns-clause-vertices : goal.returns-clause-vertices
-returns-clause-vertices c = input_reads_vertices
-
-pub returns-clause-loaded : goal.returns-clause-loaded
-returns-clause-loaded c = input_reads_loaded

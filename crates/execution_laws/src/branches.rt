@@ -1,9 +1,0 @@
-//! Branches of terms whose footprints are disjoint.
-
-ghost use Rattle.execution_laws.specs.Branches.{BranchesAreLoaded};
-
-/// A law: the value of a branch whose terms have footprints of which no two have a vertex in common is at most the loads
-/// of every complete pebbling.
-pub fn branches_are_loaded()
-    ensures { BranchesAreLoaded }
-{}

@@ -1,0 +1,112 @@
+-- Certificates that are read are within their limits.
+use Rattle.std.proofs.Common.{◌≡◌, suc, ◌≤◌, List, [], ◌∷◌, length, map, codes, Ok, Err, refl, sym, subst, ap, arith}
+use Rattle.std.proofs.lemmas.Bool.{leb-true}
+use Rattle.std.proofs.lemmas.List.{length-map}
+use Rattle.std.proofs.lemmas.Result.{IfOk-at_ok}
+use Rattle.std.specs.Prelude.{IfOk, nat_le}
+use Rattle.std.specs.List.{AllByRecursion}
+use Rattle.claims.specs.declared.key.TheConstants.{BRANCHES, COLD, DISJOINT, QUASTS, TERMS, VERSION}
+use Rattle.iolb_check.specs.declared.term.Term.{Term}
+use Rattle.iolb_check.specs.declared.term.Term.TheVariants as terms
+use Rattle.iolb_check.specs.declared.term.Branch.{Branch}
+use Rattle.iolb_check.specs.Claims.{claim_of_term, claim_of_branch, claim_of_certificate}
+use Rattle.iolb_check.specs.Limits.{NameRows, IsSmallTree, IsSmallTerm, IsSmallBranch, CertificateParts, IsWithinLimits}
+use Rattle.serde_json.specs.Data.{Data}
+use Rattle.cert_parts.specs.Outcome.{Outcome, fault}
+use Rattle.cert_parts.specs.Json.{has_keys, part, reads_short_list, each}
+use Rattle.cert_parts.specs.Parts.{reads_all_multipliers}
+use Rattle.cert_parts.specs.Read.{AreAll}
+use Rattle.cert_parts.specs.Trees.{reads_all_trees}
+use Rattle.iolb_cert.specs.Terms.{reads_cold, reads_term, reads_terms}
+use Rattle.iolb_cert.specs.Certificates.{reads_branch, reads_branches, reads_version, reads_certificate}
+use Rattle.iolb_cert.specs.Read.{WrittenCold, WrittenBranch, WrittenCertificate, IsTerm, IsBranch, IsCertificate}
+use Rattle.iolb_cert.proofs.Given.{given_then, given_behind, given_if, given_part, given_each, given_short_list, given_keys}
+use Rattle.iolb_cert.proofs.PartLimits.{all_multipliers_small}
+use Rattle.iolb_cert.proofs.TreeLimits.{all_trees_small, quasts_small}
+use Rattle.iolb_cert.proofs.TermLimits.{IsSmallWrittenCold, cold_small, read_cold_small}
+
+term_small : (d : Data) → IfOk (reads_term d) IsSmallWrittenCold
+unfolding reads_term
+term_small d =
+    given_if (has_keys (codes "cold" ∷ []) d) (part (codes "cold") COLD reads_cold d) _ IsSmallWrittenCold (λ is. given_part (codes "cold") COLD reads_cold IsSmallWrittenCold d cold_small)
+    (given_if (has_keys (codes "partition" ∷ []) d) (fault 4) _ IsSmallWrittenCold (λ is. tt)
+    (given_if (has_keys (codes "wavefront" ∷ []) d) (fault 4) (fault 2) IsSmallWrittenCold (λ is. tt) tt))
+
+abbrev AreSmallTerms : List WrittenCold → Type 0
+AreSmallTerms terms = AllByRecursion IsSmallWrittenCold terms × (length terms ≤ 1)
+
+terms_small : (d : Data) → IfOk (reads_terms d) AreSmallTerms
+unfolding reads_terms
+terms_small d =
+    given_behind (reads_short_list 16 d) _ AreSmallTerms (λ members. given_if (nat_le (length members) 1) (each reads_term 0 members) (fault 4) AreSmallTerms
+    (λ is. few (each reads_term 0 members) members (leb-true (length members) 1 is) (given_each reads_term IsSmallWrittenCold term_small 0 members)) tt) where
+      few : (read : Outcome (List WrittenCold)) (ds : List Data) → length ds ≤ 1 → IfOk read (λ found. AllByRecursion IsSmallWrittenCold found × (length found ≡ length ds)) → IfOk read AreSmallTerms
+      few (Ok found) ds most here = (here.0, omega (arith, most, here.1))
+      few (Err e) ds most here = tt
+
+record IsSmallWrittenBranch (written : WrittenBranch) : Type 0 where
+  terms : AreSmallTerms written.terms
+  disjoint : NameRows written.disjoint
+
+branch_small : (d : Data) → IfOk (reads_branch d) IsSmallWrittenBranch
+unfolding reads_branch
+branch_small d =
+    given_keys (codes "disjoint" ∷ codes "terms" ∷ []) d _ IsSmallWrittenBranch
+    (given_then (part (codes "disjoint") DISJOINT reads_all_multipliers d) _ NameRows IsSmallWrittenBranch (given_part (codes "disjoint") DISJOINT reads_all_multipliers NameRows d all_multipliers_small)
+    (λ disjoint small_disjoint. given_then (part (codes "terms") TERMS reads_terms d) _ AreSmallTerms IsSmallWrittenBranch (given_part (codes "terms") TERMS reads_terms AreSmallTerms d terms_small)
+    (λ terms small_terms. record { terms = small_terms; disjoint = small_disjoint })))
+
+abbrev AreSmallBranches : List WrittenBranch → Type 0
+AreSmallBranches branches = AllByRecursion IsSmallWrittenBranch branches × (length branches ≤ 8)
+
+branches_small : (d : Data) → IfOk (reads_branches d) AreSmallBranches
+unfolding reads_branches
+branches_small d = given_short_list reads_branch IsSmallWrittenBranch branch_small 8 d
+
+record IsSmallWritten (written : WrittenCertificate) : Type 0 where
+  branches : AreSmallBranches written.branches
+  trees : AllByRecursion (AllByRecursion IsSmallTree) written.trees
+
+certificate_small : (d : Data) → IfOk (reads_certificate d) IsSmallWritten
+unfolding reads_certificate
+certificate_small d =
+    given_keys (codes "branches" ∷ codes "quasts" ∷ codes "version" ∷ []) d _ IsSmallWritten
+    (given_then (part (codes "branches") BRANCHES reads_branches d) _ AreSmallBranches IsSmallWritten (given_part (codes "branches") BRANCHES reads_branches AreSmallBranches d branches_small)
+    (λ branches small_branches. given_then (part (codes "quasts") QUASTS reads_all_trees d) _ (AllByRecursion (AllByRecursion IsSmallTree)) IsSmallWritten
+    (given_part (codes "quasts") QUASTS reads_all_trees (AllByRecursion (AllByRecursion IsSmallTree)) d all_trees_small)
+    (λ trees small_trees. given_behind (part (codes "version") VERSION reads_version d) _ IsSmallWritten
+    (λ version. record { branches = small_branches; trees = small_trees }))))
+
+-- ---- what was read of them
+
+all_related : {A B X : Type 0} (R : A → X → Type 0) (claim : B → X) (P : A → Type 0) (Q : B → Type 0) → ((a : A) (b : B) → R a (claim b) → P a → Q b)
+    → (written : List A) (bs : List B) → AreAll R written (map claim bs) → AllByRecursion P written → AllByRecursion Q bs
+all_related R claim P Q each_one [] [] are all = tt
+all_related R claim P Q each_one [] (b ∷ bs) are all = absurd are
+all_related R claim P Q each_one (a ∷ written) [] are all = absurd are
+all_related R claim P Q each_one (a ∷ written) (b ∷ bs) are all = (each_one a b are.0 all.0, all_related R claim P Q each_one written bs are.1 all.1)
+
+as_many : {A X : Type 0} (R : A → X → Type 0) (written : List A) (xs : List X) → AreAll R written xs → length xs ≡ length written
+as_many R [] [] are = refl
+as_many R [] (x ∷ xs) are = absurd are
+as_many R (a ∷ written) [] are = absurd are
+as_many R (a ∷ written) (x ∷ xs) are = ap suc (as_many R written xs are.1)
+
+read_term_small : (written : WrittenCold) (term : Term) → IsTerm written (claim_of_term term) → IsSmallWrittenCold written → IsSmallTerm term
+read_term_small written (terms.Cold cold) is small = read_cold_small written cold is small
+
+read_branch_small : (written : WrittenBranch) (branch : Branch) → IsBranch written (claim_of_branch branch) → IsSmallWrittenBranch written → IsSmallBranch branch
+read_branch_small written branch is small = record {
+  few = omega (arith, small.terms.1, as_many IsTerm written.terms (map claim_of_term branch.terms.items) is.0, length-map branch.terms.items claim_of_term);
+  terms = all_related IsTerm claim_of_term IsSmallWrittenCold IsSmallTerm read_term_small written.terms branch.terms.items is.0 small.terms.0;
+  disjoint = subst NameRows (sym is.1) small.disjoint;
+}
+
+pub read_within_limits : (d : Data) (written : WrittenCertificate) (parts : CertificateParts) → reads_certificate d ≡ Ok written → IsCertificate written (claim_of_certificate parts) → IsWithinLimits parts
+read_within_limits d written parts says is =
+    let small : IsSmallWritten written = IfOk-at_ok IsSmallWritten says (certificate_small d) in
+    record {
+      trees = quasts_small written.trees parts.quasts is.0 small.trees;
+      few = omega (arith, small.branches.1, as_many IsBranch written.branches (map claim_of_branch parts.branches) is.1, length-map parts.branches claim_of_branch);
+      branches = all_related IsBranch claim_of_branch IsSmallWrittenBranch IsSmallBranch read_branch_small written.branches parts.branches is.1 small.branches.0;
+    }

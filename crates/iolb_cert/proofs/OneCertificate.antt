@@ -1,0 +1,100 @@
+-- A text has one certificate, or one fault.
+use Rattle.std.proofs.Common.{◌≡◌, ℕ, ◌≤◌, List, [], ◌∷◌, Some, Ok, Err, inl, inr, refl, sym, subst, ◌∙◌, ap, arith}
+use Rattle.iolb_model.specs.Polynomial.{Polynomial, terms_value}
+use Rattle.claims.specs.declared.place.Step.{Step}
+use Rattle.affine_form.specs.Multipliers.{FarkasMultipliers}
+use Rattle.poly_tree.specs.Poly.{Quotient, SameValues, numerator_at}
+use Rattle.poly_tree.proofs.SameLemmas.{same-polynomial}
+use Rattle.domain_count.proofs.Determined.{crossed}
+use Rattle.dep_quast.specs.Tree.{SelectionTree}
+use Rattle.iolb_check.specs.Claims.{ColdClaim, TermClaim, cold, BranchClaim, CertificateClaim}
+use Rattle.serde_json.specs.Data.{Data}
+use Rattle.cert_parts.specs.declared.error.CertFault.{CertFault}
+use Rattle.cert_parts.specs.Outcome.{Outcome}
+use Rattle.cert_parts.specs.Read.{AreAll, IsPolynomial}
+use Rattle.iolb_cert.specs.Certificates.{reads_certificate}
+use Rattle.iolb_cert.specs.OneCertificate.{HasCertificate, TextsHaveOneCertificate, TextsHaveOneAnswer}
+use Rattle.iolb_cert.specs.Texts.{HasValue, IsTextOf, IsTextFault}
+use Rattle.iolb_cert.specs.Read.{WrittenCold, WrittenBranch, WrittenCertificate, IsTerm, IsBranch, IsCertificate}
+
+-- ---- the same text says the same
+
+same-value : (bytes : List ℕ) (d e : Data) → HasValue bytes d → HasValue bytes e → d ≡ e
+same-value bytes d e p q = one d e (sym p.reads ∙ q.reads) where
+  one : (x y : Data) → Some x ≡ Some y → x ≡ y
+  one x y is = cc
+
+same-outcome : (bytes : List ℕ) (d e : Data) → HasValue bytes d → HasValue bytes e → reads_certificate d ≡ reads_certificate e
+same-outcome bytes d e p q = ap reads_certificate (same-value bytes d e p q)
+
+says-one : (bytes : List ℕ) (v w : WrittenCertificate) → IsTextOf bytes v → IsTextOf bytes w → v ≡ w
+says-one bytes v w p q = one (reads_certificate p.value) (reads_certificate q.value) p.says q.says (same-outcome bytes p.value q.value p.has q.has) where
+  one : (r s : Outcome WrittenCertificate) → r ≡ Ok v → s ≡ Ok w → r ≡ s → v ≡ w
+  one r s x y is = cc
+
+-- ---- what is written is one certificate
+
+one-polynomial : (polynomial : Polynomial) (q r : Quotient) → IsPolynomial polynomial q → IsPolynomial polynomial r → q ≡ r
+one-polynomial polynomial q r h g = same-polynomial q r h.legal g.legal values where
+  some : (m n : ℕ) → 1 ≤ m → m ≤ n → 1 ≤ n
+  some m n x y = omega arith
+
+  values : SameValues q r
+  values point =
+      crossed polynomial.denominator q.denominator r.denominator (numerator_at q point) (numerator_at r point) (terms_value polynomial.terms point)
+      (some q.denominator polynomial.denominator h.legal.positive h.within.over) (h.value point) (g.value point)
+
+all-one : {A X : Type 0} (R : A → X → Type 0) → ((a : A) (x y : X) → R a x → R a y → x ≡ y) → (written : List A) (xs ys : List X) → AreAll R written xs → AreAll R written ys → xs ≡ ys
+all-one R one [] [] [] h g = refl
+all-one R one [] [] (y ∷ ys) h g = absurd g
+all-one R one [] (x ∷ xs) ys h g = absurd h
+all-one R one (a ∷ written) [] ys h g = absurd h
+all-one R one (a ∷ written) (x ∷ xs) [] h g = absurd g
+all-one R one (a ∷ written) (x ∷ xs) (y ∷ ys) h g = let first = one a x y h.0 g.0 in let rest = all-one R one written xs ys h.1 g.1 in cc
+
+one-term : (written : WrittenCold) (a b : TermClaim) → IsTerm written a → IsTerm written b → a ≡ b
+one-term written (cold claim qs) (cold other rs) h g =
+    let same : qs ≡ rs = all-one IsPolynomial one-polynomial written.sums qs rs h.1 g.1 in
+    ap (λ (x : ColdClaim). cold x qs) (h.0 ∙ sym g.0) ∙ ap (cold other) same
+
+one-branch : (written : WrittenBranch) (a b : BranchClaim) → IsBranch written a → IsBranch written b → a ≡ b
+one-branch written a b h g =
+    ap (λ (terms : List TermClaim). branch terms a.disjoint) (all-one IsTerm one-term written.terms a.terms b.terms h.0 g.0) ∙ ap (branch b.terms) (h.1 ∙ sym g.1) where
+      branch : List TermClaim → List FarkasMultipliers → BranchClaim
+      branch terms disjoint = record { terms = terms; disjoint = disjoint }
+
+pub one-written : (written : WrittenCertificate) (a b : CertificateClaim) → IsCertificate written a → IsCertificate written b → a ≡ b
+one-written written a b h g =
+    ap (λ (trees : List (List SelectionTree)). certificate trees a.branches) (h.0 ∙ sym g.0)
+    ∙ ap (certificate b.trees) (all-one IsBranch one-branch written.branches a.branches b.branches h.1 g.1) where
+      certificate : List (List SelectionTree) → List BranchClaim → CertificateClaim
+      certificate trees branches = record { trees = trees; branches = branches }
+
+-- ---- the laws
+
+pub one_certificate : TextsHaveOneCertificate
+one_certificate bytes a b h g =
+    one-written h.written a b h.is (subst (λ (w : WrittenCertificate). IsCertificate w b) (says-one bytes g.written h.written g.says h.says) g.is)
+
+either-one : (bytes : List ℕ) (certificate : CertificateClaim) (fault : CertFault) → HasCertificate bytes certificate → IsTextFault bytes fault → ⊥
+either-one bytes certificate fault has (inl none) = none.cause has.says.value has.says.has
+either-one bytes certificate fault has (inr first) =
+    never has.written (reads_certificate has.says.value) (reads_certificate first.value) has.says.says first.says
+    (same-outcome bytes has.says.value first.value has.says.has first.has) where
+      never : (w : WrittenCertificate) (r s : Outcome WrittenCertificate) → r ≡ Ok w → s ≡ Err fault → r ≡ s → ⊥
+      never w r s p q e = absurd cc
+
+one-fault : (bytes : List ℕ) (fault other : CertFault) → IsTextFault bytes fault → IsTextFault bytes other → fault ≡ other
+one-fault bytes fault other (inl none) (inl no_other) =
+    ap (λ (n : ℕ). at n fault.place) (none.number ∙ sym no_other.number) ∙ ap (at other.number) (none.place ∙ sym no_other.place) where
+      at : ℕ → List Step → CertFault
+      at number place = record { number = number; place = place }
+one-fault bytes fault other (inl none) (inr first) = absurd (none.cause first.value first.has)
+one-fault bytes fault other (inr first) (inl none) = absurd (none.cause first.value first.has)
+one-fault bytes fault other (inr first) (inr second) =
+    one (reads_certificate first.value) (reads_certificate second.value) first.says second.says (same-outcome bytes first.value second.value first.has second.has) where
+      one : (r s : Outcome WrittenCertificate) → r ≡ Err fault → s ≡ Err other → r ≡ s → fault ≡ other
+      one r s p q e = cc
+
+pub one_answer : TextsHaveOneAnswer
+one_answer = record { either = either-one; one_fault = one-fault }

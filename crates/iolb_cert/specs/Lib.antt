@@ -1,0 +1,14 @@
+pub mod Certificates
+pub mod OneCertificate
+pub mod Terms
+pub mod Texts
+pub mod Views
+pub mod Read
+pub mod WrittenCertificates
+pub mod ReadBackLaw
+pub mod Leaves
+pub mod Parts
+pub mod Polynomials
+pub mod ReadBack
+pub mod Trees
+pub mod Written

@@ -1,0 +1,122 @@
+//! The texts of cold terms.
+
+ghost use Rattle.std.specs.Prelude.{◌≡◌, map};
+ghost use Rattle.serde_json.specs.View.{view};
+ghost use Rattle.iolb_check.specs.Claims.{claim_of_cold};
+ghost use Rattle.cert_parts.specs.Outcome.{Gives, GivesBy};
+ghost use Rattle.reuse_paths.specs.LeafClaims.{claim_of};
+ghost use Rattle.iolb_cert.specs.Terms.{reads_cold_front, reads_cold_middle, reads_cold_members, reads_cold, cold_claim};
+ghost use Rattle.iolb_cert.specs.Views.{cold_term, front_of, middle_of};
+ghost use Rattle.iolb_cert.specs.Read.{IsTerm};
+
+use crate::members::{inverse_part, leaves_part, nest_part, sums_part};
+use affine_form::{Form, Multipliers};
+use cert_parts::{CertError, all_shown_part, fault, forms_part, has_keys, natural_part};
+use claims::key;
+use domain_count::{Nest, Sums};
+use poly_tree::Poly;
+use reuse_paths::Leaf;
+use serde_json::Value;
+use std::alloc::Global;
+use wavefront::{Cold, Inverse};
+
+/// The first members of a cold term.
+#[derive(Drop)]
+pub(crate) struct ColdParts {
+    inside: Vec<Multipliers>,
+    inverse: Inverse,
+    leaves: Vec<Leaf>,
+    nest: Nest,
+}
+
+/// The first members of a cold term.
+#[tactic(auto, unfolding(crate::specs::Terms::reads_cold_front))]
+fn front(alloc: Global, value: &Value) -> Result<ColdParts, CertError>
+    ensures { Gives front_of result (reads_cold_front (view value.now)) }
+{
+    let inside = all_shown_part(alloc, value, "inside", key::INSIDE)?;
+    let inverse = inverse_part(alloc, value)?;
+    let leaves = leaves_part(alloc, value)?;
+    let nest = nest_part(alloc, value)?;
+    Ok(ColdParts {
+        inside,
+        inverse,
+        leaves,
+        nest,
+    })
+}
+
+/// The members between the first and the polynomials.
+#[derive(Drop)]
+pub(crate) struct ColdPlaces {
+    point: Vec<Form>,
+    read: u16,
+    shown: Vec<Multipliers>,
+    statement: u16,
+}
+
+/// The members between the first and the polynomials.
+#[tactic(auto, unfolding(crate::specs::Terms::reads_cold_middle))]
+fn middle(alloc: Global, value: &Value) -> Result<ColdPlaces, CertError>
+    ensures { Gives middle_of result (reads_cold_middle (view value.now)) }
+{
+    let point = forms_part(alloc, value, "point", key::POINT)?;
+    let read = natural_part(alloc, value, "read", key::READ, 0, 65535)? as u16;
+    let shown = all_shown_part(alloc, value, "shown", key::SHOWN)?;
+    let statement = natural_part(alloc, value, "statement", key::STATEMENT, 0, 65535)? as u16;
+    Ok(ColdPlaces {
+        point,
+        read,
+        shown,
+        statement,
+    })
+}
+
+/// The cold term of these parts.
+fn made(front: ColdParts, middle: ColdPlaces, sums: Vec<Poly>) -> Cold
+    ensures claim { claim_of_cold result ≡ cold_claim (front_of front) (middle_of middle) }
+    ensures sums { result.sums.sums ≡ sums.items }
+{
+    Cold {
+        statement: middle.statement,
+        read: middle.read,
+        nest: front.nest,
+        sums: Sums::new(middle.shown, sums),
+        point: middle.point,
+        inside: front.inside,
+        inverse: front.inverse,
+        leaves: front.leaves,
+    }
+}
+
+/// The members of a cold term.
+fn members(alloc: Global, value: &Value) -> Result<Cold, CertError>
+    ensures { GivesBy (λ said found. IsTerm said (cold_term found)) result (reads_cold_members (view value.now)) }
+{
+    let front = front(alloc, value)?;
+    let middle = middle(alloc, value)?;
+    let sums = sums_part(alloc, value)?;
+    Ok(made(front, middle, sums))
+}
+
+/// A cold term.
+#[tactic(auto, unfolding(crate::specs::Terms::reads_cold))]
+pub(crate) fn cold(alloc: Global, value: &Value) -> Result<Cold, CertError>
+    ensures { GivesBy (λ said found. IsTerm said (cold_term found)) result (reads_cold (view value.now)) }
+{
+    let keys = [
+        "inside",
+        "inverse",
+        "leaves",
+        "nest",
+        "point",
+        "read",
+        "shown",
+        "statement",
+        "sums",
+    ];
+    if !has_keys(value, &keys) {
+        return Err(fault(alloc, 2));
+    }
+    members(alloc, value)
+}

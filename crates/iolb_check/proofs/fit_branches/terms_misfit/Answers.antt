@@ -1,0 +1,24 @@
+use Rattle.std.proofs.Common.{subst, List}
+use Rattle.std.specs.Prelude.{Some, None}
+use Rattle.std.proofs.lemmas.List.{drop_all}
+use Rattle.claims.specs.declared.place.Step.{Step}
+use Rattle.affine_program.specs.Parts.{meaning}
+use Rattle.iolb_check.specs.FitClaims.{FindsMisfit}
+use Rattle.iolb_check.specs.TermFit.{term_fit, term_at}
+use Rattle.iolb_check.proofs.FitFound.{found-some, found-none, mapped-stop, mapped-next, mapped-ended}
+use Rattle.iolb_check.proofs.fit_branches.terms_misfit.Goals as goal
+use Rattle.reuse_paths.specs.Quasts.{trees_of}
+use Rattle.iolb_check.specs.Claims.{claim_of_term}
+
+pub returns-in-Some : goal.returns-in-Some
+returns-in-Some c =
+    c.loop-index.invariant (Some c.in-Some.misfit) (mapped-stop claim_of_term (term_at (meaning c.args.program.now) (trees_of c.args.quasts.now) c.args.list.now) c.args.terms.now c.loop-index.index c.index-terms-index.result c.loop-index-test.true c.index-terms-index.is c.in-Some.misfit
+    (found-some (term_at (meaning c.args.program.now) (trees_of c.args.quasts.now) c.args.list.now c.loop-index.index (claim_of_term c.index-terms-index.result)) c.in_ok-misfit.field-0 c.in-Some.misfit c.in-Some.is (subst (λ (place : List Step). FindsMisfit (term_fit (meaning c.args.program.now) (trees_of c.args.quasts.now) place (claim_of_term c.index-terms-index.result)) c.in_ok-misfit.field-0) c.in_ok-at.ensures c.in_ok-misfit.ensures)))
+
+pub loop-index-preserved : goal.loop-index-preserved
+loop-index-preserved c = λ found h.
+    c.loop-index.invariant found (mapped-next claim_of_term (term_at (meaning c.args.program.now) (trees_of c.args.quasts.now) c.args.list.now) c.args.terms.now c.loop-index.index c.index-terms-index.result c.loop-index-test.true c.index-terms-index.is found
+    (found-none (term_at (meaning c.args.program.now) (trees_of c.args.quasts.now) c.args.list.now c.loop-index.index (claim_of_term c.index-terms-index.result)) c.in_ok-misfit.field-0 c.in_default.is (subst (λ (place : List Step). FindsMisfit (term_fit (meaning c.args.program.now) (trees_of c.args.quasts.now) place (claim_of_term c.index-terms-index.result)) c.in_ok-misfit.field-0) c.in_ok-at.ensures c.in_ok-misfit.ensures)) h)
+
+pub returns : goal.returns
+returns c = c.loop-index.invariant None (mapped-ended claim_of_term (term_at (meaning c.args.program.now) (trees_of c.args.quasts.now) c.args.list.now) c.args.terms.now c.loop-index.index (drop_all c.loop-index.index c.args.terms.now c.loop-index-test.false))

@@ -1,0 +1,77 @@
+-- What a certificate claims: its parts as plain lists and trees.
+use Rattle.std.specs.Prelude.{ℕ, List, map}
+use Rattle.iolb_model.specs.Form.{AffineForm}
+use Rattle.affine_form.specs.Matrix.{IntegerMatrix}
+use Rattle.affine_form.specs.Multipliers.{FarkasMultipliers}
+use Rattle.poly_tree.specs.Poly.{Quotient}
+use Rattle.dep_quast.specs.Tree.{SelectionTree}
+use Rattle.reuse_paths.specs.LeafClaims.{LeafClaim, claim_of}
+use Rattle.reuse_paths.specs.Quasts.{trees_of}
+use Rattle.wavefront.specs.declared.cold.Cold.{Cold}
+use Rattle.wavefront.specs.Term.{ColdTerm}
+use Rattle.iolb_check.specs.declared.term.Term.{Term}
+use Rattle.iolb_check.specs.declared.term.Term.TheVariants as terms
+use Rattle.iolb_check.specs.declared.term.Branch.{Branch}
+use Rattle.iolb_check.specs.Limits.{CertificateParts}
+
+-- what a cold term claims, but for its polynomials
+pub record ColdClaim : Type 0 where
+  pub statement : ℕ
+  pub read : ℕ
+  pub nest : List (AffineForm × AffineForm)
+  pub shown : List FarkasMultipliers
+  pub point : List AffineForm
+  pub inside : List FarkasMultipliers
+  pub matrix : IntegerMatrix
+  pub scale : ℕ
+  pub leaves : List LeafClaim
+
+-- what a term claims, with its polynomials
+pub data TermClaim : Type 0 where
+  cold : ColdClaim → List Quotient → TermClaim
+
+-- a cold term of these claims with these polynomials
+abbrev pub cold_term : ColdClaim → List Quotient → ColdTerm
+cold_term claim sums = record {
+  reader = record { statement = claim.statement; read = claim.read };
+  nest = claim.nest;
+  count = record { shown = claim.shown; sums = sums };
+  point = claim.point;
+  inside = claim.inside;
+  matrix = claim.matrix;
+  scale = claim.scale;
+  leaves = claim.leaves;
+}
+
+pub record BranchClaim : Type 0 where
+  pub terms : List TermClaim
+  pub disjoint : List FarkasMultipliers
+
+-- the source trees of each statement's reads, and the branches
+pub record CertificateClaim : Type 0 where
+  pub trees : List (List SelectionTree)
+  pub branches : List BranchClaim
+
+-- ---- what the parts of the code claim
+
+abbrev pub claim_of_cold : Cold → ColdClaim
+claim_of_cold term = record {
+  statement = term.statement;
+  read = term.read;
+  nest = term.nest;
+  shown = term.sums.shown;
+  point = term.point.items;
+  inside = term.inside.items;
+  matrix = term.inverse.matrix;
+  scale = term.inverse.scale;
+  leaves = map claim_of term.leaves.items;
+}
+
+abbrev pub claim_of_term : Term → TermClaim
+claim_of_term (terms.Cold term) = cold (claim_of_cold term) term.sums.sums
+
+abbrev pub claim_of_branch : Branch → BranchClaim
+claim_of_branch branch = record { terms = map claim_of_term branch.terms.items; disjoint = branch.disjoint.items }
+
+abbrev pub claim_of_certificate : CertificateParts → CertificateClaim
+claim_of_certificate parts = record { trees = trees_of parts.quasts; branches = map claim_of_branch parts.branches }

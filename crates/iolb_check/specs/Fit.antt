@@ -1,0 +1,33 @@
+-- Certificates that fit a program, and that their parts then do.
+use Rattle.std.specs.Prelude.{◌≡◌, List, Some}
+use Rattle.std.specs.List.{AllByRecursion}
+use Rattle.affine_program.specs.Parts.{ProgramParts, meaning}
+use Rattle.dep_quast.specs.Tree.{SelectionTree}
+use Rattle.domain_count.specs.Claims.{FitsCount}
+use Rattle.reuse_paths.specs.Quasts.{tree_at, tree_for, trees_of}
+use Rattle.reuse_paths.specs.Trees.{RowsFit}
+use Rattle.wavefront.specs.declared.cold.Cold.{Cold}
+use Rattle.wavefront.specs.Loads.{ColdFits}
+use Rattle.wavefront.specs.View.{term_of}
+use Rattle.iolb_check.specs.declared.term.Term.{Term}
+use Rattle.iolb_check.specs.declared.term.Term.TheVariants as terms
+use Rattle.iolb_check.specs.declared.term.Branch.{Branch}
+use Rattle.iolb_check.specs.Limits.{CertificateParts}
+
+-- a cold term fits a program and the source trees: the tree of its read is there
+pub record ColdTermFits (program : ProgramParts) (trees : List (List SelectionTree)) (cold : Cold) : Type 0 where
+  pub there : tree_at trees cold.statement cold.read ≡ Some (tree_for trees (term_of cold).reader)
+  pub fits : ColdFits (meaning program) (tree_for trees (term_of cold).reader) (term_of cold)
+  pub count : FitsCount program cold.nest cold.sums
+
+abbrev pub TermFits : ProgramParts → List (List SelectionTree) → Term → Type 0
+TermFits program trees (terms.Cold cold) = ColdTermFits program trees cold
+
+-- each term of each branch fits
+abbrev pub BranchesFit : ProgramParts → List (List SelectionTree) → List Branch → Type 0
+BranchesFit program trees branches = AllByRecursion (λ (branch : Branch). AllByRecursion (TermFits program trees) branch.terms.items) branches
+
+-- Where a certificate fits a program, so do its source trees and its terms.
+pub record PartsFit (program : ProgramParts) (parts : CertificateParts) : Type 0 where
+  pub trees : RowsFit (meaning program) 0 (trees_of parts.quasts)
+  pub branches : BranchesFit program (trees_of parts.quasts) parts.branches

@@ -1,0 +1,42 @@
+-- The order of execution, by the loops that two statements have in common. (Feautrier 1991; the levels of Allen and Kennedy 1987.)
+use Rattle.std.specs.Prelude.{◌≡◌, ℕ, zero, suc, ◌<◌, ℤ, ◌<ℤ◌, Bool, ◌&&◌, if◌then◌else◌, is_some, List, [], ◌∷◌}
+use Rattle.iolb_model.specs.Path.{item_path}
+use Rattle.iolb_model.specs.Program.{Item, assign, loop, Row, done, next, AffineProgram}
+use Rattle.iolb_model.specs.Execution.{Instance}
+
+-- how a loop's values go
+pub data Direction : Type 0 where
+  upward : Direction
+
+-- whether both statements are in the item
+abbrev pub has_both : Item → ℕ → ℕ → Bool
+has_both item t s = is_some (item_path item t) && is_some (item_path item s)
+
+-- The loops around both of two statements, outermost first, by their directions: those of the item that has both.
+abbrev mutual
+  pub item_common : Item → ℕ → ℕ → List Direction
+  item_common (assign number) t s = []
+  item_common (loop name lower upper body) t s = upward ∷ row_common body t s
+
+  pub row_common : Row → ℕ → ℕ → List Direction
+  row_common done t s = []
+  row_common (next item row) t s = if has_both item t s then item_common item t s else row_common row t s
+
+-- the loops around both of two statements of a program
+abbrev pub common_loops : AffineProgram → ℕ → ℕ → List Direction
+common_loops program t s = row_common program.tree t s
+
+-- Loop values ys of statement t come before loop values xs of statement s at a level, where these loops are around
+-- both: in as many loops as the level says the values are equal, and in the next loop y comes before x. At the last
+-- level the values are equal in all loops, and t stands before s in the text.
+abbrev pub Precedes : List Direction → ℕ → ℕ → ℕ → List ℤ → List ℤ → Type 0
+Precedes [] zero t s ys xs = t < s
+Precedes [] (suc level) t s ys xs = ⊥
+Precedes (direction ∷ loops) level t s [] xs = ⊥
+Precedes (direction ∷ loops) level t s (y ∷ ys) [] = ⊥
+Precedes (upward ∷ loops) zero t s (y ∷ ys) (x ∷ xs) = y <ℤ x
+Precedes (direction ∷ loops) (suc level) t s (y ∷ ys) (x ∷ xs) = (y ≡ x) × Precedes loops level t s ys xs
+
+-- one instance comes before another at a level of the loops around both
+abbrev pub PrecedesAt : AffineProgram → ℕ → Instance → Instance → Type 0
+PrecedesAt program level a b = Precedes (common_loops program a.statement b.statement) level a.statement b.statement a.values b.values

@@ -1,0 +1,17 @@
+pub mod Marks
+pub mod Moves
+pub mod Victim
+pub mod Room
+pub mod Turns
+pub mod Playing
+pub mod UseLists
+pub mod Queue
+pub mod Steps
+pub mod Popped
+pub mod Loading
+pub mod Holding
+pub mod Ordering
+pub mod UsesIn
+pub mod Finish
+pub mod Counting
+pub mod Stepping

@@ -1,0 +1,6 @@
+pub mod Order
+pub mod Played
+pub mod Complete
+pub mod Uses
+pub mod Turns
+pub mod Player

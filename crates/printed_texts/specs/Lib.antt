@@ -1,4 +1,0 @@
-pub mod Words
-pub mod Same
-pub mod Printable
-pub mod Laws

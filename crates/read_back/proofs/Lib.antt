@@ -1,4 +1,0 @@
-pub mod Rows
-pub mod Widened
-pub mod Narrowed
-pub mod Whole

@@ -1,0 +1,133 @@
+//! Whether what a cold term claims is shown.
+
+ghost use Rattle.std.specs.Prelude.{◌≡◌, [], IfOk};
+ghost use Rattle.std.specs.List.{AllByRecursion};
+ghost use Rattle.affine_form.specs.System.{AllOver};
+ghost use Rattle.affine_program.specs.Parts.{meaning};
+ghost use Rattle.claims.specs.Claims.{Finds};
+ghost use Rattle.dep_quast.specs.Tree.{tree_of};
+ghost use Rattle.wavefront.specs.ColdClaims.{entry_place, matrix_claims};
+ghost use Rattle.wavefront.specs.Leaves.{OpenLeaf as open_leaf, inside_claims, open_leaves, term_leaves};
+ghost use Rattle.wavefront.specs.Loads.{ColdFits, TermFits};
+ghost use Rattle.wavefront.specs.Term.{instance_point, nest_variables};
+ghost use Rattle.wavefront.specs.View.{term_of};
+
+use crate::cold::Cold;
+use crate::instance::{cell_of, instance_of, variables};
+use crate::inverse::first_difference;
+use crate::leaves_shown::leaves_shown;
+use crate::open_leaves::{OpenLeaf, push_open_leaves};
+use affine_form::Memory;
+use affine_program::Program;
+use claims::key::{INSIDE, INVERSE, LEAVES, MATRIX};
+use claims::{No, Place, Step, refusal};
+use dep_quast::Quast;
+use dep_quast::claims_shown::goals_shown;
+use dep_quast::point_rows::domain_rows;
+use domain_count::rows_before;
+use std::alloc::Global;
+
+/// Whether the instances are shown to be in their statement's domain.
+pub(crate) fn inside_shown(
+    alloc: Global,
+    program: &Program,
+    term: &Cold,
+    place: &Place,
+) -> Result<Option<No>, Memory>
+    requires { TermFits (meaning program.now) (term_of term.now) }
+    ensures { IfOk result (λ found. Finds (inside_claims (meaning program.now) place.now (term_of term.now)) found) }
+{
+    let vars = variables(program, term);
+    let system = rows_before(alloc, program, term.nest.bounds())?;
+    let goals = domain_rows(alloc, program, vars, term.statement, term.point.as_slice())?;
+    let list = place.within(alloc, Step::Key(INSIDE))?;
+    goals_shown(
+        alloc,
+        10,
+        &list,
+        &system,
+        goals.as_slice(),
+        term.inside.as_slice(),
+    )
+}
+
+/// Whether the leaves of the read's source tree are shown to be inputs, or to have no point.
+pub(crate) fn tree_shown(
+    alloc: Global,
+    program: &Program,
+    quast: &Quast,
+    term: &Cold,
+    place: &Place,
+) -> Result<Option<No>, Memory>
+    requires { ColdFits (meaning program.now) (tree_of quast.now) (term_of term.now) }
+    ensures { IfOk result (λ found. Finds (term_leaves (meaning program.now) place.now (tree_of quast.now) (term_of term.now)) found) }
+{
+    let vars = variables(program, term);
+    let system = rows_before(alloc, program, term.nest.bounds())?;
+    let leaves = leaves_of(alloc, program, quast, term)?;
+    let list = place.within(alloc, Step::Key(LEAVES))?;
+    leaves_shown(
+        alloc,
+        vars,
+        system.rows(),
+        &list,
+        leaves.as_slice(),
+        term.leaves.as_slice(),
+    )
+}
+
+/// The leaves of the read's source tree that aren't empty.
+fn leaves_of(
+    alloc: Global,
+    program: &Program,
+    quast: &Quast,
+    term: &Cold,
+) -> Result<Vec<OpenLeaf>, Memory>
+    requires { ColdFits (meaning program.now) (tree_of quast.now) (term_of term.now) }
+    ensures leaves { IfOk result (λ leaves. leaves.items
+        ≡ open_leaves (nest_variables (meaning program.now) (term_of term.now)) (instance_point (meaning program.now) (term_of term.now)) [] (tree_of quast.now)) }
+    ensures over { IfOk result (λ leaves. AllByRecursion (λ (l : open_leaf). AllOver (nest_variables (meaning program.now) (term_of term.now)) l.tests) leaves.items) }
+{
+    let vars = variables(program, term);
+    let point = instance_of(alloc, program, term)?;
+    let mut leaves = Vec::new(alloc);
+    push_open_leaves(alloc, &mut leaves, vars, point.as_slice(), &[], quast)?;
+    Ok(leaves)
+}
+
+/// Whether the matrix turns the subscripts of the cell back into the scale times the nest's variables.
+pub(crate) fn cells_undone(
+    alloc: Global,
+    program: &Program,
+    term: &Cold,
+    place: &Place,
+) -> Result<Option<No>, Memory>
+    requires { TermFits (meaning program.now) (term_of term.now) }
+    ensures { IfOk result (λ found. Finds (matrix_claims (meaning program.now) place.now (term_of term.now)) found) }
+{
+    let cell = cell_of(alloc, program, term)?;
+    let params = program.params().len();
+    let size = term.nest.bounds().len();
+    let inverse = &term.inverse;
+    match first_difference(
+        &inverse.matrix,
+        cell.as_slice(),
+        params,
+        inverse.scale,
+        size,
+    ) {
+        Some((row, col)) => entry_failed(alloc, place, row, col),
+        None => Ok(None),
+    }
+}
+
+/// The refusal by condition 12 at an entry of the product of the matrix with the subscripts.
+fn entry_failed(alloc: Global, place: &Place, row: usize, col: usize) -> Result<Option<No>, Memory>
+    ensures { IfOk result (λ found. found ≡ Some (record { condition = 12; place = entry_place place.now row col })) }
+{
+    let inverse = place.within(alloc, Step::Key(INVERSE))?;
+    let matrix = inverse.within(alloc, Step::Key(MATRIX))?;
+    let row = matrix.within(alloc, Step::Index(row as u64))?;
+    let entry = row.within(alloc, Step::Index(col as u64))?;
+    refusal(alloc, 12, &entry)
+}
