@@ -35,4 +35,3 @@ pub use fault::PolyFault;
 pub use poly::Poly;
 pub use tree::Tree;
 pub use wide::Wide;
-
