@@ -22,13 +22,13 @@ goals-met condition place system index (goal ∷ goals) (m ∷ shown) point enou
     (Shows-follows system goal m h.0.0 h.0.1 point met, goals-met condition place system (suc index) goals shown point (omega arith) h.1 met)
 
 -- systems that are shown to have no point have none
-pub none-met : (place : List Step) (index : ℕ) (systems : List AffineSystem) (shown : List FarkasMultipliers) (system : AffineSystem)
-    → length systems ≤ length shown → AllHold (pointless_claims place index systems shown) → Member system systems → HasNoPoint system
-none-met place index [] shown system enough h m = absurd m
-none-met place index (first ∷ systems) [] system enough h m = absurd (omega arith)
-none-met place index (first ∷ systems) (s ∷ shown) system enough h (inl e) =
+pub none-met : (condition : ℕ) (place : List Step) (index : ℕ) (systems : List AffineSystem) (shown : List FarkasMultipliers) (system : AffineSystem)
+    → length systems ≤ length shown → AllHold (pointless_claims condition place index systems shown) → Member system systems → HasNoPoint system
+none-met condition place index [] shown system enough h m = absurd m
+none-met condition place index (first ∷ systems) [] system enough h m = absurd (omega arith)
+none-met condition place index (first ∷ systems) (s ∷ shown) system enough h (inl e) =
     subst HasNoPoint (sym e) (Shows-none first s h.1.0.0 h.1.0.1)
-none-met place index (first ∷ systems) (s ∷ shown) system enough h (inr m) = none-met place (suc index) systems shown system (omega arith) h.1.1 m
+none-met condition place index (first ∷ systems) (s ∷ shown) system enough h (inr m) = none-met condition place (suc index) systems shown system (omega arith) h.1.1 m
 
 -- the rows of values within bounds are at most two for each loop
 pub within_rows-few : (vars : ℕ) (path : List PathStep) (before values : List AffineForm) → length (within_rows vars path before values) ≤ 2 * length path

@@ -57,7 +57,7 @@ module _ (program : AffineProgram) (reader : ReadOf) (parameters : List ℤ) (pl
       let cells : List Claim = record { condition = 4; place = at ++ Key STATEMENT ∷ []; statement = (statement_at program claim.statement).writes.array ≡ (reference_of program reader).array }
       ∷ follow_claims 4 (at ++ Key CELL ∷ []) system 0 (cell_goals program reader claim) claim.cell in
       let before : List Claim = follow_claims 5 (at ++ Key BEFORE ∷ []) system 0 (before_goals program reader claim) claim.before in
-      let between : List Claim = pointless_claims (at ++ Key BETWEEN ∷ []) 0 (writes_between program reader (context program reader tests) claim) claim.between in
+      let between : List Claim = pointless_claims 6 (at ++ Key BETWEEN ∷ []) 0 (writes_between program reader (context program reader tests) claim) claim.between in
       let first_three = AllHold-left (inside ++ cells ++ before) between h in
       let last = AllHold-right (inside ++ cells ++ before) between h in
       let first_two = AllHold-left (inside ++ cells) before first_three in
@@ -83,7 +83,7 @@ module _ (program : AffineProgram) (reader : ReadOf) (parameters : List ℤ) (pl
         (
           found.1,
           source-last program reader parameters place values well admitted there.statement here tests claim found.0 met fits.there.forms
-              (λ written m. none-met (at ++ Key BETWEEN ∷ []) 0 (writes_between program reader (context program reader tests) claim) claim.between written (omega (arith, fits.lists.between)) last m)
+              (λ written m. none-met 6 (at ++ Key BETWEEN ∷ []) 0 (writes_between program reader (context program reader tests) claim) claim.between written (omega (arith, fits.lists.between)) last m)
               found.1 less same_cells,
         ),
       )
@@ -93,7 +93,7 @@ module _ (program : AffineProgram) (reader : ReadOf) (parameters : List ℤ) (pl
   leaf-true tests at (source claim) met fits h = source-true tests at claim met fits h
   leaf-true tests at (input shown) met fits h =
       no_earlier program reader parameters place values well admitted there.statement here tests met
-      (λ written m. none-met (at ++ Key INPUT ∷ []) 0 (earlier_writes program reader (context program reader tests)) shown written (omega (arith, fits)) h.1 m)
+      (λ written m. none-met 6 (at ++ Key INPUT ∷ []) 0 (earlier_writes program reader (context program reader tests)) shown written (omega (arith, fits)) h.1 m)
   leaf-true tests at (empty shown) met fits h =
       Shows-none (context_system program reader tests) shown h.1.0.0 h.1.0.1 (parameters ++ values)
       (subst (IsMet (context program reader tests)) (append-nil (parameters ++ values)) (context-met program reader parameters place values well admitted there.statement here tests met []))

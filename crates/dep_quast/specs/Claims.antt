@@ -36,14 +36,14 @@ follow_claims condition place system index (goal ∷ goals) (m ∷ shown) =
     record { condition = condition; place = place ++ Index index ∷ []; statement = Follows system goal m }
     ∷ follow_claims condition place system (suc index) goals shown
 
--- that the systems have few rows and no point, each by its multipliers, which stand in a list at this place
-abbrev pub pointless_claims : List Step → ℕ → List AffineSystem → List FarkasMultipliers → List Claim
-pointless_claims place index [] shown = []
-pointless_claims place index (system ∷ systems) [] = []
-pointless_claims place index (system ∷ systems) (m ∷ shown) =
+-- that the systems have few rows (condition 2) and no point, each by its multipliers, which stand in a list at this place
+abbrev pub pointless_claims : ℕ → List Step → ℕ → List AffineSystem → List FarkasMultipliers → List Claim
+pointless_claims condition place index [] shown = []
+pointless_claims condition place index (system ∷ systems) [] = []
+pointless_claims condition place index (system ∷ systems) (m ∷ shown) =
     record { condition = 2; place = place ++ Index index ∷ []; statement = IsFew (length system.rows) }
-    ∷ record { condition = 6; place = place ++ Index index ∷ []; statement = IsPointless system m }
-    ∷ pointless_claims place (suc index) systems shown
+    ∷ record { condition = condition; place = place ++ Index index ∷ []; statement = IsPointless system m }
+    ∷ pointless_claims condition place (suc index) systems shown
 
 -- the first member of the lists of a source, and the leaf itself if they have none
 abbrev pub first_shown : List Step → List FarkasMultipliers → List FarkasMultipliers → List FarkasMultipliers → List Step
@@ -90,7 +90,7 @@ source_claims program reader tests place claim =
     let system = context_system program reader tests in
     record { condition = 2; place = first_shown place claim.inside claim.cell claim.before; statement = IsFew (length system.rows) }
     ∷ point_claims program reader system place claim
-    ++ pointless_claims (place ++ Key BETWEEN ∷ []) 0 (writes_between program reader (context program reader tests) claim) claim.between
+    ++ pointless_claims 6 (place ++ Key BETWEEN ∷ []) 0 (writes_between program reader (context program reader tests) claim) claim.between
 
 -- What a leaf claims: an input that no write of the cell is earlier (condition 6), an empty leaf that no point comes
 -- there (7), and each that its system has few rows (2).
@@ -98,7 +98,7 @@ abbrev pub leaf_claims : AffineProgram → ReadOf → List AffineForm → List S
 leaf_claims program reader tests place (source claim) = source_claims program reader tests place claim
 leaf_claims program reader tests place (input shown) =
     record { condition = 2; place = place; statement = IsFew (length (context program reader tests)) }
-    ∷ pointless_claims (place ++ Key INPUT ∷ []) 0 (earlier_writes program reader (context program reader tests)) shown
+    ∷ pointless_claims 6 (place ++ Key INPUT ∷ []) 0 (earlier_writes program reader (context program reader tests)) shown
 leaf_claims program reader tests place (empty shown) =
     record { condition = 2; place = place ++ Key EMPTY ∷ []; statement = IsFew (length (context program reader tests)) }
     ∷ record { condition = 7; place = place ++ Key EMPTY ∷ []; statement = IsPointless (context_system program reader tests) shown } ∷ []

@@ -40,7 +40,7 @@ fn levels_shown(
     requires writer { writer < length program.now.statements }
     requires rows_over { AllOver (variables_with (meaning program.now) (read_of reader) writer) rows.now }
     requires enough { first + level_count (meaning program.now) writer reader.statement ≤ length shown.now }
-    ensures { IfOk result (λ found. Finds (pointless_claims place.now first
+    ensures { IfOk result (λ found. Finds (pointless_claims 6 place.now first
         (map (before_reader (meaning program.now) (read_of reader) writer rows.now) (levels (meaning program.now) writer reader.statement)) (drop first shown.now)) found) }
 {
     let vars = variables_beside(program, reader, writer);
@@ -74,7 +74,7 @@ fn levels_between_shown(
     requires forms { AllByRecursion (IsSmallOver (variables_at (meaning program.now) (read_of reader))) claimed.now.point.now }
     requires rows_over { AllOver (variables_with (meaning program.now) (read_of reader) writer) rows.now }
     requires enough { first + level_count (meaning program.now) claimed.now.statement writer * level_count (meaning program.now) writer reader.statement ≤ length claimed.now.between.now }
-    ensures { IfOk result (λ found. Finds (pointless_claims place.now first
+    ensures { IfOk result (λ found. Finds (pointless_claims 6 place.now first
         (flat_map (λ after. map (before_reader (meaning program.now) (read_of reader) writer (after_source (meaning program.now) (read_of reader) writer rows.now (claim_of claimed.now) after))
         (levels (meaning program.now) writer reader.statement)) (levels (meaning program.now) claimed.now.statement writer)) (drop first claimed.now.between.now)) found) }
 {
@@ -111,7 +111,7 @@ pub(crate) fn earlier_shown(
     requires read { ReadFits (meaning program.now) (read_of reader) }
     requires rows_over { AllOver (variables_at (meaning program.now) (read_of reader)) rows.now }
     requires each { length shown.now ≡ length (earlier_writes (meaning program.now) (read_of reader) rows.now) }
-    ensures { IfOk result (λ found. Finds (pointless_claims place.now 0 (earlier_writes (meaning program.now) (read_of reader) rows.now) shown.now) found) }
+    ensures { IfOk result (λ found. Finds (pointless_claims 6 place.now 0 (earlier_writes (meaning program.now) (read_of reader) rows.now) shown.now) found) }
 {
     let array = reference(program, reader).array;
     let all = writers(alloc, program, array)?;
@@ -151,7 +151,7 @@ pub(crate) fn between_shown(
     requires forms { AllByRecursion (IsSmallOver (variables_at (meaning program.now) (read_of reader))) claimed.now.point.now }
     requires rows_over { AllOver (variables_at (meaning program.now) (read_of reader)) rows.now }
     requires each { length claimed.now.between.now ≡ length (writes_between (meaning program.now) (read_of reader) rows.now (claim_of claimed.now)) }
-    ensures { IfOk result (λ found. Finds (pointless_claims place.now 0 (writes_between (meaning program.now) (read_of reader) rows.now (claim_of claimed.now)) claimed.now.between.now) found) }
+    ensures { IfOk result (λ found. Finds (pointless_claims 6 place.now 0 (writes_between (meaning program.now) (read_of reader) rows.now (claim_of claimed.now)) claimed.now.between.now) found) }
 {
     let array = reference(program, reader).array;
     let all = writers(alloc, program, array)?;

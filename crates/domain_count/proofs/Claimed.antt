@@ -62,9 +62,9 @@ sum-there var (suc k) (bounds ∷ nest) [] total h below =
       nothing (suc n) = refl
 sum-there var (suc k) (bounds ∷ nest) (sum ∷ sums) total h below = sum-there var k nest sums total h (omega arith)
 
-module _ (params : ℕ) (nest : List (AffineForm × AffineForm)) (sums : List Quotient) (place : List Step) where
+module _ (params : ℕ) (nest : List (AffineForm × AffineForm)) (sums : List Quotient) (place : List Step) (key : ℕ) where
   -- the claims of a variable whose sum is right
-  pub sum-holds : (k : ℕ) (total : Quotient) → k < length nest → IsSumFrom (params + k) (drop k nest) (drop k sums) total → AllHold (sum_claims params nest sums place k)
+  pub sum-holds : (k : ℕ) (total : Quotient) → k < length nest → IsSumFrom (params + k) (drop k nest) (drop k sums) total → AllHold (sum_claims params nest sums place key k)
   sum-holds k total below h =
       let here = sum-there (params + k) k nest sums total h below in (
         (here.1.1.antidifference.difference, here.1.1.antidifference.backward),
@@ -72,23 +72,23 @@ module _ (params : ℕ) (nest : List (AffineForm × AffineForm)) (sums : List Qu
       )
 
   -- those of the variables before one
-  sums-hold : (k : ℕ) (total : Quotient) → k ≤ length nest → IsSumFrom params nest sums total → AllHold (sums_down params nest sums place k)
+  sums-hold : (k : ℕ) (total : Quotient) → k ≤ length nest → IsSumFrom params nest sums total → AllHold (sums_down params nest sums place key k)
   sums-hold zero total le h = tt
   sums-hold (suc k) total le h =
       let here = sums-at params k nest sums total h (omega arith) in
-      AllHold-append (sum_claims params nest sums place k) (sums_down params nest sums place k) (sum-holds k here.0 (omega arith) here.1) (sums-hold k total (omega arith) h)
+      AllHold-append (sum_claims params nest sums place key k) (sums_down params nest sums place key k) (sum-holds k here.0 (omega arith) here.1) (sums-hold k total (omega arith) h)
 
   -- the sum from the first variable on, where all claims hold
-  first-total : (k : ℕ) → AllHold (sums_down params nest sums place (suc k)) → (total : Quotient) × IsSumFrom params nest sums total
+  first-total : (k : ℕ) → AllHold (sums_down params nest sums place key (suc k)) → (total : Quotient) × IsSumFrom params nest sums total
   first-total zero h = (h.1.1.0.0, subst (λ (n : ℕ). IsSumFrom n nest sums h.1.1.0.0) (none params) h.1.1.0.1) where
     none : (n : ℕ) → n + 0 ≡ n
     none n = omega arith
-  first-total (suc k) h = first-total k (AllHold-right (sum_claims params nest sums place (suc k)) (sums_down params nest sums place (suc k)) h)
+  first-total (suc k) h = first-total k (AllHold-right (sum_claims params nest sums place key (suc k)) (sums_down params nest sums place key (suc k)) h)
 
   -- the claim that a fault breaks
   pub sum-fails : (k : ℕ) (summand : Quotient) (fault : SumFault) → k < length nest → IsSumFrom (suc (params + k)) (drop (suc k) nest) (drop (suc k) sums) summand
       → IsLegal (sum_at sums k) → fault ≢ Memory → FailsAs (params + k) (bounds_at nest k) summand (sum_at sums k) fault
-      → FirstFails (sum_claims params nest sums place k) (record { condition = condition_of fault; place = member_place place SUMS k })
+      → FirstFails (sum_claims params nest sums place key k) (record { condition = condition_of fault; place = member_place place key k })
   sum-fails k summand Wide below behind legal not (inl passes) =
       inl (λ has. difference-stays (params + k) (sum_at sums k) has.0 legal has.1 passes, refl, refl)
   sum-fails k summand Wide below behind legal not (inr passes) =
@@ -108,10 +108,10 @@ module _ (params : ℕ) (nest : List (AffineForm × AffineForm)) (sums : List Qu
       )
   sum-fails k summand Memory below behind legal not fails = absurd (not refl)
 
-sums-give : (params : ℕ) (nest : List (AffineForm × AffineForm)) (sums : List Quotient) (place : List Step)
-    → AllHold (sums_down params nest sums place (length nest)) → (total : Quotient) × IsSumFrom params nest sums total
-sums-give params [] sums place h = (one, refl)
-sums-give params (bounds ∷ nest) sums place h = first-total params (bounds ∷ nest) sums place (length nest) h
+sums-give : (params : ℕ) (nest : List (AffineForm × AffineForm)) (sums : List Quotient) (place : List Step) (key : ℕ)
+    → AllHold (sums_down params nest sums place key (length nest)) → (total : Quotient) × IsSumFrom params nest sums total
+sums-give params [] sums place key h = (one, refl)
+sums-give params (bounds ∷ nest) sums place key h = first-total params (bounds ∷ nest) sums place key (length nest) h
 
 -- the ranges that are claimed to be whole
 pub ranges-hold : (program : AffineProgram) (nest : List (AffineForm × AffineForm)) (shown : List FarkasMultipliers) (place : List Step)
@@ -134,15 +134,15 @@ module _ (program : AffineProgram) (nest : List (AffineForm × AffineForm)) (cla
   ranges = numbered (range_claim program nest claims.shown place) 0 nest
 
   abbrev sums : List Claim
-  sums = sums_down params nest claims.sums place (length nest)
+  sums = sums_down params nest claims.sums place SUMS (length nest)
 
   -- Where the claims of a count hold, they give one.
   pub claims-count : AllHold (count_claims program nest claims place) → (total : Quotient) × IsCount program nest claims total
   claims-count h =
-      let given = sums-give params nest claims.sums place (AllHold-right ranges sums h) in
+      let given = sums-give params nest claims.sums place SUMS (AllHold-right ranges sums h) in
       (given.0, record { shown = ranges-shown program nest claims.shown place (AllHold-left ranges sums h); sums = given.1 })
 
   -- They hold where they give one.
   pub count-claims : (total : Quotient) → IsCount program nest claims total → AllHold (count_claims program nest claims place)
   count-claims total is =
-      AllHold-append ranges sums (ranges-hold program nest claims.shown place is.shown) (sums-hold params nest claims.sums place (length nest) total (omega arith) is.sums)
+      AllHold-append ranges sums (ranges-hold program nest claims.shown place is.shown) (sums-hold params nest claims.sums place SUMS (length nest) total (omega arith) is.sums)

@@ -1,7 +1,6 @@
 -- Right claims count the points.
 use Rattle.std.proofs.Common.{◌≡◌, refl, sym, ◌∙◌, ap, subst, ℕ, suc, ◌+◌, ◌<◌, ◌≤◌, List, [], ◌∷◌, ◌++◌, length, map, take, arith}
 use Rattle.std.specs.Prelude.{⊤}
-use Rattle.std.specs.List.{AllByRecursion}
 use Rattle.std.proofs.Math.IntN.{ℤ, pos, ◌+ℤ◌, ◌-ℤ◌, ◌*ℤ◌}
 use Rattle.std.proofs.Math.Seq.{take-append_seam, get_or-append_seam}
 use lib.Signed.{◌≤ℤ◌}
@@ -10,7 +9,7 @@ use Rattle.std.proofs.lemmas.List.{append_assoc, append-nil, length-append, leng
 use Rattle.base_laws.proofs.Lists.{All-append}
 use Rattle.iolb_model.specs.Form.{AffineForm, dot, form_value}
 use Rattle.iolb_model.specs.Path.{PathStep, rises}
-use Rattle.iolb_model.specs.Program.{AffineProgram, IsOver, IsWellFormed}
+use Rattle.iolb_model.specs.Program.{AffineProgram, IsWellFormed}
 use Rattle.iolb_model.specs.Bound.{IsAdmitted}
 use Rattle.iolb_model.specs.Domain.{IsWithin}
 use Rattle.affine_form.specs.Multipliers.{FarkasMultipliers}

@@ -11,3 +11,5 @@ pub mod Claimed
 pub mod Ones
 pub mod RangesShown
 pub mod Whole
+pub mod Parted
+pub mod Front

@@ -4,7 +4,6 @@ use Rattle.std.specs.Prelude.{Option, Some, None, Result, Ok, Err, IfErr, IsErrA
 use Rattle.std.proofs.lemmas.List.{get_or_default}
 use Rattle.iolb_model.specs.Form.{AffineForm}
 use Rattle.claims.specs.Claims.{AllHold, FirstFails, Finds, IsRefusal}
-use Rattle.claims.specs.declared.key.TheConstants.{SUMS}
 use Rattle.claims.specs.declared.place.Step.{Step}
 use Rattle.claims.specs.declared.refused.No.{No as FailedCondition}
 use Rattle.claims.specs.declared.refused.Refused.{Refused}
@@ -44,21 +43,21 @@ sum-step params j k nest sums b s summand total e within same here there h is =
       turned m n = omega arith
 
 -- One variable further out: its claims hold, and what is found in the claims of those before it is found in all.
-pub sums-further : (params j k many : ℕ) (nest : List (AffineForm × AffineForm)) (sums : List Quotient) (place : List Step) (total : Quotient) → k ≡ suc j → k ≤ length nest
+pub sums-further : (params j k many : ℕ) (nest : List (AffineForm × AffineForm)) (sums : List Quotient) (place : List Step) (key : ℕ) (total : Quotient) → k ≡ suc j → k ≤ length nest
     → IsSumFrom (params + j) (drop j nest) (drop j sums) total
-    → ((found : Option FailedCondition) → Finds (sums_down params nest sums place k) found → Finds (sums_down params nest sums place many) found)
-    → (found : Option FailedCondition) → Finds (sums_down params nest sums place j) found → Finds (sums_down params nest sums place many) found
-sums-further params j k many nest sums place total e within is whole found h =
-    whole found (subst (λ (n : ℕ). Finds (sums_down params nest sums place n) found) (sym e)
-    (Finds-go (sum_claims params nest sums place j) (sums_down params nest sums place j) found (sum-holds params nest sums place j total (omega arith) is) h))
+    → ((found : Option FailedCondition) → Finds (sums_down params nest sums place key k) found → Finds (sums_down params nest sums place key many) found)
+    → (found : Option FailedCondition) → Finds (sums_down params nest sums place key j) found → Finds (sums_down params nest sums place key many) found
+sums-further params j k many nest sums place key total e within is whole found h =
+    whole found (subst (λ (n : ℕ). Finds (sums_down params nest sums place key n) found) (sym e)
+    (Finds-go (sum_claims params nest sums place key j) (sums_down params nest sums place key j) found (sum-holds params nest sums place key j total (omega arith) is) h))
 
 -- the first claim of a sum that fails
-pub sum-refused : (params j k many : ℕ) (nest : List (AffineForm × AffineForm)) (sums : List Quotient) (place : List Step) (b : AffineForm × AffineForm) (s summand : Quotient) (fault : SumFault)
+pub sum-refused : (params j k many : ℕ) (nest : List (AffineForm × AffineForm)) (sums : List Quotient) (place : List Step) (key : ℕ) (b : AffineForm × AffineForm) (s summand : Quotient) (fault : SumFault)
     (refused : Refused) → k ≡ suc j → k ≤ length nest → length sums ≡ length nest → b ≡ get_or nest j b → s ≡ get_or sums j s → IsSumFrom (params + k) (drop k nest) (drop k sums) summand
-    → ((found : Option FailedCondition) → Finds (sums_down params nest sums place k) found → Finds (sums_down params nest sums place many) found)
-    → IsLegal s → FailsAs (params + j) b summand s fault → IsFaultRefusal (member_place place SUMS j) fault refused → IsRefusal (sums_down params nest sums place many) refused
-sum-refused params j k many nest sums place b s summand fault Memory e within same here there behind whole legal fails is = tt
-sum-refused params j k many nest sums place b s summand fault (No failed) e within same here there behind whole legal fails is =
+    → ((found : Option FailedCondition) → Finds (sums_down params nest sums place key k) found → Finds (sums_down params nest sums place key many) found)
+    → IsLegal s → FailsAs (params + j) b summand s fault → IsFaultRefusal (member_place place key j) fault refused → IsRefusal (sums_down params nest sums place key many) refused
+sum-refused params j k many nest sums place key b s summand fault Memory e within same here there behind whole legal fails is = tt
+sum-refused params j k many nest sums place key b s summand fault (No failed) e within same here there behind whole legal fails is =
     let below : j < length nest = omega arith in
     let bounds : b ≡ bounds_at nest j = here ∙ get_or_default nest j b (bounds_at [] 0) below in
     let poly : s ≡ sum_at sums j = there ∙ get_or_default sums j s one (omega arith) in
@@ -68,18 +67,18 @@ sum-refused params j k many nest sums place b s summand fault (No failed) e with
     let breaks : FailsAs (params + j) (bounds_at nest j) summand (sum_at sums j) fault
     = subst (λ (x : AffineForm × AffineForm). FailsAs (params + j) x summand (sum_at sums j) fault) bounds
     (subst (λ (q : Quotient). FailsAs (params + j) b summand q fault) poly fails) in
-    let first = sum-fails params nest sums place j summand fault below from (subst IsLegal poly legal) is.0 breaks in
-    whole (Some failed) (subst (λ (n : ℕ). FirstFails (sums_down params nest sums place n) failed) (sym e)
-    (first-fails (sum_claims params nest sums place j) (sums_down params nest sums place j) failed
-    (subst (FirstFails (sum_claims params nest sums place j)) (sym is.1) first))) where
+    let first = sum-fails params nest sums place key j summand fault below from (subst IsLegal poly legal) is.0 breaks in
+    whole (Some failed) (subst (λ (n : ℕ). FirstFails (sums_down params nest sums place key n) failed) (sym e)
+    (first-fails (sum_claims params nest sums place key j) (sums_down params nest sums place key j) failed
+    (subst (FirstFails (sum_claims params nest sums place key j)) (sym is.1) first))) where
       turned : (m n : ℕ) → m + suc n ≡ suc (m + n)
       turned m n = omega arith
 
 -- all claims hold where none is left
-pub sums-ended : (params k many : ℕ) (nest : List (AffineForm × AffineForm)) (sums : List Quotient) (place : List Step) → k ≡ 0
-    → ((found : Option FailedCondition) → Finds (sums_down params nest sums place k) found → Finds (sums_down params nest sums place many) found)
-    → AllHold (sums_down params nest sums place many)
-sums-ended params k many nest sums place e whole = whole None (subst (λ (n : ℕ). AllHold (sums_down params nest sums place n)) (sym e) tt)
+pub sums-ended : (params k many : ℕ) (nest : List (AffineForm × AffineForm)) (sums : List Quotient) (place : List Step) (key : ℕ) → k ≡ 0
+    → ((found : Option FailedCondition) → Finds (sums_down params nest sums place key k) found → Finds (sums_down params nest sums place key many) found)
+    → AllHold (sums_down params nest sums place key many)
+sums-ended params k many nest sums place key e whole = whole None (subst (λ (n : ℕ). AllHold (sums_down params nest sums place key n)) (sym e) tt)
 
 pub sum-ended : (params k : ℕ) (nest : List (AffineForm × AffineForm)) (sums : List Quotient) (total : Quotient) → k ≡ 0
     → IsSumFrom (params + k) (drop k nest) (drop k sums) total → IsSumFrom params nest sums total

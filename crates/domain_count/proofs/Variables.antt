@@ -3,7 +3,7 @@ use Rattle.std.proofs.Common.{Bool, true, false, ◌+◌, ◌≡◌, refl, sym, 
 use Rattle.std.specs.Prelude.{◌⊎◌, ◌==◌, if◌then◌else◌}
 use Rattle.std.proofs.Math.IntN.{ℤ, pos, negsuc, ◌+ℤ◌, ◌-ℤ◌, ◌*ℤ◌}
 use Rattle.std.proofs.lemmas.Int.{ints}
-use Rattle.std.proofs.lemmas.List.{get_or_append_left, get_or_push, length-append, length-replicate}
+use Rattle.std.proofs.lemmas.List.{length-append, length-replicate}
 use Rattle.base_laws.proofs.Ring.{zero-mul}
 use Rattle.iolb_model.specs.Form.{AffineForm, dot, form_value}
 use Rattle.affine_form.specs.Rows.{BoundsFit}

@@ -7,6 +7,7 @@ use Rattle.iolb_model.specs.Program.{AffineProgram, IsWellFormed}
 use Rattle.affine_form.specs.Multipliers.{FarkasMultipliers}
 use Rattle.affine_form.specs.Rows.{BoundsFit}
 use Rattle.claims.specs.Claims.{Claim, AllHold, FirstFails, Finds, IsRefusal, numbered}
+use Rattle.claims.specs.declared.key.TheConstants.{SUMS}
 use Rattle.claims.specs.declared.place.Step.{Step}
 use Rattle.claims.specs.declared.refused.No.{No as FailedCondition}
 use Rattle.claims.specs.declared.refused.Refused.{Refused}
@@ -29,7 +30,7 @@ module _ (program : AffineProgram) (nest bounds : List (AffineForm × AffineForm
   pub ranges-stop : (failed : FailedCondition) → found ≡ Some failed → FirstFails (count_claims program nest claims place) failed
   ranges-stop failed is =
       let ranges = numbered (range_claim program nest claims.shown place) 0 nest in
-      first-fails ranges (sums_down (length program.parameters) nest claims.sums place (length nest)) failed (found-is ranges found (Some failed) is ranges-found)
+      first-fails ranges (sums_down (length program.parameters) nest claims.sums place SUMS (length nest)) failed (found-is ranges found (Some failed) is ranges-found)
 
 -- what is known of the sums' part where the ranges hold
 module _ (program : AffineProgram) (nest others : List (AffineForm × AffineForm)) (claims : SumClaims) (sums : List Quotient) (params : ℕ) (place : List Step) (found : Option FailedCondition)
@@ -39,7 +40,7 @@ module _ (program : AffineProgram) (nest others : List (AffineForm × AffineForm
   ranges = numbered (range_claim program nest claims.shown place) 0 nest
 
   abbrev summed : List Claim
-  summed = sums_down (length program.parameters) nest claims.sums place (length nest)
+  summed = sums_down (length program.parameters) nest claims.sums place SUMS (length nest)
 
   ranges-hold : AllHold ranges
   ranges-hold = found-is ranges found None is finds
@@ -51,17 +52,17 @@ module _ (program : AffineProgram) (nest others : List (AffineForm × AffineForm
   }
   count-right (Err refused) h = tt
 
-  pub count-holds : (r : Result Quotient Refused) → OnOk r (AllHold (sums_down params others sums place (length others))) → OnOk r (AllHold (count_claims program nest claims place))
+  pub count-holds : (r : Result Quotient Refused) → OnOk r (AllHold (sums_down params others sums place SUMS (length others))) → OnOk r (AllHold (count_claims program nest claims place))
   count-holds (Ok total) h =
-      AllHold-append ranges summed ranges-hold (transport (λ i. AllHold (sums_down (many i) (same i) (same_sums i) place (length (same i)))) h)
+      AllHold-append ranges summed ranges-hold (transport (λ i. AllHold (sums_down (many i) (same i) (same_sums i) place SUMS (length (same i)))) h)
   count-holds (Err refused) h = tt
 
-  pub count-refused : (r : Result Quotient Refused) → IfErr r (λ refused. IsRefusal (sums_down params others sums place (length others)) refused)
+  pub count-refused : (r : Result Quotient Refused) → IfErr r (λ refused. IsRefusal (sums_down params others sums place SUMS (length others)) refused)
       → IfErr r (λ refused. IsRefusal (count_claims program nest claims place) refused)
   count-refused (Ok total) h = tt
   count-refused (Err Memory) h = tt
   count-refused (Err (No failed)) h =
-      later-fails ranges summed failed ranges-hold (transport (λ i. FirstFails (sums_down (many i) (same i) (same_sums i) place (length (same i))) failed) h)
+      later-fails ranges summed failed ranges-hold (transport (λ i. FirstFails (sums_down (many i) (same i) (same_sums i) place SUMS (length (same i))) failed) h)
 
 -- what is right counts the points
 pub count-counts : (program : AffineProgram) (nest : List (AffineForm × AffineForm)) (claims : SumClaims) (r : Result Quotient Refused) → IsWellFormed program

@@ -76,3 +76,9 @@ CountsPoints program nest poly = (values : List ℤ) → IsAdmitted program valu
 abbrev pub RightClaimsCount : Type 0
 RightClaimsCount = (program : AffineProgram) (nest : List (AffineForm × AffineForm)) (claims : SumClaims) (total : Quotient)
     → IsWellFormed program → BoundsFit (length program.parameters) nest → IsCount program nest claims total → CountsPoints program nest total
+
+-- So does what polynomials of their own sum over a nest's first variables, so many of them, where the nest's ranges are whole.
+abbrev pub FirstVariablesAreCounted : Type 0
+FirstVariablesAreCounted = (program : AffineProgram) (outer : ℕ) (nest : List (AffineForm × AffineForm)) (shown : List FarkasMultipliers) (sums : List Quotient) (total : Quotient)
+    → IsWellFormed program → BoundsFit (length program.parameters) nest → outer ≤ length nest → AreShownBelow program nest shown (length nest)
+    → IsSumFrom (length program.parameters) (take outer nest) sums total → CountsPoints program (take outer nest) total

@@ -43,21 +43,25 @@ SumsBehind params nest sums k =
 abbrev pub HasTotal : ℕ → List (AffineForm × AffineForm) → List Quotient → ℕ → Type 0
 HasTotal params nest sums k = (total : Quotient) × IsSumFrom (params + k) (drop k nest) (drop k sums) total
 
--- the claims about a variable's polynomial
-abbrev pub sum_claims : ℕ → List (AffineForm × AffineForm) → List Quotient → List Step → ℕ → List Claim
-sum_claims params nest sums place k =
-    record { condition = 2; place = member_place place SUMS k; statement = HasDifference (params + k) (sum_at sums k) }
-    ∷ record { condition = 9; place = member_place place SUMS k; statement = SumsBehind params nest sums k }
-    ∷ record { condition = 2; place = member_place place SUMS k; statement = HasTotal params nest sums k }
+-- the claims about a variable's polynomial, which stands in a list under a key
+abbrev pub sum_claims : ℕ → List (AffineForm × AffineForm) → List Quotient → List Step → ℕ → ℕ → List Claim
+sum_claims params nest sums place key k =
+    record { condition = 2; place = member_place place key k; statement = HasDifference (params + k) (sum_at sums k) }
+    ∷ record { condition = 9; place = member_place place key k; statement = SumsBehind params nest sums k }
+    ∷ record { condition = 2; place = member_place place key k; statement = HasTotal params nest sums k }
     ∷ []
 
 -- the claims about the polynomials of the variables before one, from the last of them out
-abbrev pub sums_down : ℕ → List (AffineForm × AffineForm) → List Quotient → List Step → ℕ → List Claim
-sums_down params nest sums place zero = []
-sums_down params nest sums place (suc k) = sum_claims params nest sums place k ++ sums_down params nest sums place k
+abbrev pub sums_down : ℕ → List (AffineForm × AffineForm) → List Quotient → List Step → ℕ → ℕ → List Claim
+sums_down params nest sums place key zero = []
+sums_down params nest sums place key (suc k) = sum_claims params nest sums place key k ++ sums_down params nest sums place key k
+
+-- what is claimed of a nest's polynomials, which stand in a list under a key
+abbrev pub sums_claims : AffineProgram → List (AffineForm × AffineForm) → List Quotient → List Step → ℕ → List Claim
+sums_claims program nest sums place key = sums_down (length program.parameters) nest sums place key (length nest)
 
 -- all claims of a count
 abbrev pub count_claims : AffineProgram → List (AffineForm × AffineForm) → SumClaims → List Step → List Claim
 count_claims program nest claims place =
     numbered (range_claim program nest claims.shown place) 0 nest
-    ++ sums_down (length program.parameters) nest claims.sums place (length nest)
+    ++ sums_claims program nest claims.sums place SUMS

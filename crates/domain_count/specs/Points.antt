@@ -1,6 +1,6 @@
 -- The points of a nest of variables, each of which runs between a lower and an upper form. (Iteration domains in
 -- lexicographic order; Feautrier 1991.)
-use Rattle.std.specs.Prelude.{ℕ, ℤ, List, [], ◌∷◌, ◌++◌, map, length, flat_map}
+use Rattle.std.specs.Prelude.{◌≡◌, ℕ, ℤ, List, [], ◌∷◌, ◌++◌, map, length, take, drop, flat_map}
 use Rattle.iolb_model.specs.Form.{AffineForm, form_value}
 use Rattle.iolb_model.specs.Execution.{range}
 
@@ -16,3 +16,12 @@ points (bounds ∷ nest) before =
 -- how many points a nest has
 abbrev pub count : List (AffineForm × AffineForm) → List ℤ → ℕ
 count nest parameters = length (points nest parameters)
+
+-- the points over a point of a nest's first variables: those that begin with it
+abbrev pub points_over : ℕ → List (AffineForm × AffineForm) → List ℤ → List ℤ → List (List ℤ)
+points_over outer nest before front = map (λ (rest : List ℤ). front ++ rest) (points (drop outer nest) (before ++ front))
+
+-- A nest's points are those over the points of its first variables, so many of them, one after another.
+abbrev pub PointsArePartedByFront : Type 0
+PointsArePartedByFront = (outer : ℕ) (nest : List (AffineForm × AffineForm)) (before : List ℤ)
+    → points nest before ≡ flat_map (points_over outer nest before) (points (take outer nest) before)

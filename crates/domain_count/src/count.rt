@@ -7,10 +7,9 @@ ghost use Rattle.claims.specs.Claims.{AllHold, IsRefusal};
 ghost use Rattle.poly_tree.specs.Expansion.{IsCanonical};
 ghost use Rattle.domain_count.specs.Claims.{FitsCount};
 ghost use Rattle.domain_count.specs.Count.{CountsPoints, IsCount, IsSumFrom, one};
-ghost use Rattle.domain_count.specs.CountClaims.{count_claims, member_place, sums_down};
+ghost use Rattle.domain_count.specs.CountClaims.{count_claims, member_place, sums_claims, sums_down};
 ghost use Rattle.domain_count.specs.Faults.{IsFaultRefusal};
-ghost use Rattle.claims.specs.declared.key.TheConstants.{SUMS};
-ghost use Rattle.iolb_model.specs.declared.limits.TheConstants.{VARIABLES};
+ghost use Rattle.iolb_model.specs.declared.limits.TheConstants.{NEST_VARIABLES, VARIABLES};
 
 use crate::nest::Nest;
 use crate::ranges::{first_not_shown, member_place};
@@ -54,7 +53,34 @@ pub fn check_count(
         return Err(Refused::No(no));
     }
     let params = program.params().len();
-    sum_up(alloc, params, nest.bounds(), sums.sums(), place)
+    sum_up(alloc, params, nest.bounds(), sums.sums(), place, key::SUMS)
+}
+
+/// The polynomial that a list of polynomials gives for variables, where each sums what the variables behind it count. It
+/// counts their points where their ranges are whole, which isn't asked here.
+///
+/// # Errors
+///
+/// As `check_count` at `sums/k`: condition 9, and 2 where an operation passes its limit, with the place handed in, the key
+/// and the variable's number.
+pub fn check_sums(
+    alloc: Global,
+    program: &Program,
+    bounds: &[(Form, Form)],
+    sums: &[Poly],
+    place: &Place,
+    key: u8,
+) -> Result<Poly, Refused>
+    requires few { length bounds.now ≤ NEST_VARIABLES }
+    requires fit { BoundsFit (length program.now.params) bounds.now }
+    requires one_each { length sums.now ≡ length bounds.now }
+    ensures total { IfOk result (λ total. IsSumFrom (length program.now.params) bounds.now sums.now total) }
+    ensures parameters { IfOk result (λ total. IsCanonical (length program.now.params) total.tree) }
+    ensures holds { OnOk result (AllHold (sums_claims (meaning program.now) bounds.now sums.now place.now key)) }
+    ensures refused { IfErr result (λ refused. IsRefusal (sums_claims (meaning program.now) bounds.now sums.now place.now key) refused) }
+{
+    let params = program.params().len();
+    sum_up(alloc, params, bounds, sums, place, key)
 }
 
 /// The sum over all variables, from the last on, of the polynomial 1.
@@ -64,14 +90,15 @@ fn sum_up(
     bounds: &[(Form, Form)],
     sums: &[Poly],
     place: &Place,
+    key: u8,
 ) -> Result<Poly, Refused>
     requires few { params + length bounds.now ≤ VARIABLES }
     requires fit { BoundsFit params bounds.now }
     requires one_each { length sums.now ≡ length bounds.now }
     ensures total { IfOk result (λ total. IsSumFrom params bounds.now sums.now total) }
     ensures parameters { IfOk result (λ total. IsCanonical params total.tree) }
-    ensures holds { OnOk result (AllHold (sums_down params bounds.now sums.now place.now (length bounds.now))) }
-    ensures refused { IfErr result (λ refused. IsRefusal (sums_down params bounds.now sums.now place.now (length bounds.now)) refused) }
+    ensures holds { OnOk result (AllHold (sums_down params bounds.now sums.now place.now key (length bounds.now))) }
+    ensures refused { IfErr result (λ refused. IsRefusal (sums_down params bounds.now sums.now place.now key (length bounds.now)) refused) }
 {
     let mut total = one(alloc)?;
     let mut k = bounds.len();
@@ -80,7 +107,7 @@ fn sum_up(
         let var = (params + k) as u16;
         match summed(alloc, var, &bounds[k], &total, &sums[k]) {
             Ok(outer) => total = outer,
-            Err(fault) => return Err(sum_refusal(alloc, place, k, fault)),
+            Err(fault) => return Err(sum_refusal(alloc, place, key, k, fault)),
         }
     }
     // Its reader says that the polynomial is canonical.
@@ -89,15 +116,15 @@ fn sum_up(
 }
 
 /// The refusal where the summation over a variable fails.
-fn sum_refusal(alloc: Global, place: &Place, k: usize, fault: SumFault) -> Refused
-    ensures { IsFaultRefusal (member_place place.now SUMS k) fault result }
+fn sum_refusal(alloc: Global, place: &Place, key: u8, k: usize, fault: SumFault) -> Refused
+    ensures { IsFaultRefusal (member_place place.now key k) fault result }
 {
     let condition = match fault {
         SumFault::Wide => 2,
         SumFault::Differs => 9,
         SumFault::Memory => return Refused::Memory,
     };
-    match member_place(alloc, place, key::SUMS, k) {
+    match member_place(alloc, place, key, k) {
         Ok(place) => Refused::No(No { condition, place }),
         Err(Memory) => Refused::Memory,
     }

@@ -11,7 +11,7 @@ mod ranges;
 mod summation;
 mod sums;
 
-pub use count::check_count;
+pub use count::{check_count, check_sums};
 pub use nest::Nest;
 pub use ranges::rows_before;
 pub use sums::Sums;

@@ -16,7 +16,7 @@ use Rattle.execution_laws.proofs.Members.{Member, Member-map, Member-flat_map, M
 use Rattle.execution_laws.proofs.Cells.{same_cell-equal, position-Member, position-apart}
 
 -- an element that is there is a member
-Member-get_or : {A : Type 0} (xs : List A) (n : ℕ) (d : A) → n < length xs → Member (get_or xs n d) xs
+pub Member-get_or : {A : Type 0} (xs : List A) (n : ℕ) (d : A) → n < length xs → Member (get_or xs n d) xs
 Member-get_or [] n d h = absurd (omega (arith, h))
 Member-get_or (x ∷ xs) zero d h = inl refl
 Member-get_or (x ∷ xs) (suc n) d h = inr (Member-get_or xs n d (omega (arith, h)))
@@ -59,7 +59,7 @@ Member-placed program parameters statement read values point =
     (Member-enumerate 0 (execution program parameters) point.place (record { statement = statement; values = values }) point.executed)
 
 -- the cell is among the input cells
-Member-input_cells : (program : AffineProgram) (parameters : List ℤ) (statement read : ℕ) (values : List ℤ) → ReadsInput program parameters statement read values
+pub Member-input_cells : (program : AffineProgram) (parameters : List ℤ) (statement read : ℕ) (values : List ℤ) → ReadsInput program parameters statement read values
     → Member (read_cell program parameters statement read values) (input_cells program parameters)
 Member-input_cells program parameters statement read values point =
     let runs : List Instance = execution program parameters in

@@ -49,10 +49,10 @@ last_write-below program parameters runs cell (suc place) writer e =
       by false f later = omega (arith, later f)
 
 module _ (program : AffineProgram) (parameters : List ℤ) where
-  abbrev runs : List Instance
+  abbrev pub runs : List Instance
   runs = execution program parameters
 
-  abbrev cells : List Cell
+  abbrev pub cells : List Cell
   cells = input_cells program parameters
 
   -- a cell that is read, and that nothing writes before, is an input cell
@@ -72,10 +72,10 @@ module _ (program : AffineProgram) (parameters : List ℤ) where
         zero_more n = omega arith
 
   -- the vertex of a source is a vertex, and an instance only where it comes before
-  abbrev IsEarlier : ℕ → ℕ → Type 0
+  abbrev pub IsEarlier : ℕ → ℕ → Type 0
   IsEarlier place vertex = (vertex < length runs + length cells) × (vertex < length runs → vertex < place)
 
-  source-earlier : (place : ℕ) (instance : Instance) (cell : Cell) → slice_get runs place ≡ Some instance → Member cell (read_cells program parameters instance)
+  pub source-earlier : (place : ℕ) (instance : Instance) (cell : Cell) → slice_get runs place ≡ Some instance → Member cell (read_cells program parameters instance)
       → IsEarlier place (vertex_of (length runs) cells (source_of program parameters runs place cell))
   source-earlier place instance cell here read = by (last_write_before program parameters runs cell place) refl where
     by : (o : Option ℕ) → last_write_before program parameters runs cell place ≡ o → IsEarlier place (vertex_of (length runs) cells (source_or o cell))
@@ -88,7 +88,7 @@ module _ (program : AffineProgram) (parameters : List ℤ) where
         (omega (arith, before, slice_get-below runs place instance here), λ h. before)
 
   -- the predecessors of the instance at a place
-  predecessors-at : (place : ℕ) (instance : Instance) → place < length runs → slice_get runs place ≡ Some instance
+  pub predecessors-at : (place : ℕ) (instance : Instance) → place < length runs → slice_get runs place ≡ Some instance
       → predecessors_at (computation_graph program parameters) place ≡ predecessors_of program parameters runs cells (place, instance)
   predecessors-at place instance below here =
       get_or-map (predecessors_of program parameters runs cells) (placed runs) place (0, instance) [] (subst (λ (n : ℕ). place < n) (sym (length-enumerate_from 0 runs)) below)

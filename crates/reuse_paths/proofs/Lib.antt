@@ -1,1 +1,16 @@
 pub mod TreeLemmas
+pub mod MovedForms
+pub mod SharedVertices
+pub mod PairsFound
+pub mod PairCounts
+pub mod NestPoints
+pub mod OpenLeaves
+pub mod ChosenLeaves
+pub mod ReadSources
+pub mod Regions
+pub mod Entries
+pub mod Renamed
+pub mod EntryClaims
+pub mod WalkSides
+pub mod FoundLeaves
+pub mod Arrivals

@@ -1,5 +1,5 @@
 -- Claims of source trees, one after another.
-use Rattle.std.proofs.Common.{◌≡◌, refl, sym, ◌∙◌, ap, subst, ℕ, zero, suc, ◌+◌, ◌<◌, List, [], ◌∷◌, ◌++◌, length, map, get_or, drop, arith, Vec, Global}
+use Rattle.std.proofs.Common.{◌≡◌, ap, subst, ℕ, zero, suc, ◌+◌, ◌<◌, List, [], ◌∷◌, length, map, get_or, drop, arith, Vec, Global}
 use Rattle.std.specs.Prelude.{Some, slice_get}
 use Rattle.std.proofs.lemmas.List.{length-map}
 use Rattle.base_laws.proofs.Lists.{rest_after, there}
@@ -7,13 +7,9 @@ use Rattle.iolb_model.specs.Program.{AffineProgram, Statement as ModelStatement}
 use Rattle.affine_program.specs.Parts.{ProgramParts, IsProgram, access_of, statement_of, meaning}
 use Rattle.affine_program.proofs.Bounds.{limits-at}
 use Rattle.dep_quast.proofs.Fits.{statement-is}
-use Rattle.claims.specs.declared.refused.Refused.{Refused}
-use Rattle.claims.specs.declared.refused.Refused.TheVariants.{No as not_so, Memory}
 use Rattle.dep_quast.specs.declared.quast.Quast.{Quast}
-use Rattle.claims.specs.Claims.{Claim, AllHold, IsRefusal}
 use Rattle.dep_quast.specs.Tree.{SelectionTree, tree_of}
 use Rattle.dep_quast.specs.Truth.{ReadFits, TreeFits, IsTrueTree}
-use Rattle.claims.proofs.Found.{Finds-stop, Finds-go}
 use Rattle.reuse_paths.specs.Quasts.{row_trees, tree_at}
 use Rattle.reuse_paths.specs.Trees.{read_of, RowFits, RowsFit, RowIsTrue, RowsAreTrue}
 
@@ -69,3 +65,36 @@ row-split program s i row q fits below is = subst (λ (l : List Quast). RowFits 
 pub rows-split : (program : AffineProgram) (s : ℕ) (rows : List (Vec Quast Global)) (row : Vec Quast Global) → RowsFit program s (map row_trees (drop s rows)) → s < length rows → row ≡ get_or rows s row
     → RowFits program s 0 (row_trees row) × RowsFit program (suc s) (map row_trees (drop (suc s) rows))
 rows-split program s rows row fits below is = subst (λ (l : List (Vec Quast Global)). RowsFit program s (map row_trees l)) (rest_after rows s row below is) fits
+
+-- the source tree of a read fits, where all do
+row-fits-at : (program : AffineProgram) (statement first read : ℕ) (row : List SelectionTree) (tree : SelectionTree) → RowFits program statement first row
+    → slice_get row read ≡ Some tree → TreeFits program (read_of statement (first + read)) tree
+row-fits-at program statement first read [] tree h e = absurd cc
+row-fits-at program statement first zero (q ∷ row) tree h e =
+    subst (λ (t : SelectionTree). TreeFits program (read_of statement (first + 0)) t) (same q tree e)
+    (subst (λ (n : ℕ). TreeFits program (read_of statement n) q) (plus first) h.0.1) where
+      same : (t u : SelectionTree) → Some t ≡ Some u → t ≡ u
+      same t u p = cc
+
+      plus : (n : ℕ) → n ≡ n + 0
+      plus n = omega arith
+row-fits-at program statement first (suc read) (q ∷ row) tree h e =
+    subst (λ (n : ℕ). TreeFits program (read_of statement n) tree) (shift first read) (row-fits-at program statement (suc first) read row tree h.1 e) where
+      shift : (m n : ℕ) → suc m + n ≡ m + suc n
+      shift m n = omega arith
+
+pub rows-fit-at : (program : AffineProgram) (first statement read : ℕ) (rows : List (List SelectionTree)) (tree : SelectionTree) → RowsFit program first rows
+    → tree_at rows statement read ≡ Some tree → TreeFits program (read_of (first + statement) read) tree
+rows-fit-at program first statement read [] tree h e = absurd cc
+rows-fit-at program first zero read (row ∷ rows) tree h e =
+    subst (λ (n : ℕ). TreeFits program (read_of n read) tree) (plus first)
+    (subst (λ (n : ℕ). TreeFits program (read_of first n) tree) (none read) (row-fits-at program first 0 read row tree h.0 e)) where
+      plus : (n : ℕ) → n ≡ n + 0
+      plus n = omega arith
+
+      none : (n : ℕ) → 0 + n ≡ n
+      none n = omega arith
+rows-fit-at program first (suc statement) read (row ∷ rows) tree h e =
+    subst (λ (n : ℕ). TreeFits program (read_of n read) tree) (shift first statement) (rows-fit-at program (suc first) statement read rows tree h.1 e) where
+      shift : (m n : ℕ) → suc m + n ≡ m + suc n
+      shift m n = omega arith

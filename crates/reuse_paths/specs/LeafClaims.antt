@@ -1,5 +1,5 @@
 -- What is claimed at the leaves of source trees.
-use Rattle.std.specs.Prelude.{ℕ, List}
+use Rattle.std.specs.Prelude.{ℕ, Bool, true, false, List}
 use Rattle.affine_form.specs.Multipliers.{FarkasMultipliers}
 use Rattle.reuse_paths.specs.declared.leaf.Leaf.{Leaf}
 use Rattle.reuse_paths.specs.declared.leaf.Leaf.TheVariants.{Empty, Stop, Credit, Go, Arrive}
@@ -12,6 +12,14 @@ pub data LeafClaim : Type 0 where
   is_credited : ℕ → List FarkasMultipliers → List FarkasMultipliers → LeafClaim
   goes_on : List FarkasMultipliers → List FarkasMultipliers → LeafClaim
   arrives : List FarkasMultipliers → LeafClaim
+
+-- whether it is that a walk stops
+abbrev pub is_stop : LeafClaim → Bool
+is_stop (no_point shown) = false
+is_stop (stops label) = true
+is_stop (is_credited credit rows label) = false
+is_stop (goes_on rows label) = false
+is_stop (arrives equal) = false
 
 -- the claim that the code holds
 abbrev pub claim_of : Leaf → LeafClaim

@@ -3,3 +3,11 @@ pub mod Quasts
 pub mod Trees
 pub mod Reached
 pub mod Walks
+pub mod Pieces
+pub mod DisjointClaims
+pub mod TargetPairs
+pub mod OpenLeaves
+pub mod ReachClaims
+pub mod ReachFits
+pub mod Arrival
+pub mod WalkViews

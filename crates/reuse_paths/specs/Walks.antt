@@ -1,5 +1,5 @@
 -- Walks back along the sources of reads, as plain values.
-use Rattle.std.specs.Prelude.{ℕ, List, map, Option, option_map}
+use Rattle.std.specs.Prelude.{ℕ, ◌+◌, List, length, map, Option, option_map}
 use Rattle.iolb_model.specs.Form.{AffineForm}
 use Rattle.affine_form.specs.Multipliers.{FarkasMultipliers}
 use Rattle.reuse_paths.specs.LeafClaims.{LeafClaim, claim_of}
@@ -15,6 +15,11 @@ use Rattle.reuse_paths.specs.declared.reach.Reach.TheVariants as reaches
 pub data WalkTree : Type 0 where
   take : ℕ → List LeafClaim → WalkTree
   test : AffineForm → WalkTree → WalkTree → WalkTree
+
+-- how many claims at leaves it has
+abbrev pub entry_count : WalkTree → ℕ
+entry_count (take read leaves) = length leaves
+entry_count (test form above below) = entry_count above + entry_count below
 
 -- The instances of a statement from which a walk goes on, and how it does.
 pub record WalkRegion : Type 0 where

@@ -1,5 +1,8 @@
 //! Claims at the leaves of source trees.
 
+ghost use Rattle.std.specs.Prelude.{◌≡◌};
+ghost use Rattle.reuse_paths.specs.LeafClaims.{claim_of, is_stop};
+
 use affine_form::Multipliers;
 
 /// What is claimed at a leaf of a source tree, under the leaf's tests.
@@ -28,4 +31,13 @@ pub enum Leaf {
     Arrive {
         equal: Vec<Multipliers>,
     },
+}
+
+impl Leaf {
+    /// Whether it is claimed that a walk stops there.
+    pub fn is_stop(&self) -> bool
+        ensures { result ≡ is_stop (claim_of self.now) }
+    {
+        matches!(self, Leaf::Stop { .. })
+    }
 }

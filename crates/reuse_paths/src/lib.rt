@@ -1,17 +1,31 @@
-//! What reads of a program reuse: the source trees of all reads, what is claimed at their leaves, and walks back along
-//! them.
+//! What reads of a program reuse: the source trees of all reads, what is claimed at their leaves, walks back along them,
+//! and pieces of footprints.
 #![tactic(auto)]
 
 mod check;
+mod disjoint;
+mod entry_shown;
+pub mod law;
 mod leaf;
+pub mod open_leaves;
 mod piece;
 mod quasts;
 mod reach;
+mod reach_shown;
+mod region;
+mod shared;
+mod target_pairs;
 mod walk;
+mod walk_shown;
+mod walking;
 
 pub use check::check_quasts;
+pub use disjoint::{check_disjoint, disjoint_pieces_are_apart, lists_shown};
 pub use leaf::Leaf;
 pub use piece::{Piece, Target};
 pub use quasts::Quasts;
 pub use reach::{Reach, Spot};
+pub use reach_shown::check_reach;
+pub use target_pairs::has_pairs;
 pub use walk::{Region, Walk};
+pub use walking::Walking;

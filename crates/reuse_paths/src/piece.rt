@@ -3,7 +3,7 @@
 use affine_form::{Form, System};
 
 /// Where the vertices of a piece are: input cells of an array, or instances of a statement, by number.
-#[derive(Debug, Drop)]
+#[derive(Clone, Copy, Debug)]
 pub enum Target {
     Cell(u16),
     Instance(u16),

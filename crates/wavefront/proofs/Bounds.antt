@@ -17,7 +17,7 @@ use Rattle.wavefront.specs.Term.{ColdTerm}
 use Rattle.wavefront.specs.Loads.{footprint_of, HasFootprint, CostsItsCount}
 
 -- a whole number times a denominator, over the denominator
-whole : (z : ℤ) (n d : ℕ) → 1 ≤ d → z ≡ pos n *ℤ pos d → natural (int_div z (pos d)) ≡ n
+pub whole : (z : ℤ) (n d : ℕ) → 1 ≤ d → z ≡ pos n *ℤ pos d → natural (int_div z (pos d)) ≡ n
 whole z n d some e = ap (λ (y : ℤ). natural (int_div y (pos d))) e ∙ mul-div_cancel n some
 
 pub footprint-is : (program : AffineProgram) (term : ColdTerm) (q : Quotient) → IsLegal q → CountsPoints program term.nest q → TermsHaveTheValue

@@ -24,7 +24,8 @@ use Rattle.dep_quast.specs.Context.{ReadOf}
 use Rattle.dep_quast.specs.Tree.{Leaf as TreeLeaf, source, input as input_leaf, empty, blank, SelectionTree, leaf, test, leaf_at}
 use Rattle.dep_quast.specs.Truth.{IsTrueLeaf, source_at}
 use Rattle.reuse_paths.specs.LeafClaims.{LeafClaim, no_point, stops, is_credited, goes_on, arrives}
-use Rattle.wavefront.specs.Leaves.{OpenLeaf, yes_at, no_at, open_leaf, open_leaves, IsClosed, leaf_claim, leaves_claims}
+use Rattle.reuse_paths.specs.OpenLeaves.{OpenLeaf, is_input, form_at, no_at, open_leaf, open_leaves}
+use Rattle.wavefront.specs.Leaves.{IsClosed, leaf_claim, leaves_claims}
 
 -- what is claimed at the leaves of two rows of leaves is what is claimed at each
 claims-append : (vars : ℕ) (rows : List AffineForm) (place : List Step) (index : ℕ) (xs ys : List OpenLeaf) (entries : List LeafClaim) → length xs ≤ length entries
@@ -40,14 +41,14 @@ claims-append vars rows place index (x ∷ xs) ys (e ∷ entries) le =
       first = record { condition = 2; place = place ++ Index index ∷ []; statement = IsFew (length (rows ++ x.tests)) }
 
       second : Claim
-      second = leaf_claim (place ++ Index index ∷ []) (record { vars = vars; rows = rows ++ x.tests }) x.is_input e
+      second = leaf_claim (place ++ Index index ∷ []) (record { vars = vars; rows = rows ++ x.tests }) (is_input x.origin) e
 
       shift : (m n : ℕ) → suc m + n ≡ m + suc n
       shift m n = omega arith
 
 -- the row of a test at a point is met where the test goes this way at the instance
 yes-met : (vars : ℕ) (forms : List AffineForm) (form : AffineForm) (at there : List ℤ) → values_at forms at ≡ there → pos 0 ≤ℤ form_value form there
-    → pos 0 ≤ℤ form_value (yes_at vars forms form) at
+    → pos 0 ≤ℤ form_value (form_at vars forms form) at
 yes-met vars forms form at there e h =
     subst (λ (z : ℤ). pos 0 ≤ℤ z) (sym (form_value-widened vars (substitution form forms) at ∙ form_value-substitution form forms at ∙ ap (form_value form) e)) h
 
@@ -87,21 +88,21 @@ module _ (program : AffineProgram) (reader : ReadOf) (parameters : List ℤ) (wh
       → source_at program parameters reader where_ values ≡ input (read_cell program parameters reader.statement reader.read values)
   tree-input index tests (leaf chosen) entries le h met true_leaf = leaf-input index tests chosen entries le h met true_leaf
   tree-input index tests (test form above below) entries le h met true_leaf =
-      let xs : List OpenLeaf = open_leaves vars forms (tests ++ yes_at vars forms form ∷ []) above in
+      let xs : List OpenLeaf = open_leaves vars forms (tests ++ form_at vars forms form ∷ []) above in
       let ys : List OpenLeaf = open_leaves vars forms (tests ++ no_at vars forms form ∷ []) below in
       let both : length (xs ++ ys) ≡ length xs + length ys = length-append xs ys in
       let parts : AllHold (leaves_claims vars rows place index xs entries ++ leaves_claims vars rows place (index + length xs) ys (drop (length xs) entries)) =
       subst AllHold (claims-append vars rows place index xs ys entries (omega (arith, le, both))) h in
       choose (form_value form (parameters ++ values)) refl true_leaf
-      (λ more t. tree-input index (tests ++ yes_at vars forms form ∷ []) above entries (omega (arith, le, both))
+      (λ more t. tree-input index (tests ++ form_at vars forms form ∷ []) above entries (omega (arith, le, both))
       (AllHold-left (leaves_claims vars rows place index xs entries) (leaves_claims vars rows place (index + length xs) ys (drop (length xs) entries)) parts) more t)
       (λ more t. tree-input (index + length xs) (tests ++ no_at vars forms form ∷ []) below (drop (length xs) entries) (omega (arith, le, both, length-drop (length xs) entries))
       (AllHold-right (leaves_claims vars rows place index xs entries) (leaves_claims vars rows place (index + length xs) ys (drop (length xs) entries)) parts) more t) where
         choose : (v : ℤ) → v ≡ form_value form (parameters ++ values) → IsTrueLeaf program parameters reader where_ values (if is_below_zero v then leaf_at below (parameters ++ values) else leaf_at above (parameters ++ values))
-            → (IsMet (tests ++ yes_at vars forms form ∷ []) at → IsTrueLeaf program parameters reader where_ values (leaf_at above (parameters ++ values))
+            → (IsMet (tests ++ form_at vars forms form ∷ []) at → IsTrueLeaf program parameters reader where_ values (leaf_at above (parameters ++ values))
             → source_at program parameters reader where_ values ≡ input (read_cell program parameters reader.statement reader.read values))
             → (IsMet (tests ++ no_at vars forms form ∷ []) at → IsTrueLeaf program parameters reader where_ values (leaf_at below (parameters ++ values))
             → source_at program parameters reader where_ values ≡ input (read_cell program parameters reader.statement reader.read values))
             → source_at program parameters reader where_ values ≡ input (read_cell program parameters reader.statement reader.read values)
-        choose (pos n) e t up down = up (All-append (λ (row : AffineForm). pos 0 ≤ℤ form_value row at) tests (yes_at vars forms form ∷ []) met (yes-met vars forms form at (parameters ++ values) there (omega (arith, ints)), tt)) t
+        choose (pos n) e t up down = up (All-append (λ (row : AffineForm). pos 0 ≤ℤ form_value row at) tests (form_at vars forms form ∷ []) met (yes-met vars forms form at (parameters ++ values) there (omega (arith, ints)), tt)) t
         choose (negsuc n) e t up down = down (All-append (λ (row : AffineForm). pos 0 ≤ℤ form_value row at) tests (no_at vars forms form ∷ []) met (no-met vars forms form at (parameters ++ values) there (omega (arith, ints)), tt)) t

@@ -1,8 +1,9 @@
 -- Cold terms cost their count.
-use Rattle.std.proofs.Common.{◌≡◌, refl, sym, ◌∙◌, ap, subst, ℕ, ◌≤◌, List, [], ◌∷◌, ◌++◌, length, map, arith}
+use Rattle.std.proofs.Common.{sym, subst, ℕ, ◌≤◌, List, [], ◌∷◌, ◌++◌, length, map, arith}
 use Rattle.std.specs.List.{AllByRecursion, IsDistinct}
 use Rattle.std.proofs.Math.IntN.{ℤ}
 use Rattle.std.proofs.lemmas.List.{length-map}
+use Rattle.std.proofs.lemmas.Simd.{map-map}
 use Rattle.base_laws.proofs.Lists.{All-weaken, All-map}
 use Rattle.iolb_model.specs.Form.{AffineForm}
 use Rattle.iolb_model.specs.Path.{PathStep, row_path}
@@ -23,24 +24,19 @@ use Rattle.affine_form.proofs.Meaning.{values-front, within_rows-says}
 use Rattle.affine_program.specs.Domain.{path_of}
 use Rattle.dep_quast.specs.Tree.{SelectionTree}
 use Rattle.dep_quast.specs.Truth.{IsTrueTree}
-use Rattle.dep_quast.proofs.Points.{within-length, holds-there}
+use Rattle.dep_quast.proofs.Points.{holds-there}
 use Rattle.dep_quast.proofs.Shown.{goals-met, within_rows-few}
 use Rattle.domain_count.specs.Points.{points}
-use Rattle.wavefront.specs.Term.{ColdTerm, nest_variables, nest_system, instance_point, inside_goals}
+use Rattle.wavefront.specs.Term.{ColdTerm, nest_variables, nest_system, instance_point, inside_goals, cell_forms}
 use Rattle.wavefront.specs.Loads.{ColdFits, ColdTermsAreLoaded, instance_values, all_instances, footprint_of}
 use Rattle.claims.specs.Claims.{Claim, AllHold}
 use Rattle.claims.proofs.Laws.{AllHold-left, AllHold-right}
 use Rattle.wavefront.specs.Leaves.{inside_claims, term_leaves}
-use Rattle.wavefront.specs.Inverse.{CellsAreUndone}
 use Rattle.wavefront.specs.ColdClaims.{matrix_claims, instance_claims}
-use Rattle.wavefront.proofs.MatrixClaims.{hold-undone}
-use Rattle.wavefront.proofs.NestPoints.{points-within, points-differ, nest-met}
+use Rattle.wavefront.proofs.InverseClaims.{hold-undone}
+use Rattle.reuse_paths.proofs.NestPoints.{points-within, points-long, points-differ, nest-met}
 use Rattle.wavefront.proofs.ColdLeaves.{tree-input}
-use Rattle.wavefront.proofs.ColdCells.{instance-at, cells-differ}
-
-map-map : {A B C : Type 0} (f : A → B) (g : B → C) (xs : List A) → map g (map f xs) ≡ map (λ x. g (f x)) xs
-map-map f g [] = refl
-map-map f g (x ∷ xs) = ap (λ l. g (f x) ∷ l) (map-map f g xs)
+use Rattle.wavefront.proofs.ColdCells.{CellsAreUndone, instance-at, cells-differ}
 
 module _ (program : AffineProgram) (place : List Step) (tree : SelectionTree) (term : ColdTerm) (formed : IsWellFormed program) (fits : ColdFits program tree term)
     (true_tree : IsTrueTree program term.reader tree) (holds : AllHold (instance_claims program place tree term)) (values : List ℤ) (admitted : IsAdmitted program values) where
@@ -57,7 +53,7 @@ module _ (program : AffineProgram) (place : List Step) (tree : SelectionTree) (t
       (AllHold-left (inside_claims program place term ++ term_leaves program place tree term) matrix holds)
 
   holds-undone : CellsAreUndone program term
-  holds-undone = hold-undone program place term (AllHold-right (inside_claims program place term ++ term_leaves program place tree term) matrix holds)
+  holds-undone = hold-undone term.matrix term.scale (length program.parameters) (length term.nest) (cell_forms program term) place (AllHold-right (inside_claims program place term ++ term_leaves program place tree term) matrix holds)
 
   -- a point's instance reads an input
   reads : (u : List ℤ) → IsWithin (map step_of term.nest) values u → ReadsInput program values term.reader.statement term.reader.read (instance_values term values u)
@@ -89,10 +85,9 @@ module _ (program : AffineProgram) (place : List Step) (tree : SelectionTree) (t
       (All-weaken (λ (u : List ℤ). IsWithin (map step_of term.nest) values u) (λ (u : List ℤ). ReadsInput program values term.reader.statement term.reader.read (instance_values term values u)) (points term.nest values) reads (points-within term.nest values))
 
   pub all-differ : IsDistinct same_cell (map (read_cell program values term.reader.statement term.reader.read) (all_instances term values))
-  all-differ = subst (IsDistinct same_cell) (sym (map-map (instance_values term values) (read_cell program values term.reader.statement term.reader.read) (points term.nest values)))
+  all-differ = subst (IsDistinct same_cell) (sym (map-map (read_cell program values term.reader.statement term.reader.read) (instance_values term values) (points term.nest values)))
       (cells-differ program term values admitted.each fits.parts.scale holds-undone (points term.nest values) (points-differ term.nest values)
-      (All-weaken (λ (u : List ℤ). IsWithin (map step_of term.nest) values u) (λ (u : List ℤ). length u ≡ length term.nest) (points term.nest values)
-      (λ u h. within-length (map step_of term.nest) values u h ∙ length-map term.nest step_of) (points-within term.nest values)))
+      (points-long term.nest values))
 
 pub cold-terms-loaded : ColdTermsAreLoaded
 cold-terms-loaded program place tree term formed fits true_tree holds = (

@@ -1,11 +1,9 @@
--- That different points of a nest read different cells, by a scaled inverse.
-use Rattle.std.specs.Prelude.{ℕ, ℤ, List, map, length, take, drop, ◌*◌}
+-- That different points of a nest have different values of forms, by a scaled inverse.
+use Rattle.std.specs.Prelude.{ℕ, ℤ, List, map, take, drop, ◌*◌}
 use Rattle.std.specs.List.{range_with_len}
 use Rattle.iolb_model.specs.Form.{AffineForm}
-use Rattle.iolb_model.specs.Program.{AffineProgram}
 use Rattle.affine_form.specs.Matrix.{IntegerMatrix}
 use Rattle.execution_laws.specs.Inverse.{IsScaledInverse}
-use Rattle.wavefront.specs.Term.{ColdTerm, cell_forms}
 
 -- a matrix's rows
 abbrev pub matrix_rows : IntegerMatrix → List (List ℤ)
@@ -15,10 +13,6 @@ matrix_rows matrix = map (λ row. take matrix.columns (drop (row * matrix.column
 abbrev pub coefficients_past : ℕ → List AffineForm → List (List ℤ)
 coefficients_past parameters forms = map (λ (form : AffineForm). drop parameters form.coefficients) forms
 
--- the coefficients of the nest's variables in the cell that is read
-abbrev pub cell_coefficients : AffineProgram → ColdTerm → List (List ℤ)
-cell_coefficients program term = coefficients_past (length program.parameters) (cell_forms program term)
-
--- the matrix turns the subscripts back into the scale times the nest's variables (condition 12)
-abbrev pub CellsAreUndone : AffineProgram → ColdTerm → Type 0
-CellsAreUndone program term = IsScaledInverse term.scale (length term.nest) (matrix_rows term.matrix) (cell_coefficients program term)
+-- a matrix turns forms back into the scale times the variables past the parameters, so many of them (condition 12)
+abbrev pub AreUndone : IntegerMatrix → ℕ → ℕ → ℕ → List AffineForm → Type 0
+AreUndone matrix scale parameters size forms = IsScaledInverse scale size (matrix_rows matrix) (coefficients_past parameters forms)

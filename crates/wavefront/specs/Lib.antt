@@ -1,8 +1,15 @@
 pub mod Term
 pub mod Leaves
 pub mod Inverse
+pub mod InverseClaims
 pub mod ColdClaims
 pub mod Loads
 pub mod View
 pub mod Columns
 pub mod Waves
+pub mod FrontTerm
+pub mod Fronts
+pub mod FrontClaims
+pub mod FrontFits
+pub mod ColdPieces
+pub mod EdgeViews

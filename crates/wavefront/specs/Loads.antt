@@ -1,5 +1,5 @@
 -- What valid cold terms cost.
-use Rattle.std.specs.Prelude.{◌≡◌, ℕ, ◌*◌, ◌≤◌, ℤ, List, [], ◌++◌, map, length, ⊤}
+use Rattle.std.specs.Prelude.{◌≡◌, ℕ, ◌*◌, ◌≤◌, ℤ, List, [], ◌++◌, map, length}
 use Rattle.std.specs.List.{AllByRecursion, IsDistinct}
 use Rattle.iolb_model.specs.declared.game.Move.{Move}
 use Rattle.iolb_model.specs.Program.{AffineProgram, IsWellFormed}
@@ -15,18 +15,13 @@ use Rattle.affine_form.specs.Rows.{BoundsFit, IsSmallOver}
 use Rattle.affine_program.specs.Domain.{depth_of}
 use Rattle.claims.specs.Claims.{AllHold}
 use Rattle.dep_quast.specs.Context.{reference_of, variables_at}
-use Rattle.dep_quast.specs.Tree.{SelectionTree, leaf, test}
+use Rattle.dep_quast.specs.Tree.{SelectionTree}
 use Rattle.dep_quast.specs.Truth.{ReadFits, IsTrueTree}
 use Rattle.domain_count.specs.Points.{points, count}
 use Rattle.wavefront.specs.Term.{ColdTerm, nest_variables, instance_point}
-use Rattle.wavefront.specs.Leaves.{open_leaves}
+use Rattle.reuse_paths.specs.OpenLeaves.{open_leaves, TestsFit}
 use Rattle.wavefront.specs.ColdClaims.{instance_claims}
 use Rattle.iolb_model.specs.declared.limits.TheConstants.{NEST_VARIABLES}
-
--- a tree's tests are over so many variables
-abbrev pub TestsFit : ℕ → SelectionTree → Type 0
-TestsFit vars (leaf chosen) = ⊤
-TestsFit vars (test form above below) = IsSmallOver vars form × TestsFit vars above × TestsFit vars below
 
 -- A cold term fits a program: what its numbers name is there, its forms are over the parameters and the nest's variables,
 -- and each list has the length called for.

@@ -10,6 +10,8 @@ ghost use Rattle.domain_count.specs.Count.{IsCount, CountsPoints};
 ghost use Rattle.poly_tree.specs.Expansion.{IsCanonical};
 ghost use Rattle.poly_tree.specs.Printed.{polynomial_of};
 ghost use Rattle.reuse_paths.specs.Quasts.{tree_for, trees_of};
+ghost use Rattle.reuse_paths.specs.Pieces.{AreCovered};
+ghost use Rattle.wavefront.specs.ColdPieces.{LeavesAreFew, cold_pieces};
 ghost use Rattle.wavefront.specs.ColdClaims.{cold_claims, instance_claims};
 ghost use Rattle.wavefront.specs.Loads.{ColdFits, IsSoundCold, footprint_of};
 ghost use Rattle.wavefront.specs.View.{FitsCold, term_of};
@@ -17,6 +19,7 @@ ghost use Rattle.wavefront.specs.View.{FitsCold, term_of};
 use crate::cold::Cold;
 use crate::cold_shown::{cells_undone, inside_shown, tree_shown};
 use crate::law::cold_terms_are_loaded;
+use crate::pieces::cold_pieces_cover;
 use affine_form::Memory;
 use affine_program::Program;
 use claims::{No, Place, Refused};
@@ -32,7 +35,8 @@ use std::alloc::Global;
 ///
 /// After `Ok` the term is sound: at all admitted parameter values, of any size, each point of the nest has an instance
 /// whose read has an input cell as its source, and different points have different cells. These cells are its footprint:
-/// every complete pebbling (Hong and Kung 1981) makes at least as many loads of them as the count.
+/// every complete pebbling (Hong and Kung 1981) makes at least as many loads of them as the count. The term's pieces
+/// cover it.
 ///
 /// # Errors
 ///
@@ -56,6 +60,8 @@ pub fn check_cold(
     ensures holds { OnOk result (AllHold (cold_claims (meaning program.now) place.now (tree_for (trees_of quasts.now) (term_of term.now).reader) (term_of term.now))) }
     ensures sound { OnOk result (IsSoundCold (meaning program.now) (term_of term.now)) }
     ensures footprint { IfOk result (λ poly. IsFootprintOf (meaning program.now) (cold (polynomial_of poly)) (footprint_of (meaning program.now) (term_of term.now))) }
+    ensures few { OnOk result (LeavesAreFew (meaning program.now) (tree_for (trees_of quasts.now) (term_of term.now).reader) (term_of term.now)) }
+    ensures covered { OnOk result (AreCovered (meaning program.now) (footprint_of (meaning program.now) (term_of term.now)) (cold_pieces (meaning program.now) (tree_for (trees_of quasts.now) (term_of term.now).reader) (term_of term.now))) }
     ensures refused { IfErr result (λ refused. IsRefusal (cold_claims (meaning program.now) place.now (tree_for (trees_of quasts.now) (term_of term.now).reader) (term_of term.now)) refused) }
 {
     let Some(quast) = quasts.tree(term.statement, term.read) else {
@@ -65,6 +71,7 @@ pub fn check_cold(
     let _params = program.params();
     let _den = count.den();
     cold_terms_are_loaded();
+    cold_pieces_cover();
     terms_have_the_value();
     match claims_shown(alloc, program, quast, term, place) {
         Ok(None) => Ok(count),

@@ -6,25 +6,26 @@ ghost use Rattle.affine_form.specs.System.{AllOver};
 ghost use Rattle.affine_program.specs.Parts.{meaning};
 ghost use Rattle.claims.specs.Claims.{Finds};
 ghost use Rattle.dep_quast.specs.Tree.{tree_of};
-ghost use Rattle.wavefront.specs.ColdClaims.{entry_place, matrix_claims};
-ghost use Rattle.wavefront.specs.Leaves.{OpenLeaf as open_leaf, inside_claims, open_leaves, term_leaves};
+ghost use Rattle.reuse_paths.specs.OpenLeaves.{OpenLeaf as open_leaf, open_leaves};
+ghost use Rattle.wavefront.specs.ColdClaims.{matrix_claims};
+ghost use Rattle.wavefront.specs.Leaves.{inside_claims, term_leaves};
 ghost use Rattle.wavefront.specs.Loads.{ColdFits, TermFits};
 ghost use Rattle.wavefront.specs.Term.{instance_point, nest_variables};
 ghost use Rattle.wavefront.specs.View.{term_of};
 
 use crate::cold::Cold;
 use crate::instance::{cell_of, instance_of, variables};
-use crate::inverse::first_difference;
+use crate::inverse_shown::inverse_shown;
 use crate::leaves_shown::leaves_shown;
-use crate::open_leaves::{OpenLeaf, push_open_leaves};
 use affine_form::Memory;
 use affine_program::Program;
-use claims::key::{INSIDE, INVERSE, LEAVES, MATRIX};
-use claims::{No, Place, Step, refusal};
+use claims::key::{INSIDE, LEAVES};
+use claims::{No, Place, Step};
 use dep_quast::Quast;
 use dep_quast::claims_shown::goals_shown;
 use dep_quast::point_rows::domain_rows;
 use domain_count::rows_before;
+use reuse_paths::open_leaves::{OpenLeaf, push_open_leaves};
 use std::alloc::Global;
 
 /// Whether the instances are shown to be in their statement's domain.
@@ -77,7 +78,7 @@ pub(crate) fn tree_shown(
 }
 
 /// The leaves of the read's source tree that aren't empty.
-fn leaves_of(
+pub(crate) fn leaves_of(
     alloc: Global,
     program: &Program,
     quast: &Quast,
@@ -108,26 +109,5 @@ pub(crate) fn cells_undone(
     let cell = cell_of(alloc, program, term)?;
     let params = program.params().len();
     let size = term.nest.bounds().len();
-    let inverse = &term.inverse;
-    match first_difference(
-        &inverse.matrix,
-        cell.as_slice(),
-        params,
-        inverse.scale,
-        size,
-    ) {
-        Some((row, col)) => entry_failed(alloc, place, row, col),
-        None => Ok(None),
-    }
-}
-
-/// The refusal by condition 12 at an entry of the product of the matrix with the subscripts.
-fn entry_failed(alloc: Global, place: &Place, row: usize, col: usize) -> Result<Option<No>, Memory>
-    ensures { IfOk result (λ found. found ≡ Some (record { condition = 12; place = entry_place place.now row col })) }
-{
-    let inverse = place.within(alloc, Step::Key(INVERSE))?;
-    let matrix = inverse.within(alloc, Step::Key(MATRIX))?;
-    let row = matrix.within(alloc, Step::Index(row as u64))?;
-    let entry = row.within(alloc, Step::Index(col as u64))?;
-    refusal(alloc, 12, &entry)
+    inverse_shown(alloc, &term.inverse, cell.as_slice(), params, size, place)
 }

@@ -2,13 +2,14 @@
 
 ghost use Rattle.std.specs.Prelude.{◌≡◌, ◌≤◌, length, IfOk, ◌+◌};
 ghost use Rattle.std.specs.List.{AllByRecursion};
+ghost use Rattle.affine_form.specs.Form.{variables, IsSmallForm};
 ghost use Rattle.affine_form.specs.Rows.{IsSmallOver, put_in};
 ghost use Rattle.affine_program.specs.Parts.{meaning, IsProgram};
 ghost use Rattle.dep_quast.specs.Context.{variables_at};
 ghost use Rattle.wavefront.specs.Term.{instance_point, cell_forms, nest_variables};
 ghost use Rattle.wavefront.specs.Loads.{TermFits};
 ghost use Rattle.wavefront.specs.View.{term_of};
-ghost use Rattle.iolb_model.specs.declared.limits.TheConstants.{VARIABLES, PARAMETERS, NEST_VARIABLES};
+ghost use Rattle.iolb_model.specs.declared.limits.TheConstants.{VARIABLES, PARAMETERS, NEST_VARIABLES, PUT_SIZE};
 
 use crate::cold::Cold;
 use affine_form::{Form, Memory, put, variables_from};
@@ -46,7 +47,9 @@ pub(crate) fn instance_of(
 /// The cell that the instance reads, by its subscripts.
 pub(crate) fn cell_of(alloc: Global, program: &Program, term: &Cold) -> Result<Vec<Form>, Memory>
     requires { TermFits (meaning program.now) (term_of term.now) }
-    ensures { IfOk result (λ forms. forms.items ≡ cell_forms (meaning program.now) (term_of term.now)) }
+    ensures cell { IfOk result (λ forms. forms.items ≡ cell_forms (meaning program.now) (term_of term.now)) }
+    ensures within { IfOk result (λ forms. AllByRecursion (λ form. variables form ≤ nest_variables (meaning program.now) (term_of term.now)) forms.items) }
+    ensures small { IfOk result (λ forms. AllByRecursion (IsSmallForm PUT_SIZE) forms.items) }
 {
     let vars = variables(program, term);
     let point = instance_of(alloc, program, term)?;
@@ -59,12 +62,19 @@ pub(crate) fn cell_of(alloc: Global, program: &Program, term: &Cold) -> Result<V
 }
 
 /// Forms with forms put in for their variables.
-fn put_all(alloc: Global, vars: usize, forms: &[Form], point: &[Form]) -> Result<Vec<Form>, Memory>
+pub(crate) fn put_all(
+    alloc: Global,
+    vars: usize,
+    forms: &[Form],
+    point: &[Form],
+) -> Result<Vec<Form>, Memory>
     requires few { vars ≤ VARIABLES }
     requires few_forms { length point.now ≤ VARIABLES }
     requires over { AllByRecursion (IsSmallOver (length point.now)) forms.now }
     requires point_over { AllByRecursion (IsSmallOver vars) point.now }
-    ensures { IfOk result (λ all. all.items ≡ put_in point.now forms.now) }
+    ensures all { IfOk result (λ all. all.items ≡ put_in point.now forms.now) }
+    ensures within { IfOk result (λ all. AllByRecursion (λ form. variables form ≤ vars) all.items) }
+    ensures small { IfOk result (λ all. AllByRecursion (IsSmallForm PUT_SIZE) all.items) }
 {
     let mut all = Vec::new(alloc);
     for form in forms {

@@ -6,16 +6,17 @@ ghost use Rattle.affine_form.specs.System.{AllOver};
 ghost use Rattle.dep_quast.specs.Claims.{IsFew};
 ghost use Rattle.claims.specs.Claims.{Finds};
 ghost use Rattle.reuse_paths.specs.LeafClaims.{claim_of};
-ghost use Rattle.wavefront.specs.Leaves.{OpenLeaf as open_leaf, leaf_claim, leaves_claims};
+ghost use Rattle.reuse_paths.specs.OpenLeaves.{OpenLeaf as open_leaf, is_input};
+ghost use Rattle.wavefront.specs.Leaves.{leaf_claim, leaves_claims};
 ghost use Rattle.iolb_model.specs.declared.limits.TheConstants.{VARIABLES};
 
-use crate::open_leaves::OpenLeaf;
 use affine_form::{Form, Memory};
 use claims::{No, Place, Step, refusal};
 use dep_quast::claims_shown::system_shown;
 use dep_quast::lists::followed_by;
 use iolb_model::limits;
 use reuse_paths::Leaf;
+use reuse_paths::open_leaves::OpenLeaf;
 use std::alloc::Global;
 
 /// Whether what is claimed at leaves is shown, each by its entry: the first that isn't, by its place in the list at this
@@ -57,7 +58,7 @@ fn leaf_shown(
     requires rows_over { AllOver vars rows.now }
     requires leaf_over { AllOver vars leaf.now.tests }
     ensures { IfOk result (λ found. Finds (record { condition = 2; place = place.now; statement = IsFew (length (rows.now ++ leaf.now.tests)) }
-        ∷ leaf_claim place.now (record { vars = vars; rows = rows.now ++ leaf.now.tests }) leaf.now.is_input (claim_of entry.now) ∷ []) found) }
+        ∷ leaf_claim place.now (record { vars = vars; rows = rows.now ++ leaf.now.tests }) (is_input leaf.now.origin) (claim_of entry.now) ∷ []) found) }
 {
     let front = followed_by(alloc, Vec::new(alloc), rows)?;
     let all = followed_by(alloc, front, leaf.tests.as_slice())?;
@@ -67,7 +68,7 @@ fn leaf_shown(
     if all.len() > limits::ROWS {
         return refusal(alloc, 2, place);
     }
-    if !(leaf.is_input && matches!(entry, Leaf::Stop { .. })) {
+    if !(leaf.is_input() && matches!(entry, Leaf::Stop { .. })) {
         return refusal(alloc, 11, place);
     }
     Ok(None)

@@ -4,14 +4,21 @@
 mod checker;
 mod cold;
 mod cold_shown;
+mod edge_leaves;
+mod edges_shown;
 mod front;
+mod front_checker;
+mod front_shown;
 mod instance;
 mod inverse;
+mod inverse_shown;
 pub mod law;
 mod leaves_shown;
-mod open_leaves;
+mod pieces;
 pub mod waves;
 
 pub use checker::check_cold;
 pub use cold::{Cold, Inverse};
 pub use front::Wavefront;
+pub use front_checker::check_wavefront;
+pub use pieces::{cold_pieces, cold_pieces_cover};

@@ -23,7 +23,7 @@ levels_between_shown-requires-clause-enough c =
     let each : many ≡ length (g x) =
     sym (flat-many (λ after. map (write_between program reader c.args.rows.now claim x after) (levels program x reader.statement)) (level_count program x reader.statement)
     (λ k. length-levels (write_between program reader c.args.rows.now claim x k) (level_count program x reader.statement)) 0 (level_count program claim.statement x)) in
-    omega (arith, each, writers-first g xs c.args.place.now c.loop-writer.writer-index c.loop-writer.at many c.args.claimed.now.between.now None c.loop-writer-test.true each c.loop-writer.invariant.room)
+    omega (arith, each, writers-first g xs 6 c.args.place.now c.loop-writer.writer-index c.loop-writer.at many c.args.claimed.now.between.now None c.loop-writer-test.true each c.loop-writer.invariant.room)
 
 pub returns-in-Some : goal.returns-in-Some
 returns-in-Some c =
@@ -38,12 +38,12 @@ returns-in-Some c =
     let each : many ≡ length (g x) =
     sym (flat-many (λ after. map (write_between program reader c.args.rows.now claim x after) (levels program x reader.statement)) (level_count program x reader.statement)
     (λ k. length-levels (write_between program reader c.args.rows.now claim x k) (level_count program x reader.statement)) 0 (level_count program claim.statement x)) in
-    let h : Finds (claims_from c.args.place.now c.loop-writer.at (g x) c.args.claimed.now.between.now) c.in_ok-found.found =
-    subst (λ (rows : List AffineForm). Finds (claims_from c.args.place.now c.loop-writer.at (flat_map (λ after. map (before_reader program reader x (after_source program reader x rows claim after))
+    let h : Finds (claims_from 6 c.args.place.now c.loop-writer.at (g x) c.args.claimed.now.between.now) c.in_ok-found.found =
+    subst (λ (rows : List AffineForm). Finds (claims_from 6 c.args.place.now c.loop-writer.at (flat_map (λ after. map (before_reader program reader x (after_source program reader x rows claim after))
     (levels program x reader.statement)) (levels program claim.statement x)) c.args.claimed.now.between.now) c.in_ok-found.found)
     (c.as_slice.ensures.value ∙ c.in_ok-written.ensures.rows) c.in_ok-found.ensures in
     c.loop-writer.invariant.found (Some c.in-Some.no)
-    (writers-stop g xs c.args.place.now c.loop-writer.writer-index c.loop-writer.at many c.args.claimed.now.between.now c.in_ok-found.found c.loop-writer-test.true each c.loop-writer.invariant.room
+    (writers-stop g xs 6 c.args.place.now c.loop-writer.writer-index c.loop-writer.at many c.args.claimed.now.between.now c.in_ok-found.found c.loop-writer-test.true each c.loop-writer.invariant.room
     c.in-Some.no c.in-Some.is h)
 
 pub loop-writer-preserved : goal.loop-writer-preserved
@@ -60,14 +60,14 @@ loop-writer-preserved c =
     sym (flat-many (λ after. map (write_between program reader c.args.rows.now claim x after) (levels program x reader.statement)) (level_count program x reader.statement)
     (λ k. length-levels (write_between program reader c.args.rows.now claim x k) (level_count program x reader.statement)) 0 (level_count program claim.statement x)) in
     let counted : c.levels_between-at.result ≡ length (g x) = c.levels_between-at.ensures.many ∙ each in
-    let h : Finds (claims_from c.args.place.now c.loop-writer.at (g x) c.args.claimed.now.between.now) c.in_ok-found.found =
-    subst (λ (rows : List AffineForm). Finds (claims_from c.args.place.now c.loop-writer.at (flat_map (λ after. map (before_reader program reader x (after_source program reader x rows claim after))
+    let h : Finds (claims_from 6 c.args.place.now c.loop-writer.at (g x) c.args.claimed.now.between.now) c.in_ok-found.found =
+    subst (λ (rows : List AffineForm). Finds (claims_from 6 c.args.place.now c.loop-writer.at (flat_map (λ after. map (before_reader program reader x (after_source program reader x rows claim after))
     (levels program x reader.statement)) (levels program claim.statement x)) c.args.claimed.now.between.now) c.in_ok-found.found)
     (c.as_slice.ensures.value ∙ c.in_ok-written.ensures.rows) c.in_ok-found.ensures in
     record {
-      room = writers-room g xs c.args.place.now c.loop-writer.writer-index c.loop-writer.at c.levels_between-at.result c.args.claimed.now.between.now c.in_ok-found.found c.loop-writer-test.true counted c.loop-writer.invariant.room;
+      room = writers-room g xs 6 c.args.place.now c.loop-writer.writer-index c.loop-writer.at c.levels_between-at.result c.args.claimed.now.between.now c.in_ok-found.found c.loop-writer-test.true counted c.loop-writer.invariant.room;
       found = λ later more. c.loop-writer.invariant.found later
-          (writers-go g xs c.args.place.now c.loop-writer.writer-index c.loop-writer.at c.levels_between-at.result c.args.claimed.now.between.now c.in_ok-found.found c.loop-writer-test.true counted c.loop-writer.invariant.room later c.in_default.is h more);
+          (writers-go g xs 6 c.args.place.now c.loop-writer.writer-index c.loop-writer.at c.levels_between-at.result c.args.claimed.now.between.now c.in_ok-found.found c.loop-writer-test.true counted c.loop-writer.invariant.room later c.in_default.is h more);
     }
 
 pub returns : goal.returns
@@ -77,4 +77,4 @@ returns c =
     let claim = claim_of c.args.claimed.now in
     let g : ℕ → List AffineSystem =
     λ writer. flat_map (λ after. map (write_between program reader c.args.rows.now claim writer after) (levels program writer reader.statement)) (levels program claim.statement writer) in
-    c.loop-writer.invariant.found None (writers-end g c.as_slice-writer-items.result.now c.args.place.now c.loop-writer.writer-index c.loop-writer.at c.args.claimed.now.between.now c.loop-writer-test.false)
+    c.loop-writer.invariant.found None (writers-end g c.as_slice-writer-items.result.now 6 c.args.place.now c.loop-writer.writer-index c.loop-writer.at c.args.claimed.now.between.now c.loop-writer-test.false)

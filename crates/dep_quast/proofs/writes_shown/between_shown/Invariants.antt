@@ -13,6 +13,6 @@ abbrev pub invariant-loop-writer : goal.invariant-loop-writer
 invariant-loop-writer l = record {
   room : l.at + length (flat_map (λ writer. flat_map (λ after. map (write_between (meaning l.program) (read_of l.reader) l.rows (claim_of l.claimed) writer after) (levels (meaning l.program) writer l.reader.statement)) (levels (meaning l.program) l.claimed.statement writer)) (drop l.writer-index l.writer-items)) ≤ length l.claimed.between.now;
   found : (found : Option No)
-      → Finds (pointless_claims l.place l.at (flat_map (λ writer. flat_map (λ after. map (write_between (meaning l.program) (read_of l.reader) l.rows (claim_of l.claimed) writer after) (levels (meaning l.program) writer l.reader.statement)) (levels (meaning l.program) l.claimed.statement writer)) (drop l.writer-index l.writer-items)) (drop l.at l.claimed.between.now)) found
-      → Finds (pointless_claims l.place 0 (writes_between (meaning l.program) (read_of l.reader) l.rows (claim_of l.claimed)) l.claimed.between.now) found;
+      → Finds (pointless_claims 6 l.place l.at (flat_map (λ writer. flat_map (λ after. map (write_between (meaning l.program) (read_of l.reader) l.rows (claim_of l.claimed) writer after) (levels (meaning l.program) writer l.reader.statement)) (levels (meaning l.program) l.claimed.statement writer)) (drop l.writer-index l.writer-items)) (drop l.at l.claimed.between.now)) found
+      → Finds (pointless_claims 6 l.place 0 (writes_between (meaning l.program) (read_of l.reader) l.rows (claim_of l.claimed)) l.claimed.between.now) found;
 }

@@ -20,7 +20,7 @@ levels_shown-requires-clause-enough c =
     let x : ℕ = get_or xs c.loop-writer.writer-index 0 in
     let g : ℕ → List AffineSystem = λ writer. map (earlier_write program reader c.args.rows.now writer) (levels program writer reader.statement) in
     let each : level_count program x reader.statement ≡ length (g x) = sym (length-levels (earlier_write program reader c.args.rows.now x) (level_count program x reader.statement)) in
-    omega (arith, each, writers-first g xs c.args.place.now c.loop-writer.writer-index c.loop-writer.at (level_count program x reader.statement) c.args.shown.now None c.loop-writer-test.true each c.loop-writer.invariant.room)
+    omega (arith, each, writers-first g xs 6 c.args.place.now c.loop-writer.writer-index c.loop-writer.at (level_count program x reader.statement) c.args.shown.now None c.loop-writer-test.true each c.loop-writer.invariant.room)
 
 pub returns-in-Some : goal.returns-in-Some
 returns-in-Some c =
@@ -30,11 +30,11 @@ returns-in-Some c =
     let x : ℕ = get_or xs c.loop-writer.writer-index 0 in
     let g : ℕ → List AffineSystem = λ writer. map (earlier_write program reader c.args.rows.now writer) (levels program writer reader.statement) in
     let each : level_count program x reader.statement ≡ length (g x) = sym (length-levels (earlier_write program reader c.args.rows.now x) (level_count program x reader.statement)) in
-    let h : Finds (claims_from c.args.place.now c.loop-writer.at (g x) c.args.shown.now) c.in_ok-found.found =
-    subst (λ (rows : List AffineForm). Finds (claims_from c.args.place.now c.loop-writer.at (map (before_reader program reader x rows) (levels program x reader.statement)) c.args.shown.now) c.in_ok-found.found)
+    let h : Finds (claims_from 6 c.args.place.now c.loop-writer.at (g x) c.args.shown.now) c.in_ok-found.found =
+    subst (λ (rows : List AffineForm). Finds (claims_from 6 c.args.place.now c.loop-writer.at (map (before_reader program reader x rows) (levels program x reader.statement)) c.args.shown.now) c.in_ok-found.found)
     (c.as_slice.ensures.value ∙ c.in_ok-written.ensures.rows) c.in_ok-found.ensures in
     c.loop-writer.invariant.found (Some c.in-Some.no)
-    (writers-stop g xs c.args.place.now c.loop-writer.writer-index c.loop-writer.at (level_count program x reader.statement) c.args.shown.now c.in_ok-found.found c.loop-writer-test.true each c.loop-writer.invariant.room
+    (writers-stop g xs 6 c.args.place.now c.loop-writer.writer-index c.loop-writer.at (level_count program x reader.statement) c.args.shown.now c.in_ok-found.found c.loop-writer-test.true each c.loop-writer.invariant.room
     c.in-Some.no c.in-Some.is h)
 
 pub level_count-at-requires-clause-t_there : goal.level_count-at-requires-clause-t_there
@@ -55,13 +55,13 @@ loop-writer-preserved c =
     let x : ℕ = get_or xs c.loop-writer.writer-index 0 in
     let g : ℕ → List AffineSystem = λ writer. map (earlier_write program reader c.args.rows.now writer) (levels program writer reader.statement) in
     let each : c.level_count-at.result ≡ length (g x) = c.level_count-at.ensures.count ∙ sym (length-levels (earlier_write program reader c.args.rows.now x) (level_count program x reader.statement)) in
-    let h : Finds (claims_from c.args.place.now c.loop-writer.at (g x) c.args.shown.now) c.in_ok-found.found =
-    subst (λ (rows : List AffineForm). Finds (claims_from c.args.place.now c.loop-writer.at (map (before_reader program reader x rows) (levels program x reader.statement)) c.args.shown.now) c.in_ok-found.found)
+    let h : Finds (claims_from 6 c.args.place.now c.loop-writer.at (g x) c.args.shown.now) c.in_ok-found.found =
+    subst (λ (rows : List AffineForm). Finds (claims_from 6 c.args.place.now c.loop-writer.at (map (before_reader program reader x rows) (levels program x reader.statement)) c.args.shown.now) c.in_ok-found.found)
     (c.as_slice.ensures.value ∙ c.in_ok-written.ensures.rows) c.in_ok-found.ensures in
     record {
-      room = writers-room g xs c.args.place.now c.loop-writer.writer-index c.loop-writer.at c.level_count-at.result c.args.shown.now c.in_ok-found.found c.loop-writer-test.true each c.loop-writer.invariant.room;
+      room = writers-room g xs 6 c.args.place.now c.loop-writer.writer-index c.loop-writer.at c.level_count-at.result c.args.shown.now c.in_ok-found.found c.loop-writer-test.true each c.loop-writer.invariant.room;
       found = λ later more. c.loop-writer.invariant.found later
-          (writers-go g xs c.args.place.now c.loop-writer.writer-index c.loop-writer.at c.level_count-at.result c.args.shown.now c.in_ok-found.found c.loop-writer-test.true each c.loop-writer.invariant.room later c.in_default.is h more);
+          (writers-go g xs 6 c.args.place.now c.loop-writer.writer-index c.loop-writer.at c.level_count-at.result c.args.shown.now c.in_ok-found.found c.loop-writer-test.true each c.loop-writer.invariant.room later c.in_default.is h more);
     }
 
 pub returns : goal.returns
@@ -69,4 +69,4 @@ returns c =
     let program = meaning c.args.program.now in
     let reader = read_of c.args.reader in
     let g : ℕ → List AffineSystem = λ writer. map (earlier_write program reader c.args.rows.now writer) (levels program writer reader.statement) in
-    c.loop-writer.invariant.found None (writers-end g c.as_slice-writer-items.result.now c.args.place.now c.loop-writer.writer-index c.loop-writer.at c.args.shown.now c.loop-writer-test.false)
+    c.loop-writer.invariant.found None (writers-end g c.as_slice-writer-items.result.now 6 c.args.place.now c.loop-writer.writer-index c.loop-writer.at c.args.shown.now c.loop-writer-test.false)

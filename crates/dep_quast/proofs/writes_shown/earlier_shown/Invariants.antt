@@ -13,6 +13,6 @@ abbrev pub invariant-loop-writer : goal.invariant-loop-writer
 invariant-loop-writer l = record {
   room : l.at + length (flat_map (λ writer. map (earlier_write (meaning l.program) (read_of l.reader) l.rows writer) (levels (meaning l.program) writer l.reader.statement)) (drop l.writer-index l.writer-items)) ≤ length l.shown;
   found : (found : Option No)
-      → Finds (pointless_claims l.place l.at (flat_map (λ writer. map (earlier_write (meaning l.program) (read_of l.reader) l.rows writer) (levels (meaning l.program) writer l.reader.statement)) (drop l.writer-index l.writer-items)) (drop l.at l.shown)) found
-      → Finds (pointless_claims l.place 0 (earlier_writes (meaning l.program) (read_of l.reader) l.rows) l.shown) found;
+      → Finds (pointless_claims 6 l.place l.at (flat_map (λ writer. map (earlier_write (meaning l.program) (read_of l.reader) l.rows writer) (levels (meaning l.program) writer l.reader.statement)) (drop l.writer-index l.writer-items)) (drop l.at l.shown)) found
+      → Finds (pointless_claims 6 l.place 0 (earlier_writes (meaning l.program) (read_of l.reader) l.rows) l.shown) found;
 }

@@ -18,8 +18,8 @@ returns-in-Some c =
     let g : ℕ → List AffineSystem = λ after. on (after_source program reader c.args.writer c.args.rows.now (claim_of c.args.claimed.now) after) in
     c.loop-after.invariant.found (Some c.in-Some.no)
     (afters-stop g c.level_count-many.result (λ k. length-levels (before_reader program reader c.args.writer (after_source program reader c.args.writer c.args.rows.now (claim_of c.args.claimed.now) k)) (level_count program c.args.writer reader.statement) ∙ sym c.level_count-many.ensures.count)
-    c.args.place.now c.loop-after.after c.level_count-after-end.result c.loop-after.at c.args.claimed.now.between.now c.in_ok-no.field-0 c.loop-after-test.true c.loop-after.invariant.room
-    (subst (λ (rows : List AffineForm). Finds (claims_from c.args.place.now c.loop-after.at (on rows) c.args.claimed.now.between.now) c.in_ok-no.field-0) (c.as_slice.ensures.value ∙ c.in_ok-rows.ensures.rows) c.in_ok-no.ensures)
+    6 c.args.place.now c.loop-after.after c.level_count-after-end.result c.loop-after.at c.args.claimed.now.between.now c.in_ok-no.field-0 c.loop-after-test.true c.loop-after.invariant.room
+    (subst (λ (rows : List AffineForm). Finds (claims_from 6 c.args.place.now c.loop-after.at (on rows) c.args.claimed.now.between.now) c.in_ok-no.field-0) (c.as_slice.ensures.value ∙ c.in_ok-rows.ensures.rows) c.in_ok-no.ensures)
     c.in-Some.no c.in-Some.is)
 
 pub loop-after-preserved : goal.loop-after-preserved
@@ -33,8 +33,8 @@ loop-after-preserved c =
     record {
       room = levels-room g c.level_count-many.result each c.loop-after.after c.level_count-after-end.result c.loop-after.at (length c.args.claimed.now.between.now) c.loop-after-test.true c.loop-after.invariant.room;
       found = λ later h. c.loop-after.invariant.found later
-          (afters-go g c.level_count-many.result each c.args.place.now c.loop-after.after c.level_count-after-end.result c.loop-after.at c.args.claimed.now.between.now c.in_ok-no.field-0 c.loop-after-test.true c.loop-after.invariant.room
-          (subst (λ (rows : List AffineForm). Finds (claims_from c.args.place.now c.loop-after.at (on rows) c.args.claimed.now.between.now) c.in_ok-no.field-0) (c.as_slice.ensures.value ∙ c.in_ok-rows.ensures.rows) c.in_ok-no.ensures)
+          (afters-go g c.level_count-many.result each 6 c.args.place.now c.loop-after.after c.level_count-after-end.result c.loop-after.at c.args.claimed.now.between.now c.in_ok-no.field-0 c.loop-after-test.true c.loop-after.invariant.room
+          (subst (λ (rows : List AffineForm). Finds (claims_from 6 c.args.place.now c.loop-after.at (on rows) c.args.claimed.now.between.now) c.in_ok-no.field-0) (c.as_slice.ensures.value ∙ c.in_ok-rows.ensures.rows) c.in_ok-no.ensures)
           later c.in_default.is h);
     }
 
@@ -44,4 +44,4 @@ returns c =
     let reader = read_of c.args.reader in
     let g : ℕ → List AffineSystem =
     λ after. map (before_reader program reader c.args.writer (after_source program reader c.args.writer c.args.rows.now (claim_of c.args.claimed.now) after)) (levels program c.args.writer reader.statement) in
-    c.loop-after.invariant.found None (afters-end g c.args.place.now c.loop-after.at c.loop-after.after c.level_count-after-end.result c.args.claimed.now.between.now c.loop-after-test.false)
+    c.loop-after.invariant.found None (afters-end g 6 c.args.place.now c.loop-after.at c.loop-after.after c.level_count-after-end.result c.args.claimed.now.between.now c.loop-after-test.false)

@@ -14,8 +14,8 @@ abbrev pub invariant-loop-after : goal.invariant-loop-after
 invariant-loop-after l = record {
   room : l.at + (l.after-end - l.after) * l.many ≤ length l.claimed.between.now;
   found : (found : Option No)
-      → Finds (pointless_claims l.place l.at (flat_map (λ after. map (before_reader (meaning l.program) (read_of l.reader) l.writer (after_source (meaning l.program) (read_of l.reader) l.writer l.rows (claim_of l.claimed) after))
+      → Finds (pointless_claims 6 l.place l.at (flat_map (λ after. map (before_reader (meaning l.program) (read_of l.reader) l.writer (after_source (meaning l.program) (read_of l.reader) l.writer l.rows (claim_of l.claimed) after))
       (levels (meaning l.program) l.writer l.reader.statement)) (range_with_len l.after (l.after-end - l.after))) (drop l.at l.claimed.between.now)) found
-      → Finds (pointless_claims l.place l.first (flat_map (λ after. map (before_reader (meaning l.program) (read_of l.reader) l.writer (after_source (meaning l.program) (read_of l.reader) l.writer l.rows (claim_of l.claimed) after))
+      → Finds (pointless_claims 6 l.place l.first (flat_map (λ after. map (before_reader (meaning l.program) (read_of l.reader) l.writer (after_source (meaning l.program) (read_of l.reader) l.writer l.rows (claim_of l.claimed) after))
       (levels (meaning l.program) l.writer l.reader.statement)) (levels (meaning l.program) l.claimed.statement l.writer)) (drop l.first l.claimed.between.now)) found;
 }

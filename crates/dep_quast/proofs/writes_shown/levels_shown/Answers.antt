@@ -11,7 +11,7 @@ pub returns-in-Some : goal.returns-in-Some
 returns-in-Some c =
     let f : ℕ → AffineSystem = before_reader (meaning c.args.program.now) (read_of c.args.reader) c.args.writer c.args.rows.now in
     c.loop-level.invariant (Some c.in-Some.no)
-    (levels-stop f c.args.place.now c.in_ok-member.member c.args.first c.loop-level.level c.level_count-level-end.result c.args.shown.now c.index-shown-at.result c.variables_beside-vars.result c.as_slice.result.now c.in_ok-no.field-0
+    (levels-stop f 6 c.args.place.now c.in_ok-member.member c.args.first c.loop-level.level c.level_count-level-end.result c.args.shown.now c.index-shown-at.result c.variables_beside-vars.result c.as_slice.result.now c.in_ok-no.field-0
     c.loop-level-test.true (omega (arith, c.requires.enough, c.level_count-level-end.ensures.count)) c.index-shown-at.is c.in_ok-member.ensures c.variables_beside-vars.ensures.variables
     (c.as_slice.ensures.value ∙ c.in_ok-system.ensures.rows) c.in_ok-no.ensures c.in-Some.no c.in-Some.is)
 
@@ -19,11 +19,11 @@ pub loop-level-preserved : goal.loop-level-preserved
 loop-level-preserved c =
     let f : ℕ → AffineSystem = before_reader (meaning c.args.program.now) (read_of c.args.reader) c.args.writer c.args.rows.now in
     λ later h. c.loop-level.invariant later
-    (levels-go f c.args.place.now c.in_ok-member.member c.args.first c.loop-level.level c.level_count-level-end.result c.args.shown.now c.index-shown-at.result c.variables_beside-vars.result c.as_slice.result.now c.in_ok-no.field-0
+    (levels-go f 6 c.args.place.now c.in_ok-member.member c.args.first c.loop-level.level c.level_count-level-end.result c.args.shown.now c.index-shown-at.result c.variables_beside-vars.result c.as_slice.result.now c.in_ok-no.field-0
     c.loop-level-test.true (omega (arith, c.requires.enough, c.level_count-level-end.ensures.count)) c.index-shown-at.is c.in_ok-member.ensures c.variables_beside-vars.ensures.variables
     (c.as_slice.ensures.value ∙ c.in_ok-system.ensures.rows) c.in_ok-no.ensures later c.in_default.is h)
 
 pub returns : goal.returns
 returns c =
     let f : ℕ → AffineSystem = before_reader (meaning c.args.program.now) (read_of c.args.reader) c.args.writer c.args.rows.now in
-    c.loop-level.invariant None (levels-end f c.args.place.now (c.args.first + c.loop-level.level) c.loop-level.level c.level_count-level-end.result c.args.shown.now c.loop-level-test.false)
+    c.loop-level.invariant None (levels-end f 6 c.args.place.now (c.args.first + c.loop-level.level) c.loop-level.level c.level_count-level-end.result c.args.shown.now c.loop-level-test.false)

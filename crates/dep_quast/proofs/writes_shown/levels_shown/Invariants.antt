@@ -13,5 +13,5 @@ use Rattle.dep_quast.proofs.writes_shown.levels_shown.Given as goal
 abbrev pub invariant-loop-level : goal.invariant-loop-level
 invariant-loop-level l =
     (found : Option No)
-    → Finds (pointless_claims l.place (l.first + l.level) (map (before_reader (meaning l.program) (read_of l.reader) l.writer l.rows) (range_with_len l.level (l.level-end - l.level))) (drop (l.first + l.level) l.shown)) found
-    → Finds (pointless_claims l.place l.first (map (before_reader (meaning l.program) (read_of l.reader) l.writer l.rows) (levels (meaning l.program) l.writer l.reader.statement)) (drop l.first l.shown)) found
+    → Finds (pointless_claims 6 l.place (l.first + l.level) (map (before_reader (meaning l.program) (read_of l.reader) l.writer l.rows) (range_with_len l.level (l.level-end - l.level))) (drop (l.first + l.level) l.shown)) found
+    → Finds (pointless_claims 6 l.place l.first (map (before_reader (meaning l.program) (read_of l.reader) l.writer l.rows) (levels (meaning l.program) l.writer l.reader.statement)) (drop l.first l.shown)) found

@@ -9,7 +9,7 @@ use Rattle.domain_count.proofs.count.sum_up.Given as goal
 abbrev pub invariant-loop-k : goal.invariant-loop-k
 invariant-loop-k l =
     (l.k ≤ length l.bounds) × IsSumFrom (l.params + l.k) (drop l.k l.bounds) (drop l.k l.sums) l.total
-    × ((found : Option No) → Finds (sums_down l.params l.bounds l.sums l.place l.k) found → Finds (sums_down l.params l.bounds l.sums l.place (length l.bounds)) found)
+    × ((found : Option No) → Finds (sums_down l.params l.bounds l.sums l.place l.key l.k) found → Finds (sums_down l.params l.bounds l.sums l.place l.key (length l.bounds)) found)
 
 abbrev pub decreases-loop-k : goal.decreases-loop-k
 decreases-loop-k l = l.k

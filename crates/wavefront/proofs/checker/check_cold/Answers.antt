@@ -1,4 +1,4 @@
-use Rattle.std.proofs.Common.{◌≡◌, sym, ap, subst, rules}
+use Rattle.std.proofs.Common.{sym, ap, subst, rules}
 use Rattle.affine_program.specs.Parts.{meaning}
 use Rattle.claims.specs.Claims.{AllHold, FirstFails, Finds, IsRefusal}
 use Rattle.claims.proofs.Found.{refused-first}
@@ -8,11 +8,14 @@ use Rattle.dep_quast.specs.Truth.{IsTrueTree}
 use Rattle.domain_count.specs.CountClaims.{count_claims}
 use Rattle.reuse_paths.specs.Quasts.{tree_or_blank, tree_for, trees_of}
 use Rattle.wavefront.specs.ColdClaims.{cold_claims, instance_claims}
-use Rattle.wavefront.specs.Loads.{ColdFits, IsSoundCold, HasFootprint, CostsItsCount}
+use Rattle.reuse_paths.specs.Pieces.{AreCovered}
+use Rattle.wavefront.specs.ColdPieces.{LeavesAreFew, cold_pieces}
+use Rattle.wavefront.specs.Loads.{ColdFits, IsSoundCold, HasFootprint, CostsItsCount, footprint_of}
 use Rattle.wavefront.specs.Term.{ColdTerm}
 use Rattle.wavefront.specs.View.{term_of}
 use Rattle.wavefront.proofs.Bounds.{footprint-is}
 use Rattle.wavefront.proofs.ColdLoads.{cold-terms-loaded}
+use Rattle.wavefront.proofs.PiecesCover.{pieces-cover}
 use Rattle.wavefront.proofs.checker.check_cold.Goals as goal
 
 -- what is claimed past the count holds after the last condition
@@ -43,6 +46,21 @@ returns-in-Ok-None-clause-sound c = (all c).0
 pub returns-in-Ok-None-clause-footprint : goal.returns-in-Ok-None-clause-footprint
 returns-in-Ok-None-clause-footprint c =
     footprint-is (meaning c.args.program.now) (term_of c.args.term.now) c.in_ok-count.count c.den-den.ensures.legal c.in_ok-count.ensures.counts c.terms_have_the_value.ensures (all c).1 (all c).2
+
+covers : (c : goal.In-Ok-None) → let tree : SelectionTree = tree_for (trees_of c.args.quasts.now) (term_of c.args.term.now).reader in
+    LeavesAreFew (meaning c.args.program.now) tree (term_of c.args.term.now)
+    × AreCovered (meaning c.args.program.now) (footprint_of (meaning c.args.program.now) (term_of c.args.term.now)) (cold_pieces (meaning c.args.program.now) tree (term_of c.args.term.now))
+covers c =
+    let program = meaning c.args.program.now in
+    let term : ColdTerm = term_of c.args.term.now in
+    pieces-cover program c.args.place.now (tree_for (trees_of c.args.quasts.now) term.reader) term c.params-params.ensures.kept.well_formed c.requires.fits c.requires.true_tree
+    (subst (λ (t : SelectionTree). AllHold (instance_claims program c.args.place.now t term)) (sym (ap tree_or_blank c.in-Some.ensures)) (holds c))
+
+pub returns-in-Ok-None-clause-few : goal.returns-in-Ok-None-clause-few
+returns-in-Ok-None-clause-few c = (covers c).0
+
+pub returns-in-Ok-None-clause-covered : goal.returns-in-Ok-None-clause-covered
+returns-in-Ok-None-clause-covered c = (covers c).1
 
 pub returns-in-Ok-Some-clause-refused : goal.returns-in-Ok-Some-clause-refused
 returns-in-Ok-Some-clause-refused c =

@@ -12,7 +12,8 @@ use Rattle.domain_count.specs.Count.{rows_before}
 use Rattle.reuse_paths.specs.declared.leaf.Leaf.{Leaf}
 use Rattle.reuse_paths.specs.LeafClaims.{claim_of}
 use Rattle.wavefront.specs.Term.{nest_variables, nest_system, instance_point}
-use Rattle.wavefront.specs.Leaves.{OpenLeaf, open_leaves, leaves_claims}
+use Rattle.reuse_paths.specs.OpenLeaves.{OpenLeaf, open_leaves}
+use Rattle.wavefront.specs.Leaves.{leaves_claims}
 use Rattle.wavefront.specs.View.{term_of}
 use Rattle.wavefront.proofs.cold_shown.tree_shown.Goals as goal
 

@@ -1,0 +1,76 @@
+-- What is found in the claims of an entry.
+use Rattle.std.proofs.Common.{◌≡◌, refl, sym, subst, ℕ, ◌+◌, ◌*◌, ◌≤◌, List, [], ◌∷◌, ◌++◌, length, map, arith, lit<}
+use Rattle.std.specs.Prelude.{Option, Some, IsSomeAnd}
+use Rattle.std.specs.List.{AllByRecursion}
+use Rattle.std.proofs.Math.IntN.{pos}
+use Rattle.base_laws.proofs.Lists.{All-append, All-replicate}
+use Rattle.iolb_model.specs.Form.{AffineForm}
+use Rattle.claims.specs.Claims.{Claim, Finds}
+use Rattle.claims.specs.declared.place.Step.{Step}
+use Rattle.claims.specs.declared.place.Step.TheVariants.{Key}
+use Rattle.claims.specs.declared.key.TheConstants.{ROWS, START}
+use Rattle.claims.specs.declared.refused.No.{No}
+use Rattle.claims.proofs.Found.{Finds-later}
+use Rattle.affine_form.specs.Form.{IsSmall}
+use Rattle.affine_form.specs.Multipliers.{FarkasMultipliers}
+use Rattle.affine_form.specs.Rows.{widened, equality_rows, IsSmallOver}
+use Rattle.affine_form.specs.System.{AffineSystem}
+use Rattle.affine_form.proofs.RowLemmas.{length-widened}
+use Rattle.dep_quast.specs.Claims.{IsFew, follow_claims}
+use Rattle.reuse_paths.specs.LeafClaims.{goes_on}
+use Rattle.reuse_paths.specs.OpenLeaves.{written, form_at}
+use Rattle.reuse_paths.specs.ReachClaims.{WalkSetting, spot_variables, region_variables, region_at, entering_rows, entry_claims, going_goals, first_place, start_claims}
+use Rattle.reuse_paths.specs.ReachFits.{RegionFits, RegionsFit}
+use Rattle.reuse_paths.proofs.Regions.{region-fits}
+use Rattle.domain_count.specs.Count.{rows_before}
+use Rattle.reuse_paths.specs.Walks.{WalkRegion, SpotForms}
+use Rattle.iolb_model.specs.declared.limits.TheConstants.{NUMBER_SIZE}
+
+-- small forms read over more variables
+pub widened-small : (many vars : ℕ) (forms : List AffineForm) → many ≤ vars → AllByRecursion (IsSmallOver many) forms → AllByRecursion (IsSmallOver vars) (map (widened vars) forms)
+widened-small many vars [] more h = tt
+widened-small many vars (form ∷ forms) more h = (
+  record {
+    over = length-widened vars form (omega (arith, more, h.0.over));
+    small = (All-append (IsSmall NUMBER_SIZE) form.coefficients _ h.0.small.0 (All-replicate (IsSmall NUMBER_SIZE) _ (pos 0) (lit< tt)), h.0.small.1);
+  },
+  widened-small many vars forms more h.1,
+)
+
+-- two rows for each pair
+pub equality_rows-many : (vars : ℕ) (fs gs : List AffineForm) → length fs ≡ length gs → length (equality_rows vars fs gs) ≡ 2 * length gs
+equality_rows-many vars [] [] same = refl
+equality_rows-many vars [] (g ∷ gs) same = absurd (omega (arith, same))
+equality_rows-many vars (f ∷ fs) [] same = absurd (omega (arith, same))
+equality_rows-many vars (f ∷ fs) (g ∷ gs) same = omega (arith, equality_rows-many vars fs gs (omega (arith, same)))
+
+-- a walk goes on into a region
+pub going-found : (condition : ℕ) (walk : WalkSetting) (place : List Step) (system : AffineSystem) (point : List AffineForm) (writer : ℕ) (values : List AffineForm) (region : WalkRegion)
+    (shown : List FarkasMultipliers) (found : Option No) → IsFew (length system.rows) → region_at walk.nodes writer ≡ Some region
+    → Finds (follow_claims condition (place ++ Key ROWS ∷ []) system 0 (entering_rows walk system.vars (Some region) (map (form_at system.vars point) values)) shown) found
+    → Finds (record { condition = 2; place = first_place place ROWS shown; statement = IsFew (length system.rows) } ∷ entry_claims condition walk place system point (written writer values) (goes_on shown [])) found
+going-found condition walk place system point writer values region shown found few is h =
+    let goals : List AffineForm = going_goals walk system.vars point (written writer values) in
+    let follow : List Claim = follow_claims condition (place ++ Key ROWS ∷ []) system 0 goals shown in
+    Finds-later (record { condition = 2; place = first_place place ROWS shown; statement = IsFew (length system.rows) }) (entry_claims condition walk place system point (written writer values) (goes_on shown [])) found few
+    (Finds-later (record { condition = condition; place = place; statement = IsSomeAnd (region_at walk.nodes writer) (λ region. Unit {0}) }) follow found
+    (subst (λ (o : Option WalkRegion). IsSomeAnd o (λ region. Unit {0})) (sym is) tt)
+    (subst (λ (o : Option WalkRegion). Finds (follow_claims condition (place ++ Key ROWS ∷ []) system 0 (entering_rows walk system.vars o (map (form_at system.vars point) values)) shown) found) (sym is) h))
+
+-- the rows of a statement's region are over its variables
+pub region-over : (walk : WalkSetting) (s : ℕ) (region : WalkRegion) → RegionsFit walk 0 walk.nodes → region_at walk.nodes s ≡ Some region
+    → AllByRecursion (IsSmallOver (region_variables walk s)) region.rows
+region-over walk s region fits is = (subst (λ (n : ℕ). RegionFits walk n (Some region)) (none s) (region-fits walk 0 s walk.nodes region is fits)).0 where
+  none : (n : ℕ) → 0 + n ≡ n
+  none n = omega arith
+
+-- a spot is in its statement's region
+pub start-found : (condition : ℕ) (walk : WalkSetting) (place : List Step) (from : SpotForms) (region : WalkRegion) (start : List FarkasMultipliers) (found : Option No)
+    → region_at walk.nodes from.statement ≡ Some region
+    → Finds (follow_claims condition (place ++ Key START ∷ []) (rows_before walk.program walk.nest) 0 (entering_rows walk (spot_variables walk) (Some region) from.point) start) found
+    → Finds (start_claims condition walk place from start) found
+start-found condition walk place from region start found is h =
+    let follow : Option WalkRegion → List Claim = λ o. follow_claims condition (place ++ Key START ∷ []) (rows_before walk.program walk.nest) 0 (entering_rows walk (spot_variables walk) o from.point) start in
+    Finds-later (record { condition = condition; place = place ++ Key START ∷ []; statement = IsSomeAnd (region_at walk.nodes from.statement) (λ region. Unit {0}) }) (follow (region_at walk.nodes from.statement)) found
+    (subst (λ (o : Option WalkRegion). IsSomeAnd o (λ region. Unit {0})) (sym is) tt)
+    (subst (λ (o : Option WalkRegion). Finds (follow o) found) (sym is) h)

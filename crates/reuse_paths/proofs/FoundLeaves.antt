@@ -1,0 +1,72 @@
+-- What is found in the claims at open leaves, leaf by leaf.
+use Rattle.std.proofs.Common.{◌≡◌, refl, sym, ◌∙◌, ap, subst, ℕ, zero, suc, ◌+◌, ◌<◌, ◌≤◌, List, [], ◌∷◌, ◌++◌, length, get_or, map, drop, arith}
+use Rattle.std.specs.Prelude.{Option, Some, None}
+use Rattle.std.proofs.lemmas.List.{drop_all}
+use Rattle.base_laws.proofs.Lists.{rest_at, add-one}
+use Rattle.iolb_model.specs.Form.{AffineForm}
+use Rattle.claims.specs.Claims.{Claim, AllHold, Finds}
+use Rattle.claims.specs.declared.place.Step.{Step}
+use Rattle.claims.specs.declared.place.Step.TheVariants.{Index}
+use Rattle.claims.specs.declared.refused.No.{No}
+use Rattle.claims.proofs.Found.{Finds-stop, Finds-go}
+use Rattle.reuse_paths.specs.declared.leaf.Leaf.{Leaf}
+use Rattle.reuse_paths.specs.LeafClaims.{LeafClaim, claim_of}
+use Rattle.reuse_paths.specs.OpenLeaves.{OpenLeaf}
+use Rattle.reuse_paths.specs.ReachClaims.{WalkSetting, leaf_claims, leaves_claims}
+use Rattle.reuse_paths.specs.ReachFits.{EntryFits, EntriesFit, RegionFits, RegionsFit}
+use Rattle.reuse_paths.specs.Walks.{WalkRegion}
+
+-- there are as many entries as leaves, and each fits
+pub entries-many : (walk : WalkSetting) (vars : ℕ) (point : List AffineForm) (leaves : List OpenLeaf) (entries : List LeafClaim) → EntriesFit walk vars point leaves entries → length leaves ≡ length entries
+entries-many walk vars point [] [] fits = refl
+entries-many walk vars point [] (e ∷ entries) fits = absurd fits
+entries-many walk vars point (l ∷ leaves) [] fits = absurd fits
+entries-many walk vars point (l ∷ leaves) (e ∷ entries) fits = ap suc (entries-many walk vars point leaves entries fits.1)
+
+pub entry-fits-at : (walk : WalkSetting) (vars : ℕ) (point : List AffineForm) (leaves : List OpenLeaf) (entries : List Leaf) (i : ℕ) (l : OpenLeaf) (e : Leaf) → EntriesFit walk vars point leaves (map claim_of entries)
+    → i < length leaves → l ≡ get_or leaves i l → e ≡ get_or entries i e → EntryFits walk vars point l (claim_of e)
+entry-fits-at walk vars point [] entries i l e fits below is is_e = absurd (omega (arith, below))
+entry-fits-at walk vars point (x ∷ leaves) [] i l e fits below is is_e = absurd fits
+entry-fits-at walk vars point (x ∷ leaves) (y ∷ entries) zero l e fits below is is_e =
+    subst (λ (z : Leaf). EntryFits walk vars point l (claim_of z)) (sym is_e) (subst (λ (z : OpenLeaf). EntryFits walk vars point z (claim_of y)) (sym is) fits.0)
+entry-fits-at walk vars point (x ∷ leaves) (y ∷ entries) (suc i) l e fits below is is_e =
+    entry-fits-at walk vars point leaves entries i l e fits.1 (omega (arith, below)) is is_e
+
+-- the region of a statement fits
+pub regions-fit-at : (walk : WalkSetting) (first i : ℕ) (nodes : List (Option WalkRegion)) (region : Option WalkRegion) → RegionsFit walk first nodes → i < length nodes → region ≡ get_or nodes i region
+    → RegionFits walk (first + i) region
+regions-fit-at walk first i [] region fits below is = absurd (omega (arith, below))
+regions-fit-at walk first zero (x ∷ nodes) region fits below is =
+    subst (λ (n : ℕ). RegionFits walk n region) (plus first) (subst (RegionFits walk first) (sym is) fits.0) where
+      plus : (n : ℕ) → n ≡ n + 0
+      plus n = omega arith
+regions-fit-at walk first (suc i) (x ∷ nodes) region fits below is =
+    subst (λ (n : ℕ). RegionFits walk n region) (shift first i) (regions-fit-at walk (suc first) i nodes region fits.1 (omega (arith, below)) is) where
+      shift : (m n : ℕ) → suc m + n ≡ m + suc n
+      shift m n = omega arith
+
+module _ (condition : ℕ) (walk : WalkSetting) (list : List Step) (vars : ℕ) (rows point : List AffineForm) (leaves : List OpenLeaf) (entries : List Leaf) where
+  abbrev from : ℕ → List Claim
+  from i = leaves_claims condition walk list vars rows point i (drop i leaves) (map claim_of (drop i entries))
+
+  pub leaves-ended : (i : ℕ) → length leaves ≤ i → AllHold (from i)
+  leaves-ended i past =
+      subst (λ (ls : List OpenLeaf). AllHold (leaves_claims condition walk list vars rows point i ls (map claim_of (drop i entries)))) (sym (drop_all i leaves past)) tt
+
+  module _ (i : ℕ) (l : OpenLeaf) (e : Leaf) (below : i < length leaves) (below_e : i < length entries) (is : l ≡ get_or leaves i l) (is_e : e ≡ get_or entries i e)
+      (place : List Step) (at : place ≡ list ++ Index i ∷ []) where
+    abbrev here : List Claim
+    here = leaf_claims condition walk place vars rows point l (claim_of e)
+
+    split : from i ≡ here ++ from (i + 1)
+    split =
+        ap (λ (ls : List OpenLeaf). leaves_claims condition walk list vars rows point i ls (map claim_of (drop i entries))) (rest_at leaves i l below is)
+        ∙ ap (λ (es : List Leaf). leaves_claims condition walk list vars rows point i (l ∷ drop (i + 1) leaves) (map claim_of es)) (rest_at entries i e below_e is_e)
+        ∙ ap (λ (p : List Step). leaf_claims condition walk p vars rows point l (claim_of e) ++ leaves_claims condition walk list vars rows point (suc i) (drop (i + 1) leaves) (map claim_of (drop (i + 1) entries))) (sym at)
+        ∙ ap (λ (n : ℕ). here ++ leaves_claims condition walk list vars rows point n (drop (i + 1) leaves) (map claim_of (drop (i + 1) entries))) (add-one i)
+
+    pub leaves-stop : (n : No) (found : Option No) → found ≡ Some n → Finds here found → Finds (from i) (Some n)
+    leaves-stop n found none h = subst (λ (cs : List Claim). Finds cs (Some n)) (sym split) (Finds-stop here (from (i + 1)) n (subst (Finds here) none h))
+
+    pub leaves-next : (before found : Option No) → before ≡ None → Finds here before → Finds (from (i + 1)) found → Finds (from i) found
+    leaves-next before found none h g = subst (λ (cs : List Claim). Finds cs found) (sym split) (Finds-go here (from (i + 1)) found (subst (Finds here) none h) g)

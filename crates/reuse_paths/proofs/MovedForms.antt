@@ -1,0 +1,60 @@
+-- Forms with variables more: how many they have, and how large their numbers are.
+use Rattle.std.proofs.Common.{◌≡◌, sym, ◌∙◌, subst, ℕ, zero, suc, ◌+◌, ◌≤◌, min, List, [], ◌∷◌, ◌++◌, length, map, replicate, take, drop, arith}
+use Rattle.std.specs.List.{AllByRecursion}
+use Rattle.std.proofs.Math.IntN.{ℤ, pos}
+use Rattle.std.proofs.lemmas.List.{length-append, length-drop, length-take, length-replicate}
+use Rattle.base_laws.proofs.Lists.{All-append, All-replicate}
+use Rattle.iolb_model.specs.Form.{AffineForm}
+use Rattle.affine_form.specs.Form.{variables, IsSmall, IsSmallForm}
+use Rattle.affine_form.specs.System.{AllOver}
+use Rattle.reuse_paths.specs.DisjointClaims.{moved}
+
+pub All-drop : {X : Type 0} (P : X → Type 0) (n : ℕ) (xs : List X) → AllByRecursion P xs → AllByRecursion P (drop n xs)
+All-drop P zero xs h = h
+All-drop P (suc n) [] h = tt
+All-drop P (suc n) (x ∷ xs) h = All-drop P n xs h.1
+
+All-take : {X : Type 0} (P : X → Type 0) (n : ℕ) (xs : List X) → AllByRecursion P xs → AllByRecursion P (take n xs)
+All-take P zero xs h = tt
+All-take P (suc n) [] h = tt
+All-take P (suc n) (x ∷ xs) h = (h.0, All-take P n xs h.1)
+
+-- the variables of a form that was moved
+length-moved : (place more : ℕ) (form : AffineForm) → place ≤ variables form → variables (moved place more form) ≡ variables form + more
+length-moved place more form h = omega (
+  arith,
+  length-append (take place form.coefficients ++ replicate more (pos 0)) (drop place form.coefficients),
+  length-append (take place form.coefficients) (replicate more (pos 0)),
+  length-take place form.coefficients,
+  length-drop place form.coefficients,
+  length-replicate more (pos 0),
+)
+
+pub moved-over : (place more own : ℕ) (forms : List AffineForm) → AllOver (place + own) forms → AllOver (place + more + own) (map (moved place more) forms)
+moved-over place more own [] over = tt
+moved-over place more own (form ∷ forms) over = (omega (arith, length-moved place more form (omega (arith, over.0)), over.0), moved-over place more own forms over.1)
+
+-- their numbers
+pub moved-numbers : (limit place more : ℕ) (coefficients : List ℤ) → IsSmall limit (pos 0) → AllByRecursion (IsSmall limit) coefficients
+    → AllByRecursion (IsSmall limit) (take place coefficients ++ replicate more (pos 0) ++ drop place coefficients)
+moved-numbers limit place more coefficients none h =
+    All-append (IsSmall limit) (take place coefficients ++ replicate more (pos 0)) (drop place coefficients)
+    (All-append (IsSmall limit) (take place coefficients) (replicate more (pos 0)) (All-take (IsSmall limit) place coefficients h) (All-replicate (IsSmall limit) more (pos 0) none))
+    (All-drop (IsSmall limit) place coefficients h)
+
+pub moved-small : (limit place more : ℕ) (forms : List AffineForm) → IsSmall limit (pos 0) → AllByRecursion (IsSmallForm limit) forms → AllByRecursion (IsSmallForm limit) (map (moved place more) forms)
+moved-small limit place more [] none h = tt
+moved-small limit place more (form ∷ forms) none h = ((moved-numbers limit place more form.coefficients none h.0.0, h.0.1), moved-small limit place more forms none h.1)
+
+-- how they can be moved
+pub can-move : (place more own : ℕ) (forms : List AffineForm) → AllOver (place + own) forms → AllByRecursion (λ (form : AffineForm). place ≤ variables form) forms
+can-move place more own [] over = tt
+can-move place more own (form ∷ forms) over = (omega (arith, over.0), can-move place more own forms over.1)
+
+pub has-room : (place more own limit : ℕ) (forms : List AffineForm) → place + more + own ≤ limit → AllOver (place + own) forms → AllByRecursion (λ (form : AffineForm). variables form + more ≤ limit) forms
+has-room place more own limit [] few over = tt
+has-room place more own limit (form ∷ forms) few over = (omega (arith, over.0, few), has-room place more own limit forms few over.1)
+
+pub over-within : (many vars : ℕ) (forms : List AffineForm) → many ≤ vars → AllOver many forms → AllByRecursion (λ (form : AffineForm). variables form ≤ vars) forms
+over-within many vars [] few over = tt
+over-within many vars (form ∷ forms) few over = (omega (arith, over.0, few), over-within many vars forms few over.1)

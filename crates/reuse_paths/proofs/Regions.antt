@@ -1,0 +1,113 @@
+-- The points of a region: the parameters, a point of the nest, and the loop values of an instance.
+use Rattle.std.proofs.Common.{◌≡◌, sym, ◌∙◌, ap, subst, ℕ, zero, suc, ◌+◌, ◌≤◌, List, [], ◌∷◌, ◌++◌, length, map, arith}
+use Rattle.std.specs.Prelude.{Option, Some}
+use Rattle.std.proofs.Math.IntN.{ℤ, pos}
+use lib.Signed.{◌≤ℤ◌}
+use Rattle.std.proofs.lemmas.List.{append_assoc, length-append, length-map, map-append}
+use Rattle.base_laws.proofs.Lists.{All-append}
+use Rattle.iolb_model.specs.Form.{AffineForm, form_value}
+use Rattle.iolb_model.specs.Path.{row_path}
+use Rattle.iolb_model.specs.Program.{IsWellFormed}
+use Rattle.iolb_model.specs.Bound.{IsAdmitted}
+use Rattle.iolb_model.specs.Domain.{IsWithin, IsAt}
+use Rattle.execution_laws.proofs.Domains.{domains_executed}
+use Rattle.claims.specs.Claims.{AllHold, numbered}
+use Rattle.claims.specs.declared.place.Step.{Step}
+use Rattle.claims.proofs.Laws.{AllHold-left, AllHold-right}
+use Rattle.affine_form.specs.Substitution.{values_at}
+use Rattle.affine_form.specs.System.{IsMet}
+use Rattle.affine_form.specs.Rows.{widened, variables_from, within_rows, step_of}
+use Rattle.affine_form.proofs.Meaning.{values-end, values-front, widened-stay, within_rows-met}
+use Rattle.affine_program.specs.Domain.{path_of, depth_of}
+use Rattle.dep_quast.specs.Context.{parameter_point}
+use Rattle.dep_quast.proofs.Points.{within-length, there-holds}
+use Rattle.domain_count.specs.Count.{rows_before}
+use Rattle.reuse_paths.specs.ReachClaims.{WalkSetting, spot_variables, region_variables, region_values, reading_point, region_context, region_at, entering_rows, region_claims}
+use Rattle.reuse_paths.specs.ReachFits.{RegionFits, RegionsFit}
+use Rattle.reuse_paths.specs.Walks.{WalkRegion}
+use Rattle.reuse_paths.proofs.ChosenLeaves.{forms_at-met}
+use Rattle.reuse_paths.proofs.NestPoints.{nest-met-before}
+
+-- what is claimed of a statement's region, and that it fits
+pub region-claimed : (condition : ℕ) (walk : WalkSetting) (place : List Step) (first s : ℕ) (nodes : List (Option WalkRegion)) (region : WalkRegion) → region_at nodes s ≡ Some region
+    → AllHold (numbered (region_claims condition walk place) first nodes) → AllHold (region_claims condition walk place (first + s) (Some region))
+region-claimed condition walk place first s [] region e h = absurd cc
+region-claimed condition walk place first zero (first_region ∷ nodes) region e h =
+    subst (λ (n : ℕ). AllHold (region_claims condition walk place n (Some region))) (plus first)
+    (subst (λ (o : Option WalkRegion). AllHold (region_claims condition walk place first o)) e (AllHold-left (region_claims condition walk place first first_region) (numbered (region_claims condition walk place) (suc first) nodes) h)) where
+      plus : (n : ℕ) → n ≡ n + 0
+      plus n = omega arith
+region-claimed condition walk place first (suc s) (first_region ∷ nodes) region e h =
+    subst (λ (n : ℕ). AllHold (region_claims condition walk place n (Some region))) (shift first s)
+    (region-claimed condition walk place (suc first) s nodes region e (AllHold-right (region_claims condition walk place first first_region) (numbered (region_claims condition walk place) (suc first) nodes) h)) where
+      shift : (m n : ℕ) → suc m + n ≡ m + suc n
+      shift m n = omega arith
+
+pub region-fits : (walk : WalkSetting) (first s : ℕ) (nodes : List (Option WalkRegion)) (region : WalkRegion) → region_at nodes s ≡ Some region
+    → RegionsFit walk first nodes → RegionFits walk (first + s) (Some region)
+region-fits walk first s [] region e h = absurd cc
+region-fits walk first zero (first_region ∷ nodes) region e h =
+    subst (λ (n : ℕ). RegionFits walk n (Some region)) (plus first) (subst (λ (o : Option WalkRegion). RegionFits walk first o) e h.0) where
+      plus : (n : ℕ) → n ≡ n + 0
+      plus n = omega arith
+region-fits walk first (suc s) (first_region ∷ nodes) region e h =
+    subst (λ (n : ℕ). RegionFits walk n (Some region)) (shift first s) (region-fits walk (suc first) s nodes region e h.1) where
+      shift : (m n : ℕ) → suc m + n ≡ m + suc n
+      shift m n = omega arith
+
+module _ (walk : WalkSetting) (values u : List ℤ) (formed : IsWellFormed walk.program) (admitted : IsAdmitted walk.program values) (within : IsWithin (map step_of walk.nest) values u) where
+  -- the parameters and the point of the nest have as many values as a spot has variables
+  pub spot-many : spot_variables walk ≡ length (values ++ u)
+  spot-many = omega (arith, length-append values u, admitted.each, within-length (map step_of walk.nest) values u within, length-map walk.nest step_of)
+
+  -- the values of the first variables, and of forms behind them
+  pub behind-nest : (vars : ℕ) (forms : List AffineForm) (at rest : List ℤ) → spot_variables walk ≤ vars → at ≡ (values ++ u) ++ rest
+      → values_at (variables_from vars 0 (spot_variables walk) ++ forms) at ≡ (values ++ u) ++ values_at forms at
+  behind-nest vars forms at rest room is =
+      map-append (λ form. form_value form at) (variables_from vars 0 (spot_variables walk)) forms
+      ∙ ap (λ (q : List ℤ). q ++ values_at forms at)
+      (ap (values_at (variables_from vars 0 (spot_variables walk))) is ∙ values-front vars (spot_variables walk) (values ++ u) rest spot-many room)
+
+  -- where the rows which say that loop values are in a region are met, its rows are met at them
+  pub entering-met : (vars : ℕ) (region : WalkRegion) (forms : List AffineForm) (at rest : List ℤ) → spot_variables walk ≤ vars → at ≡ (values ++ u) ++ rest
+      → IsMet (entering_rows walk vars (Some region) forms) at → IsMet region.rows ((values ++ u) ++ values_at forms at)
+  entering-met vars region forms at rest room is met =
+      forms_at-met vars (variables_from vars 0 (spot_variables walk) ++ forms) region.rows at ((values ++ u) ++ values_at forms at) (behind-nest vars forms at rest room is) met
+
+  module _ (n s : ℕ) (x : List ℤ) (here : IsAt walk.program values n (record { statement = s; values = x })) where
+    -- the loop values are in the statement's domain
+    in-domain : IsWithin (path_of walk.program s) values x
+    in-domain = there-holds (row_path walk.program.tree s) (λ path. IsWithin path values x) ((domains_executed walk.program values (record { statement = s; values = x }) formed).0 (n, here))
+
+    values-many : depth_of walk.program s ≡ length x
+    values-many = sym (within-length (path_of walk.program s) values x in-domain)
+
+    -- the parameters and the loop values, as forms over the variables of the region
+    params-there : values_at (parameter_point walk.program (region_variables walk s)) ((values ++ u) ++ x) ≡ values
+    params-there =
+        subst (λ (p : List ℤ). values_at (parameter_point walk.program (region_variables walk s)) p ≡ values) (sym (append_assoc values u x))
+        (values-front (region_variables walk s) (length walk.program.parameters) values (u ++ x) (sym admitted.each) (omega arith))
+
+    loops-there : values_at (region_values walk s) ((values ++ u) ++ x) ≡ x
+    loops-there = values-end (region_variables walk s) (spot_variables walk) (depth_of walk.program s) (values ++ u) x spot-many values-many (omega arith)
+
+    pub reading-there : values_at (reading_point walk s) ((values ++ u) ++ x) ≡ values ++ x
+    reading-there =
+        map-append (λ form. form_value form ((values ++ u) ++ x)) (parameter_point walk.program (region_variables walk s)) (region_values walk s)
+        ∙ ap (λ (q : List ℤ). q ++ values_at (region_values walk s) ((values ++ u) ++ x)) params-there
+        ∙ ap (λ (q : List ℤ). values ++ q) loops-there
+
+    -- the rows of the region are met
+    pub context-met : (rows : List AffineForm) → IsMet rows ((values ++ u) ++ x) → IsMet (region_context walk s rows) ((values ++ u) ++ x)
+    context-met rows met =
+        let vars : ℕ = region_variables walk s in
+        let point : List ℤ = (values ++ u) ++ x in
+        let nest : List AffineForm = map (widened vars) (rows_before walk.program walk.nest).rows in
+        let domain : List AffineForm = within_rows vars (path_of walk.program s) (parameter_point walk.program vars) (region_values walk s) in
+        let nest-rows : IsMet nest point = widened-stay vars (rows_before walk.program walk.nest).rows point (nest-met-before walk.program walk.nest values u x formed admitted within) in
+        let domain-rows : IsMet domain point =
+        within_rows-met vars (path_of walk.program s) (parameter_point walk.program vars) (region_values walk s) point
+        (subst (λ (ps : List ℤ). IsWithin (path_of walk.program s) ps (values_at (region_values walk s) point)) (sym params-there)
+        (subst (λ (ys : List ℤ). IsWithin (path_of walk.program s) values ys) (sym loops-there) in-domain)) in
+        All-append (λ (row : AffineForm). pos 0 ≤ℤ form_value row point) (nest ++ domain) rows
+        (All-append (λ (row : AffineForm). pos 0 ≤ℤ form_value row point) nest domain nest-rows domain-rows) met

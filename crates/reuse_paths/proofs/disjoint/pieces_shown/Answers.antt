@@ -1,0 +1,45 @@
+use Rattle.std.proofs.Common.{◌≡◌, sym, ◌∙◌, ap, subst, ℕ, ◌+◌, List, [], ◌∷◌, ◌++◌, length, map, drop, arith, Vec, Global}
+use Rattle.std.specs.Prelude.{Option, Some, None}
+use Rattle.affine_form.specs.Multipliers.{FarkasMultipliers}
+use Rattle.affine_form.specs.System.{AffineSystem}
+use Rattle.affine_program.specs.Parts.{meaning}
+use Rattle.claims.specs.Claims.{Finds}
+use Rattle.dep_quast.proofs.Chunks.{claims_from}
+use Rattle.reuse_paths.specs.declared.piece.Piece.{Piece}
+use Rattle.reuse_paths.specs.DisjointClaims.{shared_systems, systems_with}
+use Rattle.reuse_paths.specs.Pieces.{FootprintPiece, piece_of, pieces_of}
+use Rattle.reuse_paths.proofs.PairsFound.{first-stop, first-go, rest-room, rest-end, split-pieces, pieces-fit, if-none}
+use Rattle.reuse_paths.proofs.disjoint.pieces_shown.Goals as goal
+
+pub returns-in-Some-clause-found : goal.returns-in-Some-clause-found
+returns-in-Some-clause-found c =
+    let program = meaning c.args.program.now in
+    let pieces : List Piece = c.args.pieces.now in
+    let others : List FootprintPiece = map piece_of c.args.others.now in
+    let i : ℕ = c.loop-piece.piece-index in
+    let piece : Piece = c.piece-item.result in
+    c.loop-piece.invariant.found (Some c.in-Some.no)
+    (first-stop c.args.condition c.args.list.now c.loop-piece.at c.loop-piece.at (shared_systems program (map piece_of (drop i pieces)) others) (systems_with program others (piece_of piece))
+    (shared_systems program (map piece_of (drop (i + 1) pieces)) others) c.args.shown.now (split-pieces program pieces others i piece c.loop-piece-test.true c.piece-item.is) c.loop-piece.invariant.room
+    c.in_ok-found.found c.in-Some.no c.in-Some.is c.in_ok-found.ensures.found)
+
+pub loop-piece-preserved : goal.loop-piece-preserved
+loop-piece-preserved c =
+    let program = meaning c.args.program.now in
+    let pieces : List Piece = c.args.pieces.now in
+    let others : List FootprintPiece = map piece_of c.args.others.now in
+    let i : ℕ = c.loop-piece.piece-index in
+    let piece : Piece = c.piece-item.result in
+    let whole : List AffineSystem = shared_systems program (map piece_of (drop i pieces)) others in
+    let here : List AffineSystem = systems_with program others (piece_of piece) in
+    let rest : List AffineSystem = shared_systems program (map piece_of (drop (i + 1) pieces)) others in
+    let next : ℕ = c.piece_shown.new.at in
+    let split : whole ≡ here ++ rest = split-pieces program pieces others i piece c.loop-piece-test.true c.piece-item.is in
+    let is_next : next ≡ c.loop-piece.at + length here = if-none c.in_ok-found.found (next ≡ c.loop-piece.at + length here) c.in_default.is c.in_ok-found.ensures.next in
+    record {
+      fits = (pieces-fit program pieces i piece c.loop-piece-test.true c.piece-item.is c.loop-piece.invariant.fits).1;
+      room = rest-room c.args.condition c.args.list.now c.loop-piece.at next whole here rest c.args.shown.now split c.loop-piece.invariant.room is_next;
+      next = rest-end c.args.condition c.args.list.now c.loop-piece.at next whole here rest c.args.shown.now split c.loop-piece.invariant.room is_next ∙ c.loop-piece.invariant.next;
+      found = λ later h. c.loop-piece.invariant.found later
+          (first-go c.args.condition c.args.list.now c.loop-piece.at next whole here rest c.args.shown.now split c.loop-piece.invariant.room is_next c.in_ok-found.found later c.in_default.is c.in_ok-found.ensures.found h);
+    }

@@ -1,0 +1,63 @@
+use Rattle.std.proofs.Common.{◌≡◌, ◌∙◌, sym, ap, subst, arith, ℕ, ◌+◌, List, [], ◌∷◌, ◌++◌, map, length}
+use Rattle.std.specs.Prelude.{Some}
+use Rattle.std.specs.List.{AllByRecursion}
+use Rattle.std.proofs.lemmas.List.{length-map}
+use Rattle.iolb_model.specs.Form.{AffineForm}
+use Rattle.claims.specs.Claims.{Claim, Finds}
+use Rattle.claims.specs.declared.place.Step.{Step}
+use Rattle.claims.specs.declared.place.Step.TheVariants.{Key}
+use Rattle.claims.specs.declared.key.TheConstants.{ROWS}
+use Rattle.claims.proofs.Found.{IfOk-then}
+use Rattle.affine_form.specs.Rows.{IsSmallOver}
+use Rattle.affine_form.specs.System.{AffineSystem}
+use Rattle.affine_program.specs.Domain.{depth_of}
+use Rattle.affine_program.specs.Parts.{statement_of}
+use Rattle.dep_quast.specs.Claims.{IsFew, follow_claims}
+use Rattle.dep_quast.proofs.Fits.{depth-few}
+use Rattle.reuse_paths.specs.LeafClaims.{goes_on}
+use Rattle.reuse_paths.specs.OpenLeaves.{LeafOrigin, origin_of, written, form_at}
+use Rattle.reuse_paths.specs.ReachClaims.{WalkSetting, entering_rows, entry_claims, first_place, reading_point, region_variables, spot_variables}
+use Rattle.reuse_paths.specs.Walks.{WalkRegion, region_of}
+use Rattle.reuse_paths.specs.WalkViews.{walk_of, OriginFits}
+use Rattle.reuse_paths.proofs.EntryClaims.{going-found, region-over}
+use Rattle.reuse_paths.proofs.entry_shown.going_shown.Goals as goal
+
+pub region_shown-requires-clause-few_values : goal.region_shown-requires-clause-few_values
+region_shown-requires-clause-few_values c =
+    let walk : WalkSetting = walk_of c.args.walking.now in
+    let writer : ℕ = c.in-Written.writer in
+    let values : List AffineForm = c.in-Written.point.items in
+    let fits : OriginFits walk.program (length walk.program.parameters + depth_of walk.program c.args.statement) (written writer values) =
+    subst (OriginFits walk.program (length walk.program.parameters + depth_of walk.program c.args.statement)) (ap origin_of c.in-Written.is) c.requires.origin in
+    let parts = c.args.walking.now.program.now in
+    omega (arith, ap (λ (l : List AffineForm). length l) c.as_slice.ensures.value, fits.1, depth-few parts c.params-params.ensures.kept writer (omega (arith, length-map parts.statements statement_of, fits.0)))
+
+pub region_shown-requires-clause-region_over : goal.region_shown-requires-clause-region_over
+region_shown-requires-clause-region_over c =
+    let walk : WalkSetting = walk_of c.args.walking.now in
+    let writer : ℕ = c.in-Written.writer in
+    let values : List AffineForm = c.in-Written.point.items in
+    let fits : OriginFits walk.program (length walk.program.parameters + depth_of walk.program c.args.statement) (written writer values) =
+    subst (OriginFits walk.program (length walk.program.parameters + depth_of walk.program c.args.statement)) (ap origin_of c.in-Written.is) c.requires.origin in
+    let many : region_variables walk writer ≡ spot_variables walk + length c.as_slice.result.now =
+    ap (λ (n : ℕ). spot_variables walk + n) (sym (ap (λ (l : List AffineForm). length l) c.as_slice.ensures.value ∙ fits.1)) in
+    let region : WalkRegion = region_of c.in-Some.region.now in
+    subst (λ (n : ℕ). AllByRecursion (IsSmallOver n) region.rows) many (region-over walk writer region c.requires.fits.regions c.in-Some.ensures)
+
+pub returns : goal.returns
+returns c =
+    let walk : WalkSetting = walk_of c.args.walking.now in
+    let vars : ℕ = region_variables walk c.args.statement in
+    let point : List AffineForm = reading_point walk c.args.statement in
+    let condition : ℕ = c.args.walking.now.condition in
+    let place : List Step = c.args.place.now in
+    let system : AffineSystem = record { vars = vars; rows = c.args.rows.now } in
+    let region : WalkRegion = region_of c.in-Some.region.now in
+    let writer : ℕ = c.in-Written.writer in
+    let entered : List AffineForm → List Claim = λ values. follow_claims condition (place ++ Key ROWS ∷ []) system 0 (entering_rows walk vars (Some region) (map (form_at vars point) values)) c.args.shown.now in
+    let claimed : LeafOrigin → List Claim = λ origin.
+    record { condition = 2; place = first_place place ROWS c.args.shown.now; statement = IsFew (length c.args.rows.now) } ∷ entry_claims condition walk place system point origin (goes_on c.args.shown.now []) in
+    IfOk-then c.region_shown.result (λ found. Finds (entered c.as_slice.result.now) found) (λ found. Finds (claimed (origin_of c.args.origin.now)) found) c.region_shown.ensures
+    (λ found h. subst (λ (origin : LeafOrigin). Finds (claimed origin) found) (sym (ap origin_of c.in-Written.is))
+    (going-found condition walk place system point writer c.in-Written.point.items region c.args.shown.now found (omega (arith, c.if-rows-gt-ROWS.false)) c.in-Some.ensures
+    (subst (λ (values : List AffineForm). Finds (entered values) found) c.as_slice.ensures.value h)))

@@ -1,0 +1,213 @@
+//! The check that pieces of footprints have no vertex in common.
+
+ghost use Rattle.std.specs.Prelude.{◌≡◌, ◌≤◌, ◌+◌, [], ◌∷◌, ◌++◌, length, map, drop, IfOk, OnOk, IfErr, IfNone};
+ghost use Rattle.std.specs.List.{AllByRecursion};
+ghost use Rattle.affine_program.specs.Parts.{meaning};
+ghost use Rattle.claims.specs.Claims.{AllHold, Finds, IsRefusal};
+ghost use Rattle.claims.specs.declared.place.Step.TheVariants.{Key};
+ghost use Rattle.dep_quast.specs.Claims.{pointless_claims};
+ghost use Rattle.reuse_paths.specs.DisjointClaims.{DisjointPiecesAreApart, PairwisePiecesAreApart, disjoint_claims, pair_claims, pair_key, pairwise_systems, shared_systems, systems_with, systems_with_lists};
+ghost use Rattle.reuse_paths.specs.Pieces.{AreApartPieces, PieceFits, piece_of, pieces_of};
+
+use crate::piece::Piece;
+use crate::shared::{is_same, rows_of, variables_of};
+use affine_form::{Memory, Multipliers};
+use affine_program::Program;
+use claims::key::{APART, DISJOINT};
+use claims::{No, Place, Refused, Step};
+use dep_quast::claims_shown::system_shown;
+use std::alloc::Global;
+
+/// A law: pieces of which it is shown that no two with one target have a vertex in common have none, at all admitted
+/// parameter values, of any size: those of two lists, and those of several lists.
+pub fn disjoint_pieces_are_apart()
+    ensures two { DisjointPiecesAreApart }
+    ensures several { PairwisePiecesAreApart }
+{}
+
+/// Checks that no piece of the first list has a vertex in common with one of the second: for each two pieces with one
+/// target, in order, the multipliers show that the system of both has no point. The condition is 18 for families of a term,
+/// 23 for terms of a branch.
+///
+/// # Errors
+///
+/// The first claim that fails, at `apart/i` for condition 18 and at `disjoint/i` for 23, where i counts the pairs of pieces
+/// with one target: 2 where their system has more than 128 rows, and else the condition.
+pub fn check_disjoint(
+    alloc: Global,
+    program: &Program,
+    first: &[Piece],
+    second: &[Piece],
+    shown: &[Multipliers],
+    condition: u8,
+    place: &Place,
+) -> Result<(), Refused>
+    requires first { AllByRecursion (PieceFits (meaning program.now)) (map piece_of first.now) }
+    requires second { AllByRecursion (PieceFits (meaning program.now)) (map piece_of second.now) }
+    requires one_each { length shown.now ≡ length (shared_systems (meaning program.now) (map piece_of first.now) (map piece_of second.now)) }
+    ensures hold { OnOk result (AllHold (disjoint_claims (meaning program.now) condition place.now (map piece_of first.now) (map piece_of second.now) shown.now)) }
+    ensures apart { OnOk result (AreApartPieces (meaning program.now) (map piece_of first.now) (map piece_of second.now)) }
+    ensures refused { IfErr result (λ refused. IsRefusal (disjoint_claims (meaning program.now) condition place.now (map piece_of first.now) (map piece_of second.now) shown.now) refused) }
+{
+    disjoint_pieces_are_apart();
+    let Ok(list) = list_of(alloc, condition, place) else {
+        return Err(Refused::Memory);
+    };
+    let mut at = 0;
+    match pieces_shown(
+        alloc, program, first, second, shown, &mut at, condition, &list,
+    ) {
+        Ok(None) => Ok(()),
+        Ok(Some(no)) => Err(Refused::No(no)),
+        Err(Memory) => Err(Refused::Memory),
+    }
+}
+
+/// The place of the multipliers.
+fn list_of(alloc: Global, condition: u8, place: &Place) -> Result<Place, Memory>
+    ensures { IfOk result (λ list. list ≡ place.now ++ Key (pair_key condition) ∷ []) }
+{
+    let key = if condition == 18 { APART } else { DISJOINT };
+    place.within(alloc, Step::Key(key))
+}
+
+/// Whether the pieces of several lists, those of each list and those of each later one, are shown to have no vertex in
+/// common, by the multipliers of the list at this place.
+pub fn lists_shown(
+    alloc: Global,
+    program: &Program,
+    lists: &[Vec<Piece>],
+    shown: &[Multipliers],
+    condition: u8,
+    list: &Place,
+) -> Result<Option<No>, Memory>
+    requires fit { AllByRecursion (AllByRecursion (PieceFits (meaning program.now))) (map pieces_of lists.now) }
+    requires enough { length (pairwise_systems (meaning program.now) (map pieces_of lists.now)) ≤ length shown.now }
+    ensures { IfOk result (λ found. Finds (pointless_claims condition list.now 0 (pairwise_systems (meaning program.now) (map pieces_of lists.now)) shown.now) found) }
+{
+    let mut at = 0;
+    for (i, pieces) in lists.iter().enumerate() {
+        let (_before, later) = lists.split_at(i + 1);
+        let pieces = pieces.as_slice();
+        let found = later_shown(
+            alloc, program, pieces, later, shown, &mut at, condition, list,
+        )?;
+        if let Some(no) = found {
+            return Ok(Some(no));
+        }
+    }
+    Ok(None)
+}
+
+/// Whether pieces and those of later lists are shown to have no vertex in common, by the multipliers of the list at this
+/// place from one on, which is moved behind those that are read.
+fn later_shown(
+    alloc: Global,
+    program: &Program,
+    pieces: &[Piece],
+    later: &[Vec<Piece>],
+    shown: &[Multipliers],
+    at: &mut usize,
+    condition: u8,
+    list: &Place,
+) -> Result<Option<No>, Memory>
+    requires pieces { AllByRecursion (PieceFits (meaning program.now)) (map piece_of pieces.now) }
+    requires later { AllByRecursion (AllByRecursion (PieceFits (meaning program.now))) (map pieces_of later.now) }
+    requires enough { at.old + length (systems_with_lists (meaning program.now) (map piece_of pieces.now) (map pieces_of later.now)) ≤ length shown.now }
+    ensures found { IfOk result (λ found. Finds (pointless_claims condition list.now at.old (systems_with_lists (meaning program.now) (map piece_of pieces.now) (map pieces_of later.now)) (drop at.old shown.now)) found) }
+    ensures next { IfOk result (λ found. IfNone found (at.new ≡ at.old + length (systems_with_lists (meaning program.now) (map piece_of pieces.now) (map pieces_of later.now)))) }
+{
+    for others in later {
+        let others = others.as_slice();
+        let found = pieces_shown(alloc, program, pieces, others, shown, at, condition, list)?;
+        if let Some(no) = found {
+            return Ok(Some(no));
+        }
+    }
+    Ok(None)
+}
+
+/// Whether pieces of two lists are shown to have no vertex in common, by the multipliers of the list at this place from one
+/// on, which is moved behind those that are read.
+fn pieces_shown(
+    alloc: Global,
+    program: &Program,
+    pieces: &[Piece],
+    others: &[Piece],
+    shown: &[Multipliers],
+    at: &mut usize,
+    condition: u8,
+    list: &Place,
+) -> Result<Option<No>, Memory>
+    requires pieces { AllByRecursion (PieceFits (meaning program.now)) (map piece_of pieces.now) }
+    requires others { AllByRecursion (PieceFits (meaning program.now)) (map piece_of others.now) }
+    requires enough { at.old + length (shared_systems (meaning program.now) (map piece_of pieces.now) (map piece_of others.now)) ≤ length shown.now }
+    ensures found { IfOk result (λ found. Finds (pointless_claims condition list.now at.old (shared_systems (meaning program.now) (map piece_of pieces.now) (map piece_of others.now)) (drop at.old shown.now)) found) }
+    ensures next { IfOk result (λ found. IfNone found (at.new ≡ at.old + length (shared_systems (meaning program.now) (map piece_of pieces.now) (map piece_of others.now)))) }
+{
+    for piece in pieces {
+        let found = piece_shown(alloc, program, piece, others, shown, at, condition, list)?;
+        if let Some(no) = found {
+            return Ok(Some(no));
+        }
+    }
+    Ok(None)
+}
+
+/// Whether a piece and those with its target are shown to have no vertex in common, by the multipliers of the list at this
+/// place from one on, which is moved behind those that are read.
+fn piece_shown(
+    alloc: Global,
+    program: &Program,
+    piece: &Piece,
+    others: &[Piece],
+    shown: &[Multipliers],
+    at: &mut usize,
+    condition: u8,
+    list: &Place,
+) -> Result<Option<No>, Memory>
+    requires fits { PieceFits (meaning program.now) (piece_of piece.now) }
+    requires others { AllByRecursion (PieceFits (meaning program.now)) (map piece_of others.now) }
+    requires enough { at.old + length (systems_with (meaning program.now) (map piece_of others.now) (piece_of piece.now)) ≤ length shown.now }
+    ensures found { IfOk result (λ found. Finds (pointless_claims condition list.now at.old (systems_with (meaning program.now) (map piece_of others.now) (piece_of piece.now)) (drop at.old shown.now)) found) }
+    ensures next { IfOk result (λ found. IfNone found (at.new ≡ at.old + length (systems_with (meaning program.now) (map piece_of others.now) (piece_of piece.now)))) }
+{
+    for other in others {
+        if is_same(&piece.target, &other.target) {
+            let member = list.within(alloc, Step::Index(*at as u64))?;
+            let found = pair_shown(
+                alloc,
+                program,
+                piece,
+                other,
+                &shown[*at],
+                condition,
+                &member,
+            )?;
+            if let Some(no) = found {
+                return Ok(Some(no));
+            }
+            *at += 1;
+        }
+    }
+    Ok(None)
+}
+
+/// Whether two pieces with one target are shown to have no vertex in common, by the multipliers at this place.
+fn pair_shown(
+    alloc: Global,
+    program: &Program,
+    piece: &Piece,
+    other: &Piece,
+    shown: &Multipliers,
+    condition: u8,
+    place: &Place,
+) -> Result<Option<No>, Memory>
+    requires piece { PieceFits (meaning program.now) (piece_of piece.now) }
+    requires other { PieceFits (meaning program.now) (piece_of other.now) }
+    ensures { IfOk result (λ found. Finds (pair_claims (meaning program.now) condition place.now (piece_of piece.now) (piece_of other.now) shown.now) found) }
+{
+    let rows = rows_of(alloc, program, piece, other)?;
+    let vars = variables_of(program, piece, other);
+    system_shown(alloc, condition, place, vars, rows.as_slice(), shown)
+}

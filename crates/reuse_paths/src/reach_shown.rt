@@ -1,0 +1,193 @@
+//! The check of reaches.
+
+ghost use Rattle.std.specs.Prelude.{◌≡◌, ◌*◌, length, IfOk, OnOk, IfErr};
+ghost use Rattle.affine_program.specs.Domain.{depth_of};
+ghost use Rattle.affine_program.specs.Parts.{meaning};
+ghost use Rattle.claims.specs.Claims.{AllHold, Finds, IsRefusal};
+ghost use Rattle.reuse_paths.specs.Arrival.{Arrives};
+ghost use Rattle.reuse_paths.specs.Quasts.{trees_of};
+ghost use Rattle.reuse_paths.specs.ReachClaims.{claims_in, entering_rows, reach_claims, region_at, same_claims, spot_variables, start_claims};
+ghost use Rattle.reuse_paths.specs.ReachFits.{ReachFits, SpotFits};
+ghost use Rattle.reuse_paths.specs.Trees.{RowsAreTrue, RowsFit};
+ghost use Rattle.reuse_paths.specs.Walks.{reach_of, spot_of, walked};
+ghost use Rattle.reuse_paths.specs.WalkViews.{walk_of, EndsFit, SettingFits};
+
+use crate::law::reaches_arrive;
+use crate::region::{entering_rows, equality_rows};
+use crate::walk_shown::regions_shown;
+use crate::walking::{Walking, region_at, spot_variables};
+use crate::{Quasts, Reach, Spot};
+use affine_form::{Memory, Multipliers};
+use affine_program::Program;
+use claims::key::{NODES, SAME, START};
+use claims::{No, Place, Refused, Step, refusal};
+use dep_quast::claims_shown::goals_shown;
+use domain_count::{Nest, rows_before};
+use std::alloc::Global;
+
+/// Whether a spot is shown to be the target.
+fn same_shown(
+    alloc: Global,
+    walking: &Walking,
+    place: &Place,
+    from: &Spot,
+    equal: &[Multipliers],
+) -> Result<Option<No>, Memory>
+    requires ends { EndsFit (walk_of walking.now) }
+    requires from_fits { SpotFits (walk_of walking.now).program (spot_variables (walk_of walking.now)) (spot_of from.now) }
+    requires enough { from.now.statement ≡ (walk_of walking.now).target.statement → length equal.now ≡ 2 * depth_of (walk_of walking.now).program from.now.statement }
+    ensures { IfOk result (λ found. Finds (same_claims walking.now.condition (walk_of walking.now) place.now (spot_of from.now) equal.now) found) }
+{
+    let list = place.within(alloc, Step::Key(SAME))?;
+    if from.statement != walking.target.statement {
+        return refusal(alloc, walking.condition, &list);
+    }
+    let vars = spot_variables(walking);
+    let system = rows_before(alloc, walking.program, walking.nest.bounds())?;
+    let goals = equality_rows(
+        alloc,
+        vars,
+        from.point.as_slice(),
+        walking.target.point.as_slice(),
+    )?;
+    goals_shown(
+        alloc,
+        walking.condition,
+        &list,
+        &system,
+        goals.as_slice(),
+        equal,
+    )
+}
+
+/// Whether a spot is shown to be in its statement's region.
+fn start_shown(
+    alloc: Global,
+    walking: &Walking,
+    place: &Place,
+    from: &Spot,
+    start: &[Multipliers],
+) -> Result<Option<No>, Memory>
+    requires fits { SettingFits (walk_of walking.now) }
+    requires from_fits { SpotFits (walk_of walking.now).program (spot_variables (walk_of walking.now)) (spot_of from.now) }
+    requires enough { length start.now ≡ length (entering_rows (walk_of walking.now) (spot_variables (walk_of walking.now)) (region_at (walk_of walking.now).nodes from.now.statement) (spot_of from.now).point) }
+    ensures { IfOk result (λ found. Finds (start_claims walking.now.condition (walk_of walking.now) place.now (spot_of from.now) start.now) found) }
+{
+    let list = place.within(alloc, Step::Key(START))?;
+    let Some(region) = region_at(walking, from.statement) else {
+        return refusal(alloc, walking.condition, &list);
+    };
+    let vars = spot_variables(walking);
+    let system = rows_before(alloc, walking.program, walking.nest.bounds())?;
+    let goals = entering_rows(alloc, walking, vars, region, from.point.as_slice())?;
+    goals_shown(
+        alloc,
+        walking.condition,
+        &list,
+        &system,
+        goals.as_slice(),
+        start,
+    )
+}
+
+/// Whether a walk from a spot is shown to arrive at the target.
+fn walked_shown(
+    alloc: Global,
+    walking: &Walking,
+    place: &Place,
+    from: &Spot,
+    start: &[Multipliers],
+) -> Result<Option<No>, Memory>
+    requires fits { SettingFits (walk_of walking.now) }
+    requires from_fits { SpotFits (walk_of walking.now).program (spot_variables (walk_of walking.now)) (spot_of from.now) }
+    requires enough { length start.now ≡ length (entering_rows (walk_of walking.now) (spot_variables (walk_of walking.now)) (region_at (walk_of walking.now).nodes from.now.statement) (spot_of from.now).point) }
+    ensures { IfOk result (λ found. Finds (claims_in walking.now.condition (walk_of walking.now) place.now (spot_of from.now) (walked start.now (walk_of walking.now).nodes)) found) }
+{
+    if let Some(no) = start_shown(alloc, walking, place, from, start)? {
+        return Ok(Some(no));
+    }
+    let list = place.within(alloc, Step::Key(NODES))?;
+    regions_shown(alloc, walking, &list)
+}
+
+/// Whether what a reach claims is shown.
+fn reach_shown(
+    alloc: Global,
+    program: &Program,
+    quasts: &Quasts,
+    nest: &Nest,
+    from: &Spot,
+    to: &Spot,
+    reach: &Reach,
+    condition: u8,
+    place: &Place,
+) -> Result<Option<No>, Memory>
+    requires trees_fit { RowsFit (meaning program.now) 0 (trees_of quasts.now) }
+    requires fits { ReachFits (meaning program.now) (trees_of quasts.now) nest.now (spot_of from.now) (spot_of to.now) (reach_of reach.now) }
+    ensures { IfOk result (λ found. Finds (reach_claims (meaning program.now) (trees_of quasts.now) nest.now (spot_of from.now) (spot_of to.now) (reach_of reach.now) condition place.now) found) }
+{
+    let nodes = match reach {
+        Reach::Same(_) => &[],
+        Reach::Walked { nodes, .. } => nodes.as_slice(),
+    };
+    let walking = Walking {
+        program,
+        quasts,
+        nest,
+        nodes,
+        target: to,
+        condition,
+    };
+    match reach {
+        Reach::Same(equal) => same_shown(alloc, &walking, place, from, equal.as_slice()),
+        Reach::Walked { start, .. } => {
+            walked_shown(alloc, &walking, place, from, start.as_slice())
+        }
+    }
+}
+
+/// Checks that a walk back from the spot `from` arrives at the spot `to`, by a reach that stands at this place of a
+/// certificate. The spots are over the parameters and the nest's variables; the source trees, the nest, the spots and the
+/// reach fit the program, and the trees are true.
+///
+/// After `Ok`, at all admitted parameter values, of any size, and at each point of the nest at which `from` is an instance
+/// of the execution, `to` is that instance or is reached from it by going from vertex to predecessor (paths of
+/// dependences, Feautrier 1991).
+///
+/// # Errors
+///
+/// The first claim that doesn't hold. Where the spots are to be the same, `condition` at `same` for spots of two statements
+/// and at `same/i` for the first equality that isn't shown. Else `condition` at `start` where the starting statement has no
+/// region, and at `start/i` for its first row that isn't shown at the spot; then region by region, at
+/// `nodes/statement/tree`, behind `yes` and `no`, and there at `leaves/i` for the first leaf that isn't empty and is neither
+/// shown to have no point (`empty`), nor named by the target's statement and shown to be the target (`arrive/i`), nor in
+/// the region of a statement that has one (`rows/i`); 2 for a system of more than 128 rows, at the leaf's first multipliers,
+/// or at the leaf.
+pub fn check_reach(
+    alloc: Global,
+    program: &Program,
+    quasts: &Quasts,
+    nest: &Nest,
+    from: &Spot,
+    to: &Spot,
+    reach: &Reach,
+    condition: u8,
+    place: &Place,
+) -> Result<(), Refused>
+    requires trees_fit { RowsFit (meaning program.now) 0 (trees_of quasts.now) }
+    requires trees_are_true { RowsAreTrue (meaning program.now) 0 (trees_of quasts.now) }
+    requires fits { ReachFits (meaning program.now) (trees_of quasts.now) nest.now (spot_of from.now) (spot_of to.now) (reach_of reach.now) }
+    ensures hold { OnOk result (AllHold (reach_claims (meaning program.now) (trees_of quasts.now) nest.now (spot_of from.now) (spot_of to.now) (reach_of reach.now) condition place.now)) }
+    ensures arrives { OnOk result (Arrives (meaning program.now) nest.now (spot_of from.now) (spot_of to.now)) }
+    ensures refused { IfErr result (λ refused. IsRefusal (reach_claims (meaning program.now) (trees_of quasts.now) nest.now (spot_of from.now) (spot_of to.now) (reach_of reach.now) condition place.now) refused) }
+{
+    let _params = program.params();
+    reaches_arrive();
+    match reach_shown(
+        alloc, program, quasts, nest, from, to, reach, condition, place,
+    ) {
+        Ok(None) => Ok(()),
+        Ok(Some(no)) => Err(Refused::No(no)),
+        Err(Memory) => Err(Refused::Memory),
+    }
+}

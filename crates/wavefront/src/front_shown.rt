@@ -1,0 +1,183 @@
+//! Whether what a wavefront term claims of its instances is shown.
+
+ghost use Rattle.std.specs.Prelude.{◌≡◌, ◌+◌, ◌≤◌, ◌↔◌, ◌++◌, ◌∷◌, [], length, Some, None, IfOk, IsTrue};
+ghost use Rattle.std.specs.List.{AllByRecursion};
+ghost use Rattle.affine_form.specs.Form.{variables as form_variables};
+ghost use Rattle.affine_form.specs.Rows.{IsSmallOver};
+ghost use Rattle.affine_program.specs.Parts.{meaning, IsProgram};
+ghost use Rattle.claims.specs.Claims.{Finds};
+ghost use Rattle.claims.specs.declared.place.Step.TheVariants.{Index, Key};
+ghost use Rattle.claims.specs.declared.key.TheConstants.{POINT as POINT_KEY, VERTEX as VERTEX_KEY};
+ghost use Rattle.dep_quast.specs.Context.{variables_at};
+ghost use Rattle.wavefront.specs.FrontClaims.{front_goals, front_inside, front_variables, outer_claims, telling_forms, user_point, word_claims, IsWithoutPast};
+ghost use Rattle.wavefront.specs.FrontFits.{PartsFit};
+ghost use Rattle.wavefront.specs.FrontTerm.{user_read};
+ghost use Rattle.wavefront.specs.View.{front_of};
+ghost use Rattle.iolb_model.specs.declared.limits.TheConstants.{PARAMETERS, NEST_VARIABLES};
+
+use crate::front::Wavefront;
+use crate::instance::put_all;
+use crate::inverse_shown::inverse_shown;
+use affine_form::{Form, Memory, variables_from};
+use affine_program::Program;
+use claims::key::{INSIDE, POINT, VERTEX};
+use claims::{No, Place, Step, refusal};
+use dep_quast::claims_shown::goals_shown;
+use dep_quast::lists::followed_by;
+use dep_quast::point_rows::domain_rows;
+use dep_quast::reader::{Reader, reference};
+use domain_count::rows_before;
+use std::alloc::Global;
+
+/// How many variables there are: the parameters and the nest's.
+pub(crate) fn variables(program: &Program, term: &Wavefront) -> usize
+    requires { PartsFit (meaning program.now) (front_of term.now) }
+    ensures variables { result ≡ front_variables (meaning program.now) (front_of term.now) }
+    ensures few { result ≤ PARAMETERS + NEST_VARIABLES }
+    ensures kept { IsProgram program.now }
+{
+    program.params().len() + term.nest.bounds().len()
+}
+
+/// The parameters and the loop values of the user, over the parameters and the nest's variables.
+pub(crate) fn user_at(
+    alloc: Global,
+    program: &Program,
+    term: &Wavefront,
+) -> Result<Vec<Form>, Memory>
+    requires { PartsFit (meaning program.now) (front_of term.now) }
+    ensures point { IfOk result (λ point. point.items ≡ user_point (meaning program.now) (front_of term.now)) }
+    ensures many { IfOk result (λ point. length point.items ≡ variables_at (meaning program.now) (user_read (front_of term.now))) }
+    ensures over { IfOk result (λ point. AllByRecursion (IsSmallOver (front_variables (meaning program.now) (front_of term.now))) point.items) }
+{
+    let vars = variables(program, term);
+    let first = variables_from(alloc, vars, 0, program.params().len())?;
+    followed_by(alloc, first, term.user.point.as_slice())
+}
+
+/// The rows which say that the user, the vertex and the word's instance, if it has one, are in their domains.
+fn goals_of(alloc: Global, program: &Program, term: &Wavefront) -> Result<Vec<Form>, Memory>
+    requires { PartsFit (meaning program.now) (front_of term.now) }
+    ensures { IfOk result (λ goals. goals.items ≡ front_goals (meaning program.now) (front_of term.now)) }
+{
+    let vars = variables(program, term);
+    let (user, vertex) = (&term.user, &term.vertex);
+    let first = domain_rows(alloc, program, vars, user.statement, user.point.as_slice())?;
+    let second = domain_rows(
+        alloc,
+        program,
+        vars,
+        vertex.statement,
+        vertex.point.as_slice(),
+    )?;
+    let both = followed_by(alloc, first, second.as_slice())?;
+    let Some(source) = &term.source else {
+        return Ok(both);
+    };
+    let third = domain_rows(
+        alloc,
+        program,
+        vars,
+        source.statement,
+        source.point.as_slice(),
+    )?;
+    followed_by(alloc, both, third.as_slice())
+}
+
+/// Whether the instances are shown to be in their statements' domains.
+pub(crate) fn front_inside_shown(
+    alloc: Global,
+    program: &Program,
+    term: &Wavefront,
+    place: &Place,
+) -> Result<Option<No>, Memory>
+    requires { PartsFit (meaning program.now) (front_of term.now) }
+    ensures { IfOk result (λ found. Finds (front_inside (meaning program.now) place.now (front_of term.now)) found) }
+{
+    let goals = goals_of(alloc, program, term)?;
+    let system = rows_before(alloc, program, term.nest.bounds())?;
+    let list = place.within(alloc, Step::Key(INSIDE))?;
+    goals_shown(
+        alloc,
+        10,
+        &list,
+        &system,
+        goals.as_slice(),
+        term.inside.as_slice(),
+    )
+}
+
+/// Whether the vertex depends on the outer variables alone.
+pub(crate) fn outer_shown(
+    alloc: Global,
+    program: &Program,
+    term: &Wavefront,
+    place: &Place,
+) -> Result<Option<No>, Memory>
+    requires { PartsFit (meaning program.now) (front_of term.now) }
+    ensures { IfOk result (λ found. Finds (outer_claims (meaning program.now) place.now (front_of term.now)) found) }
+{
+    let _vars = variables(program, term);
+    let first = program.params().len() + usize::from(term.outer);
+    for (i, form) in term.vertex.point.iter().enumerate() {
+        if !is_without(form, first) {
+            return outer_failed(alloc, place, i);
+        }
+    }
+    Ok(None)
+}
+
+/// Whether the coefficients of the variables past so many are 0.
+fn is_without(form: &Form, first: usize) -> bool
+    requires { first ≤ form_variables form.now }
+    ensures { IsTrue result ↔ IsWithoutPast first form.now }
+{
+    form.coef()[first..].iter().all(|c| *c == 0)
+}
+
+/// The refusal by condition 22 at a form of the vertex.
+fn outer_failed(alloc: Global, place: &Place, i: usize) -> Result<Option<No>, Memory>
+    ensures { IfOk result (λ found. found ≡ Some (record { condition = 22; place = place.now ++ Key VERTEX_KEY ∷ Key POINT_KEY ∷ Index i ∷ [] })) }
+{
+    let vertex = place.within(alloc, Step::Key(VERTEX))?;
+    let point = vertex.within(alloc, Step::Key(POINT))?;
+    let form = point.within(alloc, Step::Index(i as u64))?;
+    refusal(alloc, 22, &form)
+}
+
+/// Whether the matrix turns what tells the words apart back into the scale times the nest's variables: the subscripts of the
+/// cell where the word is an input, and else the loop values of its instance.
+pub(crate) fn words_shown(
+    alloc: Global,
+    program: &Program,
+    term: &Wavefront,
+    place: &Place,
+) -> Result<Option<No>, Memory>
+    requires { PartsFit (meaning program.now) (front_of term.now) }
+    ensures { IfOk result (λ found. Finds (word_claims (meaning program.now) place.now (front_of term.now)) found) }
+{
+    let params = program.params().len();
+    let size = term.nest.bounds().len();
+    let inverse = &term.inverse;
+    if let Some(source) = &term.source {
+        let forms = source.point.as_slice();
+        return inverse_shown(alloc, inverse, forms, params, size, place);
+    }
+    let cell = cell_at(alloc, program, term)?;
+    inverse_shown(alloc, inverse, cell.as_slice(), params, size, place)
+}
+
+/// The cell that the user reads, by its subscripts.
+fn cell_at(alloc: Global, program: &Program, term: &Wavefront) -> Result<Vec<Form>, Memory>
+    requires { PartsFit (meaning program.now) (front_of term.now) }
+    ensures { IfOk result (λ forms. forms.items ≡ telling_forms (meaning program.now) (front_of term.now) None) }
+{
+    let vars = variables(program, term);
+    let point = user_at(alloc, program, term)?;
+    let reader = Reader {
+        statement: term.user.statement,
+        read: term.read,
+    };
+    let subscripts = reference(program, reader).subs.as_slice();
+    put_all(alloc, vars, subscripts, point.as_slice())
+}

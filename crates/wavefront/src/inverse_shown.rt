@@ -1,0 +1,44 @@
+//! Whether a matrix turns forms back into a number times a nest's variables.
+
+ghost use Rattle.std.specs.Prelude.{◌≡◌, ◌+◌, ◌≤◌, length, Some, IfOk};
+ghost use Rattle.claims.specs.Claims.{Finds};
+ghost use Rattle.wavefront.specs.InverseClaims.{entry_place, inverse_claims};
+ghost use Rattle.iolb_model.specs.declared.limits.TheConstants.{VARIABLES};
+
+use crate::cold::Inverse;
+use crate::inverse::first_difference;
+use affine_form::{Form, Memory};
+use claims::key::{INVERSE, MATRIX};
+use claims::{No, Place, Step, refusal};
+use std::alloc::Global;
+
+/// Whether the matrix turns the forms back into the scale times the variables past the parameters, so many of them.
+pub(crate) fn inverse_shown(
+    alloc: Global,
+    inverse: &Inverse,
+    forms: &[Form],
+    params: usize,
+    size: usize,
+    place: &Place,
+) -> Result<Option<No>, Memory>
+    requires few { params + size ≤ VARIABLES }
+    requires rows { inverse.now.matrix.rows ≡ size }
+    requires columns { (1 ≤ inverse.now.matrix.rows) → inverse.now.matrix.columns ≡ length forms.now }
+    ensures { IfOk result (λ found. Finds (inverse_claims inverse.now.matrix inverse.now.scale params size forms.now place.now) found) }
+{
+    match first_difference(&inverse.matrix, forms, params, inverse.scale, size) {
+        Some((row, col)) => entry_failed(alloc, place, row, col),
+        None => Ok(None),
+    }
+}
+
+/// The refusal by condition 12 at an entry of the product of the matrix with the forms' coefficients.
+fn entry_failed(alloc: Global, place: &Place, row: usize, col: usize) -> Result<Option<No>, Memory>
+    ensures { IfOk result (λ found. found ≡ Some (record { condition = 12; place = entry_place place.now row col })) }
+{
+    let inverse = place.within(alloc, Step::Key(INVERSE))?;
+    let matrix = inverse.within(alloc, Step::Key(MATRIX))?;
+    let row = matrix.within(alloc, Step::Index(row as u64))?;
+    let entry = row.within(alloc, Step::Index(col as u64))?;
+    refusal(alloc, 12, &entry)
+}
