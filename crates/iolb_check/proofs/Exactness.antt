@@ -15,6 +15,8 @@ cons-same {X} {x} {y} {xs} {ys} e f = ap (λ z. z ∷ xs) e ∙ ap (λ zs. y ∷
 value-same : (program : AffineProgram) (term : TermClaim) (one other : Value) → IsValueOf program term one → IsValueOf program term other → one ≡ other
 value-same program (cold claim sums) (values.Cold one) (values.Cold other) h g =
     ap values.Cold (right-claims-give-one program claim.nest (cold_term claim sums).count one other h g)
+value-same program (cold claim sums) (values.Cold one) (values.Wavefront pairs outer) h g = absurd g
+value-same program (cold claim sums) (values.Wavefront pairs outer) other h g = absurd h
 
 values-same : (program : AffineProgram) (terms : List TermClaim) (one other : List Value) → AreValuesOf program terms one → AreValuesOf program terms other → one ≡ other
 values-same program [] one other h g = h ∙ sym g

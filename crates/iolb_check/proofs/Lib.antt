@@ -1,8 +1,5 @@
 pub mod Lists
 pub mod Terms
 pub mod Exactness
-pub mod FitFound
-pub mod Missing
 pub mod FitParts
-pub mod FitSides
-pub mod TreeParts
+pub mod PiecesOf

@@ -7,15 +7,17 @@ use Rattle.iolb_model.specs.Bound.{AreMet, IsAdmitted, BoundTerm, branch_value}
 use Rattle.iolb_model.specs.Game.{IsCompletePebbling, loads}
 use Rattle.iolb_model.specs.Graph.{computation_graph}
 use Rattle.iolb_model.specs.Headline.{BoundHolds}
+use Rattle.iolb_model.specs.Footprint.{Footprint, AreDisjoint, ArePairwiseDisjoint, AreFootprintsOf}
 use Rattle.pebble_game.proofs.BranchLoads.{branches_loaded}
 use Rattle.affine_program.specs.Parts.{ProgramParts, meaning}
 use Rattle.domain_count.specs.Count.{CountsPoints}
 use Rattle.domain_count.specs.Points.{count}
 use Rattle.iolb_model.specs.Form.{AffineForm}
 use Rattle.poly_tree.specs.Poly.{Quotient, numerator_at}
+use Rattle.reuse_paths.specs.Pieces.{FootprintPiece, AreApartPieces, AreCovered, ArePairwiseApart}
 use Rattle.iolb_check.specs.declared.bound.Value.{Value}
-use Rattle.iolb_check.specs.Bounds.{BoundParts, IsBound, bound_of, terms_of}
-use Rattle.iolb_check.specs.Conditions.{BranchHolds, TermHolds}
+use Rattle.iolb_check.specs.Bounds.{BoundParts, IsBound, IsTermValue, bound_of, terms_of}
+use Rattle.iolb_check.specs.Conditions.{BranchHolds, TermHolds, TermsHold}
 
 -- a count's values are whole
 pub whole : (program : ProgramParts) (nest : List (AffineForm × AffineForm)) (q : Quotient) → program.assumed.vars ≡ length program.params → CountsPoints (meaning program) nest q
@@ -26,14 +28,51 @@ pub is-bound : (program : ProgramParts) (branches : List (List Value)) → AllBy
 is-bound program [] h = tt
 is-bound program (b ∷ branches) h = (h.0.counting, is-bound program branches h.1)
 
--- the values of a branch of at most one term that hold
-pub branch-holds : (program : ProgramParts) (branch : List Value) → length branch ≤ 1 → AllByRecursion (TermHolds program) branch → BranchHolds program branch
-branch-holds program [] few h = record { footprints = record { footprints = []; each = refl; apart = λ values admitted. tt }; counting = tt }
-branch-holds program (t ∷ []) few h = record {
-  footprints = record { footprints = h.0.0.0 ∷ []; each = (h.0.0.1, refl); apart = λ values admitted. (tt, tt) };
-  counting = (h.0.1, tt);
-}
-branch-holds program (t ∷ u ∷ more) few h = absurd (omega (arith, few))
+-- ---- a branch whose terms hold, and whose pieces are apart
+
+module _ (program : ProgramParts) where
+  footprints : (lists : List (List FootprintPiece)) (values : List Value) → TermsHold program lists values → List Footprint
+  footprints [] values h = []
+  footprints (pieces ∷ lists) [] h = absurd h
+  footprints (pieces ∷ lists) (value ∷ values) h = h.0.footprint ∷ footprints lists values h.1
+
+  each : (lists : List (List FootprintPiece)) (values : List Value) (h : TermsHold program lists values) → AreFootprintsOf (meaning program) (terms_of values) (footprints lists values h)
+  unfolding footprints
+  each [] [] h = refl
+  each [] (value ∷ values) h = absurd cc
+  each (pieces ∷ lists) [] h = absurd h
+  each (pieces ∷ lists) (value ∷ values) h = (h.0.loaded, each lists values h.1)
+
+  all-count : (lists : List (List FootprintPiece)) (values : List Value) → TermsHold program lists values → AllByRecursion (IsTermValue program.assumed) values
+  all-count [] [] h = tt
+  all-count [] (value ∷ values) h = absurd cc
+  all-count (pieces ∷ lists) [] h = absurd h
+  all-count (pieces ∷ lists) (value ∷ values) h = (h.0.counting, all-count lists values h.1)
+
+  module _ (at : List ℤ) (admitted : IsAdmitted (meaning program) at) where
+    later-apart : (pieces : List FootprintPiece) (footprint : Footprint) → AreCovered (meaning program) footprint pieces → (lists : List (List FootprintPiece)) (values : List Value)
+        (h : TermsHold program lists values) → AllByRecursion (AreApartPieces (meaning program) pieces) lists → AllByRecursion (AreDisjoint (footprint at)) (map (λ (f : Footprint). f at) (footprints lists values h))
+    unfolding footprints
+    later-apart pieces footprint covered [] values h apart = tt
+    later-apart pieces footprint covered (others ∷ lists) [] h apart = absurd h
+    later-apart pieces footprint covered (others ∷ lists) (value ∷ values) h apart = (
+      λ vertex here there. apart.0 at vertex admitted (covered at vertex admitted here) (h.0.covered at vertex admitted there),
+      later-apart pieces footprint covered lists values h.1 apart.1,
+    )
+
+    pairwise : (lists : List (List FootprintPiece)) (values : List Value) (h : TermsHold program lists values) → ArePairwiseApart (meaning program) lists
+        → ArePairwiseDisjoint (map (λ (f : Footprint). f at) (footprints lists values h))
+    unfolding footprints
+    pairwise [] values h apart = tt
+    pairwise (pieces ∷ lists) [] h apart = absurd h
+    pairwise (pieces ∷ lists) (value ∷ values) h apart =
+        (later-apart pieces h.0.footprint h.0.covered lists values h.1 apart.0, pairwise lists values h.1 apart.1)
+
+  pub branch-holds : (lists : List (List FootprintPiece)) (values : List Value) → TermsHold program lists values → ArePairwiseApart (meaning program) lists → BranchHolds program values
+  branch-holds lists values h apart = record {
+    footprints = record { footprints = footprints lists values h; each = each lists values h; apart = λ at admitted. pairwise at admitted lists values h apart };
+    counting = all-count lists values h;
+  }
 
 greatest : (program : ProgramParts) (values : List ℤ) (s : ℕ) (moves : List Move) → IsAdmitted (meaning program) values → 1 ≤ s
     → IsCompletePebbling (computation_graph (meaning program) values) s moves → (n : ℕ) (branches : List (List Value)) → n ≤ loads moves → AllByRecursion (BranchHolds program) branches

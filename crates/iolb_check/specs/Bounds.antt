@@ -1,15 +1,15 @@
 -- Bounds as the checker makes them, and their values at numbers for the parameters.
-use Rattle.std.specs.Prelude.{◌≡◌, ℕ, zero, suc, ◌≤◌, ◌⊎◌, ℤ, pos, ◌*ℤ◌, ◌≤ℤ◌, List, [], ◌∷◌, map, length, slice_get, Some, Result, Ok, Err, Vec, max, fold}
+use Rattle.std.specs.Prelude.{◌≡◌, ℕ, zero, suc, ◌*◌, ◌≤◌, ◌⊎◌, ℤ, pos, ◌*ℤ◌, ◌≤ℤ◌, List, [], ◌∷◌, map, length, slice_get, Some, Result, Ok, Err, Vec, max, fold}
 use Rattle.std.specs.Global.{Global}
 use Rattle.std.specs.List.{AllByRecursion}
 use Rattle.iolb_model.specs.Form.{AffineForm, form_value}
-use Rattle.iolb_model.specs.Bound.{AreMet, Bound, BoundTerm, cold, branch_value}
+use Rattle.iolb_model.specs.Bound.{AreMet, Bound, BoundTerm, cold, wavefront, branch_value, count_value}
 use Rattle.affine_form.specs.System.{AffineSystem}
 use Rattle.poly_tree.specs.Expansion.{IsCanonical, at, size_at}
 use Rattle.poly_tree.specs.Poly.{Quotient, numerator_at}
 use Rattle.poly_tree.specs.Printed.{polynomial_of}
 use Rattle.iolb_check.specs.declared.bound.Value.{Value}
-use Rattle.iolb_check.specs.declared.bound.Value.TheVariants.{Cold}
+use Rattle.iolb_check.specs.declared.bound.Value.TheVariants.{Cold, Wavefront}
 use Rattle.iolb_check.specs.declared.value_fault.ValueFault.{ValueFault}
 use Rattle.iolb_check.specs.declared.value_fault.ValueFault.TheVariants.{OutsideAssumption, Wide}
 use Rattle.iolb_model.specs.declared.limits.TheConstants.{MEASURE}
@@ -22,6 +22,7 @@ pub record BoundParts : Type 0 where
 -- the term of a bound that a value is
 abbrev pub term_of : Value → BoundTerm
 term_of (Cold count) = cold (polynomial_of count)
+term_of (Wavefront pairs outer) = wavefront (polynomial_of pairs) (polynomial_of outer)
 
 abbrev pub terms_of : List Value → List BoundTerm
 terms_of values = map term_of values
@@ -43,6 +44,7 @@ pub record IsCounting (assumed : AffineSystem) (polynomial : Quotient) : Type 0 
 
 abbrev pub IsTermValue : AffineSystem → Value → Type 0
 IsTermValue assumed (Cold count) = IsCounting assumed count
+IsTermValue assumed (Wavefront pairs outer) = IsCounting assumed pairs × IsCounting assumed outer
 
 -- what holds of each bound: its terms' polynomials count something
 abbrev pub IsBound : BoundParts → Type 0
@@ -51,17 +53,26 @@ IsBound parts = AllByRecursion (λ terms. AllByRecursion (IsTermValue parts.assu
 -- ---- values at sizes
 
 -- a polynomial's terms at the sizes reach 2^126
-abbrev pub IsWideTerm : List ℤ → Value → Type 0
-IsWideTerm sizes (Cold count) = MEASURE ≤ size_at count.tree (at sizes)
+abbrev pub IsWideAt : List ℤ → Quotient → Type 0
+IsWideAt sizes polynomial = MEASURE ≤ size_at polynomial.tree (at sizes)
+
+-- s for each of what a polynomial counts reaches 2^126
+abbrev pub IsWideTimes : List ℤ → ℕ → Quotient → Type 0
+IsWideTimes sizes s polynomial = MEASURE ≤ s * count_value (polynomial_of polynomial) sizes
+
+-- one of a term's polynomials is wide, or what may be red for a wavefront term's vertices
+abbrev pub IsWideTerm : List ℤ → ℕ → Value → Type 0
+IsWideTerm sizes s (Cold count) = IsWideAt sizes count
+IsWideTerm sizes s (Wavefront pairs outer) = IsWideAt sizes pairs ⊎ (IsWideAt sizes outer ⊎ IsWideTimes sizes s outer)
 
 -- one of the terms is wide
-abbrev pub HasWideTerm : List ℤ → List Value → Type 0
-HasWideTerm sizes [] = ⊥
-HasWideTerm sizes (term ∷ terms) = IsWideTerm sizes term ⊎ HasWideTerm sizes terms
+abbrev pub HasWideTerm : List ℤ → ℕ → List Value → Type 0
+HasWideTerm sizes s [] = ⊥
+HasWideTerm sizes s (term ∷ terms) = IsWideTerm sizes s term ⊎ HasWideTerm sizes s terms
 
 -- one of a branch's terms is wide, or their sum reaches 2^126
 abbrev pub IsWideBranch : List ℤ → ℕ → List Value → Type 0
-IsWideBranch sizes s terms = HasWideTerm sizes terms ⊎ (MEASURE ≤ branch_value (terms_of terms) sizes s)
+IsWideBranch sizes s terms = HasWideTerm sizes s terms ⊎ (MEASURE ≤ branch_value (terms_of terms) sizes s)
 
 -- one of the branches is wide
 abbrev pub HasWideBranch : List ℤ → ℕ → List (List Value) → Type 0

@@ -1,18 +1,22 @@
 -- The conditions of certificates, in the order in which they are tested.
-use Rattle.std.specs.Prelude.{◌≡◌, ℕ, List, [], ◌∷◌, ◌++◌}
+use Rattle.std.specs.Prelude.{◌≡◌, ℕ, List, [], ◌∷◌, ◌++◌, map}
 use Rattle.std.specs.List.{AllByRecursion}
 use Rattle.iolb_model.specs.Footprint.{Footprint, IsFootprintOf, HasFootprints}
 use Rattle.iolb_model.specs.Program.{AffineProgram}
 use Rattle.claims.specs.Claims.{Claim, AllHold, numbered}
 use Rattle.claims.specs.declared.place.Step.{Step}
 use Rattle.claims.specs.declared.place.Step.TheVariants.{Key, Index}
-use Rattle.claims.specs.declared.key.TheConstants.{BRANCHES, COLD, TERMS}
+use Rattle.claims.specs.declared.key.TheConstants.{BRANCHES, COLD, DISJOINT, TERMS}
 use Rattle.affine_program.specs.Parts.{ProgramParts, meaning}
+use Rattle.dep_quast.specs.Claims.{pointless_claims}
 use Rattle.dep_quast.specs.Tree.{SelectionTree}
 use Rattle.domain_count.specs.Count.{IsCount}
+use Rattle.reuse_paths.specs.DisjointClaims.{pairwise_systems}
+use Rattle.reuse_paths.specs.Pieces.{FootprintPiece, AreCovered}
 use Rattle.reuse_paths.specs.Quasts.{tree_for}
 use Rattle.reuse_paths.specs.Trees.{rows_claims}
 use Rattle.wavefront.specs.ColdClaims.{cold_claims}
+use Rattle.wavefront.specs.ColdPieces.{cold_pieces}
 use Rattle.iolb_check.specs.Claims.{TermClaim, cold, cold_term, BranchClaim, CertificateClaim}
 use Rattle.iolb_check.specs.TermFit.{certificate_fit}
 use Rattle.iolb_check.specs.declared.bound.Value.{Value}
@@ -37,12 +41,28 @@ terms_claims program trees list terms = numbered (term_claims_at program trees l
 abbrev pub terms_place : ℕ → List Step
 terms_place branch = Key BRANCHES ∷ Index branch ∷ Key TERMS ∷ []
 
--- what a branch claims
+-- the pieces of a term's footprint, and those of each of a branch's terms
+abbrev pub term_pieces : AffineProgram → List (List SelectionTree) → TermClaim → List FootprintPiece
+term_pieces program trees (cold claim sums) = cold_pieces program (tree_for trees (cold_term claim sums).reader) (cold_term claim sums)
+
+abbrev pub branch_pieces : AffineProgram → List (List SelectionTree) → List TermClaim → List (List FootprintPiece)
+branch_pieces program trees terms = map (term_pieces program trees) terms
+
+-- the place of the multipliers which show that a branch's terms have no vertex in common
+abbrev pub disjoint_place : ℕ → List Step
+disjoint_place branch = Key BRANCHES ∷ Index branch ∷ Key DISJOINT ∷ []
+
+-- that pieces of two terms, each term with each later one, have no vertex in common (conditions 2 and 23)
+abbrev pub disjoint_claims : AffineProgram → List (List SelectionTree) → ℕ → BranchClaim → List Claim
+disjoint_claims program trees number branch =
+    pointless_claims 23 (disjoint_place number) 0 (pairwise_systems program (branch_pieces program trees branch.terms)) branch.disjoint
+
+-- what a branch claims: its terms, and then that they have no vertex in common
 abbrev pub branch_claims : AffineProgram → List (List SelectionTree) → ℕ → BranchClaim → List Claim
-branch_claims program trees number branch = terms_claims program trees (terms_place number) branch.terms
+branch_claims program trees number branch = terms_claims program trees (terms_place number) branch.terms ++ disjoint_claims program trees number branch
 
 -- All conditions: that the certificate fits the program (1), what its source trees claim (2 to 7), and what its branches
--- claim (2, and 8 to 12).
+-- claim (2, 8 to 12, and 23).
 abbrev pub conditions : AffineProgram → CertificateClaim → List Claim
 conditions program certificate =
     certificate_fit program certificate ++ rows_claims program 0 certificate.trees ++ numbered (branch_claims program certificate.trees) 0 certificate.branches
@@ -52,6 +72,7 @@ conditions program certificate =
 -- this is a term's value: the count that its sums give
 abbrev pub IsValueOf : AffineProgram → TermClaim → Value → Type 0
 IsValueOf program (cold claim sums) (values.Cold count) = IsCount program claim.nest (cold_term claim sums).count count
+IsValueOf program (cold claim sums) (values.Wavefront pairs outer) = ⊥
 
 -- these are the values of terms, one of each
 abbrev pub AreValuesOf : AffineProgram → List TermClaim → List Value → Type 0
@@ -72,9 +93,18 @@ pub record MeetsConditions (program : AffineProgram) (certificate : CertificateC
 
 -- ---- what follows
 
--- a term's value has a footprint, and counts something
-abbrev pub TermHolds : ProgramParts → Value → Type 0
-TermHolds program value = ((footprint : Footprint) × IsFootprintOf (meaning program) (term_of value) footprint) × IsTermValue program.assumed value
+-- A term's value has a footprint, which the term's pieces cover, and counts something.
+pub record TermHolds (program : ProgramParts) (pieces : List FootprintPiece) (value : Value) : Type 0 where
+  pub footprint : Footprint
+  pub loaded : IsFootprintOf (meaning program) (term_of value) footprint
+  pub covered : AreCovered (meaning program) footprint pieces
+  pub counting : IsTermValue program.assumed value
+
+-- so do the values of terms, one for each list of pieces
+abbrev pub TermsHold : ProgramParts → List (List FootprintPiece) → List Value → Type 0
+TermsHold program [] values = values ≡ []
+TermsHold program (pieces ∷ lists) [] = ⊥
+TermsHold program (pieces ∷ lists) (value ∷ values) = TermHolds program pieces value × TermsHold program lists values
 
 -- the values of a branch have footprints of which no two have a vertex in common, and count something
 pub record BranchHolds (program : ProgramParts) (branch : List Value) : Type 0 where

@@ -1,18 +1,22 @@
 -- Certificates that fit a program, and that their parts then do.
-use Rattle.std.specs.Prelude.{◌≡◌, List, Some}
+use Rattle.std.specs.Prelude.{◌≡◌, List, Some, length, map}
 use Rattle.std.specs.List.{AllByRecursion}
 use Rattle.affine_program.specs.Parts.{ProgramParts, meaning}
 use Rattle.dep_quast.specs.Tree.{SelectionTree}
 use Rattle.domain_count.specs.Claims.{FitsCount}
 use Rattle.reuse_paths.specs.Quasts.{tree_at, tree_for, trees_of}
+use Rattle.reuse_paths.specs.TargetPairs.{pairwise_targets}
 use Rattle.reuse_paths.specs.Trees.{RowsFit}
 use Rattle.wavefront.specs.declared.cold.Cold.{Cold}
+use Rattle.wavefront.specs.ColdPieces.{LeavesAreFew}
 use Rattle.wavefront.specs.Loads.{ColdFits}
 use Rattle.wavefront.specs.View.{term_of}
 use Rattle.iolb_check.specs.declared.term.Term.{Term}
 use Rattle.iolb_check.specs.declared.term.Term.TheVariants as terms
 use Rattle.iolb_check.specs.declared.term.Branch.{Branch}
+use Rattle.iolb_check.specs.Claims.{claim_of_term}
 use Rattle.iolb_check.specs.Limits.{CertificateParts}
+use Rattle.iolb_check.specs.PairFit.{term_targets}
 
 -- a cold term fits a program and the source trees: the tree of its read is there
 pub record ColdTermFits (program : ProgramParts) (trees : List (List SelectionTree)) (cold : Cold) : Type 0 where
@@ -23,9 +27,17 @@ pub record ColdTermFits (program : ProgramParts) (trees : List (List SelectionTr
 abbrev pub TermFits : ProgramParts → List (List SelectionTree) → Term → Type 0
 TermFits program trees (terms.Cold cold) = ColdTermFits program trees cold
 
--- each term of each branch fits
+-- a branch fits: each of its terms does, and there are multipliers for each pair of their pieces with one target
+pub record BranchFits (program : ProgramParts) (trees : List (List SelectionTree)) (branch : Branch) : Type 0 where
+  pub terms : AllByRecursion (TermFits program trees) branch.terms.items
+  pub disjoint : length branch.disjoint.items ≡ length (pairwise_targets (map (term_targets (meaning program) trees) (map claim_of_term branch.terms.items)))
+
 abbrev pub BranchesFit : ProgramParts → List (List SelectionTree) → List Branch → Type 0
-BranchesFit program trees branches = AllByRecursion (λ (branch : Branch). AllByRecursion (TermFits program trees) branch.terms.items) branches
+BranchesFit program trees branches = AllByRecursion (BranchFits program trees) branches
+
+-- a term that fits has pieces where the rows at each leaf are few
+abbrev pub HasPieces : ProgramParts → List (List SelectionTree) → Term → Type 0
+HasPieces program trees (terms.Cold cold) = ColdTermFits program trees cold × LeavesAreFew (meaning program) (tree_for trees (term_of cold).reader) (term_of cold)
 
 -- Where a certificate fits a program, so do its source trees and its terms.
 pub record PartsFit (program : ProgramParts) (parts : CertificateParts) : Type 0 where

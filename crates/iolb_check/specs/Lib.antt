@@ -3,8 +3,6 @@ pub mod Conditions
 pub mod Exact
 pub mod Claims
 pub mod Limits
-pub mod FitClaims
-pub mod PartFit
-pub mod TreeFit
+pub mod PairFit
 pub mod TermFit
 pub mod Fit

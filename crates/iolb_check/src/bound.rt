@@ -13,6 +13,8 @@ use std::marker::Model;
 pub enum Value {
     /// Of a cold term: how many input cells it names.
     Cold(Poly),
+    /// Of a wavefront term: how many words it names, and for how many vertices.
+    Wavefront { pairs: Poly, outer: Poly },
 }
 
 /// A bound on the loads of a program: the assumptions about its parameters, and branches, each with its terms' values.

@@ -1,8 +1,7 @@
 //! The conditions of branches.
 
-ghost use Rattle.std.specs.Prelude.{◌≡◌, ◌≤◌, [], ◌∷◌, ◌++◌, length, map, IfOk, IfErr};
+ghost use Rattle.std.specs.Prelude.{◌≡◌, [], ◌∷◌, ◌++◌, map, IfOk, IfErr};
 ghost use Rattle.std.specs.List.{AllByRecursion};
-ghost use Rattle.iolb_model.specs.declared.limits.TheConstants.{TERMS};
 ghost use Rattle.affine_program.specs.Parts.{meaning};
 ghost use Rattle.claims.specs.Claims.{AllHold, IsRefusal, numbered};
 ghost use Rattle.claims.specs.declared.place.Step.TheVariants.{Key, Index};
@@ -11,14 +10,16 @@ ghost use Rattle.domain_count.specs.Count.{IsCount};
 ghost use Rattle.reuse_paths.specs.Quasts.{tree_for, trees_of};
 ghost use Rattle.reuse_paths.specs.Trees.{RowsAreTrue};
 ghost use Rattle.wavefront.specs.ColdClaims.{cold_claims};
+ghost use Rattle.wavefront.specs.ColdPieces.{cold_pieces};
 ghost use Rattle.wavefront.specs.View.{term_of};
 ghost use Rattle.iolb_check.specs.declared.term.Term.TheVariants.{Cold as is_cold};
 ghost use Rattle.iolb_check.specs.Claims.{claim_of_branch, claim_of_term};
-ghost use Rattle.iolb_check.specs.Fit.{BranchesFit, ColdTermFits, TermFits};
+ghost use Rattle.iolb_check.specs.Fit.{BranchFits, BranchesFit, ColdTermFits, TermFits};
 ghost use Rattle.iolb_check.specs.Bounds.{lists};
-ghost use Rattle.iolb_check.specs.Conditions.{AreBranchValues, AreValuesOf, BranchHolds, IsValueOf, TermHolds, branch_claims, term_claims_at, terms_claims, terms_place as place_of_terms};
+ghost use Rattle.iolb_check.specs.Conditions.{AreBranchValues, AreValuesOf, BranchHolds, IsValueOf, TermHolds, TermsHold, branch_claims, branch_pieces, term_claims_at, term_pieces, terms_claims, terms_place as place_of_terms};
 
 use crate::bound::Value;
+use crate::pairs::check_pairs;
 use crate::term::{Branch, Term};
 use affine_form::Memory;
 use affine_program::Program;
@@ -32,7 +33,7 @@ use wavefront::{Cold, check_cold};
 ///
 /// # Errors
 ///
-/// The first condition of the first term for which one fails.
+/// The first condition of the first branch for which one fails.
 pub(crate) fn check_branches(
     alloc: Global,
     program: &Program,
@@ -41,7 +42,6 @@ pub(crate) fn check_branches(
 ) -> Result<Vec<Vec<Value>>, Refused>
     requires fits { BranchesFit program.now (trees_of quasts.now) branches.now }
     requires are_true { RowsAreTrue (meaning program.now) 0 (trees_of quasts.now) }
-    requires few { AllByRecursion (λ branch. length branch.terms.items ≤ TERMS) branches.now }
     ensures accepted { IfOk result (λ values. AllHold (numbered (branch_claims (meaning program.now) (trees_of quasts.now)) 0 (map claim_of_branch branches.now))) }
     ensures values { IfOk result (λ values. AreBranchValues (meaning program.now) (map claim_of_branch branches.now) (lists values.items)) }
     ensures hold { IfOk result (λ values. AllByRecursion (BranchHolds program.now) (lists values.items)) }
@@ -49,14 +49,34 @@ pub(crate) fn check_branches(
 {
     let mut values = Vec::new(alloc);
     for (number, branch) in branches.iter().enumerate() {
-        let Ok(place) = terms_place(alloc, number) else {
-            return Err(Refused::Memory);
-        };
-        let terms = check_terms(alloc, program, quasts, &place, branch.terms.as_slice())?;
+        let terms = check_branch(alloc, program, quasts, number, branch)?;
         let Ok(()) = values.push(terms) else {
             return Err(Refused::Memory);
         };
     }
+    Ok(values)
+}
+
+/// The values of the terms of the branch of this number: its terms, and then that no two of them have a vertex in common.
+fn check_branch(
+    alloc: Global,
+    program: &Program,
+    quasts: &Quasts,
+    number: usize,
+    branch: &Branch,
+) -> Result<Vec<Value>, Refused>
+    requires fits { BranchFits program.now (trees_of quasts.now) branch.now }
+    requires are_true { RowsAreTrue (meaning program.now) 0 (trees_of quasts.now) }
+    ensures accepted { IfOk result (λ values. AllHold (branch_claims (meaning program.now) (trees_of quasts.now) number (claim_of_branch branch.now))) }
+    ensures values { IfOk result (λ values. AreValuesOf (meaning program.now) (map claim_of_term branch.now.terms.items) values.items) }
+    ensures holds { IfOk result (λ values. BranchHolds program.now values.items) }
+    ensures refused { IfErr result (IsRefusal (branch_claims (meaning program.now) (trees_of quasts.now) number (claim_of_branch branch.now))) }
+{
+    let Ok(place) = terms_place(alloc, number) else {
+        return Err(Refused::Memory);
+    };
+    let values = check_terms(alloc, program, quasts, &place, branch.terms.as_slice())?;
+    check_pairs(alloc, program, quasts, number, branch)?;
     Ok(values)
 }
 
@@ -84,8 +104,7 @@ fn check_terms(
     requires are_true { RowsAreTrue (meaning program.now) 0 (trees_of quasts.now) }
     ensures accepted { IfOk result (λ values. AllHold (terms_claims (meaning program.now) (trees_of quasts.now) place.now (map claim_of_term terms.now))) }
     ensures values { IfOk result (λ values. AreValuesOf (meaning program.now) (map claim_of_term terms.now) values.items) }
-    ensures hold { IfOk result (λ values. AllByRecursion (TermHolds program.now) values.items) }
-    ensures as_many { IfOk result (λ values. length values.items ≡ length terms.now) }
+    ensures hold { IfOk result (λ values. TermsHold program.now (branch_pieces (meaning program.now) (trees_of quasts.now) (map claim_of_term terms.now)) values.items) }
     ensures refused { IfErr result (IsRefusal (terms_claims (meaning program.now) (trees_of quasts.now) place.now (map claim_of_term terms.now))) }
 {
     let mut values = Vec::new(alloc);
@@ -111,7 +130,7 @@ fn check_term(
     requires are_true { RowsAreTrue (meaning program.now) 0 (trees_of quasts.now) }
     ensures accepted { IfOk result (λ value. AllHold (term_claims_at (meaning program.now) (trees_of quasts.now) place.now index (claim_of_term term.now))) }
     ensures value { IfOk result (λ value. IsValueOf (meaning program.now) (claim_of_term term.now) value) }
-    ensures holds { IfOk result (λ value. TermHolds program.now value) }
+    ensures holds { IfOk result (λ value. TermHolds program.now (term_pieces (meaning program.now) (trees_of quasts.now) (claim_of_term term.now)) value) }
     ensures refused { IfErr result (IsRefusal (term_claims_at (meaning program.now) (trees_of quasts.now) place.now index (claim_of_term term.now))) }
 {
     let cold = cold_of(term);
@@ -141,7 +160,7 @@ fn check_cold_term(
     requires are_true { RowsAreTrue (meaning program.now) 0 (trees_of quasts.now) }
     ensures accepted { IfOk result (λ count. AllHold (cold_claims (meaning program.now) ((place.now ++ Index index ∷ []) ++ Key COLD ∷ []) (tree_for (trees_of quasts.now) (term_of cold.now).reader) (term_of cold.now))) }
     ensures value { IfOk result (λ count. IsCount (meaning program.now) cold.now.nest cold.now.sums count) }
-    ensures holds { IfOk result (λ count. TermHolds program.now (Value.Cold count)) }
+    ensures holds { IfOk result (λ count. TermHolds program.now (cold_pieces (meaning program.now) (tree_for (trees_of quasts.now) (term_of cold.now).reader) (term_of cold.now)) (Value.Cold count)) }
     ensures refused { IfErr result (IsRefusal (cold_claims (meaning program.now) ((place.now ++ Index index ∷ []) ++ Key COLD ∷ []) (tree_for (trees_of quasts.now) (term_of cold.now).reader) (term_of cold.now))) }
 {
     let _params = program.params();

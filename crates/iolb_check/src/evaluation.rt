@@ -1,13 +1,12 @@
 //! The values of bounds at sizes.
 
-ghost use Rattle.std.specs.Prelude.{◌≡◌, ◌≤◌, ◌<◌, ◌^◌, ◌↔◌, [], min, take, length, IfOk, IsErr, MatchOption};
+ghost use Rattle.std.specs.Prelude.{◌≡◌, ◌≤◌, ◌<◌, ◌^◌, ◌*◌, ◌↔◌, ◌⊎◌, [], min, take, length, IfOk, IsErr, MatchOption};
 ghost use Rattle.std.specs.List.{AllByRecursion};
 ghost use Rattle.affine_form.specs.Form.{IsSmall};
 ghost use Rattle.affine_form.specs.System.{AllOver};
 ghost use Rattle.iolb_model.specs.Bound.{AreMet, bound_value, branch_value, count_value, term_value};
-ghost use Rattle.poly_tree.specs.Expansion.{at, size_at};
 ghost use Rattle.poly_tree.specs.Printed.{polynomial_of};
-ghost use Rattle.iolb_check.specs.Bounds.{Evaluates, EvaluatesBranch, HasWideBranch, IsCounting, IsFirstUnmet, IsTermValue, IsWideBranch, IsWideTerm, bound_of, greatest_branch, lists, term_of, terms_of};
+ghost use Rattle.iolb_check.specs.Bounds.{Evaluates, EvaluatesBranch, HasWideBranch, IsCounting, IsFirstUnmet, IsTermValue, IsWideAt, IsWideBranch, IsWideTerm, IsWideTimes, bound_of, greatest_branch, lists, term_of, terms_of};
 ghost use Rattle.iolb_model.specs.declared.limits.TheConstants.{MEASURE, VALUE_SIZE, ROWS, VARIABLES};
 
 use crate::bound::{Bound, Value};
@@ -141,23 +140,44 @@ fn value_of(term: &Value, assumed: &System, point: &[i128], s: u64) -> Result<u1
     requires each { length point.now ≡ assumed.now.vars }
     requires met { AreMet assumed.now.rows point.now }
     ensures value { IfOk result (λ value. value ≡ min (term_value (term_of term.now) point.now s) MEASURE) }
-    ensures wide { IsErr result ↔ IsWideTerm point.now term.now }
+    ensures wide { IsErr result ↔ IsWideTerm point.now s term.now }
 {
-    match term {
-        Value::Cold(count) => count_at(count, assumed, point),
+    let value = match term {
+        Value::Cold(count) => count_at(count, assumed, point)?,
+        Value::Wavefront { pairs, outer } => {
+            let words = count_at(pairs, assumed, point)?;
+            let red = red_at(outer, assumed, point, s)?;
+            words.saturating_sub(red)
+        }
+    };
+    Ok(value.min(limits::MEASURE))
+}
+
+/// How many words may be red in all when so many vertices are computed as a polynomial counts: s for each.
+fn red_at(outer: &Poly, assumed: &System, point: &[i128], s: u64) -> Result<u128, Wide>
+    requires counting { IsCounting assumed.now outer.now }
+    requires each { length point.now ≡ assumed.now.vars }
+    requires met { AreMet assumed.now.rows point.now }
+    ensures value { IfOk result (λ value. value ≡ s * count_value (polynomial_of outer.now) point.now) }
+    ensures wide { IsErr result ↔ (IsWideAt point.now outer.now ⊎ IsWideTimes point.now s outer.now) }
+{
+    let vertices = count_at(outer, assumed, point)?;
+    match u128::from(s).checked_mul(vertices) {
+        Some(red) if red < limits::MEASURE => Ok(red),
+        _ => Err(Wide),
     }
 }
 
-/// The value at sizes that meet the assumptions of a polynomial that counts something, or 2^126 if that is less.
+/// The value at sizes that meet the assumptions of a polynomial that counts something.
 fn count_at(count: &Poly, assumed: &System, point: &[i128]) -> Result<u128, Wide>
     requires counting { IsCounting assumed.now count.now }
     requires each { length point.now ≡ assumed.now.vars }
     requires met { AreMet assumed.now.rows point.now }
-    ensures value { IfOk result (λ value. value ≡ min (count_value (polynomial_of count.now) point.now) MEASURE) }
-    ensures wide { IsErr result ↔ (MEASURE ≤ size_at count.now.tree (at point.now)) }
+    ensures value { IfOk result (λ value. value ≡ count_value (polynomial_of count.now) point.now) }
+    ensures wide { IsErr result ↔ IsWideAt point.now count.now }
 {
     terms_have_the_value();
     let numerator = count.numer(point)?;
     let value = numerator / count.den();
-    Ok((value as u128).min(limits::MEASURE))
+    Ok(value as u128)
 }

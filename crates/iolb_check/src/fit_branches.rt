@@ -5,19 +5,20 @@ ghost use Rattle.affine_program.specs.Parts.{meaning};
 ghost use Rattle.claims.specs.declared.key.TheConstants.{BRANCHES};
 ghost use Rattle.claims.specs.declared.place.Step.TheVariants.{Index, Key};
 ghost use Rattle.claims.specs.Claims.{numbered};
-ghost use Rattle.iolb_check.specs.FitClaims.{FindsMisfit};
+ghost use Rattle.part_fit.specs.FitClaims.{FindsMisfit};
 ghost use Rattle.iolb_check.specs.TermFit.{branch_at, branch_fit, term_fit, terms_fit};
 ghost use Rattle.reuse_paths.specs.Quasts.{trees_of};
 ghost use Rattle.iolb_check.specs.Claims.{claim_of_term, claim_of_branch};
 
 use crate::fit_colds::cold_misfit;
-use crate::fit_lists::misfit_at;
+use crate::fit_pairs::branch_targets;
 use crate::{Branch, Term};
 use affine_form::Memory;
 use affine_program::Program;
 use claims::key::{BRANCHES, COLD, DISJOINT, TERMS};
 use claims::{Place, Step};
-use reuse_paths::Quasts;
+use part_fit::lists::misfit_at;
+use reuse_paths::{Quasts, has_pairs};
 use std::alloc::Global;
 
 /// The place of what doesn't fit first of a term at this place.
@@ -67,11 +68,13 @@ fn branch_misfit(
 ) -> Result<Option<Place>, Memory>
     ensures { IfOk result (λ found. FindsMisfit (branch_fit (meaning program.now) (trees_of quasts.now) place.now (claim_of_branch branch.now)) found) }
 {
-    if branch.disjoint.as_slice().len() != 0 {
+    let terms = branch.terms.as_slice();
+    let targets = branch_targets(alloc, program, quasts, terms)?;
+    if !has_pairs(targets.as_slice(), branch.disjoint.as_slice().len()) {
         return misfit_at(alloc, place, Step::Key(DISJOINT));
     }
     let list = place.within(alloc, Step::Key(TERMS))?;
-    terms_misfit(alloc, program, quasts, &list, branch.terms.as_slice())
+    terms_misfit(alloc, program, quasts, &list, terms)
 }
 
 /// The place of a branch.

@@ -4,21 +4,21 @@ ghost use Rattle.std.specs.Prelude.{◌≡◌, ◌==◌, if◌then◌else◌, le
 ghost use Rattle.affine_program.specs.Parts.{meaning};
 ghost use Rattle.claims.specs.declared.key.TheConstants.{INVERSE, MATRIX};
 ghost use Rattle.claims.specs.declared.place.Step.TheVariants.{Key};
-ghost use Rattle.iolb_check.specs.FitClaims.{FindsMisfit, FindsStep};
+ghost use Rattle.part_fit.specs.FitClaims.{FindsMisfit, FindsStep};
 ghost use Rattle.dep_quast.specs.Context.{reference_of};
 ghost use Rattle.dep_quast.specs.Views.{read_of};
 ghost use Rattle.iolb_check.specs.TermFit.{cold_back_fit, cold_fit, cold_front_fit, point_fit};
 ghost use Rattle.reuse_paths.specs.Quasts.{trees_of};
 ghost use Rattle.wavefront.specs.View.{term_of};
 
-use crate::fit_counts::{has_entry_each, loops_around, read_count, subscript_count};
-use crate::fit_entries::entries_misfit;
-use crate::fit_lists::{bounds_misfit, forms_misfit, misfit_at, sums_misfit};
 use affine_form::Memory;
 use affine_program::Program;
 use claims::key::{INSIDE, INVERSE, LEAVES, MATRIX, NEST, POINT, READ, SHOWN, STATEMENT, SUMS};
 use claims::{Place, Step};
 use dep_quast::reader::Reader;
+use part_fit::counts::{has_entry_each, loops_around, read_count, subscript_count};
+use part_fit::entries::entries_misfit;
+use part_fit::lists::{bounds_misfit, forms_misfit, misfit_at, sums_misfit};
 use reuse_paths::Quasts;
 use std::alloc::Global;
 use wavefront::Cold;
@@ -59,7 +59,7 @@ fn front_misfit(
     if !has_entry_each(program, quasts, reader, entries.len()) {
         return misfit_at(alloc, place, Step::Key(LEAVES));
     }
-    entries_misfit(alloc, place, LEAVES, entries)
+    entries_misfit(alloc, place, LEAVES, 0, &[], entries)
 }
 
 /// How many columns a matrix with so many rows has: where it has a row, one for each subscript of the read.

@@ -3,16 +3,16 @@
 ghost use Rattle.std.specs.Prelude.{◌≡◌, IfOk, IfNone};
 ghost use Rattle.affine_program.specs.Parts.{meaning};
 ghost use Rattle.iolb_check.specs.Fit.{PartsFit};
-ghost use Rattle.iolb_check.specs.FitClaims.{FindsMisfit};
+ghost use Rattle.part_fit.specs.FitClaims.{FindsMisfit};
 ghost use Rattle.iolb_check.specs.TermFit.{certificate_fit};
 ghost use Rattle.iolb_check.specs.Claims.{claim_of_certificate};
 
 use crate::Certificate;
 use crate::fit_branches::branches_misfit;
-use crate::fit_trees::quasts_misfit;
 use affine_form::Memory;
 use affine_program::Program;
 use claims::Place;
+use part_fit::trees::quasts_misfit;
 use std::alloc::Global;
 
 /// The place of the first part of a certificate that doesn't fit a program, in the order of a walk through its text, the

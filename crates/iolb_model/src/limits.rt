@@ -60,17 +60,20 @@ pub const VARIABLES: usize = 24;
 /// Variables of a nest, and rows and columns of a matrix, at most.
 pub const NEST_VARIABLES: usize = 6;
 
-/// Tests on the way to a leaf of a source tree, at most.
+/// Tests on the way to a leaf of a source tree or of a walk, at most.
 pub const TREE_TESTS: u8 = 16;
 
-/// Leaves of a source tree, at most.
+/// Leaves of a source tree, and claims at leaves in a walk, at most.
 pub const TREE_LEAVES: u8 = 64;
+
+/// Rows of a walk's region, at most.
+pub const REGION_ROWS: usize = 16;
 
 /// The scale of an inverse matrix, at most.
 pub const SCALE: u32 = 1 << 20;
 
 /// Terms of a branch, at most.
-pub const TERMS: usize = 1;
+pub const TERMS: usize = 16;
 
 /// Branches of a certificate, at most.
 pub const BRANCHES: usize = 8;

@@ -1,22 +1,18 @@
 use Rattle.std.proofs.Common.{rules, ◌≡◌, refl, sym, ◌∙◌, ap, subst, ℕ, suc, ◌+◌, ◌≤◌, List, [], ◌∷◌, ◌++◌, drop, map, length, append_assoc, append-nil, Vec, Global, arith}
-use Rattle.iolb_model.specs.declared.limits.TheConstants.{TERMS}
 use Rattle.std.specs.List.{AllByRecursion}
 use Rattle.std.proofs.lemmas.List.{drop_all, map-append}
 use Rattle.base_laws.proofs.Lists.{All-append, rest_after}
 use Rattle.affine_program.specs.Parts.{meaning}
 use Rattle.claims.specs.Claims.{Claim, AllHold, IsRefusal, numbered}
-use Rattle.claims.specs.declared.place.Step.{Step}
 use Rattle.claims.proofs.Found.{refused-first, refused-later}
 use Rattle.claims.proofs.Laws.{AllHold-append}
 use Rattle.reuse_paths.specs.Quasts.{trees_of}
 use Rattle.iolb_check.specs.declared.term.Branch.{Branch}
-use Rattle.iolb_check.specs.declared.term.Term.{Term}
 use Rattle.iolb_check.specs.declared.bound.Value.{Value}
 use Rattle.iolb_check.specs.Bounds.{lists}
 use Rattle.iolb_check.specs.Claims.{BranchClaim, claim_of_branch, claim_of_term}
 use Rattle.iolb_check.specs.Fit.{BranchesFit}
-use Rattle.iolb_check.specs.Conditions.{AreBranchValues, AreValuesOf, BranchHolds, branch_claims, terms_claims, terms_place}
-use Rattle.iolb_check.proofs.Terms.{branch-holds}
+use Rattle.iolb_check.specs.Conditions.{AreBranchValues, AreValuesOf, BranchHolds, branch_claims}
 use Rattle.iolb_check.proofs.branches.check_branches.Goals as goal
 
 next : (n : ℕ) → suc n ≡ n + 1
@@ -36,20 +32,15 @@ loop-number-preserved c =
     let value : Vec Value Global = c.in_ok-terms.terms in
     let split = rest_after branches i branch c.loop-number-test.true c.index-branches-number.is in
     let fits = subst (BranchesFit program trees) split c.loop-number.invariant.fits in
-    let few = subst (AllByRecursion (λ (b : Branch). length b.terms.items ≤ TERMS)) split c.loop-number.invariant.few in
     let more : drop (suc i) branches ≡ drop (i + 1) branches = ap (λ (n : ℕ). drop n branches) (next i) in
     let old : List (Vec Value Global) = c.loop-number.values.items in
-    let items = ap lists c.in-Ok-push.ensures.items ∙ grown old value in
+    let items = ap lists c.in-Ok.ensures.items ∙ grown old value in
     let here : List Claim = each i (claim_of_branch branch) in
     let rest : List Claim = numbered each (suc i) (map claim_of_branch (drop (suc i) branches)) in
-    let accepted : AllHold here =
-    subst (λ (l : List Term). AllHold (terms_claims (meaning program) trees (terms_place i) (map claim_of_term l))) c.as_slice.ensures.value
-    (subst (λ (place : List Step). AllHold (terms_claims (meaning program) trees place (map claim_of_term c.as_slice.result.now))) c.in-Ok.ensures c.in_ok-terms.ensures.accepted) in
-    let valued : AreValuesOf (meaning program) (map claim_of_term branch.terms.items) value.items =
-    subst (λ (l : List Term). AreValuesOf (meaning program) (map claim_of_term l) value.items) c.as_slice.ensures.value c.in_ok-terms.ensures.values in
+    let accepted : AllHold here = c.in_ok-terms.ensures.accepted in
+    let valued : AreValuesOf (meaning program) (map claim_of_term branch.terms.items) value.items = c.in_ok-terms.ensures.values in
     record {
       fits = subst (BranchesFit program trees) more fits.1;
-      few = subst (AllByRecursion (λ (b : Branch). length b.terms.items ≤ TERMS)) more few.1;
       accepted = λ h. c.loop-number.invariant.accepted (subst (λ (l : List Branch). AllHold (numbered each i (map claim_of_branch l))) (sym split)
           (AllHold-append here rest accepted (subst (λ (n : ℕ). AllHold (numbered each n (map claim_of_branch (drop n branches)))) (sym (next i)) h)));
       values = λ others h. subst (λ (l : List (List Value)). AreBranchValues (meaning program) (map claim_of_branch branches) (l ++ others)) (sym items)
@@ -58,7 +49,7 @@ loop-number-preserved c =
           (valued, subst (λ (n : ℕ). AreBranchValues (meaning program) (map claim_of_branch (drop n branches)) others) (sym (next i)) h))));
       hold = subst (AllByRecursion (BranchHolds program)) (sym items)
           (All-append (BranchHolds program) (lists old) (value.items ∷ []) c.loop-number.invariant.hold
-          (branch-holds program value.items (omega (arith, c.in_ok-terms.ensures.as_many, c.as_slice.ensures.len, few.0)) c.in_ok-terms.ensures.hold, tt));
+          (c.in_ok-terms.ensures.holds, tt));
       refused = λ r h. c.loop-number.invariant.refused r (subst (λ (l : List Branch). IsRefusal (numbered each i (map claim_of_branch l)) r) (sym split)
           (refused-later here rest r accepted (subst (λ (n : ℕ). IsRefusal (numbered each n (map claim_of_branch (drop n branches))) r) (sym (next i)) h)));
     }
@@ -73,9 +64,7 @@ returns-in_err-terms-clause-refused c =
     let branch : Branch = c.index-branches-number.result in
     let split = rest_after branches i branch c.loop-number-test.true c.index-branches-number.is in
     let r = c.in_err-terms.field-0.0 in
-    let first : IsRefusal (each i (claim_of_branch branch)) r =
-    subst (λ (l : List Term). IsRefusal (terms_claims (meaning program) trees (terms_place i) (map claim_of_term l)) r) c.as_slice.ensures.value
-    (subst (λ (place : List Step). IsRefusal (terms_claims (meaning program) trees place (map claim_of_term c.as_slice.result.now)) r) c.in-Ok.ensures c.in_err-terms.ensures.refused) in
+    let first : IsRefusal (each i (claim_of_branch branch)) r = c.in_err-terms.ensures.refused in
     let refused : IsRefusal (numbered each 0 (map claim_of_branch branches)) r =
     c.loop-number.invariant.refused r (subst (λ (l : List Branch). IsRefusal (numbered each i (map claim_of_branch l)) r) (sym split)
     (refused-first (each i (claim_of_branch branch)) (numbered each (suc i) (map claim_of_branch (drop (suc i) branches))) r first)) in

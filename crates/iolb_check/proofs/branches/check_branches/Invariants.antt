@@ -1,5 +1,4 @@
-use Rattle.std.proofs.Common.{◌≤◌, ◌++◌, List, drop, map, length}
-use Rattle.iolb_model.specs.declared.limits.TheConstants.{TERMS}
+use Rattle.std.proofs.Common.{◌++◌, List, drop, map}
 use Rattle.std.specs.List.{AllByRecursion}
 use Rattle.affine_program.specs.Parts.{meaning}
 use Rattle.claims.specs.Claims.{AllHold, IsRefusal, numbered}
@@ -15,7 +14,6 @@ use Rattle.iolb_check.proofs.branches.check_branches.Given as goal
 abbrev pub invariant-loop-number : goal.invariant-loop-number
 invariant-loop-number l = record {
   fits : BranchesFit l.program (trees_of l.quasts) (drop l.number l.branches);
-  few : AllByRecursion (λ branch. length branch.terms.items ≤ TERMS) (drop l.number l.branches);
   accepted : AllHold (numbered (branch_claims (meaning l.program) (trees_of l.quasts)) l.number (map claim_of_branch (drop l.number l.branches))) → AllHold (numbered (branch_claims (meaning l.program) (trees_of l.quasts)) 0 (map claim_of_branch l.branches));
   values : (rest : List (List Value)) → AreBranchValues (meaning l.program) (map claim_of_branch (drop l.number l.branches)) rest → AreBranchValues (meaning l.program) (map claim_of_branch l.branches) (lists l.values.items ++ rest);
   hold : AllByRecursion (BranchHolds l.program) (lists l.values.items);

@@ -1,17 +1,18 @@
 use Rattle.std.proofs.Common.{rules, ◌≡◌, refl, sym, ap, subst, ℕ, suc, ◌+◌, List, [], ◌∷◌, ◌++◌, drop, map, append_assoc, append-nil, arith}
 use Rattle.std.specs.List.{AllByRecursion}
 use Rattle.std.proofs.lemmas.List.{drop_all}
-use Rattle.base_laws.proofs.Lists.{All-append, rest_after}
+use Rattle.base_laws.proofs.Lists.{rest_after}
 use Rattle.affine_program.specs.Parts.{meaning}
 use Rattle.claims.specs.Claims.{Claim, AllHold, IsRefusal, numbered}
 use Rattle.claims.proofs.Found.{refused-first, refused-later}
 use Rattle.claims.proofs.Laws.{AllHold-append}
+use Rattle.reuse_paths.specs.Pieces.{FootprintPiece}
 use Rattle.reuse_paths.specs.Quasts.{trees_of}
 use Rattle.iolb_check.specs.declared.term.Term.{Term}
 use Rattle.iolb_check.specs.declared.bound.Value.{Value}
 use Rattle.iolb_check.specs.Claims.{TermClaim, claim_of_term}
 use Rattle.iolb_check.specs.Fit.{TermFits}
-use Rattle.iolb_check.specs.Conditions.{AreValuesOf, TermHolds, term_claims_at, terms_claims}
+use Rattle.iolb_check.specs.Conditions.{AreValuesOf, TermsHold, branch_pieces, term_claims_at, terms_claims}
 use Rattle.iolb_check.proofs.branches.check_terms.Goals as goal
 
 next : (n : ℕ) → suc n ≡ n + 1
@@ -29,6 +30,7 @@ loop-index-preserved c =
     let split = rest_after terms i term c.loop-index-test.true c.index-terms-index.is in
     let fits = subst (AllByRecursion (TermFits program trees)) split c.loop-index.invariant.fits in
     let more : drop (suc i) terms ≡ drop (i + 1) terms = ap (λ (n : ℕ). drop n terms) (next i) in
+    let pieces : List (List FootprintPiece) = branch_pieces (meaning program) trees (map claim_of_term terms) in
     let here : List Claim = each i (claim_of_term term) in
     let rest : List Claim = numbered each (suc i) (map claim_of_term (drop (suc i) terms)) in
     record {
@@ -39,9 +41,10 @@ loop-index-preserved c =
           (subst (AreValuesOf (meaning program) (map claim_of_term terms)) (sym (append_assoc c.loop-index.values.items (value ∷ []) others))
           (c.loop-index.invariant.values (value ∷ others) (subst (λ (l : List Term). AreValuesOf (meaning program) (map claim_of_term l) (value ∷ others)) (sym split)
           (c.in_ok-value.ensures.value, subst (λ (n : ℕ). AreValuesOf (meaning program) (map claim_of_term (drop n terms)) others) (sym (next i)) h))));
-      hold = subst (AllByRecursion (TermHolds program)) (sym c.in-Ok.ensures.items)
-          (All-append (TermHolds program) c.loop-index.values.items (value ∷ []) c.loop-index.invariant.hold (c.in_ok-value.ensures.holds, tt));
-      as_many = omega (arith, c.in-Ok.ensures.len, c.loop-index.invariant.as_many);
+      hold = λ others h. subst (λ (items : List Value). TermsHold program pieces (items ++ others)) (sym c.in-Ok.ensures.items)
+          (subst (TermsHold program pieces) (sym (append_assoc c.loop-index.values.items (value ∷ []) others))
+          (c.loop-index.invariant.hold (value ∷ others) (subst (λ (l : List Term). TermsHold program (branch_pieces (meaning program) trees (map claim_of_term l)) (value ∷ others)) (sym split)
+          (c.in_ok-value.ensures.holds, subst (λ (n : ℕ). TermsHold program (branch_pieces (meaning program) trees (map claim_of_term (drop n terms))) others) (sym (next i)) h))));
       refused = λ r h. c.loop-index.invariant.refused r (subst (λ (l : List Term). IsRefusal (numbered each i (map claim_of_term l)) r) (sym split)
           (refused-later here rest r c.in_ok-value.ensures.accepted (subst (λ (n : ℕ). IsRefusal (numbered each n (map claim_of_term (drop n terms))) r) (sym (next i)) h)));
     }
@@ -67,3 +70,11 @@ returns-clause-values c =
     let ended : drop c.loop-index.index terms ≡ [] = drop_all c.loop-index.index terms c.loop-index-test.false in
     subst (AreValuesOf (meaning c.args.program.now) (map claim_of_term terms)) (append-nil c.loop-index.values.items)
     (c.loop-index.invariant.values [] (subst (λ (l : List Term). AreValuesOf (meaning c.args.program.now) (map claim_of_term l) []) (sym ended) refl))
+
+pub returns-clause-hold : goal.returns-clause-hold
+returns-clause-hold c =
+    let terms : List Term = c.args.terms.now in
+    let pieces : List Term → List (List FootprintPiece) = λ l. branch_pieces (meaning c.args.program.now) (trees_of c.args.quasts.now) (map claim_of_term l) in
+    let ended : drop c.loop-index.index terms ≡ [] = drop_all c.loop-index.index terms c.loop-index-test.false in
+    subst (TermsHold c.args.program.now (pieces terms)) (append-nil c.loop-index.values.items)
+    (c.loop-index.invariant.hold [] (subst (λ (l : List Term). TermsHold c.args.program.now (pieces l) []) (sym ended) refl))

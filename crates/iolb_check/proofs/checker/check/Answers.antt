@@ -1,10 +1,8 @@
 use Rattle.std.proofs.Common.{rules, ◌≡◌, sym, ◌∙◌, ap, subst, ◌≤◌, List, ◌++◌, length, map}
 use Rattle.std.specs.Prelude.{Option, IfNone}
 use Rattle.std.specs.List.{AllByRecursion}
-use Rattle.iolb_model.specs.declared.limits.TheConstants.{TERMS}
 use Rattle.affine_form.specs.System.{AffineSystem}
 use Rattle.affine_program.specs.Parts.{ProgramParts, meaning}
-use Rattle.base_laws.proofs.Lists.{All-weaken}
 use Rattle.claims.specs.Claims.{Claim, AllHold, IsRefusal, numbered}
 use Rattle.claims.specs.declared.place.Step.{Step}
 use Rattle.claims.specs.declared.refused.No.{No}
@@ -19,7 +17,7 @@ use Rattle.iolb_check.specs.Bounds.{BoundParts, IsBound, lists}
 use Rattle.iolb_check.specs.Claims.{claim_of_branch, claim_of_certificate}
 use Rattle.iolb_check.specs.Conditions.{AreBranchValues, BranchHolds, branch_claims}
 use Rattle.iolb_check.specs.Fit.{BranchesFit, PartsFit}
-use Rattle.iolb_check.specs.FitClaims.{misfit, FindsMisfit}
+use Rattle.part_fit.specs.FitClaims.{misfit, FindsMisfit}
 use Rattle.iolb_check.specs.Limits.{CertificateParts, IsSmallBranch}
 use Rattle.iolb_check.specs.TermFit.{certificate_fit}
 use Rattle.iolb_check.proofs.Terms.{bound-holds, is-bound}
@@ -72,11 +70,6 @@ check_branches-requires-clause-fits c =
     subst (λ (q : Quasts). BranchesFit program (trees_of q) c.branches.result.now) (sym c.quasts-quasts.ensures.quasts)
     (subst (BranchesFit program (trees_of c.args.certificate.now.quasts)) (sym c.branches.ensures.branches)
     (fits program c.args.certificate.now c.in-Ok-None.field-0 c.in-Ok-None.field-0-is c.in-Ok-None.ensures.fits).branches)
-
-pub check_branches-requires-clause-few : goal.check_branches-requires-clause-few
-check_branches-requires-clause-few c =
-    subst (AllByRecursion (λ (branch : Branch). length branch.terms.items ≤ TERMS)) (sym c.branches.ensures.branches)
-    (All-weaken IsSmallBranch (λ (branch : Branch). length branch.terms.items ≤ TERMS) c.args.certificate.now.branches (λ branch small. small.few) c.branches.ensures.limits.branches)
 
 -- what holds of the branches of the certificate, and how what the check of the branches says reads
 module _ (program : ProgramParts) (parts : CertificateParts) (q : Quasts) (bs : List Branch) (same : q ≡ parts.quasts) (all : bs ≡ parts.branches) where

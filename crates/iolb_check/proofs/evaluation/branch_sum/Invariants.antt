@@ -8,6 +8,6 @@ abbrev pub invariant-loop-term : goal.invariant-loop-term
 invariant-loop-term l = record {
   low : l.total ≤ MEASURE;
   sum : min (l.total + branch_value (terms_of (drop l.term-index l.terms)) l.point l.s) MEASURE ≡ min (branch_value (terms_of l.terms) l.point l.s) MEASURE;
-  wide : HasWideTerm l.point (drop l.term-index l.terms) → HasWideTerm l.point l.terms;
-  narrow : (HasWideTerm l.point (drop l.term-index l.terms) → ⊥) → HasWideTerm l.point l.terms → ⊥;
+  wide : HasWideTerm l.point l.s (drop l.term-index l.terms) → HasWideTerm l.point l.s l.terms;
+  narrow : (HasWideTerm l.point l.s (drop l.term-index l.terms) → ⊥) → HasWideTerm l.point l.s l.terms → ⊥;
 }

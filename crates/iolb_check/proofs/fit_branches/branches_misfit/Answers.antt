@@ -3,9 +3,9 @@ use Rattle.std.specs.Prelude.{Some, None}
 use Rattle.std.proofs.lemmas.List.{drop_all}
 use Rattle.claims.specs.declared.place.Step.{Step}
 use Rattle.affine_program.specs.Parts.{meaning}
-use Rattle.iolb_check.specs.FitClaims.{FindsMisfit}
+use Rattle.part_fit.specs.FitClaims.{FindsMisfit}
 use Rattle.iolb_check.specs.TermFit.{branch_fit, branch_at}
-use Rattle.iolb_check.proofs.FitFound.{found-some, found-none, mapped-stop, mapped-next, mapped-ended}
+use Rattle.part_fit.proofs.FitFound.{found-some, found-none, mapped-stop, mapped-next, mapped-ended}
 use Rattle.iolb_check.proofs.fit_branches.branches_misfit.Goals as goal
 use Rattle.reuse_paths.specs.Quasts.{trees_of}
 use Rattle.iolb_check.specs.Claims.{claim_of_branch}

@@ -3,7 +3,7 @@ use Rattle.std.specs.Prelude.{Option}
 use Rattle.claims.specs.declared.place.Step.{Step}
 use Rattle.affine_program.specs.Parts.{meaning}
 use Rattle.claims.specs.Claims.{numbered}
-use Rattle.iolb_check.specs.FitClaims.{FindsMisfit}
+use Rattle.part_fit.specs.FitClaims.{FindsMisfit}
 use Rattle.iolb_check.specs.TermFit.{branch_at}
 use Rattle.iolb_check.proofs.fit_branches.branches_misfit.Given as goal
 use Rattle.reuse_paths.specs.Quasts.{trees_of}

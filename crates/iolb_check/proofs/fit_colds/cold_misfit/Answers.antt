@@ -4,9 +4,10 @@ use Rattle.claims.specs.declared.place.Step.TheVariants.{Key}
 use Rattle.claims.specs.declared.key.TheConstants.{NEST, SUMS}
 use Rattle.affine_program.specs.Parts.{meaning}
 use Rattle.claims.specs.Claims.{Claim}
-use Rattle.iolb_check.specs.FitClaims.{FindsMisfit}
-use Rattle.iolb_check.specs.TermFit.{cold_front_fit, bounds_fit, point_fit, cold_back_fit, cold_fit, sums_fit}
-use Rattle.iolb_check.proofs.FitFound.{misfit-first, misfit-later, Finds-go, found-some, found-none, step-some, step-none, place-found}
+use Rattle.part_fit.specs.FitClaims.{FindsMisfit}
+use Rattle.part_fit.specs.PartFit.{bounds_fit, sums_fit}
+use Rattle.iolb_check.specs.TermFit.{cold_front_fit, point_fit, cold_back_fit, cold_fit}
+use Rattle.part_fit.proofs.FitFound.{misfit-first, misfit-later, Finds-go, found-some, found-none, step-some, step-none, place-found}
 use Rattle.claims.proofs.Laws.{AllHold-append}
 use Rattle.claims.proofs.Found.{IfOk-then}
 use Rattle.iolb_check.proofs.fit_colds.cold_misfit.Goals as goal

@@ -5,11 +5,11 @@ use Rattle.claims.specs.declared.key.TheConstants.{POINT}
 use Rattle.affine_program.specs.Domain.{depth_of}
 use Rattle.affine_program.specs.Parts.{meaning}
 use Rattle.claims.specs.Claims.{Claim}
-use Rattle.iolb_check.specs.FitClaims.{FindsMisfit}
-use Rattle.iolb_check.specs.FitClaims.{so_many}
-use Rattle.iolb_check.specs.PartFit.{forms_fit}
+use Rattle.part_fit.specs.FitClaims.{FindsMisfit}
+use Rattle.part_fit.specs.FitClaims.{so_many}
+use Rattle.part_fit.specs.PartFit.{forms_fit}
 use Rattle.iolb_check.specs.TermFit.{point_fit}
-use Rattle.iolb_check.proofs.FitFound.{Finds-go}
+use Rattle.part_fit.proofs.FitFound.{Finds-go}
 use Rattle.claims.proofs.Found.{IfOk-then}
 use Rattle.iolb_check.proofs.fit_colds.point_misfit.Goals as goal
 use Rattle.wavefront.specs.View.{term_of}

@@ -4,11 +4,11 @@ use Rattle.affine_program.specs.Parts.{meaning}
 use Rattle.reuse_paths.specs.declared.quasts.Quasts.{Quasts}
 use Rattle.iolb_check.specs.Fit.{PartsFit}
 use Rattle.claims.specs.Claims.{Claim, numbered}
-use Rattle.iolb_check.specs.FitClaims.{FindsMisfit}
-use Rattle.iolb_check.specs.TreeFit.{trees_fit}
+use Rattle.part_fit.specs.FitClaims.{FindsMisfit}
+use Rattle.part_fit.specs.TreeFit.{trees_fit}
 use Rattle.iolb_check.specs.TermFit.{branch_at, certificate_fit}
 use Rattle.iolb_check.proofs.FitParts.{parts-fit}
-use Rattle.iolb_check.proofs.FitFound.{misfit-first, Finds-go, found-some, found-none, none-then}
+use Rattle.part_fit.proofs.FitFound.{misfit-first, Finds-go, found-some, found-none, none-then}
 use Rattle.claims.proofs.Laws.{AllHold-append}
 use Rattle.claims.proofs.Found.{IfOk-then}
 use Rattle.iolb_check.proofs.misfit.first_misfit.Goals as goal

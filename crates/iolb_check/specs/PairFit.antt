@@ -1,0 +1,55 @@
+-- What is asked of the multipliers that show terms of a branch to have no vertex in common: there is one for each pair of
+-- pieces with one target. A read that isn't there has no leaves, and an entry at a blank leaf or at no leaf has no piece.
+use Rattle.std.specs.Prelude.{ℕ, nat_lt, if◌then◌else◌, List, [], ◌∷◌, ◌++◌, length, map, Option, Some, None}
+use Rattle.std.specs.List.{cons_option}
+use Rattle.iolb_model.specs.Program.{AffineProgram, statement_at}
+use Rattle.claims.specs.Claims.{Claim}
+use Rattle.claims.specs.declared.place.Step.{Step}
+use Rattle.claims.specs.declared.place.Step.TheVariants.{Key}
+use Rattle.claims.specs.declared.key.TheConstants.{DISJOINT}
+use Rattle.dep_quast.specs.Context.{reference_of}
+use Rattle.dep_quast.specs.Tree.{Leaf, source, input, empty, blank, SelectionTree, leaf, test}
+use Rattle.reuse_paths.specs.declared.piece.Target.{Target}
+use Rattle.reuse_paths.specs.declared.piece.Target.TheVariants.{Cell, Instance}
+use Rattle.reuse_paths.specs.LeafClaims.{LeafClaim, is_stop}
+use Rattle.reuse_paths.specs.Quasts.{tree_at}
+use Rattle.reuse_paths.specs.TargetPairs.{pairwise_targets}
+use Rattle.wavefront.specs.Term.{ColdTerm}
+use Rattle.iolb_check.specs.Claims.{TermClaim, cold, cold_term, BranchClaim}
+use Rattle.part_fit.specs.PartFit.{shown_fit}
+
+-- the target of the piece of a leaf that isn't empty, where it has one
+abbrev pub leaf_target : ℕ → Leaf → List (Option Target)
+leaf_target array (source claim) = Some (Instance claim.statement) ∷ []
+leaf_target array (input shown) = Some (Cell array) ∷ []
+leaf_target array (empty shown) = []
+leaf_target array blank = None ∷ []
+
+-- those of the leaves of the source tree of a read of an array
+abbrev pub leaf_targets : ℕ → SelectionTree → List (Option Target)
+leaf_targets array (leaf chosen) = leaf_target array chosen
+leaf_targets array (test form above below) = leaf_targets array above ++ leaf_targets array below
+
+-- those of the leaves at which the entries say that a walk stops
+abbrev pub stop_targets : List (Option Target) → List LeafClaim → List Target
+stop_targets [] entries = []
+stop_targets (target ∷ targets) [] = []
+stop_targets (target ∷ targets) (entry ∷ entries) = cons_option (if is_stop entry then target else None) (stop_targets targets entries)
+
+abbrev pub targets_if : ℕ → List LeafClaim → Option SelectionTree → List Target
+targets_if array entries None = []
+targets_if array entries (Some tree) = stop_targets (leaf_targets array tree) entries
+
+-- the targets of a cold term's pieces
+abbrev pub cold_targets : AffineProgram → List (List SelectionTree) → ColdTerm → List Target
+cold_targets program trees term =
+    if nat_lt term.reader.read (length (statement_at program term.reader.statement).reads)
+    then targets_if (reference_of program term.reader).array term.leaves (tree_at trees term.reader.statement term.reader.read) else []
+
+abbrev pub term_targets : AffineProgram → List (List SelectionTree) → TermClaim → List Target
+term_targets program trees (cold claim sums) = cold_targets program trees (cold_term claim sums)
+
+-- as many multipliers as pairs of one target of the terms
+abbrev pub disjoint_fit : AffineProgram → List (List SelectionTree) → List Step → BranchClaim → Claim
+disjoint_fit program trees place branch =
+    shown_fit (length (pairwise_targets (map (term_targets program trees) branch.terms))) (place ++ Key DISJOINT ∷ []) branch.disjoint

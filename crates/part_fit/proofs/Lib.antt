@@ -1,0 +1,5 @@
+pub mod FitFound
+pub mod FitSides
+pub mod Missing
+pub mod TreeParts
+pub mod ReadTrees

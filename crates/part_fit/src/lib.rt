@@ -1,0 +1,15 @@
+//! The parts of certificates: whether they are within their limits, and whether they fit a program (condition 1): lists,
+//! forms, nests, matrices, polynomials, source trees, entries at their leaves, spots, and walks that arrive.
+#![tactic(auto)]
+
+pub mod counts;
+pub mod entries;
+pub mod lists;
+pub mod part_limits;
+mod sources;
+mod tree_limits;
+pub mod trees;
+pub mod walk_limits;
+pub mod walks;
+
+pub use tree_limits::rows_are_small;
