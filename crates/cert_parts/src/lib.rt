@@ -20,12 +20,11 @@ mod polynomials;
 mod trees;
 
 pub use error::{CertError, CertFault, fault, under};
-pub use forms::form_list;
+pub use forms::{form, form_list};
 pub use json::{has_keys, list, natural, short_list};
-pub use leaves::leaf_list;
 pub use matrices::matrix;
 pub use multipliers::all_multipliers;
 pub use nests::nest;
-pub use parts::{all_shown_part, forms_part, natural_part};
+pub use parts::{all_shown_part, form_part, forms_part, leaves_part, natural_part};
 pub use polynomials::polynomial_list;
 pub use trees::all_trees;

@@ -1,17 +1,21 @@
 //! Members of objects that many parts of a certificate have.
 
-ghost use Rattle.std.specs.Prelude.{◌≡◌, ◌≤◌, IfOk};
+ghost use Rattle.std.specs.Prelude.{◌≡◌, ◌≤◌, map, IfOk};
+ghost use Rattle.reuse_paths.specs.LeafClaims.{claim_of};
 ghost use Rattle.serde_json.specs.View.{view};
 ghost use Rattle.cert_parts.specs.Outcome.{Gives};
 ghost use Rattle.cert_parts.specs.Json.{part, reads_natural};
+ghost use Rattle.cert_parts.specs.Leaves.{reads_leaves};
 ghost use Rattle.cert_parts.specs.Parts.{reads_form, reads_forms, reads_multipliers, reads_all_multipliers};
 
 use crate::error::{CertError, fault, under};
 use crate::forms::{form, form_list};
 use crate::json::natural;
+use crate::leaves::leaf_list;
 use crate::multipliers::{all_multipliers, multipliers};
 use affine_form::{Form, Multipliers};
 use claims::Step;
+use reuse_paths::Leaf;
 use serde_json::Value;
 use std::alloc::Global;
 
@@ -97,6 +101,24 @@ pub fn all_shown_part(
 {
     match value.get(name) {
         Some(member) => match all_multipliers(alloc, member) {
+            Ok(found) => Ok(found),
+            Err(error) => Err(under(alloc, Step::Key(number), error)),
+        },
+        None => Err(fault(alloc, 2)),
+    }
+}
+
+/// The member with this name, whose key has this number: an array of claims at leaves.
+pub fn leaves_part(
+    alloc: Global,
+    value: &Value,
+    name: &str,
+    number: u8,
+) -> Result<Vec<Leaf>, CertError>
+    ensures { Gives (λ leaves. map claim_of leaves.items) result (part name.now number reads_leaves (view value.now)) }
+{
+    match value.get(name) {
+        Some(member) => match leaf_list(alloc, member) {
             Ok(found) => Ok(found),
             Err(error) => Err(under(alloc, Step::Key(number), error)),
         },

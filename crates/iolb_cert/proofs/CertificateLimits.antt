@@ -10,7 +10,8 @@ use Rattle.iolb_check.specs.declared.term.Term.{Term}
 use Rattle.iolb_check.specs.declared.term.Term.TheVariants as terms
 use Rattle.iolb_check.specs.declared.term.Branch.{Branch}
 use Rattle.iolb_check.specs.Claims.{claim_of_term, claim_of_branch, claim_of_certificate}
-use Rattle.iolb_check.specs.Limits.{NameRows, IsSmallTree, IsSmallTerm, IsSmallBranch, CertificateParts, IsWithinLimits}
+use Rattle.part_fit.specs.Limits.{NameRows, IsSmallTree}
+use Rattle.iolb_check.specs.Limits.{IsSmallTerm, IsSmallBranch, CertificateParts, IsWithinLimits}
 use Rattle.serde_json.specs.Data.{Data}
 use Rattle.cert_parts.specs.Outcome.{Outcome, fault}
 use Rattle.cert_parts.specs.Json.{has_keys, part, reads_short_list, each}
@@ -23,6 +24,7 @@ use Rattle.iolb_cert.specs.Read.{WrittenCold, WrittenBranch, WrittenCertificate,
 use Rattle.iolb_cert.proofs.Given.{given_then, given_behind, given_if, given_part, given_each, given_short_list, given_keys}
 use Rattle.iolb_cert.proofs.PartLimits.{all_multipliers_small}
 use Rattle.iolb_cert.proofs.TreeLimits.{all_trees_small, quasts_small}
+use Rattle.iolb_model.specs.declared.limits.TheConstants.{TERMS as MOST}
 use Rattle.iolb_cert.proofs.TermLimits.{IsSmallWrittenCold, cold_small, read_cold_small}
 
 term_small : (d : Data) → IfOk (reads_term d) IsSmallWrittenCold
@@ -33,16 +35,11 @@ term_small d =
     (given_if (has_keys (codes "wavefront" ∷ []) d) (fault 4) (fault 2) IsSmallWrittenCold (λ is. tt) tt))
 
 abbrev AreSmallTerms : List WrittenCold → Type 0
-AreSmallTerms terms = AllByRecursion IsSmallWrittenCold terms × (length terms ≤ 1)
+AreSmallTerms terms = AllByRecursion IsSmallWrittenCold terms × (length terms ≤ MOST)
 
 terms_small : (d : Data) → IfOk (reads_terms d) AreSmallTerms
 unfolding reads_terms
-terms_small d =
-    given_behind (reads_short_list 16 d) _ AreSmallTerms (λ members. given_if (nat_le (length members) 1) (each reads_term 0 members) (fault 4) AreSmallTerms
-    (λ is. few (each reads_term 0 members) members (leb-true (length members) 1 is) (given_each reads_term IsSmallWrittenCold term_small 0 members)) tt) where
-      few : (read : Outcome (List WrittenCold)) (ds : List Data) → length ds ≤ 1 → IfOk read (λ found. AllByRecursion IsSmallWrittenCold found × (length found ≡ length ds)) → IfOk read AreSmallTerms
-      few (Ok found) ds most here = (here.0, omega (arith, most, here.1))
-      few (Err e) ds most here = tt
+terms_small d = given_short_list reads_term IsSmallWrittenCold term_small MOST d
 
 record IsSmallWrittenBranch (written : WrittenBranch) : Type 0 where
   terms : AreSmallTerms written.terms

@@ -7,7 +7,7 @@ use Rattle.std.specs.Prelude.{IfOk, Option, nat_le, nat_lt, unsigned_abs}
 use Rattle.std.specs.List.{AllByRecursion}
 use Rattle.affine_form.specs.Form.{IsSmall, IsSmallForm}
 use Rattle.claims.specs.declared.place.Step.TheVariants.{Index}
-use Rattle.iolb_check.specs.Limits.{AreSmall, NamesRows, NameRows}
+use Rattle.part_fit.specs.Limits.{AreSmall, NamesRows, NameRows}
 use Rattle.serde_json.specs.Data.{Data}
 use Rattle.cert_parts.specs.Outcome.{fault, under}
 use Rattle.cert_parts.specs.Json.{integer_of, small_integer, natural_within, reads_integer, reads_natural, reads_list, reads_short_list, each}

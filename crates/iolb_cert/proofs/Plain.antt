@@ -8,7 +8,8 @@ use Rattle.affine_form.specs.Matrix.{IntegerMatrix}
 use Rattle.affine_form.specs.Multipliers.{FarkasMultipliers}
 use Rattle.dep_quast.specs.Tree.{Leaf, source, input, empty, blank, SelectionTree, leaf, test, tree_of}
 use Rattle.dep_quast.specs.declared.quast.Quast.{Quast}
-use Rattle.iolb_check.specs.Limits.{CertificateParts, IsNestedTree, IsSmallTree, IsWithinLimits}
+use Rattle.part_fit.specs.Limits.{IsNestedTree, IsSmallTree}
+use Rattle.iolb_check.specs.Limits.{CertificateParts, IsWithinLimits}
 use Rattle.serde_json.specs.Data.{Data, Members, no_members, member, object, depth, members_depth}
 use Rattle.serde_json.specs.Read.{max_depth}
 use Rattle.serde_json.specs.Written.{has_float, members_have_float}

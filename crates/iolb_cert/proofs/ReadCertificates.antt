@@ -24,7 +24,7 @@ use Rattle.iolb_cert.proofs.ReadParts.{forms-read, all_multipliers-read, nest-re
 use Rattle.iolb_cert.proofs.ReadPolynomials.{are-polynomials, polynomials-read}
 use Rattle.iolb_cert.proofs.ReadLeaves.{leaves-read}
 use Rattle.iolb_cert.proofs.ReadTrees.{all_trees-read}
-use Rattle.iolb_model.specs.declared.limits.TheConstants.{NUMBER_SIZE}
+use Rattle.iolb_model.specs.declared.limits.TheConstants.{NUMBER_SIZE, TERMS}
 
 -- the members of a cold term are read
 pub record AreMembersRead (cold : Cold) : Type 0 where
@@ -74,12 +74,12 @@ ColdIsReadBack cold = reads_term (cold_term_data cold) ≡ Ok cold
 abbrev BranchIsReadBack : WrittenBranch → Type 0
 BranchIsReadBack branch = reads_branch (branch_data branch) ≡ Ok branch
 
-terms-read : (found : List Term) → length found ≤ 1 → AllByRecursion TermIsRead found → reads_terms (list (map cold_term_data (map written_term found))) ≡ Ok (map written_term found)
+terms-read : (found : List Term) → length found ≤ TERMS → AllByRecursion TermIsRead found → reads_terms (list (map cold_term_data (map written_term found))) ≡ Ok (map written_term found)
 unfolding reads_terms
 terms-read found few h =
     let written : List WrittenCold = map written_term found in
-    let count : length (map cold_term_data written) ≤ 1 = omega (arith, few, length-map written cold_term_data, length-map found written_term) in
-    rw (short_list-read 16 (map cold_term_data written) (omega (arith, count)), le-leb (length (map cold_term_data written)) 1 count)
+    let count : length (map cold_term_data written) ≤ TERMS = omega (arith, few, length-map written cold_term_data, length-map found written_term) in
+    rw (short_list-read TERMS (map cold_term_data written) count)
     (each-read reads_term cold_term_data 0 written (All-map ColdIsReadBack written_term found (All-weaken TermIsRead (λ term. ColdIsReadBack (written_term term)) found (λ term k. k.says) h)))
 
 pub branch-read : (branch : Branch) → IsSmallBranch branch → AllByRecursion AreMultipliersRead branch.disjoint.items → AllByRecursion TermIsRead branch.terms.items → BranchIsRead branch

@@ -1,10 +1,10 @@
 -- Claims at leaves that are written, read.
-use Rattle.std.proofs.Common.{◌≡◌, ℕ, ◌≤◌, List, map, Ok, Vec, Global, refl, arith}
+use Rattle.std.proofs.Common.{◌≡◌, ℕ, ◌≤◌, List, [], ◌∷◌, map, Ok, Vec, Global, refl, arith}
 use Rattle.std.specs.List.{AllByRecursion}
 use Rattle.affine_form.specs.Multipliers.{FarkasMultipliers}
 use Rattle.reuse_paths.specs.declared.leaf.Leaf.{Leaf}
 use Rattle.reuse_paths.specs.declared.leaf.Leaf.TheVariants.{Empty, Stop, Credit, Go, Arrive}
-use Rattle.iolb_check.specs.Limits.{IsSmallLeaf}
+use Rattle.part_fit.specs.Limits.{IsSmallEntry, IsSmallLeaf}
 use Rattle.base_laws.proofs.Lists.{All-map}
 use Rattle.cert_parts.specs.Json.{has_keys}
 use Rattle.reuse_paths.specs.LeafClaims.{LeafClaim, claim_of}
@@ -36,9 +36,13 @@ pub arrive-read : (equal : Vec FarkasMultipliers Global) → AllByRecursion AreM
 unfolding reads_leaf has_keys reads_arrive
 arrive-read equal h small = rw (all_multipliers-read equal.items h small) refl
 
-pub leaves-read : (leaves : List Leaf) → AllByRecursion LeafIsRead leaves → AllByRecursion IsSmallLeaf leaves → reads_leaves (leaves_data (map claim_of leaves)) ≡ Ok (map claim_of leaves)
+each-small : (leaves : List Leaf) → AllByRecursion IsSmallEntry (map claim_of leaves) → AllByRecursion IsSmallLeaf leaves
+each-small [] all = tt
+each-small (leaf ∷ leaves) all = (all.0, each-small leaves all.1)
+
+pub leaves-read : (leaves : List Leaf) → AllByRecursion LeafIsRead leaves → AllByRecursion IsSmallEntry (map claim_of leaves) → reads_leaves (leaves_data (map claim_of leaves)) ≡ Ok (map claim_of leaves)
 unfolding reads_leaves
 leaves-read leaves h small =
     list-of-read reads_leaf leaf_data (map claim_of leaves)
     (All-map (λ (claim : LeafClaim). reads_leaf (leaf_data claim) ≡ Ok claim) claim_of leaves
-    (all-both LeafIsRead IsSmallLeaf (λ (leaf : Leaf). reads_leaf (leaf_data (claim_of leaf)) ≡ Ok (claim_of leaf)) leaves (λ leaf f s. f s) h small))
+    (all-both LeafIsRead IsSmallLeaf (λ (leaf : Leaf). reads_leaf (leaf_data (claim_of leaf)) ≡ Ok (claim_of leaf)) leaves (λ leaf f s. f s) h (each-small leaves small)))

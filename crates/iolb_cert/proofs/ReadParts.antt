@@ -9,7 +9,7 @@ use Rattle.iolb_model.specs.Form.{AffineForm}
 use Rattle.affine_form.specs.Form.{IsSmall, IsSmallForm, IsLegalForm}
 use Rattle.affine_form.specs.Matrix.{IntegerMatrix, HasShape}
 use Rattle.affine_form.specs.Multipliers.{FarkasMultipliers, IsWeight, RowsRise}
-use Rattle.iolb_check.specs.Limits.{NamesRows, NameRows, AreSmall}
+use Rattle.part_fit.specs.Limits.{NamesRows, NameRows, AreSmall}
 use Rattle.cert_parts.specs.Json.{reads_integer}
 use Rattle.cert_parts.specs.Nests.{reads_pair, reads_nest}
 use Rattle.cert_parts.specs.Parts.{reads_form, reads_forms, rise_from, reads_weights, multipliers_of, multipliers_in, reads_multipliers, reads_all_multipliers, reads_row, all_entries, columns_of, reads_matrix}

@@ -12,7 +12,7 @@ use Rattle.affine_form.specs.Form.{IsSmall}
 use Rattle.poly_tree.specs.Poly.{Quotient, IsLegal}
 use Rattle.poly_tree.specs.Terms.{HasExponents, AreApart, terms_size}
 use Rattle.poly_tree.specs.Printed.{AreNonzero, AreWritten, written_terms}
-use Rattle.iolb_check.specs.Limits.{IsSmallPolynomial}
+use Rattle.part_fit.specs.Limits.{IsSmallPolynomial}
 use Rattle.cert_parts.specs.Json.{has_keys, with_keys, reads_natural}
 use Rattle.cert_parts.specs.Polynomials.{reads_coefficient, term_in, reads_term, stands_apart, reads_term_behind, terms_from, reads_terms, reads_quotient, reads_polynomial, reads_polynomials}
 use Rattle.cert_parts.specs.Read.{ArePolynomials}

@@ -6,7 +6,7 @@ use Rattle.iolb_model.specs.Form.{AffineForm}
 use Rattle.affine_form.specs.Multipliers.{FarkasMultipliers}
 use Rattle.dep_quast.specs.Tree.{SourceClaim, SelectionTree, leaf, test, leaf_count, source, input, empty, blank, tree_of}
 use Rattle.dep_quast.specs.declared.quast.Quast.{Quast}
-use Rattle.iolb_check.specs.Limits.{NamesRows, NameRows, IsSmallSource, IsNestedTree, IsSmallTree}
+use Rattle.part_fit.specs.Limits.{NamesRows, NameRows, IsSmallSource, IsNestedTree, IsSmallTree}
 use Rattle.base_laws.proofs.Lists.{All-map}
 use Rattle.cert_parts.specs.Json.{has_keys}
 use Rattle.reuse_paths.specs.Quasts.{row_trees}

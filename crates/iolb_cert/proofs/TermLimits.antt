@@ -12,14 +12,12 @@ use Rattle.claims.specs.declared.key.TheConstants.{ARRIVE, CREDIT, DEN, EMPTY, I
 use Rattle.claims.specs.declared.place.Step.TheVariants.{Index}
 use Rattle.poly_tree.specs.Poly.{Quotient}
 use Rattle.poly_tree.specs.Terms.{terms_size}
-use Rattle.reuse_paths.specs.declared.leaf.Leaf.{Leaf}
-use Rattle.reuse_paths.specs.declared.leaf.Leaf.TheVariants.{Empty, Stop, Credit, Go, Arrive}
 use Rattle.wavefront.specs.declared.cold.Cold.{Cold}
-use Rattle.iolb_check.specs.Limits.{AreSmall, NamesRows, NameRows, IsSmallPolynomial, IsSmallLeaf, IsSmallCold}
+use Rattle.part_fit.specs.Limits.{AreSmall, NamesRows, NameRows, IsSmallPolynomial, IsSmallEntry}
+use Rattle.iolb_check.specs.Limits.{IsSmallCold}
 use Rattle.serde_json.specs.Data.{Data}
 use Rattle.cert_parts.specs.Outcome.{Outcome, fault, under}
 use Rattle.cert_parts.specs.Json.{has_keys, part, reads_integer, reads_natural, reads_list, reads_short_list, each}
-use Rattle.reuse_paths.specs.LeafClaims.{LeafClaim, no_point, stops, is_credited, goes_on, arrives, claim_of}
 use Rattle.cert_parts.specs.Leaves.{reads_no_point, reads_stop, reads_credit, reads_go, reads_arrive, reads_leaf, reads_leaves}
 use Rattle.cert_parts.specs.Nests.{pair_in, reads_pair, reads_nest}
 use Rattle.cert_parts.specs.Parts.{reads_form, reads_forms, reads_multipliers, reads_all_multipliers, reads_matrix}
@@ -35,66 +33,48 @@ use Rattle.iolb_model.specs.declared.limits.TheConstants.{NUMBER_SIZE, COEFFICIE
 
 -- ---- claims at leaves
 
-abbrev IsSmallClaim : LeafClaim → Type 0
-IsSmallClaim (no_point shown) = NamesRows shown
-IsSmallClaim (stops label) = NameRows label
-IsSmallClaim (is_credited credit rows label) = NameRows rows × NameRows label
-IsSmallClaim (goes_on rows label) = NameRows rows × NameRows label
-IsSmallClaim (arrives equal) = NameRows equal
-
-no_point_small : (d : Data) → IfOk (reads_no_point d) IsSmallClaim
+no_point_small : (d : Data) → IfOk (reads_no_point d) IsSmallEntry
 unfolding reads_no_point
 no_point_small d =
-    given_then (part (codes "empty") EMPTY reads_multipliers d) _ NamesRows IsSmallClaim (given_part (codes "empty") EMPTY reads_multipliers NamesRows d multipliers_small) (λ shown small. small)
+    given_then (part (codes "empty") EMPTY reads_multipliers d) _ NamesRows IsSmallEntry (given_part (codes "empty") EMPTY reads_multipliers NamesRows d multipliers_small) (λ shown small. small)
 
-stop_small : (d : Data) → IfOk (reads_stop d) IsSmallClaim
+stop_small : (d : Data) → IfOk (reads_stop d) IsSmallEntry
 unfolding reads_stop
 stop_small d =
-    given_then (part (codes "stop") STOP reads_all_multipliers d) _ NameRows IsSmallClaim (given_part (codes "stop") STOP reads_all_multipliers NameRows d all_multipliers_small) (λ label small. small)
+    given_then (part (codes "stop") STOP reads_all_multipliers d) _ NameRows IsSmallEntry (given_part (codes "stop") STOP reads_all_multipliers NameRows d all_multipliers_small) (λ label small. small)
 
-credit_small : (d : Data) → IfOk (reads_credit d) IsSmallClaim
+credit_small : (d : Data) → IfOk (reads_credit d) IsSmallEntry
 unfolding reads_credit
 credit_small d =
-    given_behind (part (codes "credit") CREDIT (reads_natural 0 255) d) _ IsSmallClaim
-    (λ credit. given_then (part (codes "label") LABEL reads_all_multipliers d) _ NameRows IsSmallClaim (given_part (codes "label") LABEL reads_all_multipliers NameRows d all_multipliers_small)
-    (λ label small_label. given_then (part (codes "rows") ROWS reads_all_multipliers d) _ NameRows IsSmallClaim (given_part (codes "rows") ROWS reads_all_multipliers NameRows d all_multipliers_small)
+    given_behind (part (codes "credit") CREDIT (reads_natural 0 255) d) _ IsSmallEntry
+    (λ credit. given_then (part (codes "label") LABEL reads_all_multipliers d) _ NameRows IsSmallEntry (given_part (codes "label") LABEL reads_all_multipliers NameRows d all_multipliers_small)
+    (λ label small_label. given_then (part (codes "rows") ROWS reads_all_multipliers d) _ NameRows IsSmallEntry (given_part (codes "rows") ROWS reads_all_multipliers NameRows d all_multipliers_small)
     (λ rows small_rows. (small_rows, small_label))))
 
-go_small : (d : Data) → IfOk (reads_go d) IsSmallClaim
+go_small : (d : Data) → IfOk (reads_go d) IsSmallEntry
 unfolding reads_go
 go_small d =
-    given_then (part (codes "label") LABEL reads_all_multipliers d) _ NameRows IsSmallClaim (given_part (codes "label") LABEL reads_all_multipliers NameRows d all_multipliers_small)
-    (λ label small_label. given_then (part (codes "rows") ROWS reads_all_multipliers d) _ NameRows IsSmallClaim (given_part (codes "rows") ROWS reads_all_multipliers NameRows d all_multipliers_small)
+    given_then (part (codes "label") LABEL reads_all_multipliers d) _ NameRows IsSmallEntry (given_part (codes "label") LABEL reads_all_multipliers NameRows d all_multipliers_small)
+    (λ label small_label. given_then (part (codes "rows") ROWS reads_all_multipliers d) _ NameRows IsSmallEntry (given_part (codes "rows") ROWS reads_all_multipliers NameRows d all_multipliers_small)
     (λ rows small_rows. (small_rows, small_label)))
 
-arrive_small : (d : Data) → IfOk (reads_arrive d) IsSmallClaim
+arrive_small : (d : Data) → IfOk (reads_arrive d) IsSmallEntry
 unfolding reads_arrive
 arrive_small d =
-    given_then (part (codes "arrive") ARRIVE reads_all_multipliers d) _ NameRows IsSmallClaim (given_part (codes "arrive") ARRIVE reads_all_multipliers NameRows d all_multipliers_small) (λ equal small. small)
+    given_then (part (codes "arrive") ARRIVE reads_all_multipliers d) _ NameRows IsSmallEntry (given_part (codes "arrive") ARRIVE reads_all_multipliers NameRows d all_multipliers_small) (λ equal small. small)
 
-leaf_small : (d : Data) → IfOk (reads_leaf d) IsSmallClaim
+leaf_small : (d : Data) → IfOk (reads_leaf d) IsSmallEntry
 unfolding reads_leaf
 leaf_small d =
-    given_if (has_keys (codes "empty" ∷ []) d) (reads_no_point d) _ IsSmallClaim (λ is. no_point_small d)
-    (given_if (has_keys (codes "stop" ∷ []) d) (reads_stop d) _ IsSmallClaim (λ is. stop_small d)
-    (given_if (has_keys (codes "credit" ∷ codes "label" ∷ codes "rows" ∷ []) d) (reads_credit d) _ IsSmallClaim (λ is. credit_small d)
-    (given_if (has_keys (codes "label" ∷ codes "rows" ∷ []) d) (reads_go d) _ IsSmallClaim (λ is. go_small d)
-    (given_if (has_keys (codes "arrive" ∷ []) d) (reads_arrive d) (fault 2) IsSmallClaim (λ is. arrive_small d) tt))))
+    given_if (has_keys (codes "empty" ∷ []) d) (reads_no_point d) _ IsSmallEntry (λ is. no_point_small d)
+    (given_if (has_keys (codes "stop" ∷ []) d) (reads_stop d) _ IsSmallEntry (λ is. stop_small d)
+    (given_if (has_keys (codes "credit" ∷ codes "label" ∷ codes "rows" ∷ []) d) (reads_credit d) _ IsSmallEntry (λ is. credit_small d)
+    (given_if (has_keys (codes "label" ∷ codes "rows" ∷ []) d) (reads_go d) _ IsSmallEntry (λ is. go_small d)
+    (given_if (has_keys (codes "arrive" ∷ []) d) (reads_arrive d) (fault 2) IsSmallEntry (λ is. arrive_small d) tt))))
 
-leaves_small : (d : Data) → IfOk (reads_leaves d) (AllByRecursion IsSmallClaim)
+leaves_small : (d : Data) → IfOk (reads_leaves d) (AllByRecursion IsSmallEntry)
 unfolding reads_leaves
-leaves_small d = given_list reads_leaf IsSmallClaim leaf_small d
-
-claimed_small : (claimed : Leaf) → IsSmallClaim (claim_of claimed) → IsSmallLeaf claimed
-claimed_small (Empty shown) small = small
-claimed_small (Stop label) small = small
-claimed_small (Credit credit rows label) small = small
-claimed_small (Go rows label) small = small
-claimed_small (Arrive equal) small = small
-
-all_claimed_small : (leaves : List Leaf) → AllByRecursion IsSmallClaim (map claim_of leaves) → AllByRecursion IsSmallLeaf leaves
-all_claimed_small [] all = tt
-all_claimed_small (claimed ∷ leaves) all = (claimed_small claimed all.0, all_claimed_small leaves all.1)
+leaves_small d = given_list reads_leaf IsSmallEntry leaf_small d
 
 -- ---- nests, and matrices with their scales
 
@@ -226,7 +206,7 @@ all_read_small (polynomial ∷ polynomials) (q ∷ qs) are all = (read_small pol
 record IsSmallFront (front : ColdFront) : Type 0 where
   inside : NameRows front.inside
   scale : IsScale front.scale
-  leaves : AllByRecursion IsSmallClaim front.leaves
+  leaves : AllByRecursion IsSmallEntry front.leaves
   nest : IsSmallNest front.nest
 
 record IsSmallMiddle (middle : ColdMiddle) : Type 0 where
@@ -240,7 +220,7 @@ record IsSmallColdClaim (claim : ColdClaim) : Type 0 where
   point : AreSmall claim.point
   inside : NameRows claim.inside
   scale : IsScale claim.scale
-  leaves : AllByRecursion IsSmallClaim claim.leaves
+  leaves : AllByRecursion IsSmallEntry claim.leaves
 
 -- a cold term as it is written is within its limits
 pub record IsSmallWrittenCold (written : WrittenCold) : Type 0 where
@@ -252,7 +232,7 @@ unfolding reads_cold_front
 front_small d =
     given_then (part (codes "inside") INSIDE reads_all_multipliers d) _ NameRows IsSmallFront (given_part (codes "inside") INSIDE reads_all_multipliers NameRows d all_multipliers_small)
     (λ inside small_inside. given_then (part (codes "inverse") INVERSE reads_inverse d) _ HasScale IsSmallFront (given_part (codes "inverse") INVERSE reads_inverse HasScale d inverse_small)
-    (λ inverse small_scale. given_then (part (codes "leaves") LEAVES reads_leaves d) _ (AllByRecursion IsSmallClaim) IsSmallFront (given_part (codes "leaves") LEAVES reads_leaves (AllByRecursion IsSmallClaim) d leaves_small)
+    (λ inverse small_scale. given_then (part (codes "leaves") LEAVES reads_leaves d) _ (AllByRecursion IsSmallEntry) IsSmallFront (given_part (codes "leaves") LEAVES reads_leaves (AllByRecursion IsSmallEntry) d leaves_small)
     (λ leaves small_leaves. given_then (part (codes "nest") NEST reads_nest d) _ IsSmallNest IsSmallFront (given_part (codes "nest") NEST reads_nest IsSmallNest d nest_small)
     (λ nest small_nest. record { inside = small_inside; scale = small_scale; leaves = small_leaves; nest = small_nest }))))
 
@@ -294,5 +274,5 @@ read_cold_small written cold is small =
       inside = claim.inside;
       some_scale = claim.scale.0;
       scale = claim.scale.1;
-      leaves = all_claimed_small cold.leaves.items claim.leaves;
+      leaves = claim.leaves;
     }

@@ -8,7 +8,7 @@ use Rattle.claims.specs.declared.key.TheConstants.{BEFORE, BETWEEN, BLANK, CELL,
 use Rattle.dep_quast.specs.declared.quast.Quast.{Quast}
 use Rattle.dep_quast.specs.Tree.{SelectionTree, leaf, test, leaf_count, blank, tree_of}
 use Rattle.reuse_paths.specs.declared.quasts.Quasts.{Quasts}
-use Rattle.iolb_check.specs.Limits.{AreSmall, NamesRows, NameRows, IsSmallTreeLeaf, IsNestedTree, IsSmallTree}
+use Rattle.part_fit.specs.Limits.{AreSmall, NamesRows, NameRows, IsSmallTreeLeaf, IsNestedTree, IsSmallTree}
 use Rattle.serde_json.specs.Data.{Data}
 use Rattle.serde_json.specs.Find.{as_bool}
 use Rattle.cert_parts.specs.Outcome.{Outcome, fault}

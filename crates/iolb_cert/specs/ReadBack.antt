@@ -12,7 +12,8 @@ use Rattle.dep_quast.specs.Tree.{tree_of}
 use Rattle.reuse_paths.specs.declared.leaf.Leaf.{Leaf}
 use Rattle.wavefront.specs.declared.cold.Cold.{Cold}
 use Rattle.iolb_check.specs.Claims.{claim_of_term, claim_of_branch, claim_of_certificate}
-use Rattle.iolb_check.specs.Limits.{NamesRows, IsNestedTree, IsSmallLeaf, CertificateParts}
+use Rattle.part_fit.specs.Limits.{NamesRows, IsNestedTree, IsSmallLeaf}
+use Rattle.iolb_check.specs.Limits.{CertificateParts}
 use Rattle.iolb_check.specs.declared.term.Term.{Term}
 use Rattle.iolb_check.specs.declared.term.Branch.{Branch}
 use Rattle.reuse_paths.specs.LeafClaims.{claim_of}

@@ -1,5 +1,5 @@
 -- The texts of terms.
-use Rattle.std.specs.Prelude.{ℕ, List, [], ◌∷◌, length, nat_le, if◌then◌else◌, codes, Ok}
+use Rattle.std.specs.Prelude.{ℕ, List, [], ◌∷◌, if◌then◌else◌, codes, Ok}
 use Rattle.iolb_model.specs.Form.{AffineForm}
 use Rattle.affine_form.specs.Matrix.{IntegerMatrix}
 use Rattle.affine_form.specs.Multipliers.{FarkasMultipliers}
@@ -14,7 +14,7 @@ use Rattle.cert_parts.specs.Parts.{reads_forms, reads_all_multipliers, reads_mat
 use Rattle.cert_parts.specs.Polynomials.{reads_polynomials}
 use Rattle.iolb_check.specs.Claims.{ColdClaim}
 use Rattle.iolb_cert.specs.Read.{WrittenCold}
-use Rattle.iolb_model.specs.declared.limits.TheConstants.{NUMBER_SIZE}
+use Rattle.iolb_model.specs.declared.limits.TheConstants.{NUMBER_SIZE, TERMS}
 
 -- A matrix and its scale, from 1 to 2^20.
 unfoldable pub reads_inverse : Data → Outcome (IntegerMatrix × ℕ)
@@ -90,8 +90,6 @@ reads_term d =
     else (if has_keys (codes "wavefront" ∷ []) d then fault 4
     else fault 2))
 
--- The terms of a branch, at most 16. More than one aren't built yet (4).
+-- The terms of a branch, at most 16.
 unfoldable pub reads_terms : Data → Outcome (List WrittenCold)
-reads_terms d = do
-  members ← reads_short_list 16 d
-  if nat_le (length members) 1 then each reads_term 0 members else fault 4
+reads_terms d = reads_short_list TERMS d >>= each reads_term 0

@@ -2,13 +2,16 @@
 
 ghost use Rattle.std.specs.Prelude.{◌≡◌, ◌∷◌, [], ◌++◌, ℕ, length, map, flat_map, codes, decimal, IfOk, OnOk};
 ghost use Rattle.std.specs.List.{AllByRecursion};
+ghost use Rattle.iolb_model.specs.Bound.{wavefront};
 ghost use Rattle.iolb_model.specs.Program.{IsOver};
+ghost use Rattle.poly_tree.specs.Printed.{polynomial_of};
 ghost use Rattle.iolb_model.specs.Printed.{assumption_text, bound_term_text, branches_text, bound_text as text_of_bound};
 ghost use Rattle.iolb_check.specs.Bounds.{bound_of, term_of};
 
 use affine_form::{Form, Memory, Name};
 use affine_program::Program;
 use iolb_check::{Bound, Value};
+use poly_tree::Poly;
 use std::alloc::Global;
 
 /// An assumption, written on a line at the end.
@@ -39,6 +42,19 @@ fn assumption_lines(alloc: Global, names: &[Name], rows: &[Form]) -> Result<Vec<
     Ok(text)
 }
 
+/// The line of a wavefront term: how many words it names, less S for each of its vertices.
+fn front_line(alloc: Global, names: &[Name], pairs: &Poly, outer: &Poly) -> Result<Vec<u8>, Memory>
+    ensures { IfOk result (λ text. text.items ≡ bound_term_text names.now (wavefront (polynomial_of pairs.now) (polynomial_of outer.now))) }
+{
+    let mut text = Vec::new(alloc);
+    text.extend_from_slice(b"  wavefront ")?;
+    text.extend_from_slice(pairs.text(alloc, names)?.as_slice())?;
+    text.extend_from_slice(b" - S*(")?;
+    text.extend_from_slice(outer.text(alloc, names)?.as_slice())?;
+    text.extend_from_slice(b")\n")?;
+    Ok(text)
+}
+
 /// A term, written on a line at the end.
 fn push_term(alloc: Global, text: &mut Vec<u8>, names: &[Name], term: &Value) -> Result<(), Memory>
     ensures { OnOk result (text.new.items ≡ text.old.items ++ bound_term_text names.now (term_of term.now)) }
@@ -48,6 +64,9 @@ fn push_term(alloc: Global, text: &mut Vec<u8>, names: &[Name], term: &Value) ->
             text.extend_from_slice(b"  cold ")?;
             text.extend_from_slice(count.text(alloc, names)?.as_slice())?;
             text.push(b'\n')?;
+        }
+        Value::Wavefront { pairs, outer } => {
+            text.extend_from_slice(front_line(alloc, names, pairs, outer)?.as_slice())?;
         }
     }
     Ok(())

@@ -1,24 +1,19 @@
 //! Members of cold terms.
 
-ghost use Rattle.std.specs.Prelude.{◌≡◌, map, codes};
-ghost use Rattle.claims.specs.declared.key.TheConstants.{INVERSE, LEAVES, NEST, SUMS};
+ghost use Rattle.std.specs.Prelude.{◌≡◌, codes};
+ghost use Rattle.claims.specs.declared.key.TheConstants.{INVERSE, NEST, SUMS};
 ghost use Rattle.serde_json.specs.View.{view};
 ghost use Rattle.cert_parts.specs.Outcome.{Gives, GivesBy};
 ghost use Rattle.cert_parts.specs.Json.{part};
-ghost use Rattle.reuse_paths.specs.LeafClaims.{claim_of};
-ghost use Rattle.cert_parts.specs.Leaves.{reads_leaves};
 ghost use Rattle.cert_parts.specs.Nests.{reads_nest};
 ghost use Rattle.cert_parts.specs.Polynomials.{reads_polynomials};
 ghost use Rattle.cert_parts.specs.Read.{ArePolynomials};
 ghost use Rattle.iolb_cert.specs.Terms.{reads_inverse};
 
-use cert_parts::{
-    CertError, fault, has_keys, leaf_list, matrix, natural_part, nest, polynomial_list, under,
-};
+use cert_parts::{CertError, fault, has_keys, matrix, natural_part, nest, polynomial_list, under};
 use claims::{Step, key};
 use domain_count::Nest;
 use poly_tree::Poly;
-use reuse_paths::Leaf;
 use serde_json::Value;
 use std::alloc::Global;
 use wavefront::Inverse;
@@ -50,19 +45,6 @@ pub(crate) fn inverse_part(alloc: Global, value: &Value) -> Result<Inverse, Cert
         Some(member) => match inverse(alloc, member) {
             Ok(found) => Ok(found),
             Err(error) => Err(under(alloc, Step::Key(key::INVERSE), error)),
-        },
-        None => Err(fault(alloc, 2)),
-    }
-}
-
-/// The member `leaves`.
-pub(crate) fn leaves_part(alloc: Global, value: &Value) -> Result<Vec<Leaf>, CertError>
-    ensures { Gives (λ leaves. map claim_of leaves.items) result (part (codes "leaves") LEAVES reads_leaves (view value.now)) }
-{
-    match value.get("leaves") {
-        Some(member) => match leaf_list(alloc, member) {
-            Ok(found) => Ok(found),
-            Err(error) => Err(under(alloc, Step::Key(key::LEAVES), error)),
         },
         None => Err(fault(alloc, 2)),
     }

@@ -5,7 +5,7 @@ ghost use Rattle.std.specs.List.{AllByRecursion};
 ghost use Rattle.iolb_model.specs.Polynomial.{Term};
 ghost use Rattle.affine_form.specs.Form.{IsSmall};
 ghost use Rattle.poly_tree.specs.Terms.{term_of, terms_of};
-ghost use Rattle.iolb_check.specs.Limits.{IsSmallPolynomial};
+ghost use Rattle.part_fit.specs.Limits.{IsSmallPolynomial};
 ghost use Rattle.serde_json.specs.View.{view};
 ghost use Rattle.iolb_cert.specs.Parts.{list, natural, whole};
 ghost use Rattle.iolb_cert.specs.Polynomials.{term_data, polynomial_data, polynomials_data};

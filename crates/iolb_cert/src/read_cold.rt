@@ -9,9 +9,11 @@ ghost use Rattle.iolb_cert.specs.Terms.{reads_cold_front, reads_cold_middle, rea
 ghost use Rattle.iolb_cert.specs.Views.{cold_term, front_of, middle_of};
 ghost use Rattle.iolb_cert.specs.Read.{IsTerm};
 
-use crate::members::{inverse_part, leaves_part, nest_part, sums_part};
+use crate::members::{inverse_part, nest_part, sums_part};
 use affine_form::{Form, Multipliers};
-use cert_parts::{CertError, all_shown_part, fault, forms_part, has_keys, natural_part};
+use cert_parts::{
+    CertError, all_shown_part, fault, forms_part, has_keys, leaves_part, natural_part,
+};
 use claims::key;
 use domain_count::{Nest, Sums};
 use poly_tree::Poly;
@@ -36,7 +38,7 @@ fn front(alloc: Global, value: &Value) -> Result<ColdParts, CertError>
 {
     let inside = all_shown_part(alloc, value, "inside", key::INSIDE)?;
     let inverse = inverse_part(alloc, value)?;
-    let leaves = leaves_part(alloc, value)?;
+    let leaves = leaves_part(alloc, value, "leaves", key::LEAVES)?;
     let nest = nest_part(alloc, value)?;
     Ok(ColdParts {
         inside,

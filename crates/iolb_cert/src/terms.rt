@@ -12,6 +12,7 @@ use crate::read_cold::cold;
 use cert_parts::{CertError, fault, has_keys, short_list, under};
 use claims::{Step, key};
 use iolb_check::Term;
+use iolb_model::limits;
 use serde_json::Value;
 use std::alloc::Global;
 
@@ -41,10 +42,7 @@ fn term(alloc: Global, value: &Value) -> Result<Term, CertError>
 pub(crate) fn term_list(alloc: Global, value: &Value) -> Result<Vec<Term>, CertError>
     ensures { GivesBy (λ said found. AreAll IsTerm said (map claim_of_term found.items)) result (reads_terms (view value.now)) }
 {
-    let values = short_list(alloc, value, 16)?;
-    if values.len() > 1 {
-        return Err(fault(alloc, 4));
-    }
+    let values = short_list(alloc, value, limits::TERMS)?;
     let mut found = Vec::new(alloc);
     for (i, value) in values.iter().enumerate() {
         match term(alloc, value) {

@@ -193,8 +193,8 @@ fn faults_around() -> [(Edit, u8, &'static [Step]); 10] {
         ),
         (
             (r#""terms":["#, r#""terms":[1,"#),
-            4,
-            &[Key(key::BRANCHES), Index(0), Key(key::TERMS)],
+            2,
+            &[Key(key::BRANCHES), Index(0), Key(key::TERMS), Index(0)],
         ),
         (
             (

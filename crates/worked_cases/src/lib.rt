@@ -2,6 +2,8 @@
 #![tactic(auto)]
 
 #[cfg(test)]
+mod branch_tests;
+#[cfg(test)]
 mod certificate_text_tests;
 #[cfg(test)]
 mod certificates;

@@ -1,7 +1,7 @@
 use Rattle.std.proofs.Common.{◌≡◌, ◌++◌, map, drop}
 use Rattle.std.specs.List.{AllByRecursion}
 use Rattle.serde_json.specs.View.{view}
-use Rattle.iolb_check.specs.Limits.{IsSmallPolynomial}
+use Rattle.part_fit.specs.Limits.{IsSmallPolynomial}
 use Rattle.iolb_cert.specs.Polynomials.{polynomial_data}
 use Rattle.iolb_cert.specs.Written.{written_polynomial}
 use Rattle.iolb_cert.specs.ReadBack.{PolynomialIsRead}
