@@ -23,7 +23,7 @@ impl Bound {
     ///
     /// `OutsideAssumption` names the first assumption that is false at the sizes. `Wide` comes where all are true, exactly
     /// where in some branch the terms of a polynomial, each coefficient's size times the powers of the variables' sizes,
-    /// reach 2^126 in sum, or the branch's value does.
+    /// reach 2^126 in sum, or s times the vertices of a wavefront term do, or the branch's value does.
     pub fn value(&self, sizes: &[i64], s: u64) -> Result<u128, ValueFault>
         requires each { length sizes.now ≡ self.now.assumed.vars }
         requires small { AllByRecursion (IsSmall VALUE_SIZE) sizes.now }
