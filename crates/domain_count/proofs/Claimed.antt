@@ -36,7 +36,7 @@ sums-at var (suc i) (bounds ∷ nest) (sum ∷ sums) total h le =
       turned m n = omega arith
 
 -- the sums give one polynomial
-sums-same : (var : ℕ) (nest : List (AffineForm × AffineForm)) (sums : List Quotient) (first other : Quotient) → IsSumFrom var nest sums first → IsSumFrom var nest sums other
+pub sums-same : (var : ℕ) (nest : List (AffineForm × AffineForm)) (sums : List Quotient) (first other : Quotient) → IsSumFrom var nest sums first → IsSumFrom var nest sums other
     → first ≡ other
 sums-same var [] sums first other h g = h ∙ sym g
 sums-same var (bounds ∷ nest) [] first other h g = absurd h

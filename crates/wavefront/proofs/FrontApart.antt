@@ -80,16 +80,16 @@ module _ (program : AffineProgram) (term : WavefrontTerm) (parameters : List ℤ
   abbrev at_source : Source → ℕ
   at_source z = vertex_of (length (execution program parameters)) (input_cells program parameters) z
 
-  abbrev cell : List ℤ → Cell
+  abbrev pub cell : List ℤ → Cell
   cell u = read_cell program parameters term.user.statement term.read (spot_values term.user parameters u)
 
   -- the cell that the user reads
-  cell-is : (u : List ℤ) → values_at (telling_forms program term None) (parameters ++ u) ≡ (cell u).subscripts
+  pub cell-is : (u : List ℤ) → values_at (telling_forms program term None) (parameters ++ u) ≡ (cell u).subscripts
   cell-is u =
       values_at-put_in (user_point program term) (reference_of program (user_read term)).subscripts (parameters ++ u)
       ∙ ap (values_at (reference_of program (user_read term)).subscripts) (user-at program term parameters u wide)
 
-  input-there : (u : List ℤ) (vertex : ℕ) → IsSoundAt program term parameters u → IsThereAt program term parameters u vertex None → Member (cell u) (input_cells program parameters)
+  pub input-there : (u : List ℤ) (vertex : ℕ) → IsSoundAt program term parameters u → IsThereAt program term parameters u vertex None → Member (cell u) (input_cells program parameters)
   input-there u vertex at h =
       Member-input_cells program parameters term.user.statement term.read (spot_values term.user parameters u)
       (record {

@@ -1,5 +1,4 @@
 pub mod Lists
-pub mod EdgeRows
 pub mod EdgeFits
 pub mod Bounds
 pub mod Entries
@@ -18,3 +17,4 @@ pub mod FrontEdges
 pub mod FrontApart
 pub mod FrontSound
 pub mod PiecesCover
+pub mod FrontCover

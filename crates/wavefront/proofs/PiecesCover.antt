@@ -1,18 +1,15 @@
 -- The pieces of a cold term fit, and cover its footprint.
-use Rattle.std.proofs.Common.{◌≡◌, refl, sym, ◌∙◌, ap, subst, inl, inr, ℕ, suc, ◌+◌, ◌-◌, ◌<◌, ◌≤◌, Bool, true, false, if◌then◌else◌, List, [], ◌∷◌, ◌++◌, length, map, replicate, get_or, take, drop, append_assoc, arith, lit<}
-use Rattle.std.specs.Prelude.{◌<ℤ◌, Some, slice_get}
+use Rattle.std.proofs.Common.{◌≡◌, refl, sym, ◌∙◌, ap, subst, inl, inr, ℕ, suc, ◌+◌, ◌-◌, ◌<◌, ◌≤◌, Bool, true, false, if◌then◌else◌, List, [], ◌∷◌, ◌++◌, length, map, replicate, get_or, take, drop, append_assoc, arith}
+use Rattle.std.specs.Prelude.{Some, slice_get}
 use Rattle.std.specs.List.{AllByRecursion, position_or_len}
-use Rattle.std.proofs.Math.IntN.{ℤ, pos, negsuc}
+use Rattle.std.proofs.Math.IntN.{ℤ, pos}
 use lib.Signed.{◌≤ℤ◌}
-use Rattle.std.proofs.lemmas.Int.{ints}
 use Rattle.std.proofs.lemmas.List.{length-map, map-append}
 use Rattle.base_laws.proofs.Lists.{All-append, All-replicate, rest_at}
 use Rattle.iolb_model.specs.Form.{AffineForm, form_value}
 use Rattle.iolb_model.specs.Program.{AffineProgram, IsWellFormed}
-use Rattle.iolb_model.specs.Printed.{is_below_zero}
 use Rattle.iolb_model.specs.Bound.{IsAdmitted}
-use Rattle.iolb_model.specs.Domain.{IsWithin, IsAt}
-use Rattle.iolb_model.specs.Execution.{execution}
+use Rattle.iolb_model.specs.Domain.{IsWithin}
 use Rattle.iolb_model.specs.Source.{Cell as InputCell, same_cell, read_cell}
 use Rattle.iolb_model.specs.Graph.{input_cells, input_vertex}
 use Rattle.iolb_model.specs.Game.{stands_in}
@@ -22,7 +19,7 @@ use Rattle.execution_laws.proofs.Cells.{position-Member}
 use Rattle.pebble_game.specs.Cold.{ReadsInput}
 use Rattle.pebble_game.proofs.Marks.{standing-member}
 use Rattle.pebble_game.proofs.InputVertices.{Member-input_cells}
-use Rattle.claims.specs.Claims.{Claim, AllHold}
+use Rattle.claims.specs.Claims.{AllHold}
 use Rattle.claims.specs.declared.place.Step.{Step}
 use Rattle.claims.specs.declared.place.Step.TheVariants.{Key}
 use Rattle.claims.specs.declared.key.TheConstants.{LEAVES}
@@ -30,29 +27,30 @@ use Rattle.claims.proofs.Laws.{AllHold-left, AllHold-right}
 use Rattle.affine_form.specs.Form.{variables, IsSmall, IsSmallForm}
 use Rattle.affine_form.specs.Rows.{widened, variables_from, within_rows, step_of}
 use Rattle.affine_form.specs.Substitution.{values_at}
-use Rattle.affine_form.specs.System.{AffineSystem, AllOver, IsMet}
+use Rattle.affine_form.specs.System.{AllOver, IsMet}
 use Rattle.affine_form.proofs.Meaning.{form_value-widened}
 use Rattle.affine_form.proofs.RowLemmas.{length-widened}
 use Rattle.affine_form.proofs.ShownLemmas.{Shows-none}
 use Rattle.dep_quast.specs.Claims.{IsFew}
 use Rattle.dep_quast.specs.Context.{reference_of}
-use Rattle.dep_quast.specs.Tree.{Leaf as TreeLeaf, source, input as input_leaf, empty, blank, SelectionTree, leaf, test, leaf_at}
+use Rattle.dep_quast.specs.Tree.{Leaf as TreeLeaf, source, input as input_leaf, empty, blank, SelectionTree, leaf_at}
 use Rattle.dep_quast.specs.Truth.{IsTrueTree, IsTrueLeaf}
 use Rattle.dep_quast.proofs.Points.{within-length}
+use Rattle.domain_count.specs.Count.{rows_before}
 use Rattle.domain_count.specs.Points.{points}
 use Rattle.reuse_paths.specs.declared.piece.Target.TheVariants.{Cell}
 use Rattle.reuse_paths.specs.declared.leaf.Leaf.{Leaf}
 use Rattle.reuse_paths.specs.declared.piece.Piece.{Piece}
 use Rattle.reuse_paths.specs.LeafClaims.{LeafClaim, claim_of, is_stop, no_point, stops, is_credited, goes_on, arrives}
-use Rattle.reuse_paths.specs.Pieces.{FootprintPiece, piece_of, IsVertexOf, IsInPiece, IsInPieces, PieceFits}
+use Rattle.reuse_paths.specs.Pieces.{FootprintPiece, piece_of, IsVertexOf, IsInPieces, PieceFits}
 use Rattle.wavefront.specs.Term.{ColdTerm, nest_variables, nest_system, instance_point, cell_forms}
-use Rattle.reuse_paths.specs.OpenLeaves.{OpenLeaf, is_input, open_leaves}
+use Rattle.reuse_paths.specs.OpenLeaves.{OpenLeaf, is_input}
 use Rattle.wavefront.specs.Leaves.{IsClosed, leaves_claims, inside_claims, term_leaves}
 use Rattle.wavefront.specs.Loads.{TermFits, ColdFits, instance_values, all_instances, footprint_of}
 use Rattle.wavefront.specs.ColdClaims.{matrix_claims, instance_claims}
 use Rattle.wavefront.specs.ColdPieces.{rows_at_leaf, leaf_piece, stop_pieces, leaves_of, cold_pieces, LeavesAreFew, ColdPiecesCover}
 use Rattle.reuse_paths.proofs.NestPoints.{points-within, nest-met}
-use Rattle.reuse_paths.proofs.ChosenLeaves.{IsAmong, StandsAmong, chosen-stands}
+use Rattle.reuse_paths.proofs.ChosenLeaves.{StandsAmong, chosen-stands}
 use Rattle.wavefront.proofs.ColdCells.{instance-at, cell-is}
 use Rattle.wavefront.proofs.ColdLoads.{all-read}
 use Rattle.iolb_model.specs.declared.limits.TheConstants.{PUT_SIZE}
@@ -63,6 +61,14 @@ use Rattle.iolb_model.specs.declared.limits.TheConstants.{PUT_SIZE}
 take-mapped : {X Y : Type 0} (f : X → Y) (xs : List X) (ys zs : List Y) → take (length xs) (map f xs ++ ys ++ zs) ≡ map f xs
 take-mapped f [] ys zs = refl
 take-mapped f (x ∷ xs) ys zs = ap (λ rest. f x ∷ rest) (take-mapped f xs ys zs)
+
+-- the rows of a nest begin with the assumptions, whatever rows follow
+pub assumed-first : (program : AffineProgram) (nest : List (AffineForm × AffineForm)) (more : List AffineForm)
+    → take (length program.assumptions) ((rows_before program nest).rows ++ more) ≡ map (widened (length program.parameters + length nest)) program.assumptions
+assumed-first program nest more =
+    let params : ℕ = length program.parameters in
+    let vars : ℕ = params + length nest in
+    take-mapped (widened vars) program.assumptions (within_rows vars (map step_of nest) (variables_from vars 0 params) (variables_from vars params (length nest))) more
 
 pub wide-over : (vars : ℕ) (forms : List AffineForm) → AllByRecursion (λ (form : AffineForm). variables form ≤ vars) forms → AllOver vars (map (widened vars) forms)
 wide-over vars [] h = tt
@@ -84,11 +90,9 @@ pub leaf-fits : (program : AffineProgram) (term : ColdTerm) (tests : List Affine
     → AllOver (nest_variables program term) tests → AllOver (nest_variables program term) (map (widened (nest_variables program term)) (cell_forms program term))
     → AllByRecursion (IsSmallForm PUT_SIZE) (map (widened (nest_variables program term)) (cell_forms program term)) → PieceFits program (leaf_piece program term tests)
 leaf-fits program term tests fits nest over cell small =
-    let vars : ℕ = nest_variables program term in
-    let params : ℕ = length program.parameters in record {
+    let vars : ℕ = nest_variables program term in record {
       few = fits.few;
-      assumed = take-mapped (widened vars) program.assumptions
-          (within_rows vars (map step_of term.nest) (variables_from vars 0 params) (variables_from vars params (length term.nest))) tests;
+      assumed = assumed-first program term.nest tests;
       rows = All-append (λ (row : AffineForm). variables row ≡ vars) (nest_system program term).rows tests nest over;
       point = cell;
       small = small;
@@ -188,11 +192,19 @@ module _ (program : AffineProgram) (term : ColdTerm) (parameters u : List ℤ) (
 
 -- ---- a cold term's pieces
 
-wide-values : (vars : ℕ) (forms : List AffineForm) (point : List ℤ) → values_at (map (widened vars) forms) point ≡ values_at forms point
+pub wide-values : (vars : ℕ) (forms : List AffineForm) (point : List ℤ) → values_at (map (widened vars) forms) point ≡ values_at forms point
 wide-values vars [] point = refl
 wide-values vars (form ∷ forms) point =
     let first = form_value-widened vars form point in
     let others = wide-values vars forms point in cc
+
+-- a cell that some instance reads before it is written is a vertex of its array at its subscripts
+pub cell-vertex : (program : AffineProgram) (parameters numbers : List ℤ) (cell : InputCell) → Member cell (input_cells program parameters) → numbers ≡ cell.subscripts
+    → IsVertexOf program parameters (Cell cell.array) numbers (input_vertex program parameters cell)
+cell-vertex program parameters numbers cell member same =
+    let cells : List InputCell = input_cells program parameters in
+    let there : slice_get cells (position_or_len (same_cell cell) cells) ≡ Some cell = position-Member cell cells member in
+    (position_or_len (same_cell cell) cells, refl, subst (λ (xs : List ℤ). slice_get cells (position_or_len (same_cell cell) cells) ≡ Some (record { array = cell.array; subscripts = xs })) (sym same) there)
 
 module _ (program : AffineProgram) (place : List Step) (tree : SelectionTree) (term : ColdTerm) (formed : IsWellFormed program) (fits : ColdFits program tree term)
     (true_tree : IsTrueTree program term.reader tree) (holds : AllHold (instance_claims program place tree term)) where
@@ -209,12 +221,11 @@ module _ (program : AffineProgram) (place : List Step) (tree : SelectionTree) (t
         → IsVertexOf program parameters (Cell (reference_of program term.reader).array) (values_at (map (widened (nest_variables program term)) (cell_forms program term)) (parameters ++ u))
         (input_vertex program parameters (read_cell program parameters term.reader.statement term.reader.read (instance_values term parameters u)))
     cell-there u read =
-        let cell : InputCell = read_cell program parameters term.reader.statement term.reader.read (instance_values term parameters u) in
-        let cells : List InputCell = input_cells program parameters in
-        let there : slice_get cells (position_or_len (same_cell cell) cells) ≡ Some cell = position-Member cell cells (Member-input_cells program parameters term.reader.statement term.reader.read (instance_values term parameters u) read) in
-        let same : values_at (map (widened (nest_variables program term)) (cell_forms program term)) (parameters ++ u) ≡ cell.subscripts =
-        wide-values (nest_variables program term) (cell_forms program term) (parameters ++ u) ∙ cell-is program term parameters u admitted.each in
-        (position_or_len (same_cell cell) cells, refl, subst (λ (xs : List ℤ). slice_get cells (position_or_len (same_cell cell) cells) ≡ Some (record { array = cell.array; subscripts = xs })) (sym same) there)
+        let values : List ℤ = instance_values term parameters u in
+        cell-vertex program parameters (values_at (map (widened (nest_variables program term)) (cell_forms program term)) (parameters ++ u))
+        (read_cell program parameters term.reader.statement term.reader.read values)
+        (Member-input_cells program parameters term.reader.statement term.reader.read values read)
+        (wide-values (nest_variables program term) (cell_forms program term) (parameters ++ u) ∙ cell-is program term parameters u admitted.each)
 
     point-in : (u : List ℤ) → IsWithin (map step_of term.nest) parameters u → ReadsInput program parameters term.reader.statement term.reader.read (instance_values term parameters u)
         → IsInPieces program parameters (cold_pieces program tree term) (input_vertex program parameters (read_cell program parameters term.reader.statement term.reader.read (instance_values term parameters u)))

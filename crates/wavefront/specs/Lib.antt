@@ -12,4 +12,5 @@ pub mod Fronts
 pub mod FrontClaims
 pub mod FrontFits
 pub mod ColdPieces
+pub mod FrontPieces
 pub mod EdgeViews

@@ -2,7 +2,7 @@
 
 ghost use Rattle.std.specs.Prelude.{◌≡◌, ◌+◌, ◌≤◌, ◌↔◌, ◌++◌, ◌∷◌, [], length, Some, None, IfOk, IsTrue};
 ghost use Rattle.std.specs.List.{AllByRecursion};
-ghost use Rattle.affine_form.specs.Form.{variables as form_variables};
+ghost use Rattle.affine_form.specs.Form.{variables as form_variables, IsSmallForm};
 ghost use Rattle.affine_form.specs.Rows.{IsSmallOver};
 ghost use Rattle.affine_program.specs.Parts.{meaning, IsProgram};
 ghost use Rattle.claims.specs.Claims.{Finds};
@@ -13,7 +13,7 @@ ghost use Rattle.wavefront.specs.FrontClaims.{front_goals, front_inside, front_v
 ghost use Rattle.wavefront.specs.FrontFits.{PartsFit};
 ghost use Rattle.wavefront.specs.FrontTerm.{user_read};
 ghost use Rattle.wavefront.specs.View.{front_of};
-ghost use Rattle.iolb_model.specs.declared.limits.TheConstants.{PARAMETERS, NEST_VARIABLES};
+ghost use Rattle.iolb_model.specs.declared.limits.TheConstants.{PARAMETERS, NEST_VARIABLES, PUT_SIZE};
 
 use crate::front::Wavefront;
 use crate::instance::put_all;
@@ -168,9 +168,15 @@ pub(crate) fn words_shown(
 }
 
 /// The cell that the user reads, by its subscripts.
-fn cell_at(alloc: Global, program: &Program, term: &Wavefront) -> Result<Vec<Form>, Memory>
+pub(crate) fn cell_at(
+    alloc: Global,
+    program: &Program,
+    term: &Wavefront,
+) -> Result<Vec<Form>, Memory>
     requires { PartsFit (meaning program.now) (front_of term.now) }
-    ensures { IfOk result (λ forms. forms.items ≡ telling_forms (meaning program.now) (front_of term.now) None) }
+    ensures cell { IfOk result (λ forms. forms.items ≡ telling_forms (meaning program.now) (front_of term.now) None) }
+    ensures within { IfOk result (λ forms. AllByRecursion (λ form. form_variables form ≤ front_variables (meaning program.now) (front_of term.now)) forms.items) }
+    ensures small { IfOk result (λ forms. AllByRecursion (IsSmallForm PUT_SIZE) forms.items) }
 {
     let vars = variables(program, term);
     let point = user_at(alloc, program, term)?;

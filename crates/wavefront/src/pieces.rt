@@ -2,7 +2,7 @@
 
 ghost use Rattle.std.specs.Prelude.{◌≡◌, ◌≤◌, ◌++◌, length, map, Some, IfOk};
 ghost use Rattle.std.specs.List.{AllByRecursion};
-ghost use Rattle.affine_form.specs.Form.{IsSmallForm};
+ghost use Rattle.affine_form.specs.Form.{variables as form_variables, IsSmallForm};
 ghost use Rattle.affine_form.specs.Rows.{widened};
 ghost use Rattle.affine_form.specs.System.{AllOver};
 ghost use Rattle.affine_program.specs.Parts.{meaning};
@@ -17,7 +17,7 @@ ghost use Rattle.wavefront.specs.ColdPieces.{ColdPiecesCover, LeavesAreFew, cold
 ghost use Rattle.wavefront.specs.Loads.{ColdFits, TermFits};
 ghost use Rattle.wavefront.specs.Term.{cell_forms, nest_variables};
 ghost use Rattle.wavefront.specs.View.{term_of};
-ghost use Rattle.iolb_model.specs.declared.limits.TheConstants.{PUT_SIZE, ROWS};
+ghost use Rattle.iolb_model.specs.declared.limits.TheConstants.{PUT_SIZE, ROWS, VARIABLES};
 
 use crate::cold::Cold;
 use crate::cold_shown::leaves_of;
@@ -149,5 +149,17 @@ fn cell_point(alloc: Global, program: &Program, term: &Cold) -> Result<Vec<Form>
 {
     let vars = variables(program, term);
     let cell = cell_of(alloc, program, term)?;
-    all_widened(alloc, vars, cell.as_slice())
+    point_over(alloc, vars, cell.as_slice())
+}
+
+/// Forms read over so many variables, as a piece's point.
+pub(crate) fn point_over(alloc: Global, vars: usize, forms: &[Form]) -> Result<Vec<Form>, Memory>
+    requires few { vars ≤ VARIABLES }
+    requires within { AllByRecursion (λ form. form_variables form ≤ vars) forms.now }
+    requires small { AllByRecursion (IsSmallForm PUT_SIZE) forms.now }
+    ensures point { IfOk result (λ point. point.items ≡ map (widened vars) forms.now) }
+    ensures over { IfOk result (λ point. AllOver vars point.items) }
+    ensures small { IfOk result (λ point. AllByRecursion (IsSmallForm PUT_SIZE) point.items) }
+{
+    all_widened(alloc, vars, forms)
 }

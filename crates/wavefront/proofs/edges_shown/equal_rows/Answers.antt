@@ -4,7 +4,7 @@ use Rattle.iolb_model.specs.Form.{AffineForm}
 use Rattle.affine_form.specs.Substitution.{substitution}
 use Rattle.affine_form.specs.Rows.{equality_rows, put_in}
 use Rattle.affine_form.proofs.Steps.{at_end}
-use Rattle.wavefront.proofs.EdgeRows.{equality_rows-many}
+use Rattle.reuse_paths.proofs.EntryClaims.{equality_rows-many}
 use Rattle.wavefront.proofs.edges_shown.equal_rows.Goals as goal
 
 pub returns-clause-many : goal.returns-clause-many
