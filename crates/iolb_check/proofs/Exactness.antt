@@ -1,9 +1,11 @@
 -- A certificate isn't both accepted and refused, and gives one bound.
-use Rattle.std.proofs.Common.{◌≡◌, sym, ◌∙◌, ap, List, [], ◌∷◌}
+use Rattle.std.proofs.Common.{◌≡◌, sym, ◌∙◌, ap, List, [], ◌∷◌, length}
 use Rattle.iolb_model.specs.Program.{AffineProgram}
 use Rattle.claims.proofs.Laws.{accepted-stand, refused-one}
-use Rattle.domain_count.proofs.Claimed.{right-claims-give-one}
-use Rattle.iolb_check.specs.Claims.{TermClaim, cold, cold_term, BranchClaim}
+use Rattle.domain_count.proofs.Claimed.{right-claims-give-one, sums-same}
+use Rattle.poly_tree.specs.Poly.{Quotient}
+use Rattle.wavefront.specs.FrontTerm.{outer_nest}
+use Rattle.iolb_check.specs.Claims.{TermClaim, cold, front, cold_term, front_term, BranchClaim}
 use Rattle.iolb_check.specs.declared.bound.Value.{Value}
 use Rattle.iolb_check.specs.declared.bound.Value.TheVariants as values
 use Rattle.iolb_check.specs.Conditions.{conditions, IsValueOf, AreValuesOf, AreBranchValues}
@@ -17,6 +19,11 @@ value-same program (cold claim sums) (values.Cold one) (values.Cold other) h g =
     ap values.Cold (right-claims-give-one program claim.nest (cold_term claim sums).count one other h g)
 value-same program (cold claim sums) (values.Cold one) (values.Wavefront pairs outer) h g = absurd g
 value-same program (cold claim sums) (values.Wavefront pairs outer) other h g = absurd h
+value-same program (front claim sums outer_sums) (values.Cold one) other h g = absurd h
+value-same program (front claim sums outer_sums) (values.Wavefront pairs outer) (values.Cold other) h g = absurd g
+value-same program (front claim sums outer_sums) (values.Wavefront pairs outer) (values.Wavefront others more) h g =
+    ap (λ (p : Quotient). values.Wavefront p outer) (right-claims-give-one program claim.nest (front_term claim sums outer_sums).count pairs others h.0 g.0)
+    ∙ ap (values.Wavefront others) (sums-same (length program.parameters) (outer_nest (front_term claim sums outer_sums)) outer_sums outer more h.1 g.1)
 
 values-same : (program : AffineProgram) (terms : List TermClaim) (one other : List Value) → AreValuesOf program terms one → AreValuesOf program terms other → one ≡ other
 values-same program [] one other h g = h ∙ sym g

@@ -1,25 +1,21 @@
 -- Where a certificate fits a program, so do its source trees and its terms.
-use Rattle.std.proofs.Common.{Bool, true, false, ◌≡◌, refl, sym, ◌∙◌, ap, subst, ℕ, zero, suc, ◌+◌, ◌<◌, ◌≤◌, List, [], ◌∷◌, ◌++◌, length, map, arith}
-use Rattle.std.specs.Prelude.{Option, Some, option_and_then, slice_get, ◌==◌, if◌then◌else◌}
+use Rattle.std.proofs.Common.{◌≡◌, sym, ◌∙◌, ap, subst, ℕ, suc, List, [], ◌∷◌, ◌++◌, length, map, arith}
+use Rattle.std.specs.Prelude.{Some}
 use Rattle.std.specs.List.{AllByRecursion}
-use Rattle.std.proofs.lemmas.Bool.{eqb-true, lt-ltb}
-use Rattle.std.proofs.lemmas.List.{length-append, length-map}
-use Rattle.iolb_model.specs.Form.{AffineForm}
-use Rattle.iolb_model.specs.Program.{AffineProgram, statement_at}
+use Rattle.std.proofs.lemmas.List.{length-map}
+use Rattle.iolb_model.specs.Program.{AffineProgram}
 use Rattle.claims.specs.declared.place.Step.{Step}
 use Rattle.claims.specs.declared.place.Step.TheVariants.{Key, Index}
-use Rattle.claims.specs.declared.key.TheConstants.{BRANCHES, COLD, NEST, POINT, QUASTS, SUMS, TERMS}
-use Rattle.affine_form.specs.Form.{IsSmallForm}
+use Rattle.claims.specs.declared.key.TheConstants.{BRANCHES, COLD, NEST, POINT, QUASTS, SUMS, TERMS, WAVEFRONT}
 use Rattle.affine_form.specs.Rows.{BoundsFit}
 use Rattle.affine_program.specs.Parts.{ProgramParts, IsProgram, meaning}
-use Rattle.dep_quast.specs.Context.{ReadOf, reference_of, variables_at, no_row}
-use Rattle.dep_quast.specs.Tree.{source, input, empty, blank, SelectionTree, leaf, test}
-use Rattle.dep_quast.specs.Truth.{ReadFits, FitsUnder, TreeFits}
-use Rattle.reuse_paths.specs.Trees.{RowFits, RowsFit, read_of}
-use Rattle.reuse_paths.specs.Quasts.{tree_at as tree_of_read, tree_or_blank, tree_for, row_trees, trees_of}
+use Rattle.dep_quast.specs.Context.{ReadOf, reference_of}
+use Rattle.dep_quast.specs.Tree.{SelectionTree}
+use Rattle.dep_quast.specs.Truth.{ReadFits}
+use Rattle.reuse_paths.specs.Trees.{RowsFit}
+use Rattle.reuse_paths.specs.Quasts.{tree_or_blank, tree_for, row_trees, trees_of}
 use Rattle.wavefront.specs.declared.cold.Cold.{Cold}
 use Rattle.reuse_paths.proofs.OpenLeaves.{tests-fit}
-use Rattle.reuse_paths.specs.OpenLeaves.{open_leaves, form_at, no_at, TestsFit}
 use Rattle.wavefront.specs.Loads.{ColdFits}
 use Rattle.wavefront.specs.Term.{ColdTerm, nest_variables, instance_point}
 use Rattle.wavefront.specs.View.{term_of}
@@ -30,14 +26,13 @@ use Rattle.iolb_check.specs.Claims.{claim_of_term, claim_of_branch, claim_of_cer
 use Rattle.iolb_check.specs.Limits.{CertificateParts, IsWithinLimits, IsSmallCold, IsSmallTerm, IsSmallBranch}
 use Rattle.iolb_check.specs.Fit.{PartsFit, ColdTermFits, TermFits, BranchesFit}
 use Rattle.claims.specs.Claims.{Claim, AllHold, numbered}
-use Rattle.part_fit.specs.TreeFit.{row_at, trees_fit}
-use Rattle.part_fit.specs.EntryFit.{names_in, names_if, leaf_names}
-use Rattle.part_fit.specs.PartFit.{bounds_at, bounds_fit, sums_fit}
+use Rattle.part_fit.specs.TreeFit.{trees_fit}
+use Rattle.part_fit.specs.PartFit.{bounds_fit, sums_fit}
 use Rattle.iolb_check.specs.TermFit.{cold_front_fit, point_fit, cold_back_fit, cold_fit, term_at, branch_at, certificate_fit}
 use Rattle.claims.proofs.Laws.{AllHold-left, AllHold-right}
 use Rattle.part_fit.proofs.ReadTrees.{open-many, none, bounds-fit, columns-many, tree-of, leaves-many}
 use Rattle.part_fit.proofs.TreeParts.{forms-over, rows-fit}
-use Rattle.iolb_model.specs.declared.limits.TheConstants.{NUMBER_SIZE}
+use Rattle.iolb_check.proofs.FitFronts.{front-fits}
 
 -- ---- terms
 
@@ -95,6 +90,12 @@ module _ (program : ProgramParts) (trees : List (List SelectionTree)) (fit : All
       let here : List Claim = term_at (meaning program) trees place index (claim_of_term (terms.Cold cold)) in
       let rest : List Claim = numbered (term_at (meaning program) trees place) (suc index) (map claim_of_term ts) in
       (cold-fits (place ++ Index index ∷ [] ++ Key COLD ∷ []) cold small.0 (AllHold-left here rest h), terms-fit place (suc index) ts small.1 (AllHold-right here rest h))
+  terms-fit place index (terms.Wavefront front ∷ ts) small h =
+      let here : List Claim = term_at (meaning program) trees place index (claim_of_term (terms.Wavefront front)) in
+      let rest : List Claim = numbered (term_at (meaning program) trees place) (suc index) (map claim_of_term ts) in (
+        front-fits program trees fit rows (place ++ Index index ∷ [] ++ Key WAVEFRONT ∷ []) front small.0 (AllHold-left here rest h),
+        terms-fit place (suc index) ts small.1 (AllHold-right here rest h),
+      )
 
   branches-fit : (index : ℕ) (branches : List Branch) → AllByRecursion IsSmallBranch branches → AllHold (numbered (branch_at (meaning program) trees) index (map claim_of_branch branches)) → BranchesFit program trees branches
   branches-fit index [] small h = tt

@@ -3,3 +3,4 @@ pub mod Terms
 pub mod Exactness
 pub mod FitParts
 pub mod PiecesOf
+pub mod FitFronts

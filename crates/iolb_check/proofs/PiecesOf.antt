@@ -19,20 +19,24 @@ use Rattle.reuse_paths.specs.declared.piece.Target.TheVariants.{Cell}
 use Rattle.reuse_paths.specs.LeafClaims.{LeafClaim, no_point, stops, is_credited, goes_on, arrives}
 use Rattle.reuse_paths.specs.OpenLeaves.{OpenLeaf, is_input, form_at, no_at, open_leaves}
 use Rattle.reuse_paths.specs.Quasts.{tree_at, tree_for}
+use Rattle.reuse_paths.specs.Walks.{SpotForms}
+use Rattle.dep_quast.specs.Truth.{ReadFits}
 use Rattle.reuse_paths.proofs.PairCounts.{targets_of}
 use Rattle.wavefront.specs.declared.cold.Cold.{Cold as ColdOf}
 use Rattle.wavefront.specs.ColdClaims.{cold_claims, instance_claims, matrix_claims}
 use Rattle.wavefront.specs.ColdPieces.{stop_pieces, leaves_of, cold_pieces, LeavesAreFew}
 use Rattle.wavefront.specs.Leaves.{leaves_claims, inside_claims, term_leaves}
 use Rattle.wavefront.specs.Term.{ColdTerm, nest_variables, nest_system, instance_point}
-use Rattle.wavefront.specs.View.{term_of}
+use Rattle.wavefront.specs.FrontPieces.{front_pieces, front_target}
+use Rattle.wavefront.specs.FrontTerm.{WavefrontTerm, user_read}
+use Rattle.wavefront.specs.View.{front_of, term_of}
 use Rattle.wavefront.proofs.PiecesCover.{few-from}
 use Rattle.iolb_check.specs.declared.term.Term.{Term}
 use Rattle.iolb_check.specs.declared.term.Term.TheVariants as terms
 use Rattle.iolb_check.specs.Claims.{claim_of_term}
 use Rattle.iolb_check.specs.Conditions.{branch_pieces, term_claims_at}
 use Rattle.iolb_check.specs.Fit.{ColdTermFits, TermFits, HasPieces}
-use Rattle.iolb_check.specs.PairFit.{leaf_targets, stop_targets, targets_if, cold_targets, term_targets}
+use Rattle.iolb_check.specs.PairFit.{front_targets, leaf_targets, stop_targets, targets_if, cold_targets, term_targets}
 
 -- ---- targets that are told
 
@@ -104,6 +108,14 @@ module _ (program : ProgramParts) (trees : List (List SelectionTree)) (place : L
         ∙ sym (ap (λ (b : Bool). if b then targets_if array term.leaves (tree_at trees reader.statement reader.read) else [])
         (lt-ltb reader.read (length (statement_at P reader.statement).reads) fits.fits.parts.read.read) ∙ ap (targets_if array term.leaves) fits.there)
 
+-- ---- wavefront terms
+
+front-told : (program : AffineProgram) (term : WavefrontTerm) (source : Option SpotForms) → ReadFits program (user_read term) → front_target program term source ∷ [] ≡ front_targets program term source
+front-told program term None fits =
+    sym (ap (λ (b : Bool). if b then Cell (reference_of program (user_read term)).array ∷ [] else [])
+    (lt-ltb term.read (length (statement_at program term.user.statement).reads) fits.read))
+front-told program term (Some spot) fits = refl
+
 -- ---- the terms of a branch
 
 cons-same : {X : Type 0} (x y : X) (xs ys : List X) → x ≡ y → xs ≡ ys → x ∷ xs ≡ y ∷ ys
@@ -123,6 +135,8 @@ module _ (program : ProgramParts) (trees : List (List SelectionTree)) (list : Li
       let here : List Claim = term_claims_at (meaning program) trees list index (claim_of_term (terms.Cold cold)) in
       let rest : List Claim = claims-from (suc index) ts in
       ((fits.0, are-few program trees (place-of index) cold fits.0 (AllHold-left here rest hold)), have-pieces (suc index) ts fits.1 (AllHold-right here rest hold))
+  have-pieces index (terms.Wavefront front ∷ ts) fits hold =
+      (fits.0.fits.parts, have-pieces (suc index) ts fits.1 (AllHold-right (term_claims_at (meaning program) trees list index (claim_of_term (terms.Wavefront front))) (claims-from (suc index) ts) hold))
 
   pub pieces-told : (index : ℕ) (ts : List Term) → AllByRecursion (TermFits program trees) ts → AllHold (numbered (term_claims_at (meaning program) trees list) index (map claim_of_term ts))
       → map targets_of (branch_pieces (meaning program) trees (map claim_of_term ts)) ≡ map (term_targets (meaning program) trees) (map claim_of_term ts)
@@ -133,3 +147,10 @@ module _ (program : ProgramParts) (trees : List (List SelectionTree)) (list : Li
       cons-same (targets_of (cold_pieces (meaning program) (tree_for trees (term_of cold).reader) (term_of cold))) (cold_targets (meaning program) trees (term_of cold))
       (map targets_of (branch_pieces (meaning program) trees (map claim_of_term ts))) (map (term_targets (meaning program) trees) (map claim_of_term ts))
       (cold-told program trees (place-of index) cold fits.0 (AllHold-left here rest hold)) (pieces-told (suc index) ts fits.1 (AllHold-right here rest hold))
+  pieces-told index (terms.Wavefront front ∷ ts) fits hold =
+      let P : AffineProgram = meaning program in
+      let term : WavefrontTerm = front_of front in
+      cons-same (targets_of (front_pieces P term)) (front_targets P term term.source)
+      (map targets_of (branch_pieces P trees (map claim_of_term ts))) (map (term_targets P trees) (map claim_of_term ts))
+      (front-told P term term.source fits.0.fits.parts.read)
+      (pieces-told (suc index) ts fits.1 (AllHold-right (term_claims_at P trees list index (claim_of_term (terms.Wavefront front))) (claims-from (suc index) ts) hold))

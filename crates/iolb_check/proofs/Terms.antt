@@ -17,7 +17,7 @@ use Rattle.poly_tree.specs.Poly.{Quotient, numerator_at}
 use Rattle.reuse_paths.specs.Pieces.{FootprintPiece, AreApartPieces, AreCovered, ArePairwiseApart}
 use Rattle.iolb_check.specs.declared.bound.Value.{Value}
 use Rattle.iolb_check.specs.Bounds.{BoundParts, IsBound, IsTermValue, bound_of, terms_of}
-use Rattle.iolb_check.specs.Conditions.{BranchHolds, TermHolds, TermsHold}
+use Rattle.iolb_check.specs.Conditions.{BranchHolds, TermsHold}
 
 -- a count's values are whole
 pub whole : (program : ProgramParts) (nest : List (AffineForm × AffineForm)) (q : Quotient) → program.assumed.vars ≡ length program.params → CountsPoints (meaning program) nest q

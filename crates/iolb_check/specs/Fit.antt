@@ -8,9 +8,11 @@ use Rattle.reuse_paths.specs.Quasts.{tree_at, tree_for, trees_of}
 use Rattle.reuse_paths.specs.TargetPairs.{pairwise_targets}
 use Rattle.reuse_paths.specs.Trees.{RowsFit}
 use Rattle.wavefront.specs.declared.cold.Cold.{Cold}
+use Rattle.wavefront.specs.declared.front.Wavefront.{Wavefront}
 use Rattle.wavefront.specs.ColdPieces.{LeavesAreFew}
+use Rattle.wavefront.specs.FrontFits.{FrontFits, PartsFit as FrontPartsFit}
 use Rattle.wavefront.specs.Loads.{ColdFits}
-use Rattle.wavefront.specs.View.{term_of}
+use Rattle.wavefront.specs.View.{term_of, front_of}
 use Rattle.iolb_check.specs.declared.term.Term.{Term}
 use Rattle.iolb_check.specs.declared.term.Term.TheVariants as terms
 use Rattle.iolb_check.specs.declared.term.Branch.{Branch}
@@ -24,8 +26,15 @@ pub record ColdTermFits (program : ProgramParts) (trees : List (List SelectionTr
   pub fits : ColdFits (meaning program) (tree_for trees (term_of cold).reader) (term_of cold)
   pub count : FitsCount program cold.nest cold.sums
 
+-- a wavefront term fits a program and the source trees
+pub record FrontTermFits (program : ProgramParts) (trees : List (List SelectionTree)) (front : Wavefront) : Type 0 where
+  pub fits : FrontFits (meaning program) trees (front_of front)
+  pub count : FitsCount program front.nest front.sums
+  pub outer_sums : length front.outer_sums.items ≡ front.outer
+
 abbrev pub TermFits : ProgramParts → List (List SelectionTree) → Term → Type 0
 TermFits program trees (terms.Cold cold) = ColdTermFits program trees cold
+TermFits program trees (terms.Wavefront front) = FrontTermFits program trees front
 
 -- a branch fits: each of its terms does, and there are multipliers for each pair of their pieces with one target
 pub record BranchFits (program : ProgramParts) (trees : List (List SelectionTree)) (branch : Branch) : Type 0 where
@@ -38,6 +47,7 @@ BranchesFit program trees branches = AllByRecursion (BranchFits program trees) b
 -- a term that fits has pieces where the rows at each leaf are few
 abbrev pub HasPieces : ProgramParts → List (List SelectionTree) → Term → Type 0
 HasPieces program trees (terms.Cold cold) = ColdTermFits program trees cold × LeavesAreFew (meaning program) (tree_for trees (term_of cold).reader) (term_of cold)
+HasPieces program trees (terms.Wavefront front) = FrontPartsFit (meaning program) (front_of front)
 
 -- Where a certificate fits a program, so do its source trees and its terms.
 pub record PartsFit (program : ProgramParts) (parts : CertificateParts) : Type 0 where

@@ -4,5 +4,6 @@ pub mod Exact
 pub mod Claims
 pub mod Limits
 pub mod PairFit
+pub mod FrontFit
 pub mod TermFit
 pub mod Fit

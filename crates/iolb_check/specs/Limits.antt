@@ -1,11 +1,13 @@
 -- The limits of certificates, beside those of their parts.
-use Rattle.std.specs.Prelude.{◌≤◌, List, length, map}
+use Rattle.std.specs.Prelude.{◌≤◌, List, length, map, option_map}
 use Rattle.std.specs.List.{AllByRecursion}
 use Rattle.dep_quast.specs.Tree.{tree_of}
 use Rattle.reuse_paths.specs.LeafClaims.{claim_of}
 use Rattle.reuse_paths.specs.declared.quasts.Quasts.{Quasts}
-use Rattle.part_fit.specs.Limits.{AreSmall, AreSmallBounds, NameRows, IsSmallPolynomial, IsSmallTree, IsSmallEntry}
+use Rattle.reuse_paths.specs.Walks.{spot_of, reach_of}
+use Rattle.part_fit.specs.Limits.{AreSmall, AreSmallBounds, NameRows, IsSmallPolynomial, IsSmallTree, IsSmallEntry, IsSmallReach, IsSmallSpot, IsSmallWay}
 use Rattle.wavefront.specs.declared.cold.Cold.{Cold}
+use Rattle.wavefront.specs.declared.front.Wavefront.{Wavefront}
 use Rattle.iolb_check.specs.declared.term.Term.{Term}
 use Rattle.iolb_check.specs.declared.term.Term.TheVariants as terms
 use Rattle.iolb_check.specs.declared.term.Branch.{Branch}
@@ -25,8 +27,26 @@ pub record IsSmallCold (cold : Cold) : Type 0 where
   pub scale : cold.inverse.scale ≤ SCALE
   pub leaves : AllByRecursion IsSmallEntry (map claim_of cold.leaves.items)
 
+-- a wavefront term: the same limits, and those of its spots and walks
+pub record IsSmallFront (front : Wavefront) : Type 0 where
+  pub variables : length front.nest ≤ NEST_VARIABLES
+  pub bounds : AreSmallBounds front.nest
+  pub shown : NameRows front.sums.shown
+  pub sums : AllByRecursion IsSmallPolynomial front.sums.sums
+  pub outer_sums : AllByRecursion IsSmallPolynomial front.outer_sums.items
+  pub vertex : AreSmall front.vertex.point.items
+  pub user : AreSmall front.user.point.items
+  pub source : IsSmallSpot (option_map spot_of front.source)
+  pub inside : NameRows front.inside.items
+  pub some_scale : 1 ≤ front.inverse.scale
+  pub scale : front.inverse.scale ≤ SCALE
+  pub edge : AllByRecursion IsSmallEntry (map claim_of front.edge.items)
+  pub reach : IsSmallWay (option_map reach_of front.reach)
+  pub back : IsSmallReach (reach_of front.back)
+
 abbrev pub IsSmallTerm : Term → Type 0
 IsSmallTerm (terms.Cold cold) = IsSmallCold cold
+IsSmallTerm (terms.Wavefront front) = IsSmallFront front
 
 -- a branch: 16 terms at most
 pub record IsSmallBranch (branch : Branch) : Type 0 where

@@ -15,7 +15,9 @@ use Rattle.reuse_paths.specs.LeafClaims.{LeafClaim, is_stop}
 use Rattle.reuse_paths.specs.Quasts.{tree_at}
 use Rattle.reuse_paths.specs.TargetPairs.{pairwise_targets}
 use Rattle.wavefront.specs.Term.{ColdTerm}
-use Rattle.iolb_check.specs.Claims.{TermClaim, cold, cold_term, BranchClaim}
+use Rattle.reuse_paths.specs.Walks.{SpotForms}
+use Rattle.wavefront.specs.FrontTerm.{WavefrontTerm, user_read}
+use Rattle.iolb_check.specs.Claims.{TermClaim, cold, front, cold_term, front_term, BranchClaim}
 use Rattle.part_fit.specs.PartFit.{shown_fit}
 
 -- the target of the piece of a leaf that isn't empty, where it has one
@@ -46,8 +48,15 @@ cold_targets program trees term =
     if nat_lt term.reader.read (length (statement_at program term.reader.statement).reads)
     then targets_if (reference_of program term.reader).array term.leaves (tree_at trees term.reader.statement term.reader.read) else []
 
+-- that of a wavefront term's piece: the statement of the words' instance, or where they are inputs the array that is read
+abbrev pub front_targets : AffineProgram → WavefrontTerm → Option SpotForms → List Target
+front_targets program term None =
+    if nat_lt term.read (length (statement_at program term.user.statement).reads) then Cell (reference_of program (user_read term)).array ∷ [] else []
+front_targets program term (Some spot) = Instance spot.statement ∷ []
+
 abbrev pub term_targets : AffineProgram → List (List SelectionTree) → TermClaim → List Target
 term_targets program trees (cold claim sums) = cold_targets program trees (cold_term claim sums)
+term_targets program trees (front claim sums outer_sums) = front_targets program (front_term claim sums outer_sums) claim.source
 
 -- as many multipliers as pairs of one target of the terms
 abbrev pub disjoint_fit : AffineProgram → List (List SelectionTree) → List Step → BranchClaim → Claim

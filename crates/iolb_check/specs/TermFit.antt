@@ -4,12 +4,13 @@ use Rattle.std.specs.Prelude.{ℕ, suc, ◌+◌, ◌*◌, List, [], ◌∷◌, �
 use Rattle.iolb_model.specs.Program.{AffineProgram, statement_at}
 use Rattle.claims.specs.declared.place.Step.{Step}
 use Rattle.claims.specs.declared.place.Step.TheVariants.{Key, Index}
-use Rattle.claims.specs.declared.key.TheConstants.{BRANCHES, COLD, INSIDE, INVERSE, LEAVES, MATRIX, NEST, POINT, READ, SHOWN, STATEMENT, SUMS, TERMS}
+use Rattle.claims.specs.declared.key.TheConstants.{BRANCHES, COLD, INSIDE, INVERSE, LEAVES, MATRIX, NEST, POINT, READ, SHOWN, STATEMENT, SUMS, TERMS, WAVEFRONT}
 use Rattle.affine_program.specs.Domain.{depth_of}
 use Rattle.dep_quast.specs.Context.{reference_of}
 use Rattle.dep_quast.specs.Tree.{SelectionTree}
 use Rattle.wavefront.specs.Term.{ColdTerm}
-use Rattle.iolb_check.specs.Claims.{TermClaim, cold, cold_term, BranchClaim, CertificateClaim}
+use Rattle.iolb_check.specs.Claims.{TermClaim, cold, front, cold_term, front_term, BranchClaim, CertificateClaim}
+use Rattle.iolb_check.specs.FrontFit.{front_fit}
 use Rattle.claims.specs.Claims.{Claim, numbered}
 use Rattle.part_fit.specs.EntryFit.{entries_fit, leaf_names}
 use Rattle.part_fit.specs.FitClaims.{so_many, names}
@@ -48,6 +49,7 @@ cold_fit program trees place term =
 
 abbrev pub term_fit : AffineProgram → List (List SelectionTree) → List Step → TermClaim → List Claim
 term_fit program trees place (cold claim sums) = cold_fit program trees (place ++ Key COLD ∷ []) (cold_term claim sums)
+term_fit program trees place (front claim sums outer_sums) = front_fit program trees (place ++ Key WAVEFRONT ∷ []) (front_term claim sums outer_sums)
 
 -- the terms of a branch
 abbrev pub term_at : AffineProgram → List (List SelectionTree) → List Step → ℕ → TermClaim → List Claim

@@ -4,30 +4,22 @@ ghost use Rattle.std.specs.Prelude.{◌≡◌, [], ◌∷◌, ◌++◌, map, IfO
 ghost use Rattle.std.specs.List.{AllByRecursion};
 ghost use Rattle.affine_program.specs.Parts.{meaning};
 ghost use Rattle.claims.specs.Claims.{AllHold, IsRefusal, numbered};
-ghost use Rattle.claims.specs.declared.place.Step.TheVariants.{Key, Index};
-ghost use Rattle.claims.specs.declared.key.TheConstants.{COLD};
-ghost use Rattle.domain_count.specs.Count.{IsCount};
-ghost use Rattle.reuse_paths.specs.Quasts.{tree_for, trees_of};
-ghost use Rattle.reuse_paths.specs.Trees.{RowsAreTrue};
-ghost use Rattle.wavefront.specs.ColdClaims.{cold_claims};
-ghost use Rattle.wavefront.specs.ColdPieces.{cold_pieces};
-ghost use Rattle.wavefront.specs.View.{term_of};
-ghost use Rattle.iolb_check.specs.declared.term.Term.TheVariants.{Cold as is_cold};
+ghost use Rattle.reuse_paths.specs.Quasts.{trees_of};
+ghost use Rattle.reuse_paths.specs.Trees.{RowsAreTrue, RowsFit};
 ghost use Rattle.iolb_check.specs.Claims.{claim_of_branch, claim_of_term};
-ghost use Rattle.iolb_check.specs.Fit.{BranchFits, BranchesFit, ColdTermFits, TermFits};
+ghost use Rattle.iolb_check.specs.Fit.{BranchFits, BranchesFit, TermFits};
 ghost use Rattle.iolb_check.specs.Bounds.{lists};
-ghost use Rattle.iolb_check.specs.Conditions.{AreBranchValues, AreValuesOf, BranchHolds, IsValueOf, TermHolds, TermsHold, branch_claims, branch_pieces, term_claims_at, term_pieces, terms_claims, terms_place as place_of_terms};
+ghost use Rattle.iolb_check.specs.Conditions.{AreBranchValues, AreValuesOf, BranchHolds, TermsHold, branch_claims, branch_pieces, terms_claims, terms_place as place_of_terms};
 
 use crate::bound::Value;
 use crate::pairs::check_pairs;
 use crate::term::{Branch, Term};
+use crate::term_checks::check_term;
 use affine_form::Memory;
 use affine_program::Program;
 use claims::{Place, Refused, Step, key};
-use poly_tree::Poly;
 use reuse_paths::Quasts;
 use std::alloc::Global;
-use wavefront::{Cold, check_cold};
 
 /// The values of the terms of branches that fit the program and its source trees, which are true, by branch.
 ///
@@ -41,6 +33,7 @@ pub(crate) fn check_branches(
     branches: &[Branch],
 ) -> Result<Vec<Vec<Value>>, Refused>
     requires fits { BranchesFit program.now (trees_of quasts.now) branches.now }
+    requires trees_fit { RowsFit (meaning program.now) 0 (trees_of quasts.now) }
     requires are_true { RowsAreTrue (meaning program.now) 0 (trees_of quasts.now) }
     ensures accepted { IfOk result (λ values. AllHold (numbered (branch_claims (meaning program.now) (trees_of quasts.now)) 0 (map claim_of_branch branches.now))) }
     ensures values { IfOk result (λ values. AreBranchValues (meaning program.now) (map claim_of_branch branches.now) (lists values.items)) }
@@ -66,6 +59,7 @@ fn check_branch(
     branch: &Branch,
 ) -> Result<Vec<Value>, Refused>
     requires fits { BranchFits program.now (trees_of quasts.now) branch.now }
+    requires trees_fit { RowsFit (meaning program.now) 0 (trees_of quasts.now) }
     requires are_true { RowsAreTrue (meaning program.now) 0 (trees_of quasts.now) }
     ensures accepted { IfOk result (λ values. AllHold (branch_claims (meaning program.now) (trees_of quasts.now) number (claim_of_branch branch.now))) }
     ensures values { IfOk result (λ values. AreValuesOf (meaning program.now) (map claim_of_term branch.now.terms.items) values.items) }
@@ -101,6 +95,7 @@ fn check_terms(
     terms: &[Term],
 ) -> Result<Vec<Value>, Refused>
     requires fits { AllByRecursion (TermFits program.now (trees_of quasts.now)) terms.now }
+    requires trees_fit { RowsFit (meaning program.now) 0 (trees_of quasts.now) }
     requires are_true { RowsAreTrue (meaning program.now) 0 (trees_of quasts.now) }
     ensures accepted { IfOk result (λ values. AllHold (terms_claims (meaning program.now) (trees_of quasts.now) place.now (map claim_of_term terms.now))) }
     ensures values { IfOk result (λ values. AreValuesOf (meaning program.now) (map claim_of_term terms.now) values.items) }
@@ -115,65 +110,4 @@ fn check_terms(
         };
     }
     Ok(values)
-}
-
-/// The value of the term that stands in a list at a place.
-fn check_term(
-    alloc: Global,
-    program: &Program,
-    quasts: &Quasts,
-    place: &Place,
-    index: usize,
-    term: &Term,
-) -> Result<Value, Refused>
-    requires fits { TermFits program.now (trees_of quasts.now) term.now }
-    requires are_true { RowsAreTrue (meaning program.now) 0 (trees_of quasts.now) }
-    ensures accepted { IfOk result (λ value. AllHold (term_claims_at (meaning program.now) (trees_of quasts.now) place.now index (claim_of_term term.now))) }
-    ensures value { IfOk result (λ value. IsValueOf (meaning program.now) (claim_of_term term.now) value) }
-    ensures holds { IfOk result (λ value. TermHolds program.now (term_pieces (meaning program.now) (trees_of quasts.now) (claim_of_term term.now)) value) }
-    ensures refused { IfErr result (IsRefusal (term_claims_at (meaning program.now) (trees_of quasts.now) place.now index (claim_of_term term.now))) }
-{
-    let cold = cold_of(term);
-    let count = check_cold_term(alloc, program, quasts, place, index, cold)?;
-    Ok(Value::Cold(count))
-}
-
-/// The cold term that a term is.
-fn cold_of(term: &Term) -> &Cold
-    ensures { term.now ≡ is_cold result.now }
-{
-    match term {
-        Term::Cold(cold) => cold,
-    }
-}
-
-/// The count of the cold term that stands in a list at a place.
-fn check_cold_term(
-    alloc: Global,
-    program: &Program,
-    quasts: &Quasts,
-    place: &Place,
-    index: usize,
-    cold: &Cold,
-) -> Result<Poly, Refused>
-    requires fits { ColdTermFits program.now (trees_of quasts.now) cold.now }
-    requires are_true { RowsAreTrue (meaning program.now) 0 (trees_of quasts.now) }
-    ensures accepted { IfOk result (λ count. AllHold (cold_claims (meaning program.now) ((place.now ++ Index index ∷ []) ++ Key COLD ∷ []) (tree_for (trees_of quasts.now) (term_of cold.now).reader) (term_of cold.now))) }
-    ensures value { IfOk result (λ count. IsCount (meaning program.now) cold.now.nest cold.now.sums count) }
-    ensures holds { IfOk result (λ count. TermHolds program.now (cold_pieces (meaning program.now) (tree_for (trees_of quasts.now) (term_of cold.now).reader) (term_of cold.now)) (Value.Cold count)) }
-    ensures refused { IfErr result (IsRefusal (cold_claims (meaning program.now) ((place.now ++ Index index ∷ []) ++ Key COLD ∷ []) (tree_for (trees_of quasts.now) (term_of cold.now).reader) (term_of cold.now))) }
-{
-    let _params = program.params();
-    let Ok(place) = cold_place(alloc, place, index) else {
-        return Err(Refused::Memory);
-    };
-    check_cold(alloc, program, quasts, cold, &place)
-}
-
-/// The place of a cold term in a list at a place.
-fn cold_place(alloc: Global, place: &Place, index: usize) -> Result<Place, Memory>
-    ensures { IfOk result (λ cold. cold ≡ (place.now ++ Index index ∷ []) ++ Key COLD ∷ []) }
-{
-    let term = place.within(alloc, Step::Index(index as u64))?;
-    term.within(alloc, Step::Key(key::COLD))
 }

@@ -26,7 +26,7 @@ use std::alloc::Global;
 /// # Errors
 ///
 /// The first condition that fails, with its place: whether the certificate fits the program (1), in the order of a walk
-/// through its text; then the source trees (2 to 7) by statement, read and leaf; then the branches (2, 8 to 12, and 23),
+/// through its text; then the source trees (2 to 7) by statement, read and leaf; then the branches (2, 8 to 12, and 19 to 23),
 /// their terms in order and then the pairs of their terms.
 pub fn check(alloc: Global, program: &Program, certificate: &Certificate) -> Result<Bound, Refused>
     ensures assumed { IfOk result (λ bound. bound.assumed ≡ program.now.assumed) }

@@ -11,11 +11,12 @@ ghost use Rattle.reuse_paths.specs.Quasts.{trees_of};
 ghost use Rattle.iolb_check.specs.Claims.{claim_of_term, claim_of_branch};
 
 use crate::fit_colds::cold_misfit;
+use crate::fit_fronts::front_misfit;
 use crate::fit_pairs::branch_targets;
 use crate::{Branch, Term};
 use affine_form::Memory;
 use affine_program::Program;
-use claims::key::{BRANCHES, COLD, DISJOINT, TERMS};
+use claims::key::{BRANCHES, COLD, DISJOINT, TERMS, WAVEFRONT};
 use claims::{Place, Step};
 use part_fit::lists::misfit_at;
 use reuse_paths::{Quasts, has_pairs};
@@ -35,6 +36,10 @@ fn term_misfit(
         Term::Cold(cold) => {
             let at = place.within(alloc, Step::Key(COLD))?;
             cold_misfit(alloc, program, quasts, &at, cold)
+        }
+        Term::Wavefront(front) => {
+            let at = place.within(alloc, Step::Key(WAVEFRONT))?;
+            front_misfit(alloc, program, quasts, &at, front)
         }
     }
 }

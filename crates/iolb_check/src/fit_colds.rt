@@ -1,12 +1,10 @@
 //! Whether cold terms fit.
 
-ghost use Rattle.std.specs.Prelude.{◌≡◌, ◌==◌, if◌then◌else◌, length, ◌++◌, ◌∷◌, [], Some, IfOk};
+ghost use Rattle.std.specs.Prelude.{◌≡◌, ◌==◌, if◌then◌else◌, ◌++◌, ◌∷◌, [], Some, IfOk};
 ghost use Rattle.affine_program.specs.Parts.{meaning};
 ghost use Rattle.claims.specs.declared.key.TheConstants.{INVERSE, MATRIX};
 ghost use Rattle.claims.specs.declared.place.Step.TheVariants.{Key};
 ghost use Rattle.part_fit.specs.FitClaims.{FindsMisfit, FindsStep};
-ghost use Rattle.dep_quast.specs.Context.{reference_of};
-ghost use Rattle.dep_quast.specs.Views.{read_of};
 ghost use Rattle.iolb_check.specs.TermFit.{cold_back_fit, cold_fit, cold_front_fit, point_fit};
 ghost use Rattle.reuse_paths.specs.Quasts.{trees_of};
 ghost use Rattle.wavefront.specs.View.{term_of};
@@ -24,7 +22,7 @@ use std::alloc::Global;
 use wavefront::Cold;
 
 /// The place of the inverse's matrix.
-fn matrix_at(alloc: Global, place: &Place) -> Result<Option<Place>, Memory>
+pub(crate) fn matrix_at(alloc: Global, place: &Place) -> Result<Option<Place>, Memory>
     ensures { IfOk result (λ found. found ≡ Some (place.now ++ Key INVERSE ∷ Key MATRIX ∷ [])) }
 {
     let inverse = place.within(alloc, Step::Key(INVERSE))?;
@@ -52,7 +50,7 @@ fn front_misfit(
     if matrix.rows() != cold.nest.bounds().len() {
         return matrix_at(alloc, place);
     }
-    if matrix.cols() != columns_called(program, reader, matrix.rows()) {
+    if matrix.cols() != columns_called(matrix.rows(), subscript_count(program, reader)) {
         return matrix_at(alloc, place);
     }
     let entries = cold.leaves.as_slice();
@@ -62,15 +60,11 @@ fn front_misfit(
     entries_misfit(alloc, place, LEAVES, 0, &[], entries)
 }
 
-/// How many columns a matrix with so many rows has: where it has a row, one for each subscript of the read.
-fn columns_called(program: &Program, reader: Reader, rows: usize) -> usize
-    ensures { result ≡ (if rows == 0 then 0 else length (reference_of (meaning program.now) (read_of reader)).subscripts) }
+/// How many columns a matrix with so many rows has: so many where it has a row.
+pub(crate) fn columns_called(rows: usize, called: usize) -> usize
+    ensures { result ≡ (if rows == 0 then 0 else called) }
 {
-    if rows == 0 {
-        0
-    } else {
-        subscript_count(program, reader)
-    }
+    if rows == 0 { 0 } else { called }
 }
 
 /// The place of what doesn't fit first of a cold term's point.

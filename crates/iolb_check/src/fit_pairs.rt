@@ -4,11 +4,11 @@ ghost use Rattle.std.specs.Prelude.{◌≡◌, ◌++◌, if◌then◌else◌, No
 ghost use Rattle.affine_program.specs.Parts.{meaning};
 ghost use Rattle.dep_quast.specs.Tree.{tree_of};
 ghost use Rattle.iolb_check.specs.Claims.{claim_of_term};
-ghost use Rattle.iolb_check.specs.PairFit.{cold_targets, leaf_targets, stop_targets, term_targets};
+ghost use Rattle.iolb_check.specs.PairFit.{cold_targets, front_targets, leaf_targets, stop_targets, term_targets};
 ghost use Rattle.reuse_paths.specs.LeafClaims.{claim_of, is_stop};
 ghost use Rattle.reuse_paths.specs.Quasts.{trees_of};
 ghost use Rattle.reuse_paths.specs.TargetPairs.{items_of};
-ghost use Rattle.wavefront.specs.View.{term_of};
+ghost use Rattle.wavefront.specs.View.{front_of, term_of};
 
 use crate::Term;
 use affine_form::Memory;
@@ -18,7 +18,7 @@ use dep_quast::reader::{Reader, reference};
 use part_fit::counts::read_count;
 use reuse_paths::{Leaf, Quasts, Target};
 use std::alloc::Global;
-use wavefront::Cold;
+use wavefront::{Cold, Wavefront};
 
 /// The targets of the pieces of terms, term by term.
 pub(crate) fn branch_targets(
@@ -47,7 +47,29 @@ fn targets_of_term(
 {
     match term {
         Term::Cold(cold) => targets_of_cold(alloc, program, quasts, cold),
+        Term::Wavefront(front) => target_of_front(alloc, program, front),
     }
+}
+
+/// The target of the piece of a wavefront term: none where its words are inputs of a read that isn't there.
+fn target_of_front(
+    alloc: Global,
+    program: &Program,
+    front: &Wavefront,
+) -> Result<Vec<Target>, Memory>
+    ensures { IfOk result (λ targets. targets.items ≡ front_targets (meaning program.now) (front_of front.now) (front_of front.now).source) }
+{
+    let mut targets = Vec::new(alloc);
+    if let Some(spot) = &front.source {
+        targets.push(Target::Instance(spot.statement))?;
+    } else if usize::from(front.read) < read_count(program, front.user.statement) {
+        let reader = Reader {
+            statement: front.user.statement,
+            read: front.read,
+        };
+        targets.push(Target::Cell(reference(program, reader).array))?;
+    }
+    Ok(targets)
 }
 
 /// The targets of the pieces of a cold term. A read that isn't there has no leaves.

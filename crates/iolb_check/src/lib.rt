@@ -8,12 +8,14 @@ mod checker;
 mod evaluation;
 mod fit_branches;
 mod fit_colds;
+mod fit_fronts;
 mod fit_pairs;
 pub mod law;
 mod limits;
 mod misfit;
 mod pairs;
 mod term;
+mod term_checks;
 mod term_limits;
 mod value_fault;
 

@@ -16,7 +16,7 @@ use affine_program::Program;
 use claims::{Place, Refused, Step, key};
 use reuse_paths::{Piece, Quasts, disjoint_pieces_are_apart, lists_shown};
 use std::alloc::Global;
-use wavefront::cold_pieces;
+use wavefront::{cold_pieces, front_pieces};
 
 /// Checks that no two terms of the branch of this number, whose claims hold, have a vertex in common.
 ///
@@ -95,5 +95,6 @@ fn pieces_of_term(
 {
     match term {
         Term::Cold(cold) => cold_pieces(alloc, program, quasts, cold),
+        Term::Wavefront(front) => front_pieces(alloc, program, front),
     }
 }

@@ -1,13 +1,15 @@
 //! Branches of certificates, and their terms.
 
 use affine_form::Multipliers;
-use wavefront::Cold;
+use wavefront::{Cold, Wavefront};
 
 /// A term of a branch: what some words are claimed to be loaded for.
 #[derive(Debug, Drop)]
 pub enum Term {
     /// Words that are read before any instance wrote them.
     Cold(Cold),
+    /// Words that are there when vertices are computed, and are used behind them.
+    Wavefront(Wavefront),
 }
 
 /// A branch of a certificate: terms, and multipliers which show that no two of them count a word that the other counts.

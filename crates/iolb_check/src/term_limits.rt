@@ -1,27 +1,36 @@
 //! Whether terms and branches are within their limits.
 
-ghost use Rattle.std.specs.Prelude.{◌≡◌, ◌≤◌, ◌↔◌, IsTrue, length, map};
+ghost use Rattle.std.specs.Prelude.{◌≡◌, ◌≤◌, ◌↔◌, IsTrue, length, map, option_map};
 ghost use Rattle.std.specs.List.{AllByRecursion};
 ghost use Rattle.reuse_paths.specs.LeafClaims.{claim_of};
-ghost use Rattle.part_fit.specs.Limits.{AreSmall, AreSmallBounds, IsSmallEntry, IsSmallPolynomial, NameRows};
-ghost use Rattle.iolb_check.specs.Limits.{IsSmallBranch, IsSmallCold, IsSmallTerm};
+ghost use Rattle.reuse_paths.specs.Walks.{reach_of, spot_of};
+ghost use Rattle.part_fit.specs.Limits.{AreSmall, AreSmallBounds, IsSmallEntry, IsSmallPolynomial, IsSmallReach, IsSmallSpot, IsSmallWay, NameRows};
+ghost use Rattle.iolb_check.specs.Limits.{IsSmallBranch, IsSmallCold, IsSmallFront, IsSmallTerm};
 ghost use Rattle.iolb_model.specs.declared.limits.TheConstants.{NEST_VARIABLES, SCALE};
 
 use crate::term::{Branch, Term};
+use domain_count::{Nest, Sums};
 use iolb_model::limits;
 use part_fit::part_limits::{are_small, are_small_polynomials, bounds_are_small, name_rows};
-use part_fit::walk_limits::are_small_leaves;
-use wavefront::Cold;
+use part_fit::walk_limits::{are_small_leaves, is_small_reach, is_small_spot, is_small_way};
+use wavefront::{Cold, Wavefront};
 
-/// Whether the nest of a cold term is within its limits, and what is claimed of its number of points.
-fn nest_is_small(term: &Cold) -> bool
-    ensures { IsTrue result ↔ ((length term.now.nest ≤ NEST_VARIABLES) × AreSmallBounds term.now.nest
-        × NameRows term.now.sums.shown × AllByRecursion IsSmallPolynomial term.now.sums.sums) }
+/// Whether a term's nest is within its limits, and what is claimed of its number of points.
+fn nest_is_small(nest: &Nest, sums: &Sums) -> bool
+    ensures { IsTrue result ↔ ((length nest.now ≤ NEST_VARIABLES) × AreSmallBounds nest.now
+        × NameRows sums.now.shown × AllByRecursion IsSmallPolynomial sums.now.sums) }
 {
-    term.nest.bounds().len() <= limits::NEST_VARIABLES
-        && bounds_are_small(term.nest.bounds())
-        && name_rows(term.sums.shown())
-        && are_small_polynomials(term.sums.sums())
+    nest.bounds().len() <= limits::NEST_VARIABLES
+        && bounds_are_small(nest.bounds())
+        && name_rows(sums.shown())
+        && are_small_polynomials(sums.sums())
+}
+
+/// Whether a scale is within its limits.
+fn is_small_scale(scale: u32) -> bool
+    ensures { IsTrue result ↔ ((1 ≤ scale) × (scale ≤ SCALE)) }
+{
+    scale >= 1 && scale <= limits::SCALE
 }
 
 /// Whether the instances and the claims of a cold term are within their limits.
@@ -31,8 +40,7 @@ fn instance_is_small(term: &Cold) -> bool
 {
     are_small(term.point.as_slice())
         && name_rows(term.inside.as_slice())
-        && term.inverse.scale >= 1
-        && term.inverse.scale <= limits::SCALE
+        && is_small_scale(term.inverse.scale)
         && are_small_leaves(term.leaves.as_slice())
 }
 
@@ -40,7 +48,39 @@ fn instance_is_small(term: &Cold) -> bool
 fn is_small_cold(term: &Cold) -> bool
     ensures { IsTrue result ↔ IsSmallCold term.now }
 {
-    nest_is_small(term) && instance_is_small(term)
+    nest_is_small(&term.nest, &term.sums) && instance_is_small(term)
+}
+
+/// Whether the vertex, the user and the word's instance of a wavefront term are within their limits, and what is claimed of
+/// them.
+fn instances_are_small(term: &Wavefront) -> bool
+    ensures { IsTrue result ↔ (AreSmall term.now.vertex.point.items × AreSmall term.now.user.point.items × IsSmallSpot (option_map spot_of term.now.source)
+        × NameRows term.now.inside.items × (1 ≤ term.now.inverse.scale) × (term.now.inverse.scale ≤ SCALE)) }
+{
+    are_small(term.vertex.point.as_slice())
+        && are_small(term.user.point.as_slice())
+        && is_small_spot(&term.source)
+        && name_rows(term.inside.as_slice())
+        && is_small_scale(term.inverse.scale)
+}
+
+/// Whether the ways of a wavefront term are within their limits, and its entries at leaves.
+fn ways_are_small(term: &Wavefront) -> bool
+    ensures { IsTrue result ↔ (AllByRecursion IsSmallEntry (map claim_of term.now.edge.items) × IsSmallWay (option_map reach_of term.now.reach) × IsSmallReach (reach_of term.now.back)) }
+{
+    are_small_leaves(term.edge.as_slice())
+        && is_small_way(&term.reach)
+        && is_small_reach(&term.back)
+}
+
+/// Whether a wavefront term is within its limits.
+fn is_small_front(term: &Wavefront) -> bool
+    ensures { IsTrue result ↔ IsSmallFront term.now }
+{
+    nest_is_small(&term.nest, &term.sums)
+        && are_small_polynomials(term.outer_sums.as_slice())
+        && instances_are_small(term)
+        && ways_are_small(term)
 }
 
 /// Whether a term is within its limits.
@@ -49,6 +89,7 @@ fn is_small_term(term: &Term) -> bool
 {
     match term {
         Term::Cold(cold) => is_small_cold(cold),
+        Term::Wavefront(front) => is_small_front(front),
     }
 }
 

@@ -1,5 +1,5 @@
 -- What is found of what doesn't fit, part by part.
-use Rattle.std.proofs.Common.{◌≡◌, refl, sym, ◌∙◌, ap, subst, ℕ, suc, ◌+◌, ◌<◌, List, [], ◌∷◌, ◌++◌, length, map, get_or, drop, arith}
+use Rattle.std.proofs.Common.{◌≡◌, refl, sym, ◌∙◌, ap, subst, ℕ, ◌+◌, ◌<◌, List, [], ◌∷◌, ◌++◌, length, map, get_or, drop}
 use Rattle.std.specs.Prelude.{Option, Some, None, Result, IfOk, IfNone, option_map}
 use Rattle.base_laws.proofs.Lists.{rest_at, add-one}
 use Rattle.claims.specs.declared.place.Step.{Step}

@@ -3,3 +3,4 @@ pub mod FitSides
 pub mod Missing
 pub mod TreeParts
 pub mod ReadTrees
+pub mod WalkParts

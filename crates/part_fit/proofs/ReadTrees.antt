@@ -1,7 +1,6 @@
 -- What the source trees of reads have, where they fit a program: their leaves, their tests, and a tree for each read.
 use Rattle.std.proofs.Common.{Bool, true, false, ◌≡◌, refl, sym, ◌∙◌, ap, subst, ℕ, zero, suc, ◌+◌, ◌<◌, ◌≤◌, List, [], ◌∷◌, ◌++◌, length, arith}
 use Rattle.std.specs.Prelude.{Option, Some, option_and_then, slice_get, ◌==◌, if◌then◌else◌}
-use Rattle.std.specs.List.{AllByRecursion}
 use Rattle.std.proofs.lemmas.Bool.{eqb-true, lt-ltb}
 use Rattle.std.proofs.lemmas.List.{length-append}
 use Rattle.iolb_model.specs.Form.{AffineForm}
@@ -10,10 +9,10 @@ use Rattle.claims.specs.declared.place.Step.{Step}
 use Rattle.claims.specs.declared.place.Step.TheVariants.{Key}
 use Rattle.claims.specs.declared.key.TheConstants.{QUASTS}
 use Rattle.affine_form.specs.Rows.{BoundsFit}
-use Rattle.dep_quast.specs.Context.{ReadOf, variables_at}
+use Rattle.dep_quast.specs.Context.{ReadOf}
 use Rattle.dep_quast.specs.Tree.{source, input, empty, blank, SelectionTree, leaf, test}
-use Rattle.dep_quast.specs.Truth.{ReadFits, FitsUnder, TreeFits}
-use Rattle.reuse_paths.specs.OpenLeaves.{open_leaves, form_at, no_at, TestsFit}
+use Rattle.dep_quast.specs.Truth.{ReadFits, TreeFits}
+use Rattle.reuse_paths.specs.OpenLeaves.{open_leaves, form_at, no_at}
 use Rattle.reuse_paths.specs.Quasts.{tree_at as tree_of_read}
 use Rattle.reuse_paths.specs.Trees.{RowFits, RowsFit, read_of}
 use Rattle.claims.specs.Claims.{AllHold, numbered}
@@ -49,7 +48,7 @@ none n = omega arith
 shift : (m n : ℕ) → suc m + n ≡ m + suc n
 shift m n = omega arith
 
-from-none : (n : ℕ) → 0 + n ≡ n
+pub from-none : (n : ℕ) → 0 + n ≡ n
 from-none n = omega arith
 
 pub bounds-fit : (vars index : ℕ) (place : List Step) (nest : List (AffineForm × AffineForm))
@@ -130,9 +129,14 @@ module _ (program : AffineProgram) where
         },
       )
 
--- a read that is there has as many leaves as its tree
+-- a read that is there has its tree's leaves
+pub names-of : (program : AffineProgram) (trees : List (List SelectionTree)) (reader : ReadOf) (tree : SelectionTree) → reader.read < length (statement_at program reader.statement).reads
+    → tree_of_read trees reader.statement reader.read ≡ Some tree → leaf_names program trees reader ≡ names_in tree
+names-of program trees reader tree below there =
+    ap (λ (b : Bool). if b then names_if (tree_of_read trees reader.statement reader.read) else []) (lt-ltb reader.read (length (statement_at program reader.statement).reads) below)
+    ∙ ap names_if there
+
+-- and as many
 pub leaves-many : (program : AffineProgram) (trees : List (List SelectionTree)) (reader : ReadOf) (tree : SelectionTree) → reader.read < length (statement_at program reader.statement).reads
     → tree_of_read trees reader.statement reader.read ≡ Some tree → length (leaf_names program trees reader) ≡ length (names_in tree)
-leaves-many program trees reader tree below there =
-    ap (λ (b : Bool). length (if b then names_if (tree_of_read trees reader.statement reader.read) else [])) (lt-ltb reader.read (length (statement_at program reader.statement).reads) below)
-    ∙ ap (λ (o : Option SelectionTree). length (names_if o)) there
+leaves-many program trees reader tree below there = ap length (names-of program trees reader tree below there)

@@ -1,4 +1,4 @@
-use Rattle.std.proofs.Common.{rules, ◌≡◌, subst, ℕ, List, ◌++◌, map}
+use Rattle.std.proofs.Common.{rules, ◌≡◌, subst, ℕ, List, map}
 use Rattle.affine_program.specs.Parts.{ProgramParts, meaning}
 use Rattle.claims.specs.Claims.{Claim, AllHold, IsRefusal}
 use Rattle.claims.specs.declared.place.Step.{Step}
@@ -7,7 +7,6 @@ use Rattle.claims.proofs.Found.{refused-first, refused-later}
 use Rattle.claims.proofs.Laws.{AllHold-append}
 use Rattle.dep_quast.specs.Tree.{SelectionTree}
 use Rattle.reuse_paths.specs.Quasts.{trees_of}
-use Rattle.iolb_check.specs.declared.bound.Value.{Value}
 use Rattle.iolb_check.specs.declared.term.Branch.{Branch}
 use Rattle.iolb_check.specs.declared.term.Term.{Term}
 use Rattle.iolb_check.specs.Claims.{claim_of_branch, claim_of_term}

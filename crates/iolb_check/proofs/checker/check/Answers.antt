@@ -1,4 +1,4 @@
-use Rattle.std.proofs.Common.{rules, ◌≡◌, sym, ◌∙◌, ap, subst, ◌≤◌, List, ◌++◌, length, map}
+use Rattle.std.proofs.Common.{rules, ◌≡◌, sym, ◌∙◌, ap, subst, List, ◌++◌, map}
 use Rattle.std.specs.Prelude.{Option, IfNone}
 use Rattle.std.specs.List.{AllByRecursion}
 use Rattle.affine_form.specs.System.{AffineSystem}
@@ -12,13 +12,12 @@ use Rattle.reuse_paths.specs.declared.quasts.Quasts.{Quasts}
 use Rattle.reuse_paths.specs.Quasts.{trees_of}
 use Rattle.reuse_paths.specs.Trees.{RowsFit, rows_claims}
 use Rattle.iolb_check.specs.declared.term.Branch.{Branch}
-use Rattle.iolb_check.specs.declared.bound.Value.{Value}
 use Rattle.iolb_check.specs.Bounds.{BoundParts, IsBound, lists}
 use Rattle.iolb_check.specs.Claims.{claim_of_branch, claim_of_certificate}
 use Rattle.iolb_check.specs.Conditions.{AreBranchValues, BranchHolds, branch_claims}
 use Rattle.iolb_check.specs.Fit.{BranchesFit, PartsFit}
 use Rattle.part_fit.specs.FitClaims.{misfit, FindsMisfit}
-use Rattle.iolb_check.specs.Limits.{CertificateParts, IsSmallBranch}
+use Rattle.iolb_check.specs.Limits.{CertificateParts}
 use Rattle.iolb_check.specs.TermFit.{certificate_fit}
 use Rattle.iolb_check.proofs.Terms.{bound-holds, is-bound}
 use Rattle.iolb_check.proofs.checker.check.Goals as goal
@@ -47,6 +46,11 @@ returns-in-Ok-Some-clause-refused c =
     let n : No = misfit c.in-Ok-Some.place in
     first-fails (fit program parts ++ trees program parts) (branches program parts) n
     (first-fails (fit program parts) (trees program parts) n (subst (FindsMisfit (fit program parts)) c.in-Ok-Some.field-0-is c.in-Ok-Some.ensures.found))
+
+pub check_branches-requires-clause-trees_fit : goal.check_branches-requires-clause-trees_fit
+check_branches-requires-clause-trees_fit c =
+    subst (λ (q : Quasts). RowsFit (meaning c.args.program.now) 0 (trees_of q)) (sym c.quasts-quasts.ensures.quasts)
+    (fits c.args.program.now c.args.certificate.now c.in-Ok-None.field-0 c.in-Ok-None.field-0-is c.in-Ok-None.ensures.fits).trees
 
 pub check_quasts-requires : goal.check_quasts-requires
 check_quasts-requires c =

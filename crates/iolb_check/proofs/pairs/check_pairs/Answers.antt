@@ -1,4 +1,4 @@
-use Rattle.std.proofs.Common.{◌≡◌, sym, ◌∙◌, ap, subst, ℕ, ◌≤◌, List, length, map, arith, Vec, Global}
+use Rattle.std.proofs.Common.{◌≡◌, sym, ◌∙◌, ap, subst, ℕ, List, length, map, arith, Vec, Global}
 use Rattle.std.specs.List.{AllByRecursion}
 use Rattle.affine_form.specs.Multipliers.{FarkasMultipliers}
 use Rattle.affine_program.specs.Parts.{ProgramParts, meaning}
@@ -12,7 +12,7 @@ use Rattle.reuse_paths.specs.DisjointClaims.{pairwise_systems}
 use Rattle.reuse_paths.specs.Pieces.{FootprintPiece, PieceFits, pieces_of}
 use Rattle.reuse_paths.specs.Quasts.{trees_of}
 use Rattle.reuse_paths.specs.TargetPairs.{pairwise_targets}
-use Rattle.reuse_paths.proofs.PairCounts.{targets_of, pairs-many}
+use Rattle.reuse_paths.proofs.PairCounts.{pairs-many}
 use Rattle.reuse_paths.proofs.SharedVertices.{pairwise-apart}
 use Rattle.iolb_check.specs.declared.term.Branch.{Branch}
 use Rattle.iolb_check.specs.declared.term.Term.{Term}

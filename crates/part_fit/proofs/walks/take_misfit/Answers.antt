@@ -1,4 +1,4 @@
-use Rattle.std.proofs.Common.{◌≡◌, sym, ◌∙◌, ap, subst, inr, ℕ, List, [], ◌∷◌, ◌++◌, length, map}
+use Rattle.std.proofs.Common.{◌≡◌, ◌∙◌, ap, subst, inr, ℕ, List, [], ◌∷◌, ◌++◌, length, map}
 use Rattle.std.proofs.lemmas.List.{length-map}
 use Rattle.iolb_model.specs.Program.{statement_at}
 use Rattle.claims.specs.Claims.{Claim}

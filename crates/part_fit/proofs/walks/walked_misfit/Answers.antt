@@ -1,11 +1,11 @@
-use Rattle.std.proofs.Common.{◌≡◌, sym, ◌∙◌, ap, subst, inr, ℕ, List, [], ◌∷◌, ◌++◌, length, map}
+use Rattle.std.proofs.Common.{◌≡◌, sym, ◌∙◌, ap, subst, inr, ℕ, List, [], ◌∷◌, ◌++◌, length}
 use Rattle.std.specs.Prelude.{option_map}
 use Rattle.std.proofs.lemmas.List.{length-map}
 use Rattle.claims.specs.Claims.{Claim, numbered}
 use Rattle.claims.specs.declared.place.Step.{Step}
 use Rattle.claims.specs.declared.place.Step.TheVariants.{Key}
 use Rattle.claims.specs.declared.key.TheConstants.{NODES, START}
-use Rattle.affine_program.specs.Parts.{meaning, statement_of}
+use Rattle.affine_program.specs.Parts.{statement_of}
 use Rattle.reuse_paths.specs.ReachClaims.{region_at}
 use Rattle.reuse_paths.specs.Walks.{region_of, spot_of}
 use Rattle.part_fit.specs.FitClaims.{FindsMisfit, so_many}

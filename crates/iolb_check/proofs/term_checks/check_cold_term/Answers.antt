@@ -6,7 +6,7 @@ use Rattle.reuse_paths.specs.Trees.{read_of}
 use Rattle.reuse_paths.proofs.TreeLemmas.{rows-at}
 use Rattle.wavefront.specs.declared.cold.Cold.{Cold}
 use Rattle.wavefront.specs.View.{term_of}
-use Rattle.iolb_check.proofs.branches.check_cold_term.Goals as goal
+use Rattle.iolb_check.proofs.term_checks.check_cold_term.Goals as goal
 
 none : (n : ℕ) → 0 + n ≡ n
 none n = omega arith

@@ -1,0 +1,39 @@
+use Rattle.std.proofs.Common.{◌≡◌, subst, sym, ℕ, length}
+use Rattle.affine_program.specs.Parts.{meaning}
+use Rattle.poly_tree.specs.Expansion.{IsCanonical}
+use Rattle.wavefront.specs.Fronts.{front_footprint}
+use Rattle.wavefront.specs.FrontTerm.{outer_nest}
+use Rattle.wavefront.specs.View.{front_of}
+use Rattle.iolb_check.proofs.Terms.{whole}
+use Rattle.iolb_check.proofs.term_checks.check_front_term.Goals as goal
+
+pub check_wavefront-requires : goal.check_wavefront-requires
+check_wavefront-requires c = record {
+  fits = c.requires.fits.fits;
+  trees_fit = c.requires.trees_fit;
+  trees_true = c.requires.are_true;
+  count = c.requires.fits.count;
+  outer_sums = c.requires.fits.outer_sums;
+}
+
+pub returns-clause-holds : goal.returns-clause-holds
+returns-clause-holds c =
+    let program = c.args.program.now in
+    let term = front_of c.args.front.now in
+    let kept : program.assumed.vars ≡ length program.params = c.params-params.ensures.kept.assumed in
+    let counts = c.in_ok-counts.counts in
+    record {
+      footprint = front_footprint (meaning program) term;
+      loaded = c.in_ok-counts.ensures.footprint;
+      covered = c.front_pieces_cover.ensures (meaning program) term c.params-params.ensures.kept.well_formed c.in_ok-counts.ensures.sound;
+      counting = (
+        record {
+          parameters = subst (λ (n : ℕ). IsCanonical n counts.0.tree) (sym kept) c.in_ok-counts.ensures.parameters;
+          whole = whole program term.nest counts.0 kept c.in_ok-counts.ensures.counts;
+        },
+        record {
+          parameters = subst (λ (n : ℕ). IsCanonical n counts.1.tree) (sym kept) c.in_ok-counts.ensures.outer_parameters;
+          whole = whole program (outer_nest term) counts.1 kept c.in_ok-counts.ensures.outer_counts;
+        },
+      );
+    }

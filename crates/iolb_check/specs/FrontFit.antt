@@ -1,0 +1,112 @@
+-- What is asked of wavefront terms. A statement that isn't there counts as one without loops and reads, a read that isn't
+-- there as one without subscripts and leaves, and an input as an instance without loops.
+use Rattle.std.specs.Prelude.{◌≡◌, ℕ, suc, ◌+◌, ◌*◌, List, [], ◌∷◌, ◌++◌, length, Option, None, Some}
+use Rattle.std.specs.Option.{is_some}
+use Rattle.iolb_model.specs.Program.{AffineProgram, statement_at}
+use Rattle.claims.specs.Claims.{Claim}
+use Rattle.claims.specs.declared.place.Step.{Step}
+use Rattle.claims.specs.declared.place.Step.TheVariants.{Key}
+use Rattle.claims.specs.declared.key.TheConstants.{BACK, EDGE, INSIDE, INVERSE, MATRIX, NEST, OUTER, OUTER_SUMS, REACH, READ, SHOWN, SOURCE, SUMS, USER, VERTEX}
+use Rattle.affine_program.specs.Domain.{depth_of}
+use Rattle.dep_quast.specs.Context.{reference_of}
+use Rattle.dep_quast.specs.Tree.{SelectionTree}
+use Rattle.poly_tree.specs.Poly.{Quotient}
+use Rattle.reuse_paths.specs.ReachClaims.{setting_of}
+use Rattle.reuse_paths.specs.Walks.{SpotForms, ReachClaim}
+use Rattle.wavefront.specs.FrontClaims.{front_variables}
+use Rattle.wavefront.specs.FrontFits.{source_depth}
+use Rattle.wavefront.specs.FrontTerm.{WavefrontTerm, user_read}
+use Rattle.part_fit.specs.EntryFit.{entries_fit, leaf_names}
+use Rattle.part_fit.specs.FitClaims.{so_many, names}
+use Rattle.part_fit.specs.PartFit.{bounds_fit, matrix_fit, shown_fit, sums_fit}
+use Rattle.part_fit.specs.WalkFit.{fit_in, spot_fit}
+
+-- ---- the ways
+
+-- what shows the way between two spots
+abbrev pub way_fit : AffineProgram → List (List SelectionTree) → WavefrontTerm → SpotForms → SpotForms → List Step → ReachClaim → List Claim
+way_fit program trees term from to place reach = fit_in (setting_of program trees term.nest to reach) from place reach
+
+abbrev pub back_fit : AffineProgram → List (List SelectionTree) → List Step → WavefrontTerm → List Claim
+back_fit program trees place term = way_fit program trees term term.user term.vertex (place ++ Key BACK ∷ []) term.back
+
+-- what shows the way to the word's instance is there exactly where the word isn't an input
+abbrev pub reach_there : List Step → WavefrontTerm → Claim
+reach_there place term = record { condition = 1; place = place ++ Key REACH ∷ []; statement = is_some term.reach ≡ is_some term.source }
+
+abbrev pub source_way : AffineProgram → List (List SelectionTree) → WavefrontTerm → List Step → Option SpotForms → Option ReachClaim → List Claim
+source_way program trees term place None reach = []
+source_way program trees term place (Some spot) None = []
+source_way program trees term place (Some spot) (Some reach) = way_fit program trees term term.vertex spot place reach
+
+abbrev pub reach_fit : AffineProgram → List (List SelectionTree) → List Step → WavefrontTerm → List Claim
+reach_fit program trees place term = reach_there place term ∷ source_way program trees term (place ++ Key REACH ∷ []) term.source term.reach
+
+-- ---- the instances
+
+-- entries at the leaves of the user's read
+abbrev pub edge_fit : AffineProgram → List (List SelectionTree) → List Step → WavefrontTerm → List Claim
+edge_fit program trees place term =
+    so_many (place ++ Key EDGE ∷ []) (length term.edge) (length (leaf_names program trees (user_read term)))
+    ∷ entries_fit (source_depth program term.source) [] (place ++ Key EDGE ∷ []) term.edge
+
+-- how many multipliers show that the instances are in their domains
+abbrev pub inside_count : AffineProgram → WavefrontTerm → ℕ
+inside_count program term = 2 * (depth_of program term.user.statement + depth_of program term.vertex.statement + source_depth program term.source)
+
+-- how many numbers tell the words apart
+abbrev pub word_count : AffineProgram → WavefrontTerm → Option SpotForms → ℕ
+word_count program term None = length (reference_of program (user_read term)).subscripts
+word_count program term (Some spot) = depth_of program spot.statement
+
+abbrev pub words_fit : AffineProgram → List Step → WavefrontTerm → List Claim
+words_fit program place term =
+    shown_fit (inside_count program term) (place ++ Key INSIDE ∷ []) term.inside
+    ∷ matrix_fit (length term.nest) (word_count program term term.source) (place ++ Key INVERSE ∷ Key MATRIX ∷ []) term.matrix
+
+-- the read, and the ranges of the nest's variables
+abbrev pub read_fit : AffineProgram → List Step → WavefrontTerm → List Claim
+read_fit program place term =
+    names (place ++ Key READ ∷ []) term.read (length (statement_at program term.user.statement).reads)
+    ∷ shown_fit (length term.nest) (place ++ Key SHOWN ∷ []) term.count.shown ∷ []
+
+abbrev pub source_fit : AffineProgram → List Step → WavefrontTerm → Option SpotForms → List Claim
+source_fit program place term None = []
+source_fit program place term (Some spot) = spot_fit program (front_variables program term) (place ++ Key SOURCE ∷ []) spot
+
+-- ---- the counts
+
+-- so many polynomials in a list at a key
+abbrev pub polynomials_fit : AffineProgram → List Step → List Quotient → ℕ → List Claim
+polynomials_fit program place sums called = so_many place (length sums) called ∷ sums_fit (suc (length program.parameters)) place sums
+
+-- the outer variables are among the nest's
+abbrev pub outer_fit : AffineProgram → List Step → WavefrontTerm → List Claim
+outer_fit program place term =
+    names (place ++ Key OUTER ∷ []) term.outer (suc (length term.nest)) ∷ polynomials_fit program (place ++ Key OUTER_SUMS ∷ []) term.outer_sums term.outer
+
+-- ---- all
+
+-- A wavefront term, its members in the order of their keys: up to what tells the words apart
+abbrev pub first_fit : AffineProgram → List (List SelectionTree) → List Step → WavefrontTerm → List Claim
+first_fit program trees place term = back_fit program trees place term ++ (edge_fit program trees place term ++ words_fit program place term)
+
+-- the nest, its outer variables, and the way to the word's instance
+abbrev pub nest_fit : AffineProgram → List (List SelectionTree) → List Step → WavefrontTerm → List Claim
+nest_fit program trees place term =
+    bounds_fit (length program.parameters) (place ++ Key NEST ∷ []) term.nest ++ (outer_fit program place term ++ reach_fit program trees place term)
+
+-- the read, the word's instance, and the count
+abbrev pub count_fit : AffineProgram → List Step → WavefrontTerm → List Claim
+count_fit program place term =
+    read_fit program place term ++ (source_fit program place term term.source ++ polynomials_fit program (place ++ Key SUMS ∷ []) term.count.sums (length term.nest))
+
+-- the user and the vertex
+abbrev pub spots_fit : AffineProgram → List Step → WavefrontTerm → List Claim
+spots_fit program place term =
+    spot_fit program (front_variables program term) (place ++ Key USER ∷ []) term.user
+    ++ spot_fit program (front_variables program term) (place ++ Key VERTEX ∷ []) term.vertex
+
+abbrev pub front_fit : AffineProgram → List (List SelectionTree) → List Step → WavefrontTerm → List Claim
+front_fit program trees place term =
+    first_fit program trees place term ++ (nest_fit program trees place term ++ (count_fit program place term ++ spots_fit program place term))

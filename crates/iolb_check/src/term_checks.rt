@@ -1,0 +1,120 @@
+//! The conditions of terms.
+
+ghost use Rattle.std.specs.Prelude.{◌≡◌, [], ◌∷◌, ◌++◌, length, IfOk, IfErr};
+ghost use Rattle.affine_program.specs.Parts.{meaning};
+ghost use Rattle.claims.specs.Claims.{AllHold, IsRefusal};
+ghost use Rattle.claims.specs.declared.place.Step.TheVariants.{Key, Index};
+ghost use Rattle.claims.specs.declared.key.TheConstants.{COLD, WAVEFRONT};
+ghost use Rattle.domain_count.specs.Count.{IsCount, IsSumFrom};
+ghost use Rattle.reuse_paths.specs.Quasts.{tree_for, trees_of};
+ghost use Rattle.reuse_paths.specs.Trees.{RowsAreTrue, RowsFit};
+ghost use Rattle.wavefront.specs.ColdClaims.{cold_claims};
+ghost use Rattle.wavefront.specs.ColdPieces.{cold_pieces};
+ghost use Rattle.wavefront.specs.FrontClaims.{front_claims};
+ghost use Rattle.wavefront.specs.FrontPieces.{front_pieces};
+ghost use Rattle.wavefront.specs.FrontTerm.{outer_nest};
+ghost use Rattle.wavefront.specs.View.{front_of, term_of};
+ghost use Rattle.iolb_check.specs.Claims.{claim_of_term};
+ghost use Rattle.iolb_check.specs.Fit.{ColdTermFits, FrontTermFits, TermFits};
+ghost use Rattle.iolb_check.specs.Conditions.{IsValueOf, TermHolds, term_claims_at, term_pieces};
+
+use crate::bound::Value;
+use crate::term::Term;
+use affine_form::Memory;
+use affine_program::Program;
+use claims::{Place, Refused, Step, key};
+use poly_tree::Poly;
+use reuse_paths::Quasts;
+use std::alloc::Global;
+use wavefront::{Cold, Wavefront, check_cold, check_wavefront, front_pieces_cover};
+
+/// The value of the term that stands in a list at a place.
+///
+/// # Errors
+///
+/// The first of its conditions that fails.
+pub(crate) fn check_term(
+    alloc: Global,
+    program: &Program,
+    quasts: &Quasts,
+    place: &Place,
+    index: usize,
+    term: &Term,
+) -> Result<Value, Refused>
+    requires fits { TermFits program.now (trees_of quasts.now) term.now }
+    requires trees_fit { RowsFit (meaning program.now) 0 (trees_of quasts.now) }
+    requires are_true { RowsAreTrue (meaning program.now) 0 (trees_of quasts.now) }
+    ensures accepted { IfOk result (λ value. AllHold (term_claims_at (meaning program.now) (trees_of quasts.now) place.now index (claim_of_term term.now))) }
+    ensures value { IfOk result (λ value. IsValueOf (meaning program.now) (claim_of_term term.now) value) }
+    ensures holds { IfOk result (λ value. TermHolds program.now (term_pieces (meaning program.now) (trees_of quasts.now) (claim_of_term term.now)) value) }
+    ensures refused { IfErr result (IsRefusal (term_claims_at (meaning program.now) (trees_of quasts.now) place.now index (claim_of_term term.now))) }
+{
+    match term {
+        Term::Cold(cold) => {
+            let count = check_cold_term(alloc, program, quasts, place, index, cold)?;
+            Ok(Value::Cold(count))
+        }
+        Term::Wavefront(front) => {
+            let (pairs, outer) = check_front_term(alloc, program, quasts, place, index, front)?;
+            Ok(Value::Wavefront { pairs, outer })
+        }
+    }
+}
+
+/// The place of a key of the term that stands in a list at a place.
+fn term_place(alloc: Global, place: &Place, index: usize, key: u8) -> Result<Place, Memory>
+    ensures { IfOk result (λ term. term ≡ (place.now ++ Index index ∷ []) ++ Key key ∷ []) }
+{
+    let term = place.within(alloc, Step::Index(index as u64))?;
+    term.within(alloc, Step::Key(key))
+}
+
+/// The count of the cold term that stands in a list at a place.
+fn check_cold_term(
+    alloc: Global,
+    program: &Program,
+    quasts: &Quasts,
+    place: &Place,
+    index: usize,
+    cold: &Cold,
+) -> Result<Poly, Refused>
+    requires fits { ColdTermFits program.now (trees_of quasts.now) cold.now }
+    requires are_true { RowsAreTrue (meaning program.now) 0 (trees_of quasts.now) }
+    ensures accepted { IfOk result (λ count. AllHold (cold_claims (meaning program.now) ((place.now ++ Index index ∷ []) ++ Key COLD ∷ []) (tree_for (trees_of quasts.now) (term_of cold.now).reader) (term_of cold.now))) }
+    ensures value { IfOk result (λ count. IsCount (meaning program.now) cold.now.nest cold.now.sums count) }
+    ensures holds { IfOk result (λ count. TermHolds program.now (cold_pieces (meaning program.now) (tree_for (trees_of quasts.now) (term_of cold.now).reader) (term_of cold.now)) (Value.Cold count)) }
+    ensures refused { IfErr result (IsRefusal (cold_claims (meaning program.now) ((place.now ++ Index index ∷ []) ++ Key COLD ∷ []) (tree_for (trees_of quasts.now) (term_of cold.now).reader) (term_of cold.now))) }
+{
+    let _params = program.params();
+    let Ok(place) = term_place(alloc, place, index, key::COLD) else {
+        return Err(Refused::Memory);
+    };
+    check_cold(alloc, program, quasts, cold, &place)
+}
+
+/// The counts of the wavefront term that stands in a list at a place: of its points, and of those of its outer variables.
+fn check_front_term(
+    alloc: Global,
+    program: &Program,
+    quasts: &Quasts,
+    place: &Place,
+    index: usize,
+    front: &Wavefront,
+) -> Result<(Poly, Poly), Refused>
+    requires fits { FrontTermFits program.now (trees_of quasts.now) front.now }
+    requires trees_fit { RowsFit (meaning program.now) 0 (trees_of quasts.now) }
+    requires are_true { RowsAreTrue (meaning program.now) 0 (trees_of quasts.now) }
+    ensures accepted { IfOk result (λ counts. AllHold (front_claims (meaning program.now) ((place.now ++ Index index ∷ []) ++ Key WAVEFRONT ∷ []) (trees_of quasts.now) (front_of front.now))) }
+    ensures value { IfOk result (λ counts. IsCount (meaning program.now) front.now.nest front.now.sums counts.0) }
+    ensures outer { IfOk result (λ counts. IsSumFrom (length program.now.params) (outer_nest (front_of front.now)) front.now.outer_sums.items counts.1) }
+    ensures holds { IfOk result (λ counts. TermHolds program.now (front_pieces (meaning program.now) (front_of front.now)) (Value.Wavefront counts.0 counts.1)) }
+    ensures refused { IfErr result (IsRefusal (front_claims (meaning program.now) ((place.now ++ Index index ∷ []) ++ Key WAVEFRONT ∷ []) (trees_of quasts.now) (front_of front.now))) }
+{
+    let _params = program.params();
+    front_pieces_cover();
+    let Ok(place) = term_place(alloc, place, index, key::WAVEFRONT) else {
+        return Err(Refused::Memory);
+    };
+    let counts = check_wavefront(alloc, program, quasts, front, &place)?;
+    Ok(counts)
+}

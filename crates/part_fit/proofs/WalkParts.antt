@@ -1,0 +1,179 @@
+-- Where what is asked of a walk that arrives holds, it fits the program.
+use Rattle.std.proofs.Common.{Bool, ◌≡◌, refl, sym, ◌∙◌, ap, subst, ℕ, zero, suc, ◌+◌, ◌*◌, ◌<◌, ◌≤◌, List, [], ◌∷◌, ◌++◌, length, map, arith}
+use Rattle.std.specs.Prelude.{if◌then◌else◌, Option, Some, None, slice_index_or}
+use Rattle.std.specs.List.{AllByRecursion}
+use Rattle.std.proofs.lemmas.Bool.{eq-eqb}
+use Rattle.std.proofs.lemmas.List.{length-map}
+use Rattle.iolb_model.specs.Form.{AffineForm}
+use Rattle.iolb_model.specs.Program.{AffineProgram, statement_at}
+use Rattle.claims.specs.Claims.{Claim, AllHold, numbered}
+use Rattle.claims.specs.declared.place.Step.{Step}
+use Rattle.claims.specs.declared.place.Step.TheVariants.{Key, Index}
+use Rattle.claims.specs.declared.key.TheConstants.{LEAVES, NO, NODES, POINT, READ, ROWS, START, STATEMENT, TREE, YES}
+use Rattle.claims.proofs.Laws.{AllHold-left, AllHold-right}
+use Rattle.affine_form.specs.Rows.{variables_from}
+use Rattle.affine_program.specs.Domain.{depth_of}
+use Rattle.dep_quast.specs.Context.{ReadOf}
+use Rattle.dep_quast.specs.Tree.{source, input, empty, blank, SelectionTree, leaf, test}
+use Rattle.dep_quast.specs.Truth.{ReadFits}
+use Rattle.reuse_paths.specs.LeafClaims.{LeafClaim, no_point, stops, is_credited, goes_on, arrives}
+use Rattle.reuse_paths.specs.OpenLeaves.{OpenLeaf, form_at, no_at, open_leaves}
+use Rattle.reuse_paths.specs.Quasts.{tree_or_blank, tree_for}
+use Rattle.reuse_paths.specs.ReachClaims.{WalkSetting, spot_variables, region_variables, reading_point, region_at, entering_rows, going_goals}
+use Rattle.reuse_paths.specs.ReachFits.{NestFits, SpotFits, EntriesFit, TakeFits, WalkFits, RegionFits, RegionsFit, ShownFits, FitsIn}
+use Rattle.reuse_paths.specs.Trees.{RowsFit, read_of}
+use Rattle.reuse_paths.specs.Walks.{WalkTree, take, test as walk_test, WalkRegion, SpotForms, ReachClaim, same, walked}
+use Rattle.part_fit.specs.EntryFit.{entry_at, entries_fit, names_in, leaf_names}
+use Rattle.part_fit.specs.FitClaims.{names}
+use Rattle.part_fit.specs.Limits.{AreSmall, IsNestedWalk, IsSmallNode, IsSmallReach}
+use Rattle.part_fit.specs.PartFit.{forms_fit, shown_fit}
+use Rattle.part_fit.specs.TreeFit.{trees_fit}
+use Rattle.part_fit.specs.WalkFit.{row_count, rows_called, take_fit, walk_fit, region_fit, fit_in, spot_fit}
+use Rattle.iolb_model.specs.declared.limits.TheConstants.{TREE_TESTS}
+use Rattle.part_fit.proofs.ReadTrees.{none, from-none, names-of, tree-of}
+use Rattle.part_fit.proofs.TreeParts.{forms-over}
+
+-- a spot fits
+pub spot-fits : (program : AffineProgram) (vars : ℕ) (place : List Step) (spot : SpotForms) → AreSmall spot.point → AllHold (spot_fit program vars place spot) → SpotFits program vars spot
+spot-fits program vars place spot small h =
+    let forms : List Claim = forms_fit vars (place ++ Key POINT ∷ []) spot.point in
+    let last : List Claim = names (place ++ Key STATEMENT ∷ []) spot.statement (length program.statements) ∷ [] in record {
+      there = (AllHold-right forms last h.1).0;
+      point = h.0;
+      forms = forms-over vars (place ++ Key POINT ∷ []) 0 spot.point small (AllHold-left forms last h.1);
+    }
+
+module _ (walk : WalkSetting) where
+  entering-many : (vars : ℕ) (region : Option WalkRegion) (values : List AffineForm) → length (entering_rows walk vars region values) ≡ row_count region
+  entering-many vars None values = refl
+  entering-many vars (Some region) values = length-map region.rows (form_at vars (variables_from vars 0 (spot_variables walk) ++ values))
+
+  -- ---- entries at leaves
+
+  module _ (vars : ℕ) (point : List AffineForm) where
+    -- the rows that say that a walk may go on from leaves are as many as called for
+    abbrev Called : List OpenLeaf → List (Option ℕ) → Type 0
+    Called [] [] = Unit {0}
+    Called [] (name ∷ named) = ⊥
+    Called (l ∷ leaves) [] = ⊥
+    Called (l ∷ leaves) (name ∷ named) = (length (going_goals walk vars point l.origin) ≡ rows_called walk.nodes name) × Called leaves named
+
+    Called-append : (ls ms : List OpenLeaf) (ns os : List (Option ℕ)) → Called ls ns → Called ms os → Called (ls ++ ms) (ns ++ os)
+    Called-append [] ms [] os h k = k
+    Called-append [] ms (n ∷ ns) os h k = absurd h
+    Called-append (l ∷ ls) ms [] os h k = absurd h
+    Called-append (l ∷ ls) ms (n ∷ ns) os h k = (h.0, Called-append ls ms ns os h.1 k)
+
+    called : (tests : List AffineForm) (tree : SelectionTree) → Called (open_leaves vars point tests tree) (names_in tree)
+    called tests (leaf (source claim)) = (entering-many vars (region_at walk.nodes claim.statement) (map (form_at vars point) claim.point), tt)
+    called tests (leaf (input shown)) = (refl, tt)
+    called tests (leaf (empty shown)) = tt
+    called tests (leaf blank) = (refl, tt)
+    called tests (test form above below) =
+        Called-append (open_leaves vars point (tests ++ form_at vars point form ∷ []) above) (open_leaves vars point (tests ++ no_at vars point form ∷ []) below) (names_in above) (names_in below)
+        (called (tests ++ form_at vars point form ∷ []) above) (called (tests ++ no_at vars point form ∷ []) below)
+
+    later : (i k : ℕ) → suc i + k ≡ i + suc k
+    later i k = omega arith
+
+    -- what is called for at the leaves from one on
+    abbrev Asked : List ℕ → ℕ → List (Option ℕ) → Type 0
+    Asked all i named = (k : ℕ) → slice_index_or all (i + k) 0 ≡ slice_index_or (map (rows_called walk.nodes) named) k 0
+
+    past : (all : List ℕ) (i : ℕ) (name : Option ℕ) (named : List (Option ℕ)) → Asked all i (name ∷ named) → Asked all (suc i) named
+    past all i name named asked k = ap (λ (n : ℕ). slice_index_or all n 0) (later i k) ∙ asked (suc k)
+
+    entries-fit : (place : List Step) (all : List ℕ) (i : ℕ) (leaves : List OpenLeaf) (named : List (Option ℕ)) (entries : List LeafClaim) → Called leaves named
+        → Asked all i named → length entries ≡ length named
+        → AllHold (numbered (entry_at (depth_of walk.program walk.target.statement) all place) i entries) → EntriesFit walk vars point leaves entries
+    entries-fit place all i [] [] [] c asked many h = tt
+    entries-fit place all i [] [] (entry ∷ entries) c asked many h = absurd (omega (arith, many))
+    entries-fit place all i [] (name ∷ named) entries c asked many h = absurd c
+    entries-fit place all i (l ∷ leaves) [] entries c asked many h = absurd c
+    entries-fit place all i (l ∷ leaves) (name ∷ named) [] c asked many h = absurd (omega (arith, many))
+    entries-fit place all i (l ∷ leaves) (name ∷ named) (no_point shown ∷ entries) c asked many h =
+        (tt, entries-fit place all (suc i) leaves named entries c.1 (past all i name named asked) (omega (arith, many)) h)
+    entries-fit place all i (l ∷ leaves) (name ∷ named) (stops label ∷ entries) c asked many h =
+        (h.0, entries-fit place all (suc i) leaves named entries c.1 (past all i name named asked) (omega (arith, many)) h.1)
+    entries-fit place all i (l ∷ leaves) (name ∷ named) (is_credited credit rows label ∷ entries) c asked many h = absurd (omega (arith, h.0))
+    entries-fit place all i (l ∷ leaves) (name ∷ named) (goes_on rows label ∷ entries) c asked many h = (
+      (h.1.0 ∙ ap (λ (n : ℕ). slice_index_or all n 0) (sym (none i)) ∙ asked 0 ∙ sym c.0, h.0),
+      entries-fit place all (suc i) leaves named entries c.1 (past all i name named asked) (omega (arith, many)) h.1.1,
+    )
+    entries-fit place all i (l ∷ leaves) (name ∷ named) (arrives equal ∷ entries) c asked many h =
+        (h.0, entries-fit place all (suc i) leaves named entries c.1 (past all i name named asked) (omega (arith, many)) h.1)
+
+  -- ---- walks and regions
+
+  module _ (fit : AllHold (trees_fit walk.program walk.trees)) (rows : RowsFit walk.program 0 walk.trees) where
+    take-fits : (place : List Step) (statement read : ℕ) (entries : List LeafClaim) → statement < length walk.program.statements
+        → AllHold (take_fit walk (read_of statement read) place entries) → TakeFits walk statement read entries
+    take-fits place statement read entries there h =
+        let reader : ReadOf = read_of statement read in
+        let asked : List (Option ℕ) = leaf_names walk.program walk.trees reader in
+        let middle : List Claim = entries_fit (depth_of walk.program walk.target.statement) (map (rows_called walk.nodes) asked) (place ++ Key LEAVES ∷ []) entries in
+        let last : List Claim = names (place ++ Key READ ∷ []) read (length (statement_at walk.program statement).reads) ∷ [] in
+        let read_fits : ReadFits walk.program reader = record { statement = there; read = (AllHold-right middle last h.1).0 } in
+        let chosen = tree-of walk.program walk.trees reader read_fits fit rows in
+        let is : tree_for walk.trees reader ≡ chosen.0 = ap tree_or_blank chosen.1.there in
+        let vars : ℕ = region_variables walk statement in
+        let point : List AffineForm = reading_point walk statement in
+        let in_tree : asked ≡ names_in chosen.0 = names-of walk.program walk.trees reader chosen.0 read_fits.read chosen.1.there in
+        let entries_in : EntriesFit walk vars point (open_leaves vars point [] chosen.0) entries =
+        entries-fit vars point (place ++ Key LEAVES ∷ []) (map (rows_called walk.nodes) asked) 0 (open_leaves vars point [] chosen.0) (names_in chosen.0) entries (called vars point [] chosen.0)
+        (λ k. ap (λ (n : ℕ). slice_index_or (map (rows_called walk.nodes) asked) n 0) (from-none k) ∙ ap (λ (l : List (Option ℕ)). slice_index_or (map (rows_called walk.nodes) l) k 0) in_tree)
+        (h.0 ∙ ap length in_tree) (AllHold-left middle last h.1) in record {
+          read_fits = read_fits;
+          there = chosen.1.there ∙ ap (λ (t : SelectionTree). Some t) (sym is);
+          entries_fit = subst (λ (t : SelectionTree). EntriesFit walk vars point (open_leaves vars point [] t) entries) (sym is) entries_in;
+        }
+
+    walk-fits : (nested : ℕ) (place : List Step) (statement : ℕ) (tree : WalkTree) → statement < length walk.program.statements → IsNestedWalk nested tree
+        → AllHold (walk_fit walk statement place tree) → WalkFits walk statement tree
+    walk-fits nested place statement (take read entries) there small h = take-fits place statement read entries there h
+    walk-fits zero place statement (walk_test form above below) there small h = absurd small
+    walk-fits (suc nested) place statement (walk_test form above below) there small h =
+        let no : List Claim = walk_fit walk statement (place ++ Key NO ∷ []) below in
+        let yes : List Claim = walk_fit walk statement (place ++ Key YES ∷ []) above in (
+          record { over = h.0; small = small.0 },
+          walk-fits nested (place ++ Key YES ∷ []) statement above there small.1 (AllHold-right no yes h.1),
+          walk-fits nested (place ++ Key NO ∷ []) statement below there small.2 (AllHold-left no yes h.1),
+        )
+
+    region-fits : (place : List Step) (statement : ℕ) (region : Option WalkRegion) → statement < length walk.program.statements → IsSmallNode region
+        → AllHold (region_fit walk place statement region) → RegionFits walk statement region
+    region-fits place statement None there small h = tt
+    region-fits place statement (Some region) there small h =
+        let vars : ℕ = region_variables walk statement in
+        let at : List Step = place ++ Index statement ∷ [] in
+        let forms : List Claim = forms_fit vars (at ++ Key ROWS ∷ []) region.rows in
+        let tree : List Claim = walk_fit walk statement (at ++ Key TREE ∷ []) region.tree in (
+          forms-over vars (at ++ Key ROWS ∷ []) 0 region.rows small.rows (AllHold-left forms tree h),
+          walk-fits TREE_TESTS (at ++ Key TREE ∷ []) statement region.tree there small.tree.nested (AllHold-right forms tree h),
+        )
+
+    regions-fit : (place : List Step) (statement : ℕ) (nodes : List (Option WalkRegion)) → statement + length nodes ≤ length walk.program.statements → AllByRecursion IsSmallNode nodes
+        → AllHold (numbered (region_fit walk place) statement nodes) → RegionsFit walk statement nodes
+    regions-fit place statement [] le small h = tt
+    regions-fit place statement (region ∷ nodes) le small h =
+        let here : List Claim = region_fit walk place statement region in
+        let rest : List Claim = numbered (region_fit walk place) (suc statement) nodes in (
+          region-fits place statement region (omega (arith, le)) small.0 (AllHold-left here rest h),
+          regions-fit place (suc statement) nodes (omega (arith, le)) small.1 (AllHold-right here rest h),
+        )
+
+    shown-fits : (place : List Step) (from : SpotForms) (reach : ReachClaim) → IsSmallReach reach → AllHold (fit_in walk from place reach) → ShownFits walk from reach
+    shown-fits place from (same equal) small h = λ e.
+        h.0 ∙ ap (λ (b : Bool). if b then 2 * depth_of walk.program from.statement else 0) (eq-eqb from.statement walk.target.statement e)
+    shown-fits place from (walked start nodes) small h =
+        let regions : List Claim = numbered (region_fit walk (place ++ Key NODES ∷ [])) 0 nodes in
+        let last : List Claim = shown_fit (row_count (region_at nodes from.statement)) (place ++ Key START ∷ []) start ∷ [] in (
+          (AllHold-right regions last h.1).0 ∙ sym (entering-many (spot_variables walk) (region_at nodes from.statement) from.point),
+          h.0,
+          regions-fit (place ++ Key NODES ∷ []) 0 nodes (omega (arith, h.0)) small.1 (AllHold-left regions last h.1),
+        )
+
+    -- a walk between two spots that fit does
+    pub reach-fits : (place : List Step) (from : SpotForms) (reach : ReachClaim) → NestFits walk.program walk.nest → SpotFits walk.program (spot_variables walk) from
+        → SpotFits walk.program (spot_variables walk) walk.target → IsSmallReach reach → AllHold (fit_in walk from place reach) → FitsIn walk from reach
+    reach-fits place from reach nest from_fits to_fits small h = record { nest = nest; from_fits = from_fits; to_fits = to_fits; shown = shown-fits place from reach small h }
