@@ -9,3 +9,4 @@ pub mod LoopBy
 pub mod Members
 pub mod Nested
 pub mod ApartLists
+pub mod NestedWalks

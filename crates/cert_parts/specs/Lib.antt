@@ -8,3 +8,5 @@ pub mod Nests
 pub mod Trees
 pub mod Leaves
 pub mod Read
+pub mod Walks
+pub mod Reaches

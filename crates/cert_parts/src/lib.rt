@@ -1,5 +1,5 @@
-//! The texts of the parts of certificates: forms, multipliers, matrices, polynomials, nests, source trees, and claims at
-//! their leaves.
+//! The texts of the parts of certificates: forms, multipliers, matrices, polynomials, nests, source trees, claims at their
+//! leaves, and walks back along the sources of reads, with what shows that they arrive.
 //!
 //! Each reader takes a JSON value (RFC 8259) and answers what it says, or the first fault of one walk over it: of an object
 //! the keys first, then the values by the byte order of their keys; of a list its length, where that has a limit, then its
@@ -17,7 +17,9 @@ mod multipliers;
 mod nests;
 mod parts;
 mod polynomials;
+mod reaches;
 mod trees;
+mod walks;
 
 pub use error::{CertError, CertFault, fault, under};
 pub use forms::{form, form_list};
@@ -27,4 +29,6 @@ pub use multipliers::all_multipliers;
 pub use nests::nest;
 pub use parts::{all_shown_part, form_part, forms_part, leaves_part, natural_part};
 pub use polynomials::polynomial_list;
+pub use reaches::{reach, source, spot, way};
 pub use trees::all_trees;
+pub use walks::walk;

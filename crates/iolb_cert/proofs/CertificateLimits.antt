@@ -1,11 +1,10 @@
 -- Certificates that are read are within their limits.
-use Rattle.std.proofs.Common.{◌≡◌, suc, ◌≤◌, List, [], ◌∷◌, length, map, codes, Ok, Err, refl, sym, subst, ap, arith}
-use Rattle.std.proofs.lemmas.Bool.{leb-true}
+use Rattle.std.proofs.Common.{◌≡◌, suc, ◌≤◌, List, [], ◌∷◌, length, map, codes, Ok, refl, sym, subst, ap, arith}
 use Rattle.std.proofs.lemmas.List.{length-map}
 use Rattle.std.proofs.lemmas.Result.{IfOk-at_ok}
-use Rattle.std.specs.Prelude.{IfOk, nat_le}
+use Rattle.std.specs.Prelude.{IfOk}
 use Rattle.std.specs.List.{AllByRecursion}
-use Rattle.claims.specs.declared.key.TheConstants.{BRANCHES, COLD, DISJOINT, QUASTS, TERMS, VERSION}
+use Rattle.claims.specs.declared.key.TheConstants.{BRANCHES, COLD, DISJOINT, QUASTS, TERMS, VERSION, WAVEFRONT}
 use Rattle.iolb_check.specs.declared.term.Term.{Term}
 use Rattle.iolb_check.specs.declared.term.Term.TheVariants as terms
 use Rattle.iolb_check.specs.declared.term.Branch.{Branch}
@@ -13,33 +12,51 @@ use Rattle.iolb_check.specs.Claims.{claim_of_term, claim_of_branch, claim_of_cer
 use Rattle.part_fit.specs.Limits.{NameRows, IsSmallTree}
 use Rattle.iolb_check.specs.Limits.{IsSmallTerm, IsSmallBranch, CertificateParts, IsWithinLimits}
 use Rattle.serde_json.specs.Data.{Data}
-use Rattle.cert_parts.specs.Outcome.{Outcome, fault}
-use Rattle.cert_parts.specs.Json.{has_keys, part, reads_short_list, each}
+use Rattle.cert_parts.specs.Outcome.{fault}
+use Rattle.cert_parts.specs.Json.{has_keys, part}
 use Rattle.cert_parts.specs.Parts.{reads_all_multipliers}
 use Rattle.cert_parts.specs.Read.{AreAll}
 use Rattle.cert_parts.specs.Trees.{reads_all_trees}
-use Rattle.iolb_cert.specs.Terms.{reads_cold, reads_term, reads_terms}
+use Rattle.iolb_cert.specs.ColdTexts.{reads_cold}
+use Rattle.iolb_cert.specs.FrontTexts.{reads_front}
+use Rattle.iolb_cert.specs.Terms.{reads_cold_term, reads_front_term, reads_term, reads_terms}
 use Rattle.iolb_cert.specs.Certificates.{reads_branch, reads_branches, reads_version, reads_certificate}
-use Rattle.iolb_cert.specs.Read.{WrittenCold, WrittenBranch, WrittenCertificate, IsTerm, IsBranch, IsCertificate}
-use Rattle.iolb_cert.proofs.Given.{given_then, given_behind, given_if, given_part, given_each, given_short_list, given_keys}
-use Rattle.iolb_cert.proofs.PartLimits.{all_multipliers_small}
-use Rattle.iolb_cert.proofs.TreeLimits.{all_trees_small, quasts_small}
+use Rattle.iolb_cert.specs.Read.{WrittenTerm, as_cold, as_front, WrittenBranch, WrittenCertificate, IsTerm, IsBranch, IsCertificate}
+use Rattle.cert_written.proofs.Given.{given_then, given_behind, given_if, given_part, given_short_list, given_keys}
+use Rattle.cert_written.proofs.PartLimits.{all_multipliers_small}
+use Rattle.cert_written.proofs.TreeLimits.{all_trees_small, quasts_small}
 use Rattle.iolb_model.specs.declared.limits.TheConstants.{TERMS as MOST}
-use Rattle.iolb_cert.proofs.TermLimits.{IsSmallWrittenCold, cold_small, read_cold_small}
+use Rattle.iolb_cert.proofs.ColdLimits.{IsSmallWrittenCold, cold_small, read_cold_small}
+use Rattle.iolb_cert.proofs.FrontLimits.{IsSmallWrittenFront, front_small, read_front_small}
 
-term_small : (d : Data) → IfOk (reads_term d) IsSmallWrittenCold
+-- a term as it is written is within its limits
+abbrev IsSmallWrittenTerm : WrittenTerm → Type 0
+IsSmallWrittenTerm (as_cold written) = IsSmallWrittenCold written
+IsSmallWrittenTerm (as_front written) = IsSmallWrittenFront written
+
+cold_term_small : (d : Data) → IfOk (reads_cold_term d) IsSmallWrittenTerm
+unfolding reads_cold_term
+cold_term_small d =
+    given_then (part (codes "cold") COLD reads_cold d) _ IsSmallWrittenCold IsSmallWrittenTerm (given_part (codes "cold") COLD reads_cold IsSmallWrittenCold d cold_small) (λ cold small. small)
+
+front_term_small : (d : Data) → IfOk (reads_front_term d) IsSmallWrittenTerm
+unfolding reads_front_term
+front_term_small d =
+    given_then (part (codes "wavefront") WAVEFRONT reads_front d) _ IsSmallWrittenFront IsSmallWrittenTerm (given_part (codes "wavefront") WAVEFRONT reads_front IsSmallWrittenFront d front_small) (λ front small. small)
+
+term_small : (d : Data) → IfOk (reads_term d) IsSmallWrittenTerm
 unfolding reads_term
 term_small d =
-    given_if (has_keys (codes "cold" ∷ []) d) (part (codes "cold") COLD reads_cold d) _ IsSmallWrittenCold (λ is. given_part (codes "cold") COLD reads_cold IsSmallWrittenCold d cold_small)
-    (given_if (has_keys (codes "partition" ∷ []) d) (fault 4) _ IsSmallWrittenCold (λ is. tt)
-    (given_if (has_keys (codes "wavefront" ∷ []) d) (fault 4) (fault 2) IsSmallWrittenCold (λ is. tt) tt))
+    given_if (has_keys (codes "cold" ∷ []) d) (reads_cold_term d) _ IsSmallWrittenTerm (λ is. cold_term_small d)
+    (given_if (has_keys (codes "wavefront" ∷ []) d) (reads_front_term d) _ IsSmallWrittenTerm (λ is. front_term_small d)
+    (given_if (has_keys (codes "partition" ∷ []) d) (fault 4) (fault 2) IsSmallWrittenTerm (λ is. tt) tt))
 
-abbrev AreSmallTerms : List WrittenCold → Type 0
-AreSmallTerms terms = AllByRecursion IsSmallWrittenCold terms × (length terms ≤ MOST)
+abbrev AreSmallTerms : List WrittenTerm → Type 0
+AreSmallTerms terms = AllByRecursion IsSmallWrittenTerm terms × (length terms ≤ MOST)
 
 terms_small : (d : Data) → IfOk (reads_terms d) AreSmallTerms
 unfolding reads_terms
-terms_small d = given_short_list reads_term IsSmallWrittenCold term_small MOST d
+terms_small d = given_short_list reads_term IsSmallWrittenTerm term_small MOST d
 
 record IsSmallWrittenBranch (written : WrittenBranch) : Type 0 where
   terms : AreSmallTerms written.terms
@@ -89,13 +106,16 @@ as_many R [] (x ∷ xs) are = absurd are
 as_many R (a ∷ written) [] are = absurd are
 as_many R (a ∷ written) (x ∷ xs) are = ap suc (as_many R written xs are.1)
 
-read_term_small : (written : WrittenCold) (term : Term) → IsTerm written (claim_of_term term) → IsSmallWrittenCold written → IsSmallTerm term
-read_term_small written (terms.Cold cold) is small = read_cold_small written cold is small
+read_term_small : (written : WrittenTerm) (term : Term) → IsTerm written (claim_of_term term) → IsSmallWrittenTerm written → IsSmallTerm term
+read_term_small (as_cold written) (terms.Cold cold) is small = read_cold_small written cold is small
+read_term_small (as_front written) (terms.Wavefront front) is small = read_front_small written front is small
+read_term_small (as_cold written) (terms.Wavefront front) is small = absurd is
+read_term_small (as_front written) (terms.Cold cold) is small = absurd is
 
 read_branch_small : (written : WrittenBranch) (branch : Branch) → IsBranch written (claim_of_branch branch) → IsSmallWrittenBranch written → IsSmallBranch branch
 read_branch_small written branch is small = record {
   few = omega (arith, small.terms.1, as_many IsTerm written.terms (map claim_of_term branch.terms.items) is.0, length-map branch.terms.items claim_of_term);
-  terms = all_related IsTerm claim_of_term IsSmallWrittenCold IsSmallTerm read_term_small written.terms branch.terms.items is.0 small.terms.0;
+  terms = all_related IsTerm claim_of_term IsSmallWrittenTerm IsSmallTerm read_term_small written.terms branch.terms.items is.0 small.terms.0;
   disjoint = subst NameRows (sym is.1) small.disjoint;
 }
 

@@ -7,15 +7,15 @@ use Rattle.poly_tree.specs.Poly.{Quotient, SameValues, numerator_at}
 use Rattle.poly_tree.proofs.SameLemmas.{same-polynomial}
 use Rattle.domain_count.proofs.Determined.{crossed}
 use Rattle.dep_quast.specs.Tree.{SelectionTree}
-use Rattle.iolb_check.specs.Claims.{ColdClaim, TermClaim, cold, BranchClaim, CertificateClaim}
+use Rattle.iolb_check.specs.Claims.{ColdClaim, FrontClaim, TermClaim, cold, front, BranchClaim, CertificateClaim}
 use Rattle.serde_json.specs.Data.{Data}
 use Rattle.cert_parts.specs.declared.error.CertFault.{CertFault}
 use Rattle.cert_parts.specs.Outcome.{Outcome}
-use Rattle.cert_parts.specs.Read.{AreAll, IsPolynomial}
+use Rattle.cert_parts.specs.Read.{AreAll, IsPolynomial, ArePolynomials}
 use Rattle.iolb_cert.specs.Certificates.{reads_certificate}
 use Rattle.iolb_cert.specs.OneCertificate.{HasCertificate, TextsHaveOneCertificate, TextsHaveOneAnswer}
 use Rattle.iolb_cert.specs.Texts.{HasValue, IsTextOf, IsTextFault}
-use Rattle.iolb_cert.specs.Read.{WrittenCold, WrittenBranch, WrittenCertificate, IsTerm, IsBranch, IsCertificate}
+use Rattle.iolb_cert.specs.Read.{WrittenTerm, as_cold, as_front, WrittenBranch, WrittenCertificate, IsTerm, IsBranch, IsCertificate}
 
 -- ---- the same text says the same
 
@@ -52,10 +52,19 @@ all-one R one (a ∷ written) [] ys h g = absurd h
 all-one R one (a ∷ written) (x ∷ xs) [] h g = absurd g
 all-one R one (a ∷ written) (x ∷ xs) (y ∷ ys) h g = let first = one a x y h.0 g.0 in let rest = all-one R one written xs ys h.1 g.1 in cc
 
-one-term : (written : WrittenCold) (a b : TermClaim) → IsTerm written a → IsTerm written b → a ≡ b
-one-term written (cold claim qs) (cold other rs) h g =
-    let same : qs ≡ rs = all-one IsPolynomial one-polynomial written.sums qs rs h.1 g.1 in
-    ap (λ (x : ColdClaim). cold x qs) (h.0 ∙ sym g.0) ∙ ap (cold other) same
+one-list : (written : List Polynomial) (qs rs : List Quotient) → ArePolynomials written qs → ArePolynomials written rs → qs ≡ rs
+one-list written qs rs h g = all-one IsPolynomial one-polynomial written qs rs h g
+
+one-term : (written : WrittenTerm) (a b : TermClaim) → IsTerm written a → IsTerm written b → a ≡ b
+one-term (as_cold written) (cold claim qs) (cold other rs) h g =
+    ap (λ (x : ColdClaim). cold x qs) (h.claims ∙ sym g.claims) ∙ ap (cold other) (one-list written.sums qs rs h.sums g.sums)
+one-term (as_front written) (front claim qs os) (front other rs ts) h g =
+    ap (λ (x : FrontClaim). front x qs os) (h.claims ∙ sym g.claims) ∙ ap (λ (x : List Quotient). front other x os) (one-list written.sums qs rs h.sums g.sums)
+    ∙ ap (front other rs) (one-list written.outer_sums os ts h.outer_sums g.outer_sums)
+one-term (as_cold written) (cold claim qs) (front other rs ts) h g = absurd g
+one-term (as_cold written) (front claim qs os) b h g = absurd h
+one-term (as_front written) (front claim qs os) (cold other rs) h g = absurd g
+one-term (as_front written) (cold claim qs) b h g = absurd h
 
 one-branch : (written : WrittenBranch) (a b : BranchClaim) → IsBranch written a → IsBranch written b → a ≡ b
 one-branch written a b h g =

@@ -7,11 +7,11 @@ use Rattle.serde_json.specs.Data.{Data}
 use Rattle.cert_parts.specs.Json.{has_keys, with_keys, part}
 use Rattle.cert_parts.specs.Parts.{reads_all_multipliers}
 use Rattle.cert_parts.specs.Trees.{reads_all_trees}
-use Rattle.iolb_cert.specs.Read.{WrittenCold, WrittenBranch}
+use Rattle.iolb_cert.specs.Read.{WrittenTerm, WrittenBranch}
 use Rattle.iolb_cert.specs.Terms.{reads_terms}
 use Rattle.iolb_cert.specs.Certificates.{reads_branch, reads_branches, reads_version, reads_certificate}
 
-pub branch_read : (d : Data) (disjoint : List FarkasMultipliers) (terms : List WrittenCold) → has_keys (codes "disjoint" ∷ codes "terms" ∷ []) d ≡ true
+pub branch_read : (d : Data) (disjoint : List FarkasMultipliers) (terms : List WrittenTerm) → has_keys (codes "disjoint" ∷ codes "terms" ∷ []) d ≡ true
     → part (codes "disjoint") DISJOINT reads_all_multipliers d ≡ Ok disjoint → part (codes "terms") TERMS reads_terms d ≡ Ok terms
     → reads_branch d ≡ Ok (record { terms = terms; disjoint = disjoint })
 unfolding reads_branch with_keys

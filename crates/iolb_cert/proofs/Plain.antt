@@ -1,176 +1,85 @@
 -- How deep the values nest that are written, and that they have no floats.
-use Rattle.std.proofs.Common.{◌≡◌, ℕ, zero, suc, ◌+◌, ◌≤◌, List, [], ◌∷◌, ◌++◌, map, false, Vec, Global, refl, arith}
-use Rattle.std.proofs.Math.IntN.{ℤ, pos, negsuc}
+use Rattle.std.proofs.Common.{◌≡◌, ℕ, ◌≤◌, List, [], ◌∷◌, map, false, Vec, Global, arith}
 use Rattle.std.specs.List.{AllByRecursion}
-use Rattle.iolb_model.specs.Form.{AffineForm}
-use Rattle.iolb_model.specs.Polynomial.{Term, Polynomial}
 use Rattle.affine_form.specs.Matrix.{IntegerMatrix}
-use Rattle.affine_form.specs.Multipliers.{FarkasMultipliers}
-use Rattle.dep_quast.specs.Tree.{Leaf, source, input, empty, blank, SelectionTree, leaf, test, tree_of}
+use Rattle.dep_quast.specs.Tree.{tree_of}
 use Rattle.dep_quast.specs.declared.quast.Quast.{Quast}
-use Rattle.part_fit.specs.Limits.{IsNestedTree, IsSmallTree}
-use Rattle.iolb_check.specs.Limits.{CertificateParts, IsWithinLimits}
-use Rattle.serde_json.specs.Data.{Data, Members, no_members, member, object, depth, members_depth}
+use Rattle.part_fit.specs.Limits.{IsSmallTree, IsSmallReach, IsSmallWay}
+use Rattle.iolb_check.specs.Limits.{IsSmallTerm, IsSmallBranch, CertificateParts, IsWithinLimits}
+use Rattle.iolb_check.specs.declared.term.Term.{Term}
+use Rattle.iolb_check.specs.declared.term.Term.TheVariants as terms
+use Rattle.iolb_check.specs.declared.term.Branch.{Branch}
+use Rattle.serde_json.specs.Data.{depth}
 use Rattle.serde_json.specs.Read.{max_depth}
-use Rattle.serde_json.specs.Written.{has_float, members_have_float}
-use Rattle.reuse_paths.specs.LeafClaims.{LeafClaim, no_point, stops, is_credited, goes_on, arrives}
+use Rattle.serde_json.specs.Written.{has_float}
 use Rattle.reuse_paths.specs.Quasts.{row_trees}
-use Rattle.iolb_cert.specs.Read.{WrittenCold, WrittenBranch}
-use Rattle.iolb_cert.specs.Parts.{list, whole, natural, form_data, forms_data, weights_data, multipliers_data, all_multipliers_data, rows_of, row_data, matrix_data, pair_data, nest_data}
-use Rattle.iolb_cert.specs.Polynomials.{term_data, polynomial_data}
-use Rattle.iolb_cert.specs.Leaves.{leaf_data}
-use Rattle.iolb_cert.specs.Trees.{tree_leaf_data, tree_data, trees_data, all_trees_data}
-use Rattle.iolb_cert.specs.WrittenCertificates.{inverse_data, cold_data, cold_term_data, branch_data, certificate_data}
-use Rattle.iolb_cert.specs.Written.{written_of}
+use Rattle.cert_written.specs.Leaves.{leaf_data}
+use Rattle.cert_written.specs.Polynomials.{polynomial_data}
+use Rattle.cert_written.specs.Trees.{trees_data}
+use Rattle.cert_written.proofs.Plain.{IsPlain, more, plain-list, plain-map, plain-none, plain-member, plain-object, plain-one, plain-natural, plain-forms, plain-all_multipliers, plain-matrix, plain-nest, plain-polynomial, plain-leaf, plain-trees}
+use Rattle.cert_written.proofs.PlainWalks.{plain-reach, plain-way, plain-spot, plain-source}
+use Rattle.iolb_cert.specs.Read.{WrittenCold, WrittenFront, as_cold}
+use Rattle.iolb_cert.specs.WrittenCertificates.{inverse_data, cold_data, front_data, term_data, branch_data, certificate_data}
+use Rattle.iolb_cert.specs.Written.{written_cold, written_front, written_term, written_branch, written_of}
 
--- at most so many arrays and objects around each other, and no float
-record IsPlain (n : ℕ) (d : Data) : Type 0 where
-  deep : depth d ≤ n
-  exact : has_float d ≡ false
-
-record ArePlain (n : ℕ) (ms : Members) : Type 0 where
-  deep : members_depth ms ≤ n
-  exact : members_have_float ms ≡ false
-
-more : (m n : ℕ) (d : Data) → m ≤ n → IsPlain m d → IsPlain n d
-more m n d le h = record { deep = omega (arith, le, h.deep); exact = h.exact }
-
-plain-list : (n : ℕ) (ds : List Data) → AllByRecursion (IsPlain n) ds → IsPlain (suc n) (list ds)
-plain-list n [] h = record { deep = omega arith; exact = refl }
-plain-list n (d ∷ ds) h = let rest = plain-list n ds h.1 in record { deep = omega (arith, h.0.deep, rest.deep); exact = rw (h.0.exact) rest.exact }
-
-plain-map : {A : Type 0} (n : ℕ) (f : A → Data) (xs : List A) → ((x : A) → IsPlain n (f x)) → IsPlain (suc n) (list (map f xs))
-plain-map {A = A} n f xs h = plain-list n (map f xs) (all xs) where
-  all : (ys : List A) → AllByRecursion (IsPlain n) (map f ys)
-  all [] = tt
-  all (y ∷ ys) = (h y, all ys)
-
-plain-none : (n : ℕ) → ArePlain n no_members
-plain-none n = record { deep = omega arith; exact = refl }
-
-plain-member : (m n : ℕ) (k : List ℕ) (d : Data) (ms : Members) → m ≤ n → IsPlain m d → ArePlain n ms → ArePlain n (member k d ms)
-plain-member m n k d ms le h rest = record { deep = omega (arith, le, h.deep, rest.deep); exact = rw (h.exact) rest.exact }
-
-plain-object : (n : ℕ) (ms : Members) → ArePlain n ms → IsPlain (suc n) (object ms)
-plain-object n ms h = record { deep = omega (arith, h.deep); exact = h.exact }
-
--- an object with one member
-plain-one : (n : ℕ) (k : List ℕ) (d : Data) → IsPlain n d → IsPlain (suc n) (object (member k d no_members))
-plain-one n k d h = plain-object n (member k d no_members) (plain-member n n k d no_members (omega arith) h (plain-none n))
-
--- ---- parts
-
-plain-whole : (z : ℤ) → IsPlain 0 (whole z)
-plain-whole (pos n) = record { deep = omega arith; exact = refl }
-plain-whole (negsuc n) = record { deep = omega arith; exact = refl }
-
-plain-natural : (n : ℕ) → IsPlain 0 (natural n)
-plain-natural n = record { deep = omega arith; exact = refl }
-
-plain-form : (form : AffineForm) → IsPlain 1 (form_data form)
-plain-form form = plain-map 0 whole (form.coefficients ++ form.constant ∷ []) plain-whole
-
-plain-forms : (forms : List AffineForm) → IsPlain 2 (forms_data forms)
-plain-forms forms = plain-map 1 form_data forms plain-form
-
-plain-multipliers : (shown : FarkasMultipliers) → IsPlain 1 (multipliers_data shown)
-plain-multipliers shown = plain-list 0 (natural shown.scale ∷ natural shown.rest ∷ weights_data shown.weights) (plain-natural shown.scale, (plain-natural shown.rest, weights shown.weights)) where
-  weights : (ws : List (ℕ × ℕ)) → AllByRecursion (IsPlain 0) (weights_data ws)
-  weights [] = tt
-  weights (w ∷ ws) = (plain-natural w.0, (plain-natural w.1, weights ws))
-
-plain-all_multipliers : (all : List FarkasMultipliers) → IsPlain 2 (all_multipliers_data all)
-plain-all_multipliers all = plain-map 1 multipliers_data all plain-multipliers
-
-plain-matrix : (matrix : IntegerMatrix) → IsPlain 2 (matrix_data matrix)
-plain-matrix matrix = plain-map 1 row_data (rows_of matrix.rows matrix.columns matrix.cells) (λ row. plain-map 0 whole row plain-whole)
-
-plain-nest : (nest : List (AffineForm × AffineForm)) → IsPlain 3 (nest_data nest)
-plain-nest nest = plain-map 2 pair_data nest (λ pair. plain-list 1 (form_data pair.0 ∷ form_data pair.1 ∷ []) (plain-form pair.0, (plain-form pair.1, tt)))
-
-plain-term : (term : Term) → IsPlain 1 (term_data term)
-plain-term term = plain-list 0 (whole term.coefficient ∷ map natural term.exponents) (plain-whole term.coefficient, all term.exponents) where
-  all : (es : List ℕ) → AllByRecursion (IsPlain 0) (map natural es)
-  all [] = tt
-  all (e ∷ es) = (plain-natural e, all es)
-
-plain-polynomial : (polynomial : Polynomial) → IsPlain 3 (polynomial_data polynomial)
-plain-polynomial polynomial =
-    plain-object 2 _ (plain-member 0 2 _ _ _ (omega arith) (plain-natural polynomial.denominator)
-    (plain-member 2 2 _ _ _ (omega arith) (plain-map 1 term_data polynomial.terms plain-term) (plain-none 2)))
-
-plain-leaf : (claim : LeafClaim) → IsPlain 3 (leaf_data claim)
-plain-leaf (no_point shown) = plain-one 2 _ _ (more 1 2 _ (omega arith) (plain-multipliers shown))
-plain-leaf (stops label) = plain-one 2 _ _ (plain-all_multipliers label)
-plain-leaf (is_credited credit rows label) =
-    plain-object 2 _ (plain-member 0 2 _ _ _ (omega arith) (plain-natural credit)
-    (plain-member 2 2 _ _ _ (omega arith) (plain-all_multipliers label) (plain-member 2 2 _ _ _ (omega arith) (plain-all_multipliers rows) (plain-none 2))))
-plain-leaf (goes_on rows label) =
-    plain-object 2 _ (plain-member 2 2 _ _ _ (omega arith) (plain-all_multipliers label) (plain-member 2 2 _ _ _ (omega arith) (plain-all_multipliers rows) (plain-none 2)))
-plain-leaf (arrives equal) = plain-one 2 _ _ (plain-all_multipliers equal)
-
--- ---- trees
-
-plain-tree_leaf : (chosen : Leaf) → IsPlain 3 (tree_leaf_data chosen)
-plain-tree_leaf (source claim) =
-    plain-object 2 _ (plain-member 2 2 _ _ _ (omega arith) (plain-all_multipliers claim.before)
-    (plain-member 2 2 _ _ _ (omega arith) (plain-all_multipliers claim.between)
-    (plain-member 2 2 _ _ _ (omega arith) (plain-all_multipliers claim.cell)
-    (plain-member 2 2 _ _ _ (omega arith) (plain-all_multipliers claim.inside)
-    (plain-member 0 2 _ _ _ (omega arith) (plain-natural claim.level)
-    (plain-member 2 2 _ _ _ (omega arith) (plain-forms claim.point)
-    (plain-member 0 2 _ _ _ (omega arith) (plain-natural claim.statement) (plain-none 2))))))))
-plain-tree_leaf (input earlier) = plain-one 2 _ _ (plain-all_multipliers earlier)
-plain-tree_leaf (empty shown) = plain-one 2 _ _ (more 1 2 _ (omega arith) (plain-multipliers shown))
-plain-tree_leaf blank = record { deep = omega arith; exact = refl }
-
-plain-tree : (nested : ℕ) (tree : SelectionTree) → IsNestedTree nested tree → IsPlain (nested + 3) (tree_data tree)
-plain-tree nested (leaf chosen) h = more 3 (nested + 3) (tree_leaf_data chosen) (omega arith) (plain-tree_leaf chosen)
-plain-tree zero (test form above below) h = absurd h
-plain-tree (suc nested) (test form above below) h =
-    more (suc (nested + 3)) (suc nested + 3) (tree_data (test form above below)) (omega arith)
-    (plain-object (nested + 3) _ (plain-member 1 (nested + 3) _ _ _ (omega arith) (plain-form form)
-    (plain-member (nested + 3) (nested + 3) _ _ _ (omega arith) (plain-tree nested below h.2)
-    (plain-member (nested + 3) (nested + 3) _ _ _ (omega arith) (plain-tree nested above h.1) (plain-none (nested + 3))))))
-
-plain-trees : (row : List Quast) → AllByRecursion (λ (quast : Quast). IsSmallTree (tree_of quast)) row → IsPlain 20 (trees_data (map tree_of row))
-plain-trees row h = plain-list 19 (map tree_data (map tree_of row)) (all row h) where
-  all : (quasts : List Quast) → AllByRecursion (λ (quast : Quast). IsSmallTree (tree_of quast)) quasts → AllByRecursion (IsPlain 19) (map tree_data (map tree_of quasts))
-  all [] k = tt
-  all (quast ∷ quasts) k = (more (16 + 3) 19 (tree_data (tree_of quast)) (omega arith) (plain-tree 16 (tree_of quast) k.0.nested), all quasts k.1)
-
--- ---- certificates
+plain-inverse : (matrix : IntegerMatrix) (scale : ℕ) → IsPlain 3 (inverse_data matrix scale)
+plain-inverse matrix scale = plain-object 2 _ (plain-member 2 2 _ _ _ (omega arith) (plain-matrix matrix) (plain-member 0 2 _ _ _ (omega arith) (plain-natural scale) (plain-none 2)))
 
 plain-cold : (cold : WrittenCold) → IsPlain 5 (cold_data cold)
 plain-cold cold =
     plain-object 4 _ (plain-member 2 4 _ _ _ (omega arith) (plain-all_multipliers cold.claim.inside)
-    (plain-member 3 4 _ _ _ (omega arith) inverse
+    (plain-member 3 4 _ _ _ (omega arith) (plain-inverse cold.claim.matrix cold.claim.scale)
     (plain-member 4 4 _ _ _ (omega arith) (plain-map 3 leaf_data cold.claim.leaves plain-leaf)
     (plain-member 3 4 _ _ _ (omega arith) (plain-nest cold.claim.nest)
     (plain-member 2 4 _ _ _ (omega arith) (plain-forms cold.claim.point)
     (plain-member 0 4 _ _ _ (omega arith) (plain-natural cold.claim.read)
     (plain-member 2 4 _ _ _ (omega arith) (plain-all_multipliers cold.claim.shown)
     (plain-member 0 4 _ _ _ (omega arith) (plain-natural cold.claim.statement)
-    (plain-member 4 4 _ _ _ (omega arith) (plain-map 3 polynomial_data cold.sums plain-polynomial) (plain-none 4)))))))))) where
-      inverse : IsPlain 3 (inverse_data cold.claim.matrix cold.claim.scale)
-      inverse = plain-object 2 _ (plain-member 2 2 _ _ _ (omega arith) (plain-matrix cold.claim.matrix) (plain-member 0 2 _ _ _ (omega arith) (plain-natural cold.claim.scale) (plain-none 2)))
+    (plain-member 4 4 _ _ _ (omega arith) (plain-map 3 polynomial_data cold.sums plain-polynomial) (plain-none 4))))))))))
 
-plain-branch : (branch : WrittenBranch) → IsPlain 8 (branch_data branch)
-plain-branch branch =
-    plain-object 7 _ (plain-member 2 7 _ _ _ (omega arith) (plain-all_multipliers branch.disjoint)
-    (plain-member 7 7 _ _ _ (omega arith) (plain-map 6 cold_term_data branch.terms (λ cold. plain-one 5 _ _ (plain-cold cold))) (plain-none 7)))
+plain-front : (front : WrittenFront) → IsSmallReach front.claim.back → IsSmallWay front.claim.reach → IsPlain 25 (front_data front)
+plain-front front back reach =
+    plain-object 24 _ (plain-member 24 24 _ _ _ (omega arith) (plain-reach front.claim.back back)
+    (plain-member 4 24 _ _ _ (omega arith) (plain-map 3 leaf_data front.claim.edge plain-leaf)
+    (plain-member 2 24 _ _ _ (omega arith) (plain-all_multipliers front.claim.inside)
+    (plain-member 3 24 _ _ _ (omega arith) (plain-inverse front.claim.matrix front.claim.scale)
+    (plain-member 3 24 _ _ _ (omega arith) (plain-nest front.claim.nest)
+    (plain-member 0 24 _ _ _ (omega arith) (plain-natural front.claim.outer)
+    (plain-member 4 24 _ _ _ (omega arith) (plain-map 3 polynomial_data front.outer_sums plain-polynomial)
+    (plain-member 24 24 _ _ _ (omega arith) (plain-way front.claim.reach reach)
+    (plain-member 0 24 _ _ _ (omega arith) (plain-natural front.claim.read)
+    (plain-member 2 24 _ _ _ (omega arith) (plain-all_multipliers front.claim.shown)
+    (plain-member 3 24 _ _ _ (omega arith) (plain-source front.claim.source)
+    (plain-member 4 24 _ _ _ (omega arith) (plain-map 3 polynomial_data front.sums plain-polynomial)
+    (plain-member 3 24 _ _ _ (omega arith) (plain-spot front.claim.user)
+    (plain-member 3 24 _ _ _ (omega arith) (plain-spot front.claim.vertex) (plain-none 24)))))))))))))))
 
-plain : (parts : CertificateParts) → IsWithinLimits parts → IsPlain 22 (certificate_data (written_of parts))
+plain-term : (term : Term) → IsSmallTerm term → IsPlain 26 (term_data (written_term term))
+plain-term (terms.Cold cold) h = more 6 26 (term_data (as_cold (written_cold cold))) (omega arith) (plain-one 5 _ _ (plain-cold (written_cold cold)))
+plain-term (terms.Wavefront front) h = plain-one 25 _ _ (plain-front (written_front front) h.back h.reach)
+
+plain-branch : (branch : Branch) → IsSmallBranch branch → IsPlain 28 (branch_data (written_branch branch))
+plain-branch branch h =
+    plain-object 27 _ (plain-member 2 27 _ _ _ (omega arith) (plain-all_multipliers branch.disjoint.items)
+    (plain-member 27 27 _ _ _ (omega arith) (plain-list 26 (map term_data (map written_term branch.terms.items)) (all branch.terms.items h.terms)) (plain-none 27))) where
+      all : (terms : List Term) → AllByRecursion IsSmallTerm terms → AllByRecursion (IsPlain 26) (map term_data (map written_term terms))
+      all [] k = tt
+      all (term ∷ terms) k = (plain-term term k.0, all terms k.1)
+
+plain-branches : (branches : List Branch) → AllByRecursion IsSmallBranch branches → AllByRecursion (IsPlain 28) (map branch_data (map written_branch branches))
+plain-branches [] h = tt
+plain-branches (branch ∷ branches) h = (plain-branch branch h.0, plain-branches branches h.1)
+
+plain-rows : (rows : List (Vec Quast Global)) → AllByRecursion (λ (row : Vec Quast Global). AllByRecursion (λ (quast : Quast). IsSmallTree (tree_of quast)) row.items) rows
+    → AllByRecursion (IsPlain 20) (map trees_data (map row_trees rows))
+plain-rows [] h = tt
+plain-rows (row ∷ rows) h = (plain-trees row.items h.0, plain-rows rows h.1)
+
+plain : (parts : CertificateParts) → IsWithinLimits parts → IsPlain 30 (certificate_data (written_of parts))
 plain parts limits =
-    plain-object 21 _ (plain-member 9 21 _ _ _ (omega arith) (plain-map 8 branch_data (written_of parts).branches plain-branch)
-    (plain-member 21 21 _ _ _ (omega arith) trees
-    (plain-member 0 21 _ _ _ (omega arith) (plain-natural 1) (plain-none 21)))) where
-      trees : IsPlain 21 (all_trees_data (written_of parts).trees)
-      trees = plain-list 20 (map trees_data (map row_trees parts.quasts.rows.items)) (all parts.quasts.rows.items limits.trees) where
-        all : (rows : List (Vec Quast Global)) → AllByRecursion (λ (row : Vec Quast Global). AllByRecursion (λ (quast : Quast). IsSmallTree (tree_of quast)) row.items) rows
-            → AllByRecursion (IsPlain 20) (map trees_data (map row_trees rows))
-        all [] k = tt
-        all (row ∷ rows) k = (plain-trees row.items k.0, all rows k.1)
+    plain-object 29 _ (plain-member 29 29 _ _ _ (omega arith) (plain-list 28 (map branch_data (map written_branch parts.branches)) (plain-branches parts.branches limits.branches))
+    (plain-member 21 29 _ _ _ (omega arith) (plain-list 20 (map trees_data (map row_trees parts.quasts.rows.items)) (plain-rows parts.quasts.rows.items limits.trees))
+    (plain-member 0 29 _ _ _ (omega arith) (plain-natural 1) (plain-none 29))))
 
 -- what the writer and the reader need
 pub certificate-nests : (parts : CertificateParts) → IsWithinLimits parts → depth (certificate_data (written_of parts)) ≤ max_depth

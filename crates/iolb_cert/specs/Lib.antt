@@ -1,4 +1,6 @@
 pub mod Certificates
+pub mod ColdTexts
+pub mod FrontTexts
 pub mod OneCertificate
 pub mod Terms
 pub mod Texts
@@ -6,9 +8,5 @@ pub mod Views
 pub mod Read
 pub mod WrittenCertificates
 pub mod ReadBackLaw
-pub mod Leaves
-pub mod Parts
-pub mod Polynomials
 pub mod ReadBack
-pub mod Trees
 pub mod Written

@@ -3,7 +3,8 @@ use Rattle.std.specs.Prelude.{◌≡◌, List}
 use Rattle.iolb_model.specs.Polynomial.{Polynomial}
 use Rattle.affine_form.specs.Multipliers.{FarkasMultipliers}
 use Rattle.dep_quast.specs.Tree.{SelectionTree}
-use Rattle.iolb_check.specs.Claims.{ColdClaim, TermClaim, cold, BranchClaim, CertificateClaim}
+use Rattle.poly_tree.specs.Poly.{Quotient}
+use Rattle.iolb_check.specs.Claims.{ColdClaim, FrontClaim, TermClaim, cold, front, BranchClaim, CertificateClaim}
 use Rattle.cert_parts.specs.Read.{AreAll, ArePolynomials}
 
 -- a cold term: what it claims, and its polynomials as they are written
@@ -11,17 +12,40 @@ pub record WrittenCold : Type 0 where
   pub claim : ColdClaim
   pub sums : List Polynomial
 
+-- a wavefront term, with the polynomials of its points and those of its outer variables
+pub record WrittenFront : Type 0 where
+  pub claim : FrontClaim
+  pub sums : List Polynomial
+  pub outer_sums : List Polynomial
+
+pub data WrittenTerm : Type 0 where
+  as_cold : WrittenCold → WrittenTerm
+  as_front : WrittenFront → WrittenTerm
+
 pub record WrittenBranch : Type 0 where
-  pub terms : List WrittenCold
+  pub terms : List WrittenTerm
   pub disjoint : List FarkasMultipliers
 
 pub record WrittenCertificate : Type 0 where
   pub branches : List WrittenBranch
   pub trees : List (List SelectionTree)
 
--- the term that claims what is written, and whose polynomials are those that are written
-abbrev pub IsTerm : WrittenCold → TermClaim → Type 0
-IsTerm written (cold claim sums) = (claim ≡ written.claim) × ArePolynomials written.sums sums
+-- these claims with these polynomials are those that are written
+pub record IsCold (written : WrittenCold) (claim : ColdClaim) (polynomials : List Quotient) : Type 0 where
+  pub claims : claim ≡ written.claim
+  pub sums : ArePolynomials written.sums polynomials
+
+pub record IsFront (written : WrittenFront) (claim : FrontClaim) (polynomials outer_polynomials : List Quotient) : Type 0 where
+  pub claims : claim ≡ written.claim
+  pub sums : ArePolynomials written.sums polynomials
+  pub outer_sums : ArePolynomials written.outer_sums outer_polynomials
+
+-- the term of the kind that is written, with what is written
+abbrev pub IsTerm : WrittenTerm → TermClaim → Type 0
+IsTerm (as_cold written) (cold claim sums) = IsCold written claim sums
+IsTerm (as_front written) (front claim sums outer_sums) = IsFront written claim sums outer_sums
+IsTerm (as_cold written) (front claim sums outer_sums) = ⊥
+IsTerm (as_front written) (cold claim sums) = ⊥
 
 -- the branch that is written
 abbrev pub IsBranch : WrittenBranch → BranchClaim → Type 0

@@ -1,26 +1,29 @@
 -- What the text of a certificate says.
 use Rattle.std.specs.Prelude.{map}
-use Rattle.iolb_model.specs.Polynomial.{Polynomial}
-use Rattle.poly_tree.specs.Poly.{Quotient}
-use Rattle.poly_tree.specs.Printed.{written_terms}
 use Rattle.wavefront.specs.declared.cold.Cold.{Cold}
+use Rattle.wavefront.specs.declared.front.Wavefront.{Wavefront}
 use Rattle.iolb_check.specs.Limits.{CertificateParts}
 use Rattle.iolb_check.specs.declared.term.Term.{Term}
 use Rattle.iolb_check.specs.declared.term.Term.TheVariants as terms
 use Rattle.iolb_check.specs.declared.term.Branch.{Branch}
 use Rattle.reuse_paths.specs.Quasts.{row_trees}
-use Rattle.iolb_check.specs.Claims.{claim_of_cold}
-use Rattle.iolb_cert.specs.Read.{WrittenCold, WrittenBranch, WrittenCertificate}
-
--- a polynomial, by its terms in the order in which they are printed
-abbrev pub written_polynomial : Quotient → Polynomial
-written_polynomial q = record { terms = written_terms q; denominator = q.denominator }
+use Rattle.iolb_check.specs.Claims.{claim_of_cold, claim_of_front}
+use Rattle.cert_written.specs.Polynomials.{written_polynomial}
+use Rattle.iolb_cert.specs.Read.{WrittenCold, WrittenFront, WrittenTerm, as_cold, as_front, WrittenBranch, WrittenCertificate}
 
 abbrev pub written_cold : Cold → WrittenCold
 written_cold cold = record { claim = claim_of_cold cold; sums = map written_polynomial cold.sums.sums }
 
-abbrev pub written_term : Term → WrittenCold
-written_term (terms.Cold cold) = written_cold cold
+abbrev pub written_front : Wavefront → WrittenFront
+written_front front = record {
+  claim = claim_of_front front;
+  sums = map written_polynomial front.sums.sums;
+  outer_sums = map written_polynomial front.outer_sums.items;
+}
+
+abbrev pub written_term : Term → WrittenTerm
+written_term (terms.Cold cold) = as_cold (written_cold cold)
+written_term (terms.Wavefront front) = as_front (written_front front)
 
 abbrev pub written_branch : Branch → WrittenBranch
 written_branch branch = record { terms = map written_term branch.terms.items; disjoint = branch.disjoint.items }

@@ -2,11 +2,12 @@
 use Rattle.std.specs.Prelude.{ℕ, List, map, codes}
 use Rattle.affine_form.specs.Matrix.{IntegerMatrix}
 use Rattle.serde_json.specs.Data.{Data, object, no_members, member}
-use Rattle.iolb_cert.specs.Read.{WrittenCold, WrittenBranch, WrittenCertificate}
-use Rattle.iolb_cert.specs.Parts.{list, natural, forms_data, all_multipliers_data, matrix_data, nest_data}
-use Rattle.iolb_cert.specs.Polynomials.{polynomials_data}
-use Rattle.iolb_cert.specs.Leaves.{leaves_data}
-use Rattle.iolb_cert.specs.Trees.{all_trees_data}
+use Rattle.iolb_cert.specs.Read.{WrittenCold, WrittenFront, WrittenTerm, as_cold, as_front, WrittenBranch, WrittenCertificate}
+use Rattle.cert_written.specs.Parts.{list, natural, forms_data, all_multipliers_data, matrix_data, nest_data}
+use Rattle.cert_written.specs.Polynomials.{polynomials_data}
+use Rattle.cert_written.specs.Leaves.{leaves_data}
+use Rattle.cert_written.specs.Trees.{all_trees_data}
+use Rattle.cert_written.specs.Walks.{or_null, spot_data, reach_data}
 
 -- a matrix and its scale
 abbrev pub inverse_data : IntegerMatrix → ℕ → Data
@@ -28,14 +29,33 @@ cold_data cold = object
     (member (codes "sums") (polynomials_data cold.sums)
     no_members)))))))))
 
--- a term that is a cold one
-abbrev pub cold_term_data : WrittenCold → Data
-cold_term_data cold = object (member (codes "cold") (cold_data cold) no_members)
+abbrev pub front_data : WrittenFront → Data
+front_data front = object
+    (member (codes "back") (reach_data front.claim.back)
+    (member (codes "edge") (leaves_data front.claim.edge)
+    (member (codes "inside") (all_multipliers_data front.claim.inside)
+    (member (codes "inverse") (inverse_data front.claim.matrix front.claim.scale)
+    (member (codes "nest") (nest_data front.claim.nest)
+    (member (codes "outer") (natural front.claim.outer)
+    (member (codes "outer_sums") (polynomials_data front.outer_sums)
+    (member (codes "reach") (or_null reach_data front.claim.reach)
+    (member (codes "read") (natural front.claim.read)
+    (member (codes "shown") (all_multipliers_data front.claim.shown)
+    (member (codes "source") (or_null spot_data front.claim.source)
+    (member (codes "sums") (polynomials_data front.sums)
+    (member (codes "user") (spot_data front.claim.user)
+    (member (codes "vertex") (spot_data front.claim.vertex)
+    no_members))))))))))))))
+
+-- a term, by its kind
+abbrev pub term_data : WrittenTerm → Data
+term_data (as_cold cold) = object (member (codes "cold") (cold_data cold) no_members)
+term_data (as_front front) = object (member (codes "wavefront") (front_data front) no_members)
 
 abbrev pub branch_data : WrittenBranch → Data
 branch_data branch = object
     (member (codes "disjoint") (all_multipliers_data branch.disjoint)
-    (member (codes "terms") (list (map cold_term_data branch.terms))
+    (member (codes "terms") (list (map term_data branch.terms))
     no_members))
 
 abbrev pub branches_data : List WrittenBranch → Data

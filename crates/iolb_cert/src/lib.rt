@@ -2,25 +2,19 @@
 #![tactic(auto)]
 
 mod bound_lines;
-mod forms;
-mod leaves;
-mod matrices;
 mod members;
-mod multipliers;
-mod nests;
-mod numbers;
 mod objects;
 mod one_certificate;
-mod polynomials;
 mod read_back;
 mod read_branches;
 mod read_cold;
+mod read_front;
 mod reading;
 mod terms;
 mod text;
-mod trees;
 mod written_branches;
 mod written_cold;
+mod written_front;
 
 pub use bound_lines::bound_text;
 pub use cert_parts::{CertError, CertFault};

@@ -1,121 +1,12 @@
 //! Objects, by the values of their members.
 
-ghost use Rattle.std.specs.Prelude.{◌≡◌, codes, true, IfOk};
-ghost use Rattle.serde_json.specs.Data.{boolean, member, no_members, object};
-ghost use Rattle.serde_json.specs.View.{view};
-ghost use Rattle.iolb_cert.specs.Parts.{natural};
+ghost use Rattle.std.specs.Prelude.{◌≡◌, codes, IfOk};
+ghost use Rattle.serde_json.specs.Data.{member, no_members, object};
+ghost use Rattle.serde_json.specs.View.{members_view, view};
+ghost use Rattle.cert_written.specs.Parts.{natural};
 
-use serde_json::{Value, json};
+use serde_json::{Map, Value, json, put};
 use std::alloc::{AllocError, Global};
-
-/// That no point comes to a leaf.
-pub(crate) fn empty_object(alloc: Global, shown: Value) -> Result<Value, AllocError>
-    ensures { IfOk result (λ value. view value ≡ object (member (codes "empty") (view shown) no_members)) }
-{
-    json!(in alloc; {"empty": shown})
-}
-
-/// That a walk stops at a leaf.
-pub(crate) fn stop_object(alloc: Global, label: Value) -> Result<Value, AllocError>
-    ensures { IfOk result (λ value. view value ≡ object (member (codes "stop") (view label) no_members)) }
-{
-    json!(in alloc; {"stop": label})
-}
-
-/// That a walk stops in a credited nest.
-pub(crate) fn credit_object(
-    alloc: Global,
-    credit: u8,
-    label: Value,
-    rows: Value,
-) -> Result<Value, AllocError>
-    ensures { IfOk result (λ value. view value
-        ≡ object (member (codes "credit") (natural credit) (member (codes "label") (view label) (member (codes "rows") (view rows) no_members)))) }
-{
-    json!(in alloc; {"credit": credit, "label": label, "rows": rows})
-}
-
-/// That a walk goes on.
-pub(crate) fn go_object(alloc: Global, label: Value, rows: Value) -> Result<Value, AllocError>
-    ensures { IfOk result (λ value. view value
-        ≡ object (member (codes "label") (view label) (member (codes "rows") (view rows) no_members))) }
-{
-    json!(in alloc; {"label": label, "rows": rows})
-}
-
-/// That a walk arrives.
-pub(crate) fn arrive_object(alloc: Global, equal: Value) -> Result<Value, AllocError>
-    ensures { IfOk result (λ value. view value ≡ object (member (codes "arrive") (view equal) no_members)) }
-{
-    json!(in alloc; {"arrive": equal})
-}
-
-/// A source.
-pub(crate) fn source_object(
-    alloc: Global,
-    before: Value,
-    between: Value,
-    cell: Value,
-    domain: Value,
-    level: u8,
-    point: Value,
-    statement: u16,
-) -> Result<Value, AllocError>
-    ensures { IfOk result (λ value. view value ≡ object
-        (member (codes "before") (view before)
-        (member (codes "between") (view between)
-        (member (codes "cell") (view cell)
-        (member (codes "domain") (view domain)
-        (member (codes "level") (natural level)
-        (member (codes "point") (view point)
-        (member (codes "statement") (natural statement)
-        no_members)))))))) }
-{
-    json!(in alloc; {
-        "before": before,
-        "between": between,
-        "cell": cell,
-        "domain": domain,
-        "level": level,
-        "point": point,
-        "statement": statement,
-    })
-}
-
-/// That no earlier instance writes the cell.
-pub(crate) fn input_object(alloc: Global, earlier: Value) -> Result<Value, AllocError>
-    ensures { IfOk result (λ value. view value ≡ object (member (codes "input") (view earlier) no_members)) }
-{
-    json!(in alloc; {"input": earlier})
-}
-
-/// A leaf that claims nothing.
-pub(crate) fn blank_object(alloc: Global) -> Result<Value, AllocError>
-    ensures { IfOk result (λ value. view value ≡ object (member (codes "blank") (boolean true) no_members)) }
-{
-    json!(in alloc; {"blank": true})
-}
-
-/// A test.
-pub(crate) fn test_object(
-    alloc: Global,
-    form: Value,
-    no: Value,
-    yes: Value,
-) -> Result<Value, AllocError>
-    ensures { IfOk result (λ value. view value
-        ≡ object (member (codes "form") (view form) (member (codes "no") (view no) (member (codes "yes") (view yes) no_members)))) }
-{
-    json!(in alloc; {"form": form, "no": no, "yes": yes})
-}
-
-/// A polynomial.
-pub(crate) fn polynomial_object(alloc: Global, den: u64, terms: Value) -> Result<Value, AllocError>
-    ensures { IfOk result (λ value. view value
-        ≡ object (member (codes "den") (natural den) (member (codes "terms") (view terms) no_members))) }
-{
-    json!(in alloc; {"den": den, "terms": terms})
-}
 
 /// A matrix and its scale.
 pub(crate) fn inverse_object(alloc: Global, matrix: Value, scale: u32) -> Result<Value, AllocError>
@@ -163,11 +54,96 @@ pub(crate) fn cold_object(
     })
 }
 
+/// The members of a wavefront term from `reach` on, the last first, so that each is put in front of those that are there.
+fn front_behind(
+    alloc: Global,
+    reach: Value,
+    read: u16,
+    shown: Value,
+    source: Value,
+    sums: Value,
+    user: Value,
+    vertex: Value,
+) -> Result<Map<String, Value>, AllocError>
+    ensures { IfOk result (λ members. members_view members.entries ≡
+        member (codes "reach") (view reach)
+        (member (codes "read") (natural read)
+        (member (codes "shown") (view shown)
+        (member (codes "source") (view source)
+        (member (codes "sums") (view sums)
+        (member (codes "user") (view user)
+        (member (codes "vertex") (view vertex)
+        no_members))))))) }
+{
+    let mut members = Map::new(alloc);
+    put(&mut members, alloc, "vertex", vertex)?;
+    put(&mut members, alloc, "user", user)?;
+    put(&mut members, alloc, "sums", sums)?;
+    put(&mut members, alloc, "source", source)?;
+    put(&mut members, alloc, "shown", shown)?;
+    put(&mut members, alloc, "read", Value::from(read))?;
+    put(&mut members, alloc, "reach", reach)?;
+    Ok(members)
+}
+
+/// A wavefront term.
+pub(crate) fn front_object(
+    alloc: Global,
+    back: Value,
+    edge: Value,
+    inside: Value,
+    inverse: Value,
+    nest: Value,
+    outer: u8,
+    outer_sums: Value,
+    reach: Value,
+    read: u16,
+    shown: Value,
+    source: Value,
+    sums: Value,
+    user: Value,
+    vertex: Value,
+) -> Result<Value, AllocError>
+    ensures { IfOk result (λ value. view value ≡ object
+        (member (codes "back") (view back)
+        (member (codes "edge") (view edge)
+        (member (codes "inside") (view inside)
+        (member (codes "inverse") (view inverse)
+        (member (codes "nest") (view nest)
+        (member (codes "outer") (natural outer)
+        (member (codes "outer_sums") (view outer_sums)
+        (member (codes "reach") (view reach)
+        (member (codes "read") (natural read)
+        (member (codes "shown") (view shown)
+        (member (codes "source") (view source)
+        (member (codes "sums") (view sums)
+        (member (codes "user") (view user)
+        (member (codes "vertex") (view vertex)
+        no_members))))))))))))))) }
+{
+    let mut members = front_behind(alloc, reach, read, shown, source, sums, user, vertex)?;
+    put(&mut members, alloc, "outer_sums", outer_sums)?;
+    put(&mut members, alloc, "outer", Value::from(outer))?;
+    put(&mut members, alloc, "nest", nest)?;
+    put(&mut members, alloc, "inverse", inverse)?;
+    put(&mut members, alloc, "inside", inside)?;
+    put(&mut members, alloc, "edge", edge)?;
+    put(&mut members, alloc, "back", back)?;
+    Ok(Value::Object(members))
+}
+
 /// A term that is a cold one.
 pub(crate) fn cold_term_object(alloc: Global, cold: Value) -> Result<Value, AllocError>
     ensures { IfOk result (λ value. view value ≡ object (member (codes "cold") (view cold) no_members)) }
 {
     json!(in alloc; {"cold": cold})
+}
+
+/// A term that is a wavefront term.
+pub(crate) fn front_term_object(alloc: Global, front: Value) -> Result<Value, AllocError>
+    ensures { IfOk result (λ value. view value ≡ object (member (codes "wavefront") (view front) no_members)) }
+{
+    json!(in alloc; {"wavefront": front})
 }
 
 /// A branch.

@@ -5,11 +5,11 @@ ghost use Rattle.serde_json.specs.View.{view};
 ghost use Rattle.iolb_check.specs.Claims.{claim_of_cold};
 ghost use Rattle.cert_parts.specs.Outcome.{Gives, GivesBy};
 ghost use Rattle.reuse_paths.specs.LeafClaims.{claim_of};
-ghost use Rattle.iolb_cert.specs.Terms.{reads_cold_front, reads_cold_middle, reads_cold_members, reads_cold, cold_claim};
-ghost use Rattle.iolb_cert.specs.Views.{cold_term, front_of, middle_of};
-ghost use Rattle.iolb_cert.specs.Read.{IsTerm};
+ghost use Rattle.iolb_cert.specs.ColdTexts.{reads_cold_head, reads_cold_middle, reads_cold_members, reads_cold, cold_claim};
+ghost use Rattle.iolb_cert.specs.Views.{head_of, middle_of};
+ghost use Rattle.iolb_cert.specs.Read.{IsCold};
 
-use crate::members::{inverse_part, nest_part, sums_part};
+use crate::members::{inverse_part, nest_part, polynomials_part};
 use affine_form::{Form, Multipliers};
 use cert_parts::{
     CertError, all_shown_part, fault, forms_part, has_keys, leaves_part, natural_part,
@@ -32,9 +32,9 @@ pub(crate) struct ColdParts {
 }
 
 /// The first members of a cold term.
-#[tactic(auto, unfolding(crate::specs::Terms::reads_cold_front))]
-fn front(alloc: Global, value: &Value) -> Result<ColdParts, CertError>
-    ensures { Gives front_of result (reads_cold_front (view value.now)) }
+#[tactic(auto, unfolding(crate::specs::ColdTexts::reads_cold_head))]
+fn head(alloc: Global, value: &Value) -> Result<ColdParts, CertError>
+    ensures { Gives head_of result (reads_cold_head (view value.now)) }
 {
     let inside = all_shown_part(alloc, value, "inside", key::INSIDE)?;
     let inverse = inverse_part(alloc, value)?;
@@ -58,7 +58,7 @@ pub(crate) struct ColdPlaces {
 }
 
 /// The members between the first and the polynomials.
-#[tactic(auto, unfolding(crate::specs::Terms::reads_cold_middle))]
+#[tactic(auto, unfolding(crate::specs::ColdTexts::reads_cold_middle))]
 fn middle(alloc: Global, value: &Value) -> Result<ColdPlaces, CertError>
     ensures { Gives middle_of result (reads_cold_middle (view value.now)) }
 {
@@ -75,36 +75,36 @@ fn middle(alloc: Global, value: &Value) -> Result<ColdPlaces, CertError>
 }
 
 /// The cold term of these parts.
-fn made(front: ColdParts, middle: ColdPlaces, sums: Vec<Poly>) -> Cold
-    ensures claim { claim_of_cold result ≡ cold_claim (front_of front) (middle_of middle) }
+fn made(head: ColdParts, middle: ColdPlaces, sums: Vec<Poly>) -> Cold
+    ensures claim { claim_of_cold result ≡ cold_claim (head_of head) (middle_of middle) }
     ensures sums { result.sums.sums ≡ sums.items }
 {
     Cold {
         statement: middle.statement,
         read: middle.read,
-        nest: front.nest,
+        nest: head.nest,
         sums: Sums::new(middle.shown, sums),
         point: middle.point,
-        inside: front.inside,
-        inverse: front.inverse,
-        leaves: front.leaves,
+        inside: head.inside,
+        inverse: head.inverse,
+        leaves: head.leaves,
     }
 }
 
 /// The members of a cold term.
 fn members(alloc: Global, value: &Value) -> Result<Cold, CertError>
-    ensures { GivesBy (λ said found. IsTerm said (cold_term found)) result (reads_cold_members (view value.now)) }
+    ensures { GivesBy (λ said found. IsCold said (claim_of_cold found) found.sums.sums) result (reads_cold_members (view value.now)) }
 {
-    let front = front(alloc, value)?;
+    let head = head(alloc, value)?;
     let middle = middle(alloc, value)?;
-    let sums = sums_part(alloc, value)?;
-    Ok(made(front, middle, sums))
+    let sums = polynomials_part(alloc, value, "sums", key::SUMS)?;
+    Ok(made(head, middle, sums))
 }
 
 /// A cold term.
-#[tactic(auto, unfolding(crate::specs::Terms::reads_cold))]
+#[tactic(auto, unfolding(crate::specs::ColdTexts::reads_cold))]
 pub(crate) fn cold(alloc: Global, value: &Value) -> Result<Cold, CertError>
-    ensures { GivesBy (λ said found. IsTerm said (cold_term found)) result (reads_cold (view value.now)) }
+    ensures { GivesBy (λ said found. IsCold said (claim_of_cold found) found.sums.sums) result (reads_cold (view value.now)) }
 {
     let keys = [
         "inside",

@@ -1,20 +1,70 @@
 //! The texts of terms.
 
-ghost use Rattle.std.specs.Prelude.{◌≡◌, map};
+ghost use Rattle.std.specs.Prelude.{◌≡◌, codes, map};
+ghost use Rattle.claims.specs.declared.key.TheConstants.{COLD, WAVEFRONT};
 ghost use Rattle.serde_json.specs.View.{view};
-ghost use Rattle.iolb_check.specs.Claims.{claim_of_term};
+ghost use Rattle.iolb_check.specs.Claims.{claim_of_cold, claim_of_front, claim_of_term};
 ghost use Rattle.cert_parts.specs.Outcome.{GivesBy};
+ghost use Rattle.cert_parts.specs.Json.{part};
 ghost use Rattle.cert_parts.specs.Read.{AreAll};
-ghost use Rattle.iolb_cert.specs.Terms.{reads_term, reads_terms};
-ghost use Rattle.iolb_cert.specs.Read.{IsTerm};
+ghost use Rattle.iolb_cert.specs.ColdTexts.{reads_cold};
+ghost use Rattle.iolb_cert.specs.FrontTexts.{reads_front};
+ghost use Rattle.iolb_cert.specs.Terms.{reads_cold_term, reads_front_term, reads_term, reads_terms};
+ghost use Rattle.iolb_cert.specs.Read.{IsCold, IsFront, IsTerm};
 
 use crate::read_cold::cold;
+use crate::read_front::front;
 use cert_parts::{CertError, fault, has_keys, short_list, under};
 use claims::{Step, key};
 use iolb_check::Term;
 use iolb_model::limits;
 use serde_json::Value;
 use std::alloc::Global;
+use wavefront::{Cold, Wavefront};
+
+/// The member `cold`.
+fn cold_part(alloc: Global, value: &Value) -> Result<Cold, CertError>
+    ensures { GivesBy (λ said found. IsCold said (claim_of_cold found) found.sums.sums) result (part (codes "cold") COLD reads_cold (view value.now)) }
+{
+    match value.get("cold") {
+        Some(member) => match cold(alloc, member) {
+            Ok(found) => Ok(found),
+            Err(error) => Err(under(alloc, Step::Key(key::COLD), error)),
+        },
+        None => Err(fault(alloc, 2)),
+    }
+}
+
+/// A cold term, behind its key.
+#[tactic(auto, unfolding(crate::specs::Terms::reads_cold_term))]
+fn cold_term(alloc: Global, value: &Value) -> Result<Term, CertError>
+    ensures { GivesBy (λ said found. IsTerm said (claim_of_term found)) result (reads_cold_term (view value.now)) }
+{
+    let found = cold_part(alloc, value)?;
+    Ok(Term::Cold(found))
+}
+
+/// The member `wavefront`.
+fn front_part(alloc: Global, value: &Value) -> Result<Wavefront, CertError>
+    ensures { GivesBy (λ said found. IsFront said (claim_of_front found) found.sums.sums found.outer_sums.items) result (part (codes "wavefront") WAVEFRONT reads_front (view value.now)) }
+{
+    match value.get("wavefront") {
+        Some(member) => match front(alloc, member) {
+            Ok(found) => Ok(found),
+            Err(error) => Err(under(alloc, Step::Key(key::WAVEFRONT), error)),
+        },
+        None => Err(fault(alloc, 2)),
+    }
+}
+
+/// A wavefront term, behind its key.
+#[tactic(auto, unfolding(crate::specs::Terms::reads_front_term))]
+fn front_term(alloc: Global, value: &Value) -> Result<Term, CertError>
+    ensures { GivesBy (λ said found. IsTerm said (claim_of_term found)) result (reads_front_term (view value.now)) }
+{
+    let found = front_part(alloc, value)?;
+    Ok(Term::Wavefront(found))
+}
 
 /// A term, told by its key.
 #[tactic(auto, unfolding(crate::specs::Terms::reads_term))]
@@ -22,15 +72,10 @@ fn term(alloc: Global, value: &Value) -> Result<Term, CertError>
     ensures { GivesBy (λ said found. IsTerm said (claim_of_term found)) result (reads_term (view value.now)) }
 {
     if has_keys(value, &["cold"]) {
-        return match value.get("cold") {
-            Some(member) => match cold(alloc, member) {
-                Ok(found) => Ok(Term::Cold(found)),
-                Err(error) => Err(under(alloc, Step::Key(key::COLD), error)),
-            },
-            None => Err(fault(alloc, 2)),
-        };
-    }
-    if has_keys(value, &["partition"]) || has_keys(value, &["wavefront"]) {
+        cold_term(alloc, value)
+    } else if has_keys(value, &["wavefront"]) {
+        front_term(alloc, value)
+    } else if has_keys(value, &["partition"]) {
         Err(fault(alloc, 4))
     } else {
         Err(fault(alloc, 2))

@@ -4,16 +4,16 @@ ghost use Rattle.std.specs.Prelude.{◌≡◌, map, IfOk};
 ghost use Rattle.std.specs.List.{AllByRecursion};
 ghost use Rattle.iolb_check.specs.Limits.{IsSmallTerm, IsSmallBranch, IsWithinLimits};
 ghost use Rattle.serde_json.specs.View.{view};
-ghost use Rattle.iolb_cert.specs.WrittenCertificates.{cold_term_data, branch_data, branches_data, certificate_data};
-ghost use Rattle.iolb_cert.specs.Parts.{list};
+ghost use Rattle.iolb_cert.specs.WrittenCertificates.{term_data, branch_data, branches_data, certificate_data};
+ghost use Rattle.cert_written.specs.Parts.{list};
 ghost use Rattle.iolb_cert.specs.ReadBack.{TermIsRead, BranchIsRead, CertificateIsRead};
 ghost use Rattle.iolb_cert.specs.Written.{written_term, written_branch, written_of};
 
-use crate::multipliers::all_multipliers;
-use crate::objects::{branch_object, certificate_object, cold_term_object};
-use crate::trees::all_trees;
+use crate::objects::{branch_object, certificate_object, cold_term_object, front_term_object};
 use crate::written_cold::cold;
+use crate::written_front::front;
 use affine_form::Memory;
+use cert_written::{all_multipliers, all_trees};
 use iolb_check::{Branch, Certificate, Term};
 use serde_json::Value;
 use std::alloc::Global;
@@ -21,7 +21,7 @@ use std::alloc::Global;
 /// A term.
 fn term(alloc: Global, term: &Term) -> Result<Value, Memory>
     requires { IsSmallTerm term.now }
-    ensures value { IfOk result (λ value. view value ≡ cold_term_data (written_term term.now)) }
+    ensures value { IfOk result (λ value. view value ≡ term_data (written_term term.now)) }
     ensures read { IfOk result (λ _. TermIsRead term.now) }
 {
     match term {
@@ -29,13 +29,17 @@ fn term(alloc: Global, term: &Term) -> Result<Value, Memory>
             let cold = cold(alloc, term)?;
             Ok(cold_term_object(alloc, cold)?)
         }
+        Term::Wavefront(term) => {
+            let front = front(alloc, term)?;
+            Ok(front_term_object(alloc, front)?)
+        }
     }
 }
 
 /// The terms of a branch.
 fn terms(alloc: Global, terms: &[Term]) -> Result<Value, Memory>
     requires { AllByRecursion IsSmallTerm terms.now }
-    ensures value { IfOk result (λ value. view value ≡ list (map cold_term_data (map written_term terms.now))) }
+    ensures value { IfOk result (λ value. view value ≡ list (map term_data (map written_term terms.now))) }
     ensures read { IfOk result (λ _. AllByRecursion TermIsRead terms.now) }
 {
     let mut items = Vec::new(alloc);

@@ -4,23 +4,19 @@ ghost use Rattle.std.specs.Prelude.{◌≡◌, IfOk};
 ghost use Rattle.iolb_check.specs.Limits.{IsSmallCold};
 ghost use Rattle.serde_json.specs.View.{view};
 ghost use Rattle.iolb_cert.specs.WrittenCertificates.{inverse_data, cold_data};
-ghost use Rattle.iolb_cert.specs.ReadBack.{MatrixIsRead, ColdIsRead};
+ghost use Rattle.cert_written.specs.ReadBack.{MatrixIsRead};
+ghost use Rattle.iolb_cert.specs.ReadBack.{ColdIsRead};
 ghost use Rattle.iolb_cert.specs.Written.{written_cold};
 
-use crate::forms::forms;
-use crate::leaves::leaves;
-use crate::matrices::matrix;
-use crate::multipliers::all_multipliers;
-use crate::nests::nest;
 use crate::objects::{cold_object, inverse_object};
-use crate::polynomials::polynomials;
 use affine_form::Memory;
+use cert_written::{all_forms, all_leaves, all_multipliers, all_polynomials, matrix, nest};
 use serde_json::Value;
 use std::alloc::Global;
 use wavefront::{Cold, Inverse};
 
 /// A matrix and its scale.
-fn inverse(alloc: Global, inverse: &Inverse) -> Result<Value, Memory>
+pub(crate) fn inverse(alloc: Global, inverse: &Inverse) -> Result<Value, Memory>
     ensures value { IfOk result (λ value. view value ≡ inverse_data inverse.now.matrix inverse.now.scale) }
     ensures read { IfOk result (λ _. MatrixIsRead inverse.now.matrix) }
 {
@@ -36,11 +32,11 @@ pub(crate) fn cold(alloc: Global, cold: &Cold) -> Result<Value, Memory>
 {
     let inside = all_multipliers(alloc, cold.inside.as_slice())?;
     let inverse = inverse(alloc, &cold.inverse)?;
-    let leaves = leaves(alloc, cold.leaves.as_slice())?;
+    let leaves = all_leaves(alloc, cold.leaves.as_slice())?;
     let nest = nest(alloc, &cold.nest)?;
-    let point = forms(alloc, cold.point.as_slice())?;
+    let point = all_forms(alloc, cold.point.as_slice())?;
     let shown = all_multipliers(alloc, cold.sums.shown())?;
-    let sums = polynomials(alloc, cold.sums.sums())?;
+    let sums = all_polynomials(alloc, cold.sums.sums())?;
     Ok(cold_object(
         alloc,
         inside,

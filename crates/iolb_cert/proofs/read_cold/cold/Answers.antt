@@ -4,9 +4,9 @@ use Rattle.serde_json.specs.View.{view}
 use Rattle.cert_parts.specs.Outcome.{GivesBy, fault}
 use Rattle.cert_parts.specs.Json.{has_keys, with_keys}
 use Rattle.cert_parts.proofs.Members.{fails_fault}
-use Rattle.iolb_cert.specs.Terms.{cold_keys, reads_cold, reads_cold_members}
-use Rattle.iolb_cert.specs.Views.{cold_term}
-use Rattle.iolb_cert.specs.Read.{IsTerm}
+use Rattle.iolb_cert.specs.ColdTexts.{cold_keys, reads_cold, reads_cold_members}
+use Rattle.iolb_cert.specs.Read.{IsCold}
+use Rattle.iolb_check.specs.Claims.{claim_of_cold}
 use Rattle.wavefront.specs.declared.cold.Cold.{Cold}
 use Rattle.iolb_cert.proofs.read_cold.cold.Goals as goal
 
@@ -23,4 +23,4 @@ returns-then-not-has_keys c =
     fails_fault 2 c.fault.result (reads_cold (view c.args.value.now)) c.fault.ensures (other (view c.args.value.now) (sym c.if-not-has_keys.ensures))
 
 pub returns : goal.returns
-returns c = subst (GivesBy (λ said (found : Cold). IsTerm said (cold_term found)) c.members.result) (sym (same (view c.args.value.now) (sym c.if-not-has_keys.ensures))) c.members.ensures
+returns c = subst (GivesBy (λ said (found : Cold). IsCold said (claim_of_cold found) found.sums.sums) c.members.result) (sym (same (view c.args.value.now) (sym c.if-not-has_keys.ensures))) c.members.ensures

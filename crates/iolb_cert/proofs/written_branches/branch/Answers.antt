@@ -2,7 +2,8 @@ use Rattle.std.proofs.Common.{subst, List}
 use Rattle.std.specs.List.{AllByRecursion}
 use Rattle.affine_form.specs.Multipliers.{FarkasMultipliers}
 use Rattle.iolb_check.specs.declared.term.Term.{Term}
-use Rattle.iolb_cert.specs.ReadBack.{AreMultipliersRead, TermIsRead}
+use Rattle.cert_written.specs.ReadBack.{AreMultipliersRead}
+use Rattle.iolb_cert.specs.ReadBack.{TermIsRead}
 use Rattle.iolb_cert.proofs.ReadCertificates.{branch-read}
 use Rattle.iolb_cert.proofs.written_branches.branch.Goals as goal
 

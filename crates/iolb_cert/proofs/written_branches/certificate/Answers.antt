@@ -3,7 +3,8 @@ use Rattle.std.specs.List.{AllByRecursion}
 use Rattle.dep_quast.specs.declared.quast.Quast.{Quast}
 use Rattle.reuse_paths.specs.declared.quasts.Quasts.{Quasts}
 use Rattle.iolb_check.specs.declared.term.Branch.{Branch}
-use Rattle.iolb_cert.specs.ReadBack.{BranchIsRead, TreesAreRead}
+use Rattle.cert_written.specs.ReadBack.{TreesAreRead}
+use Rattle.iolb_cert.specs.ReadBack.{BranchIsRead}
 use Rattle.iolb_cert.proofs.ReadCertificates.{certificate-read}
 use Rattle.iolb_cert.proofs.written_branches.certificate.Goals as goal
 

@@ -4,8 +4,8 @@ use Rattle.iolb_model.specs.Form.{AffineForm}
 use Rattle.affine_form.specs.Multipliers.{FarkasMultipliers}
 use Rattle.poly_tree.specs.Poly.{Quotient}
 use Rattle.reuse_paths.specs.declared.leaf.Leaf.{Leaf}
-use Rattle.iolb_cert.specs.ReadBack.{FormIsRead, AreMultipliersRead, LeafIsRead, PolynomialIsRead}
-use Rattle.iolb_cert.proofs.ReadCertificates.{cold-read}
+use Rattle.cert_written.specs.ReadBack.{FormIsRead, AreMultipliersRead, LeafIsRead, PolynomialIsRead}
+use Rattle.iolb_cert.proofs.ReadTerms.{cold-read}
 use Rattle.iolb_cert.proofs.written_cold.cold.Goals as goal
 
 abbrev AllRead : List FarkasMultipliers → Type 0

@@ -1,0 +1,15 @@
+pub mod Given
+pub mod PartLimits
+pub mod EntryLimits
+pub mod PolynomialLimits
+pub mod TreeLimits
+pub mod WalkLimits
+pub mod Plain
+pub mod PlainWalks
+pub mod ReadLists
+pub mod ReadParts
+pub mod ReadLeaves
+pub mod ReadPolynomials
+pub mod ReadTrees
+pub mod ReadWalks
+pub mod Rest

@@ -1,0 +1,26 @@
+//! The parts of certificates as JSON values, written: forms, multipliers, matrices, polynomials, nests, source trees,
+//! claims at their leaves, walks back along them, spots, and what shows that walks arrive.
+//!
+//! Each writer makes a JSON value (RFC 8259), exactly, and shows that the reader of the part gives it back.
+#![tactic(auto)]
+
+mod forms;
+mod leaves;
+mod matrices;
+mod multipliers;
+mod nests;
+mod numbers;
+mod objects;
+mod polynomials;
+mod reaches;
+mod trees;
+mod walks;
+
+pub use forms::all_forms;
+pub use leaves::all_leaves;
+pub use matrices::matrix;
+pub use multipliers::all_multipliers;
+pub use nests::nest;
+pub use polynomials::all_polynomials;
+pub use reaches::{reach, source, spot, way};
+pub use trees::all_trees;

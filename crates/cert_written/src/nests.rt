@@ -1,0 +1,45 @@
+//! Nests.
+
+ghost use Rattle.std.specs.Prelude.{◌≡◌, IfOk};
+ghost use Rattle.std.specs.List.{AllByRecursion};
+ghost use Rattle.iolb_model.specs.Form.{AffineForm};
+ghost use Rattle.serde_json.specs.View.{view};
+ghost use Rattle.cert_written.specs.Parts.{form_data, pair_data, nest_data, list};
+ghost use Rattle.cert_written.specs.ReadBack.{PairIsRead};
+
+use crate::forms::form;
+use affine_form::{Form, Memory};
+use domain_count::Nest;
+use serde_json::Value;
+use std::alloc::Global;
+
+/// A variable by its lower and its upper form.
+fn pair(alloc: Global, lower: &Form, upper: &Form) -> Result<Value, Memory>
+    ensures value { IfOk result (λ value. view value ≡ pair_data (lower.now, upper.now)) }
+    ensures read { IfOk result (λ _. PairIsRead (lower.now, upper.now)) }
+{
+    let mut items = Vec::new(alloc);
+    items.push(form(alloc, lower)?)?;
+    items.push(form(alloc, upper)?)?;
+    Ok(Value::Array(items))
+}
+
+/// The bounds of a nest's variables.
+fn pairs(alloc: Global, bounds: &[(Form, Form)]) -> Result<Value, Memory>
+    ensures value { IfOk result (λ value. view value ≡ nest_data bounds.now) }
+    ensures read { IfOk result (λ _. AllByRecursion PairIsRead bounds.now) }
+{
+    let mut items = Vec::new(alloc);
+    for (lower, upper) in bounds {
+        items.push(pair(alloc, lower, upper)?)?;
+    }
+    Ok(Value::Array(items))
+}
+
+/// A nest.
+pub fn nest(alloc: Global, nest: &Nest) -> Result<Value, Memory>
+    ensures value { IfOk result (λ value. view value ≡ nest_data nest.now) }
+    ensures read { IfOk result (λ _. AllByRecursion PairIsRead nest.now) }
+{
+    pairs(alloc, nest.bounds())
+}

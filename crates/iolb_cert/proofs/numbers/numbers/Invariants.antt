@@ -1,8 +1,0 @@
-use Rattle.std.proofs.Common.{◌≡◌, ◌++◌, map, drop}
-use Rattle.serde_json.specs.View.{view}
-use Rattle.iolb_cert.specs.Parts.{whole}
-use Rattle.iolb_cert.proofs.numbers.numbers.Given as goal
-
-abbrev pub invariant-loop-number : goal.invariant-loop-number
-invariant-loop-number l =
-    map view l.items.items ++ map whole (drop l.number-index l.numbers) ≡ map whole l.numbers
