@@ -5,18 +5,12 @@
 mod answer;
 mod call;
 mod checking;
-#[cfg(test)]
-mod condition_tests;
 mod law;
 mod lines;
 mod pointer_text;
-#[cfg(test)]
-mod samples;
 mod status;
 mod stop;
 mod system;
-#[cfg(test)]
-mod tests;
 mod writing;
 
 pub use call::run;

@@ -1,18 +1,10 @@
 //! Operations on polynomials.
 
-ghost use Rattle.std.specs.Prelude.{◌≡◌, ◌≤◌, ◌≤ℤ◌, length, pos};
+ghost use Rattle.std.specs.Prelude.{◌≤ℤ◌, pos};
 
-use affine_form::Name;
 use poly_tree::{Poly, PolyFault};
 use std::alloc::Global;
 use std::test::Fail;
-
-fn name(alloc: Global, bytes: &[u8]) -> Result<Name, Fail>
-    requires some { 1 ≤ length bytes.now }
-    requires few { length bytes.now ≤ 64 }
-{
-    Ok(Name::new(Vec::from_slice(alloc, bytes)?))
-}
 
 fn quadratic(alloc: Global, square: i8, linear: i8, den: i8) -> Result<Poly, Fail>
     requires { pos 1 ≤ℤ den }
@@ -63,32 +55,5 @@ fn refuses_what_is_wide(rt: HostRuntime) -> Result<(), Fail> {
     let terms = vec![in alloc; (1i128 << 62, vec![in alloc; 1]?)]?;
     let wide = Poly::from_terms(alloc, &terms, 1 << 64);
     assert!(rt; matches!(wide, Err(PolyFault::Wide)));
-    Ok(())
-}
-
-#[test]
-fn prints(rt: HostRuntime) -> Result<(), Fail> {
-    let alloc = rt.alloc();
-    let names = vec![in alloc; name(alloc, b"N")?, name(alloc, b"M")?]?;
-    let terms = vec![in alloc;
-        (-1, vec![in alloc; 0, 1]?),
-        (3, vec![in alloc; 0, 0]?),
-        (1, vec![in alloc; 1, 1]?),
-        (-2, vec![in alloc; 2, 0]?),
-    ]?;
-    let whole = Poly::from_terms(alloc, &terms, 1)?;
-    assert_eq!(rt;
-        whole.text(alloc, &names)?.as_slice(),
-        b"-2*N^2 + N*M - M + 3".as_slice()
-    );
-    let half = quadratic(alloc, 1, -1, 2)?;
-    assert_eq!(rt;
-        half.text(alloc, &names)?.as_slice(),
-        b"(N^2 - N)/2".as_slice()
-    );
-    assert_eq!(rt;
-        quadratic(alloc, 0, 0, 2)?.text(alloc, &names)?.as_slice(),
-        b"0".as_slice()
-    );
     Ok(())
 }

@@ -1,0 +1,142 @@
+//! Calls, and what they answer.
+
+use crate::scene::{Failing, Scene};
+use iolb_call::run;
+use iolb_host::{Files, MemFiles, MemSink};
+use std::alloc::{AllocError, Global};
+use std::collections::BTreeMap;
+
+/// The numbers of the calls that fail: one, or none.
+fn numbers(alloc: Global, number: Option<u32>) -> Result<Vec<u32>, AllocError> {
+    let mut numbers = Vec::new(alloc);
+    if let Some(number) = number {
+        numbers.push(number)?;
+    }
+    Ok(numbers)
+}
+
+/// The words of a line.
+fn words_of(alloc: Global, line: &str) -> Result<Vec<String>, AllocError> {
+    let mut words = Vec::new(alloc);
+    for word in line.split_whitespace() {
+        words.push(word.to_string(alloc)?)?;
+    }
+    Ok(words)
+}
+
+/// What a call with these words over these files answers: what it wrote to the output and to the standard error, and its
+/// status.
+fn answer(
+    alloc: Global,
+    words: &Vec<String>,
+    files: BTreeMap<String, Vec<u8>>,
+    failing: Option<Failing>,
+) -> Result<Vec<u8>, AllocError> {
+    let (reads, output, error) = match failing {
+        Some(Failing::Read(number)) => (Some(number), None, None),
+        Some(Failing::Output(number)) => (None, Some(number), None),
+        Some(Failing::Error(number)) => (None, None, Some(number)),
+        None => (None, None, None),
+    };
+    let mut files = MemFiles::new(alloc, files, numbers(alloc, reads)?);
+    let mut out = MemSink::new(alloc, numbers(alloc, output)?);
+    let mut err = MemSink::new(alloc, numbers(alloc, error)?);
+    let status = run(alloc, words, &mut files, &mut out, &mut err).number();
+    let mut answer = Vec::from_slice(alloc, out.bytes())?;
+    answer.extend_from_slice(err.bytes())?;
+    answer.extend_from_slice(format!(in alloc; "status {status}\n")?.as_bytes())?;
+    Ok(answer)
+}
+
+/// Writes lengths in a row, and the answer that they have in common.
+fn write_lengths(
+    alloc: Global,
+    transcript: &mut Vec<u8>,
+    first: usize,
+    last: usize,
+    answer: &[u8],
+) -> Result<(), AllocError> {
+    let line = if first == last {
+        format!(in alloc; "after {first}\n")?
+    } else {
+        format!(in alloc; "after {first} to {last}\n")?
+    };
+    transcript.extend_from_slice(line.as_bytes())?;
+    transcript.extend_from_slice(answer)
+}
+
+/// What the scene's call answers where a file is cut after so many bytes.
+fn cut_answer<F: Files>(
+    alloc: Global,
+    scene: &Scene,
+    folder: &mut F,
+    words: &Vec<String>,
+    name: &str,
+    length: usize,
+) -> Result<Vec<u8>, AllocError> {
+    let mut files = scene.files(folder, words.as_slice())?;
+    if let Some(bytes) = files.get_mut(name) {
+        bytes.truncate(length);
+    }
+    answer(alloc, words, files, scene.failing)
+}
+
+/// The length of a file without its last byte; 0 where there is none.
+fn length_without_end<F: Files>(
+    scene: &Scene,
+    folder: &mut F,
+    name: &str,
+) -> Result<usize, AllocError> {
+    match scene.content(folder, name)? {
+        Some(bytes) => Ok(bytes.len().saturating_sub(1)),
+        None => Ok(0),
+    }
+}
+
+/// Makes the scene's call with a file that is cut after each of its bytes, and writes the answers.
+fn call_cut<F: Files>(
+    alloc: Global,
+    scene: &Scene,
+    folder: &mut F,
+    words: &Vec<String>,
+    name: &str,
+    transcript: &mut Vec<u8>,
+) -> Result<(), AllocError> {
+    let length = length_without_end(scene, folder, name)?;
+    let mut first = 0;
+    let mut common = cut_answer(alloc, scene, folder, words, name, 0)?;
+    for cut in 1..length {
+        let next = cut_answer(alloc, scene, folder, words, name, cut)?;
+        if next.as_slice() != common.as_slice() {
+            write_lengths(alloc, transcript, first, cut - 1, common.as_slice())?;
+            first = cut;
+            common = next;
+        }
+    }
+    write_lengths(
+        alloc,
+        transcript,
+        first,
+        length.saturating_sub(1),
+        common.as_slice(),
+    )
+}
+
+/// Makes the scene's call with the words of a line, and writes what it answers.
+pub(crate) fn call<F: Files>(
+    alloc: Global,
+    scene: &Scene,
+    folder: &mut F,
+    line: &str,
+    transcript: &mut Vec<u8>,
+) -> Result<(), AllocError> {
+    let words = words_of(alloc, line)?;
+    match &scene.cuts {
+        Some(name) => call_cut(alloc, scene, folder, &words, name.as_str(), transcript),
+        None => {
+            let files = scene.files(folder, words.as_slice())?;
+            let answer = answer(alloc, &words, files, scene.failing)?;
+            transcript.extend_from_slice(answer.as_slice())
+        }
+    }
+}

@@ -1,0 +1,3 @@
+#pragma scop
+x = 1; x = 2; y = x; z = x;
+#pragma endscop

@@ -1,0 +1,3 @@
+#pragma scop
+A = B;
+#pragma endscop
