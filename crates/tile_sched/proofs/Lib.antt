@@ -1,0 +1,5 @@
+pub mod RowLoop
+pub mod Members
+pub mod Ranked
+pub mod Fits
+pub mod Once

@@ -1,0 +1,5 @@
+pub mod Schedules
+pub mod Reading
+pub mod Texts
+pub mod Order
+pub mod Ranks
