@@ -11,6 +11,8 @@ use Rattle.c_reading.specs.declared.named.Kind.TheVariants.{Parameter, OpenLoop,
 use Rattle.c_reading.specs.Names.{parameters_among, arrays_among}
 use Rattle.c_grammar.specs.Well.{AreDistinct}
 use Rattle.c_grammar.proofs.Dictionary.{bytes_same, bytes_are}
+use Rattle.c_printing.proofs.Readable.{array_names}
+use Rattle.c_printing.proofs.Roles.{names_of}
 
 -- the names of kinds that pass a test
 abbrev pub among : (Kind → Bool) → List (List ℕ) → List Kind → List (List ℕ)
@@ -40,11 +42,6 @@ parameters-among (n ∷ names) (Parameter k ∷ kinds) = ap (λ ns. n ∷ ns) (p
 parameters-among (n ∷ names) (OpenLoop depth ∷ kinds) = parameters-among names kinds
 parameters-among (n ∷ names) (ClosedLoop ∷ kinds) = parameters-among names kinds
 parameters-among (n ∷ names) (Array k rank ∷ kinds) = parameters-among names kinds
-
--- the names of arrays
-abbrev pub names_of : List program.Array → List (List ℕ)
-names_of [] = []
-names_of (a ∷ arrays) = a.name ∷ names_of arrays
 
 -- the arrays' names are those of their kind
 pub arrays-among : (names : List (List ℕ)) (kinds : List Kind) → names_of (map array_of (arrays_among names kinds)) ≡ among is_array names kinds
@@ -148,11 +145,6 @@ among_found test (n ∷ names) (k ∷ kinds) j name e =
       first (suc i) g f rec = found_next n k (rec i f)
 
 -- ---- arrays
-
--- an array's name is one of theirs
-pub array_names : (name : List ℕ) (arrays : List program.Array) → is_array_name name arrays ≡ list_any (bytes_eq name) (names_of arrays)
-array_names name [] = refl
-array_names name (a ∷ arrays) = ap (λ b. bytes_eq name a.name || b) (array_names name arrays)
 
 -- arrays whose names differ
 pub different_arrays : (arrays : List program.Array) → AreDifferent (names_of arrays) → AreDifferentArrays arrays

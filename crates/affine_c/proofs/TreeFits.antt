@@ -26,7 +26,10 @@ use Rattle.c_grammar.specs.Program.{TreeLine, begins, does, ends, narrowed, narr
 use Rattle.affine_c.specs.Built.{IsSmallStep, IsShortWay, HasShortWays}
 use Rattle.affine_c.proofs.Lists.{All-mapped}
 use Rattle.affine_c.proofs.Rows.{narrowed_over, narrowed_small, narrowed_all_over}
-use Rattle.affine_c.proofs.Among.{among, is_parameter, is_array, parameters-among, names_of, arrays-among, distinct-different, among_differs, among_all, among_none, Found, among_found, array_names, different_arrays, all_named}
+use Rattle.c_printing.proofs.MeansRefs.{get_all}
+use Rattle.affine_c.proofs.Among.{among, is_parameter, is_array, parameters-among, arrays-among, distinct-different, among_differs, among_all, among_none, Found, among_found, different_arrays, all_named}
+use Rattle.c_printing.proofs.Roles.{names_of}
+use Rattle.c_printing.proofs.Readable.{array_names}
 
 range_more : (first m n : ℕ) → range_with_len first m ++ range_with_len (first + m) n ≡ range_with_len first (m + n)
 range_more first zero n = ap (λ (k : ℕ). range_with_len k n) none ∙ ap (range_with_len first) some where
@@ -108,12 +111,6 @@ name_there : (names : List (List ℕ)) (at : ℕ) (name : List ℕ) → at < len
 name_there [] at name below e = absurd (omega (arith, below))
 name_there (n ∷ names) zero name below e = ap (λ (x : List ℕ). Some x) e
 name_there (n ∷ names) (suc at) name below e = name_there names at name (omega (arith, below)) e
-
--- what holds of each member holds of the one at a place
-get_all : {X : Type 0} (P : X → Type 0) (xs : List X) (k : ℕ) (x : X) → AllByRecursion P xs → slice_get xs k ≡ Some x → P x
-get_all P [] k x all e = cc
-get_all P (y ∷ xs) zero x all e = let same : y ≡ x = cc in subst P same all.0
-get_all P (y ∷ xs) (suc k) x all e = get_all P xs k x all.1 e
 
 -- a loop's name is neither a parameter nor an array, and an array's is no parameter
 loop_no_parameter : (k : Kind) → IsLoop k → (is_parameter k ≡ false) × (is_array k ≡ false)

@@ -26,7 +26,7 @@ use Rattle.c_grammar.specs.Program.{TreeLine, begins, does, ends, narrowed, narr
 use Rattle.affine_c.specs.Built.{IsSmallStep, IsShortWay, HasShortWays}
 use Rattle.affine_c.proofs.Lists.{All-mapped}
 use Rattle.affine_c.proofs.Rows.{narrowed_over, narrowed_small, narrowed_all_over}
-use Rattle.affine_c.proofs.Among.{among, is_parameter, is_array, parameters-among, names_of, arrays-among, distinct-different, among_differs, among_all, among_none, Found, among_found, array_names, different_arrays, all_named}
+use Rattle.affine_c.proofs.Among.{among, is_parameter, is_array, parameters-among, arrays-among, distinct-different, among_differs, among_all, among_none, Found, among_found, different_arrays, all_named}
 use Rattle.affine_c.proofs.TreeFits.{program_fits}
 
 -- the way goes on from this depth through few loops with small bounds

@@ -186,7 +186,7 @@ not_there name (n ∷ names) (k ∷ kinds) (suc at) same none e = not_there name
   other_none false f = f
 
 -- what stands in a list that one more ends
-at_end : (names : List (List ℕ)) (name other : List ℕ) (k : ℕ) → slice_get (names ++ name ∷ []) k ≡ Some other → (slice_get names k ≡ Some other) ⊎ ((k ≡ length names) × (other ≡ name))
+pub at_end : (names : List (List ℕ)) (name other : List ℕ) (k : ℕ) → slice_get (names ++ name ∷ []) k ≡ Some other → (slice_get names k ≡ Some other) ⊎ ((k ≡ length names) × (other ≡ name))
 at_end [] name m zero e = inr (refl, (let same : name ≡ m = cc in sym same))
 at_end [] name m (suc k) e = cc
 at_end (n ∷ names) name m zero e = inl e

@@ -49,7 +49,7 @@ names_get (b ∷ arrays) zero a e = let same : b ≡ a = cc in ap (λ (c : progr
 names_get (b ∷ arrays) (suc k) a e = names_get arrays k a e
 
 -- an array's name is one of theirs
-array_names : (name : List ℕ) (arrays : List program.Array) → is_array_name name arrays ≡ list_any (bytes_eq name) (names_of arrays)
+pub array_names : (name : List ℕ) (arrays : List program.Array) → is_array_name name arrays ≡ list_any (bytes_eq name) (names_of arrays)
 array_names name [] = refl
 array_names name (a ∷ arrays) = ap (λ b. bytes_eq name a.name || b) (array_names name arrays)
 

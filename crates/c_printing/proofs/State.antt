@@ -19,6 +19,7 @@ use Rattle.c_reading.specs.declared.lines.Line.{Line}
 use Rattle.c_printing.proofs.MeansForms.{kind_slot, HaveSlots, KnowsVariables}
 use Rattle.c_grammar.proofs.Dictionary.{place_of, lookup, kind_of-lookup, bytes_same, bytes_are, lookup-new, lookup-other, lookup-set, lookup-set_other, parameters-new, arrays-new, parameters-set, arrays-set, lookup-get}
 use Rattle.iolb_model.specs.declared.limits.TheConstants.{LOOPS, PARAMETERS}
+use Rattle.c_grammar.proofs.Kept.{at_end}
 
 -- the loops around: their names stand for nothing else
 pub record AreLoops (p : AffineProgram) (around : List (List ℕ)) : Type 0 where
@@ -222,13 +223,6 @@ any_more t (n ∷ names) name e f =
     let both = or_parts (t n) (list_any t names) e in
     let here : t n ≡ false = both.0 in
     rw here (any_more t names name both.1 f)
-
--- what stands in a list that one more ends
-pub at_end : (names : List (List ℕ)) (name other : List ℕ) (k : ℕ) → slice_get (names ++ name ∷ []) k ≡ Some other → (slice_get names k ≡ Some other) ⊎ ((k ≡ length names) × (other ≡ name))
-at_end [] name m zero e = inr (refl, (let same : name ≡ m = cc in sym same))
-at_end [] name m (suc k) e = cc
-at_end (n ∷ names) name m zero e = inl e
-at_end (n ∷ names) name m (suc k) e = ⊎_elim (λ l. inl l) (λ r. inr (ap suc r.0, r.1)) (at_end names name m k e)
 
 -- a member in front of one more
 at_front : (names : List (List ℕ)) (name other : List ℕ) (k : ℕ) → slice_get names k ≡ Some other → slice_get (names ++ name ∷ []) k ≡ Some other
