@@ -5,3 +5,4 @@ pub mod Printable
 pub mod Seen
 pub mod Parts
 pub mod Draft
+pub mod Assumptions

@@ -1,6 +1,7 @@
 //! Affine loop programs.
 #![tactic(auto)]
 
+mod assumptions;
 mod domain;
 mod draft;
 mod item;
@@ -12,6 +13,7 @@ mod reference;
 mod statement;
 mod well_formed;
 
+pub use assumptions::first_unmet;
 pub use item::Item;
 pub use limits::is_small_form;
 pub use names::with_name;

@@ -16,7 +16,8 @@ use Rattle.iolb_check.specs.Claims.{CertificateClaim}
 use Rattle.command_words.specs.Requests.{Request, Task, checks, evaluates, request_of}
 use Rattle.command_words.specs.Sizes.{values_for}
 use Rattle.iolb_check.specs.declared.bound.Value.{Value}
-use Rattle.iolb_check.specs.Bounds.{HasWideBranch, IsFirstUnmet}
+use Rattle.affine_program.specs.Assumptions.{IsFirstUnmet}
+use Rattle.iolb_check.specs.Bounds.{HasWideBranch}
 use Rattle.iolb_check.specs.Exact.{RefusalsAreOne, ValidCertificatesGiveOne, ValidCertificatesStand}
 use Rattle.iolb_host.specs.declared.files.FileFault.{FileFault}
 use Rattle.iolb_host.specs.declared.files.FileFault.TheVariants.{Missing, TooLong, Failed, Memory as NoMemoryForFile}

@@ -6,7 +6,8 @@ use Rattle.iolb_model.specs.Bound.{AreMet, BoundTerm, branch_value}
 use Rattle.iolb_check.specs.declared.bound.Value.{Value}
 use Rattle.iolb_check.specs.declared.value_fault.ValueFault.{ValueFault}
 use Rattle.iolb_check.specs.declared.value_fault.ValueFault.TheVariants.{OutsideAssumption, Wide}
-use Rattle.iolb_check.specs.Bounds.{BoundParts, EvaluatesBranch, HasWideBranch, IsFirstUnmet, IsWideBranch, terms_of}
+use Rattle.affine_program.specs.Assumptions.{IsFirstUnmet}
+use Rattle.iolb_check.specs.Bounds.{BoundParts, EvaluatesBranch, HasWideBranch, IsWideBranch, terms_of}
 use Rattle.iolb_call.specs.Values.{branch_value_lines}
 use Rattle.iolb_cert.proofs.Branches.{drop_get, terms-at}
 

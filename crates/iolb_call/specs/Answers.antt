@@ -4,7 +4,8 @@ use Rattle.iolb_model.specs.Bound.{AreMet}
 use Rattle.iolb_model.specs.Program.{AffineProgram}
 use Rattle.command_words.specs.Requests.{Task}
 use Rattle.iolb_check.specs.declared.bound.Value.{Value}
-use Rattle.iolb_check.specs.Bounds.{BoundParts, HasWideBranch, IsFirstUnmet}
+use Rattle.affine_program.specs.Assumptions.{IsFirstUnmet}
+use Rattle.iolb_check.specs.Bounds.{BoundParts, HasWideBranch}
 use Rattle.iolb_call.specs.declared.stop.Stop.{Stop}
 use Rattle.iolb_call.specs.declared.stop.Stop.TheVariants.{Words, ProgramFile, ProgramText, CertificateFile, CertificateText, Condition, Assumption, Wide, Memory}
 use Rattle.iolb_call.specs.Task.{IsBeyond, IsOutside}

@@ -9,7 +9,8 @@ use Rattle.iolb_model.specs.Program.{AffineProgram}
 use Rattle.command_words.specs.Requests.{Task, checks, evaluates}
 use Rattle.command_words.specs.Sizes.{NamedSize, values_for}
 use Rattle.iolb_check.specs.declared.bound.Value.{Value}
-use Rattle.iolb_check.specs.Bounds.{HasWideBranch, IsFirstUnmet, terms_of}
+use Rattle.affine_program.specs.Assumptions.{IsFirstUnmet}
+use Rattle.iolb_check.specs.Bounds.{HasWideBranch, terms_of}
 use Rattle.iolb_call.specs.Values.{values_text}
 
 -- the bound of a program with these values of terms

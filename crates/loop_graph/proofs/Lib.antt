@@ -1,0 +1,7 @@
+pub mod Distinct
+pub mod SameCells
+pub mod References
+pub mod Gathered
+pub mod Scanned
+pub mod Marked
+pub mod Built

@@ -1,0 +1,45 @@
+-- The vertices whose words stand in cells, where the reads of a program are gone through.
+use Rattle.std.specs.Prelude.{◌≡◌, ℕ, nat_eq, if◌then◌else◌, ℤ, List, [], ◌++◌, map, length, filter_map, Option, Some, None, Vec}
+use Rattle.std.specs.Global.{Global}
+use Rattle.std.specs.BTreeMap.{get}
+use Rattle.std.specs.List.{list_any}
+use Rattle.iolb_model.specs.Source.{Cell, same_cell, Source, input, source_or}
+use Rattle.iolb_model.specs.Graph.{distinct, input_cell, vertex_of}
+use Rattle.loop_graph.specs.Cells.{cell_view, cell_cmp}
+use Rattle.loop_graph.specs.declared.known.Known.{Known}
+
+-- the vertex of an input cell where the graph has so many instances and these input cells, if it is one of them
+abbrev pub vertex_among : ℕ → List Cell → Cell → Option ℕ
+vertex_among instances cells cell = if list_any (same_cell cell) cells then Some (vertex_of instances cells (input cell)) else None
+
+-- the vertex whose word stands in a cell: its last writer, if there is one, and else the input, if it is one of these
+abbrev pub vertex_in : ℕ → List Cell → Option ℕ → Cell → Option ℕ
+vertex_in instances cells None cell = vertex_among instances cells cell
+vertex_in instances cells (Some writer) cell = Some writer
+
+-- nothing is known
+pub record KnowsNothing (known : Known) : Type 0 where
+  pub none : known.vertices.entries ≡ []
+  pub zero_inputs : known.inputs ≡ 0
+
+-- What is known where cells have these last writers, and these input cells were met: how many they are, each counted once,
+-- and the vertex whose word stands in each cell.
+pub record AreKnown (instances : ℕ) (writer : Cell → Option ℕ) (cells : List Cell) (known : Known) : Type 0 where
+  pub many : known.inputs ≡ length (distinct same_cell cells)
+  pub each : (cell : ℕ × Vec ℤ Global) → get cell_cmp known.vertices cell ≡ vertex_in instances (distinct same_cell cells) (writer (cell_view cell)) (cell_view cell)
+
+-- the source of a read of a cell, where cells have these last writers
+abbrev pub source_by : (Cell → Option ℕ) → Cell → Source
+source_by writer cell = source_or (writer cell) cell
+
+-- Where reads have these sources, the input cells that were met are those before the reads, and then the sources'. The
+-- vertices are those of the sources, whatever input cells are met later.
+pub record AreRead (instances : ℕ) (writer : Cell → Option ℕ) (before : List Cell) (sources : List Source) (known : Known) (vertices : List ℕ) : Type 0 where
+  pub met : AreKnown instances writer (before ++ filter_map input_cell sources) known
+  pub each : (later : List Cell) → vertices ≡ map (vertex_of instances (distinct same_cell ((before ++ filter_map input_cell sources) ++ later))) sources
+
+-- the same of the predecessors of an instance, which are the different vertices that it reads
+pub record ArePreceded (instances : ℕ) (writer : Cell → Option ℕ) (before : List Cell) (sources : List Source) (known : Known) (preds : List ℕ) : Type 0 where
+  pub vertices : List ℕ
+  pub read : AreRead instances writer before sources known vertices
+  pub once : preds ≡ distinct nat_eq vertices

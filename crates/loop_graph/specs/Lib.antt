@@ -1,0 +1,4 @@
+pub mod Cells
+pub mod Known
+pub mod Found
+pub mod Builds

@@ -1,0 +1,14 @@
+//! The computation graph of a program at given parameter values (Hong and Kung 1981), where it is within reach: at most
+//! 2^21 vertices, and 2^24 turns of loops.
+#![tactic(auto)]
+
+mod cells;
+mod fault;
+mod graphs;
+mod known;
+mod last;
+pub mod limits;
+mod predecessors;
+
+pub use fault::GraphFault;
+pub use graphs::build;
