@@ -22,7 +22,8 @@ use Rattle.dep_quast.specs.Truth.{ReadFits}
 use Rattle.reuse_paths.specs.LeafClaims.{LeafClaim, no_point, stops, is_credited, goes_on, arrives}
 use Rattle.reuse_paths.specs.Quasts.{tree_or_blank, tree_for}
 use Rattle.reuse_paths.specs.ReachClaims.{setting_of}
-use Rattle.reuse_paths.specs.ReachFits.{NestFits, SpotFits, ReachFits}
+use Rattle.reuse_paths.specs.ReachFits.{ReachFits}
+use Rattle.reuse_paths.specs.WalkFits.{NestFits, SpotFits}
 use Rattle.reuse_paths.specs.Trees.{RowsFit}
 use Rattle.reuse_paths.specs.Walks.{SpotForms, ReachClaim}
 use Rattle.wavefront.specs.declared.front.Wavefront.{Wavefront}
@@ -90,7 +91,7 @@ module _ (program : ProgramParts) (trees : List (List SelectionTree)) (fit : All
       → SpotFits (meaning program) (front_variables (meaning program) term) from → SpotFits (meaning program) (front_variables (meaning program) term) to
       → IsSmallReach reach → AllHold (way_fit (meaning program) trees term from to place reach) → ReachFits (meaning program) trees term.nest from to reach
   way-fits term from to place reach nest from_fits to_fits small h =
-      reach-fits (setting_of (meaning program) trees term.nest to reach) fit rows place from reach nest from_fits to_fits small h
+      reach-fits (setting_of (meaning program) trees term.nest to reach) to refl fit rows place from reach nest from_fits to_fits small h
 
   ways-fit : (term : WavefrontTerm) (place : List Step) (source : Option SpotForms) (reach : Option ReachClaim) → is_some reach ≡ is_some source → NestFits (meaning program) term.nest
       → SpotFits (meaning program) (front_variables (meaning program) term) term.vertex → SourceFits (meaning program) (front_variables (meaning program) term) source

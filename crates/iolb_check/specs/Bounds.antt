@@ -1,10 +1,11 @@
 -- Bounds as the checker makes them, and their values at numbers for the parameters.
-use Rattle.std.specs.Prelude.{◌≡◌, ℕ, zero, suc, ◌*◌, ◌≤◌, ◌⊎◌, ℤ, pos, ◌*ℤ◌, ◌≤ℤ◌, List, [], ◌∷◌, map, length, slice_get, Some, Result, Ok, Err, Vec, max, fold}
+use Rattle.std.specs.Prelude.{◌≡◌, ℕ, ◌*◌, ◌≤◌, ◌⊎◌, ℤ, pos, ◌*ℤ◌, List, [], ◌∷◌, map, length, slice_get, Some, Result, Ok, Err, Vec, max, fold}
 use Rattle.std.specs.Global.{Global}
 use Rattle.std.specs.List.{AllByRecursion}
-use Rattle.iolb_model.specs.Form.{AffineForm, form_value}
+use Rattle.iolb_model.specs.Form.{AffineForm}
 use Rattle.iolb_model.specs.Bound.{AreMet, Bound, BoundTerm, cold, wavefront, branch_value, count_value}
 use Rattle.affine_form.specs.System.{AffineSystem}
+use Rattle.affine_program.specs.Assumptions.{IsFirstUnmet}
 use Rattle.poly_tree.specs.Expansion.{IsCanonical, at, size_at}
 use Rattle.poly_tree.specs.Poly.{Quotient, numerator_at}
 use Rattle.poly_tree.specs.Printed.{polynomial_of}
@@ -82,12 +83,6 @@ HasWideBranch sizes s (terms ∷ branches) = IsWideBranch sizes s terms ⊎ HasW
 -- the greatest of a number and the values of branches
 abbrev pub greatest_branch : List (List Value) → List ℤ → ℕ → ℕ → ℕ
 greatest_branch branches sizes s least = fold max least (map (λ terms. branch_value (terms_of terms) sizes s) branches)
-
--- the assumption of this number isn't met, and those before it are
-abbrev pub IsFirstUnmet : List AffineForm → List ℤ → ℕ → Type 0
-IsFirstUnmet [] sizes number = ⊥
-IsFirstUnmet (row ∷ rows) sizes zero = ¬ (pos 0 ≤ℤ form_value row sizes)
-IsFirstUnmet (row ∷ rows) sizes (suc number) = (pos 0 ≤ℤ form_value row sizes) × IsFirstUnmet rows sizes number
 
 -- What an evaluation answers: the value, where the assumptions are met and nothing is wide; the first assumption that
 -- isn't met; or that something is wide, where the assumptions are met.

@@ -25,7 +25,7 @@ use Rattle.part_fit.specs.WalkFit.{fit_in, spot_fit}
 
 -- what shows the way between two spots
 abbrev pub way_fit : AffineProgram → List (List SelectionTree) → WavefrontTerm → SpotForms → SpotForms → List Step → ReachClaim → List Claim
-way_fit program trees term from to place reach = fit_in (setting_of program trees term.nest to reach) from place reach
+way_fit program trees term from to place reach = fit_in (setting_of program trees term.nest to reach) to from place reach
 
 abbrev pub back_fit : AffineProgram → List (List SelectionTree) → List Step → WavefrontTerm → List Claim
 back_fit program trees place term = way_fit program trees term term.user term.vertex (place ++ Key BACK ∷ []) term.back

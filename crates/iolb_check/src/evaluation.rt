@@ -1,17 +1,17 @@
 //! The values of bounds at sizes.
 
-ghost use Rattle.std.specs.Prelude.{◌≡◌, ◌≤◌, ◌<◌, ◌^◌, ◌*◌, ◌↔◌, ◌⊎◌, [], min, take, length, IfOk, IsErr, MatchOption};
+ghost use Rattle.std.specs.Prelude.{◌≡◌, ◌≤◌, ◌<◌, ◌^◌, ◌*◌, ◌↔◌, ◌⊎◌, [], min, take, length, IfOk, IsErr};
 ghost use Rattle.std.specs.List.{AllByRecursion};
 ghost use Rattle.affine_form.specs.Form.{IsSmall};
-ghost use Rattle.affine_form.specs.System.{AllOver};
 ghost use Rattle.iolb_model.specs.Bound.{AreMet, bound_value, branch_value, count_value, term_value};
 ghost use Rattle.poly_tree.specs.Printed.{polynomial_of};
-ghost use Rattle.iolb_check.specs.Bounds.{Evaluates, EvaluatesBranch, HasWideBranch, IsCounting, IsFirstUnmet, IsTermValue, IsWideAt, IsWideBranch, IsWideTerm, IsWideTimes, bound_of, greatest_branch, lists, term_of, terms_of};
-ghost use Rattle.iolb_model.specs.declared.limits.TheConstants.{MEASURE, VALUE_SIZE, ROWS, VARIABLES};
+ghost use Rattle.iolb_check.specs.Bounds.{Evaluates, EvaluatesBranch, HasWideBranch, IsCounting, IsTermValue, IsWideAt, IsWideBranch, IsWideTerm, IsWideTimes, bound_of, greatest_branch, lists, term_of, terms_of};
+ghost use Rattle.iolb_model.specs.declared.limits.TheConstants.{MEASURE, VALUE_SIZE, VARIABLES};
 
 use crate::bound::{Bound, Value};
 use crate::value_fault::ValueFault;
-use affine_form::{Form, System};
+use affine_form::System;
+use affine_program::first_unmet;
 use iolb_model::limits;
 use poly_tree::printed_law::terms_have_the_value;
 use poly_tree::{Poly, Wide};
@@ -76,21 +76,6 @@ fn widened(sizes: &[i64]) -> [i128; 24]
         point[i] = i128::from(*size);
     }
     point
-}
-
-/// The number of the first assumption that isn't met at a point.
-fn first_unmet(rows: &[Form], point: &[i128]) -> Option<u16>
-    requires few { length rows.now ≤ ROWS }
-    requires over { AllOver (length point.now) rows.now }
-    requires small { AllByRecursion (IsSmall VALUE_SIZE) point.now }
-    ensures { MatchOption result (AreMet rows.now point.now) (λ number. IsFirstUnmet rows.now point.now number) }
-{
-    for (number, row) in rows.iter().enumerate() {
-        if row.value(point) < 0 {
-            return Some(number as u16);
-        }
-    }
-    None
 }
 
 /// The greatest value of branches at sizes that meet the assumptions.

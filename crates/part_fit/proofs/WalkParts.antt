@@ -17,10 +17,12 @@ use Rattle.dep_quast.specs.Context.{ReadOf}
 use Rattle.dep_quast.specs.Tree.{source, input, empty, blank, SelectionTree, leaf, test}
 use Rattle.dep_quast.specs.Truth.{ReadFits}
 use Rattle.reuse_paths.specs.LeafClaims.{LeafClaim, no_point, stops, is_credited, goes_on, arrives}
-use Rattle.reuse_paths.specs.OpenLeaves.{OpenLeaf, form_at, no_at, open_leaves}
+use Rattle.reuse_paths.specs.OpenLeaves.{LeafOrigin, OpenLeaf, form_at, no_at, open_leaves}
 use Rattle.reuse_paths.specs.Quasts.{tree_or_blank, tree_for}
-use Rattle.reuse_paths.specs.ReachClaims.{WalkSetting, spot_variables, region_variables, reading_point, region_at, entering_rows, going_goals}
-use Rattle.reuse_paths.specs.ReachFits.{NestFits, SpotFits, EntriesFit, TakeFits, WalkFits, RegionFits, RegionsFit, ShownFits, FitsIn}
+use Rattle.reuse_paths.specs.EntryClaims.{going_goals}
+use Rattle.reuse_paths.specs.WalkSettings.{WalkSetting, spot_variables, region_variables, reading_point, region_at, entering_rows, WalkAim, arrives_at, loops_of_aim, target_loops}
+use Rattle.reuse_paths.specs.ReachFits.{ShownFits, FitsIn}
+use Rattle.reuse_paths.specs.WalkFits.{NestFits, SpotFits, EntriesFit, TakeFits, WalkFits, RegionFits, RegionsFit, AimedFits, ArrivingFits, EntryFits}
 use Rattle.reuse_paths.specs.Trees.{RowsFit, read_of}
 use Rattle.reuse_paths.specs.Walks.{WalkTree, take, test as walk_test, WalkRegion, SpotForms, ReachClaim, same, walked}
 use Rattle.part_fit.specs.EntryFit.{entry_at, entries_fit, names_in, leaf_names}
@@ -43,7 +45,7 @@ spot-fits program vars place spot small h =
       forms = forms-over vars (place ++ Key POINT ∷ []) 0 spot.point small (AllHold-left forms last h.1);
     }
 
-module _ (walk : WalkSetting) where
+module _ (walk : WalkSetting) (target : SpotForms) (aim : walk.aim ≡ arrives_at target) where
   entering-many : (vars : ℕ) (region : Option WalkRegion) (values : List AffineForm) → length (entering_rows walk vars region values) ≡ row_count region
   entering-many vars None values = refl
   entering-many vars (Some region) values = length-map region.rows (form_at vars (variables_from vars 0 (spot_variables walk) ++ values))
@@ -83,25 +85,36 @@ module _ (walk : WalkSetting) where
     past : (all : List ℕ) (i : ℕ) (name : Option ℕ) (named : List (Option ℕ)) → Asked all i (name ∷ named) → Asked all (suc i) named
     past all i name named asked k = ap (λ (n : ℕ). slice_index_or all n 0) (later i k) ∙ asked (suc k)
 
-    entries-fit : (place : List Step) (all : List ℕ) (i : ℕ) (leaves : List OpenLeaf) (named : List (Option ℕ)) (entries : List LeafClaim) → Called leaves named
-        → Asked all i named → length entries ≡ length named
-        → AllHold (numbered (entry_at (depth_of walk.program walk.target.statement) all place) i entries) → EntriesFit walk vars point leaves entries
+  module _ (reader : ReadOf) where
+    abbrev vars : ℕ
+    vars = region_variables walk reader.statement
+
+    abbrev point : List AffineForm
+    point = reading_point walk reader.statement
+
+    -- one that fits a walk which is to arrive fits
+    aimed : (origin : LeafOrigin) (entry : LeafClaim) → ArrivingFits walk target reader origin entry → EntryFits walk reader origin entry
+    aimed origin entry h = subst (λ (a : WalkAim). AimedFits walk a reader origin entry) (sym aim) h
+
+    entries-fit : (place : List Step) (all : List ℕ) (i : ℕ) (leaves : List OpenLeaf) (named : List (Option ℕ)) (entries : List LeafClaim) → Called vars point leaves named
+        → Asked vars point all i named → length entries ≡ length named
+        → AllHold (numbered (entry_at (target_loops walk) all place) i entries) → EntriesFit walk reader leaves entries
     entries-fit place all i [] [] [] c asked many h = tt
     entries-fit place all i [] [] (entry ∷ entries) c asked many h = absurd (omega (arith, many))
     entries-fit place all i [] (name ∷ named) entries c asked many h = absurd c
     entries-fit place all i (l ∷ leaves) [] entries c asked many h = absurd c
     entries-fit place all i (l ∷ leaves) (name ∷ named) [] c asked many h = absurd (omega (arith, many))
     entries-fit place all i (l ∷ leaves) (name ∷ named) (no_point shown ∷ entries) c asked many h =
-        (tt, entries-fit place all (suc i) leaves named entries c.1 (past all i name named asked) (omega (arith, many)) h)
+        (aimed l.origin (no_point shown) tt, entries-fit place all (suc i) leaves named entries c.1 (past vars point all i name named asked) (omega (arith, many)) h)
     entries-fit place all i (l ∷ leaves) (name ∷ named) (stops label ∷ entries) c asked many h =
-        (h.0, entries-fit place all (suc i) leaves named entries c.1 (past all i name named asked) (omega (arith, many)) h.1)
+        (aimed l.origin (stops label) h.0, entries-fit place all (suc i) leaves named entries c.1 (past vars point all i name named asked) (omega (arith, many)) h.1)
     entries-fit place all i (l ∷ leaves) (name ∷ named) (is_credited credit rows label ∷ entries) c asked many h = absurd (omega (arith, h.0))
     entries-fit place all i (l ∷ leaves) (name ∷ named) (goes_on rows label ∷ entries) c asked many h = (
-      (h.1.0 ∙ ap (λ (n : ℕ). slice_index_or all n 0) (sym (none i)) ∙ asked 0 ∙ sym c.0, h.0),
-      entries-fit place all (suc i) leaves named entries c.1 (past all i name named asked) (omega (arith, many)) h.1.1,
+      aimed l.origin (goes_on rows label) (h.1.0 ∙ ap (λ (n : ℕ). slice_index_or all n 0) (sym (none i)) ∙ asked 0 ∙ sym c.0, h.0),
+      entries-fit place all (suc i) leaves named entries c.1 (past vars point all i name named asked) (omega (arith, many)) h.1.1,
     )
     entries-fit place all i (l ∷ leaves) (name ∷ named) (arrives equal ∷ entries) c asked many h =
-        (h.0, entries-fit place all (suc i) leaves named entries c.1 (past all i name named asked) (omega (arith, many)) h.1)
+        (aimed l.origin (arrives equal) (h.0 ∙ ap (λ (n : ℕ). 2 * n) (ap (loops_of_aim walk.program) aim)), entries-fit place all (suc i) leaves named entries c.1 (past vars point all i name named asked) (omega (arith, many)) h.1)
 
   -- ---- walks and regions
 
@@ -111,7 +124,7 @@ module _ (walk : WalkSetting) where
     take-fits place statement read entries there h =
         let reader : ReadOf = read_of statement read in
         let asked : List (Option ℕ) = leaf_names walk.program walk.trees reader in
-        let middle : List Claim = entries_fit (depth_of walk.program walk.target.statement) (map (rows_called walk.nodes) asked) (place ++ Key LEAVES ∷ []) entries in
+        let middle : List Claim = entries_fit (target_loops walk) (map (rows_called walk.nodes) asked) (place ++ Key LEAVES ∷ []) entries in
         let last : List Claim = names (place ++ Key READ ∷ []) read (length (statement_at walk.program statement).reads) ∷ [] in
         let read_fits : ReadFits walk.program reader = record { statement = there; read = (AllHold-right middle last h.1).0 } in
         let chosen = tree-of walk.program walk.trees reader read_fits fit rows in
@@ -119,13 +132,13 @@ module _ (walk : WalkSetting) where
         let vars : ℕ = region_variables walk statement in
         let point : List AffineForm = reading_point walk statement in
         let in_tree : asked ≡ names_in chosen.0 = names-of walk.program walk.trees reader chosen.0 read_fits.read chosen.1.there in
-        let entries_in : EntriesFit walk vars point (open_leaves vars point [] chosen.0) entries =
-        entries-fit vars point (place ++ Key LEAVES ∷ []) (map (rows_called walk.nodes) asked) 0 (open_leaves vars point [] chosen.0) (names_in chosen.0) entries (called vars point [] chosen.0)
+        let entries_in : EntriesFit walk reader (open_leaves vars point [] chosen.0) entries =
+        entries-fit reader (place ++ Key LEAVES ∷ []) (map (rows_called walk.nodes) asked) 0 (open_leaves vars point [] chosen.0) (names_in chosen.0) entries (called vars point [] chosen.0)
         (λ k. ap (λ (n : ℕ). slice_index_or (map (rows_called walk.nodes) asked) n 0) (from-none k) ∙ ap (λ (l : List (Option ℕ)). slice_index_or (map (rows_called walk.nodes) l) k 0) in_tree)
         (h.0 ∙ ap length in_tree) (AllHold-left middle last h.1) in record {
           read_fits = read_fits;
           there = chosen.1.there ∙ ap (λ (t : SelectionTree). Some t) (sym is);
-          entries_fit = subst (λ (t : SelectionTree). EntriesFit walk vars point (open_leaves vars point [] t) entries) (sym is) entries_in;
+          entries_fit = subst (λ (t : SelectionTree). EntriesFit walk reader (open_leaves vars point [] t) entries) (sym is) entries_in;
         }
 
     walk-fits : (nested : ℕ) (place : List Step) (statement : ℕ) (tree : WalkTree) → statement < length walk.program.statements → IsNestedWalk nested tree
@@ -162,9 +175,9 @@ module _ (walk : WalkSetting) where
           regions-fit place (suc statement) nodes (omega (arith, le)) small.1 (AllHold-right here rest h),
         )
 
-    shown-fits : (place : List Step) (from : SpotForms) (reach : ReachClaim) → IsSmallReach reach → AllHold (fit_in walk from place reach) → ShownFits walk from reach
+    shown-fits : (place : List Step) (from : SpotForms) (reach : ReachClaim) → IsSmallReach reach → AllHold (fit_in walk target from place reach) → ShownFits walk target from reach
     shown-fits place from (same equal) small h = λ e.
-        h.0 ∙ ap (λ (b : Bool). if b then 2 * depth_of walk.program from.statement else 0) (eq-eqb from.statement walk.target.statement e)
+        h.0 ∙ ap (λ (b : Bool). if b then 2 * depth_of walk.program from.statement else 0) (eq-eqb from.statement target.statement e)
     shown-fits place from (walked start nodes) small h =
         let regions : List Claim = numbered (region_fit walk (place ++ Key NODES ∷ [])) 0 nodes in
         let last : List Claim = shown_fit (row_count (region_at nodes from.statement)) (place ++ Key START ∷ []) start ∷ [] in (
@@ -175,5 +188,5 @@ module _ (walk : WalkSetting) where
 
     -- a walk between two spots that fit does
     pub reach-fits : (place : List Step) (from : SpotForms) (reach : ReachClaim) → NestFits walk.program walk.nest → SpotFits walk.program (spot_variables walk) from
-        → SpotFits walk.program (spot_variables walk) walk.target → IsSmallReach reach → AllHold (fit_in walk from place reach) → FitsIn walk from reach
+        → SpotFits walk.program (spot_variables walk) target → IsSmallReach reach → AllHold (fit_in walk target from place reach) → FitsIn walk target from reach
     reach-fits place from reach nest from_fits to_fits small h = record { nest = nest; from_fits = from_fits; to_fits = to_fits; shown = shown-fits place from reach small h }

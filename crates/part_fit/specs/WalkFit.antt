@@ -9,7 +9,7 @@ use Rattle.affine_form.specs.Multipliers.{FarkasMultipliers}
 use Rattle.affine_program.specs.Domain.{depth_of}
 use Rattle.dep_quast.specs.Context.{ReadOf}
 use Rattle.reuse_paths.specs.LeafClaims.{LeafClaim}
-use Rattle.reuse_paths.specs.ReachClaims.{WalkSetting, region_at, region_variables}
+use Rattle.reuse_paths.specs.WalkSettings.{WalkSetting, region_at, region_variables, target_loops}
 use Rattle.reuse_paths.specs.Trees.{read_of}
 use Rattle.reuse_paths.specs.Walks.{WalkTree, take, test, WalkRegion, SpotForms, ReachClaim, same, walked}
 use Rattle.claims.specs.Claims.{Claim, numbered}
@@ -39,7 +39,7 @@ abbrev pub take_fit : WalkSetting → ReadOf → List Step → List LeafClaim �
 take_fit walk reader place entries =
     let called = leaf_names walk.program walk.trees reader in
     so_many (place ++ Key LEAVES ∷ []) (length entries) (length called)
-    ∷ entries_fit (depth_of walk.program walk.target.statement) (map (rows_called walk.nodes) called) (place ++ Key LEAVES ∷ []) entries
+    ∷ entries_fit (target_loops walk) (map (rows_called walk.nodes) called) (place ++ Key LEAVES ∷ []) entries
     ++ names (place ++ Key READ ∷ []) reader.read (length (statement_at walk.program reader.statement).reads) ∷ []
 
 -- A walk from the instances of a statement.
@@ -67,6 +67,6 @@ walked_fit walk from place start nodes =
     ∷ numbered (region_fit walk (place ++ Key NODES ∷ [])) 0 nodes
     ++ shown_fit (row_count (region_at nodes from.statement)) (place ++ Key START ∷ []) start ∷ []
 
-abbrev pub fit_in : WalkSetting → SpotForms → List Step → ReachClaim → List Claim
-fit_in walk from place (same equal) = shown_fit (same_count walk.program from walk.target) (place ++ Key SAME ∷ []) equal ∷ []
-fit_in walk from place (walked start nodes) = walked_fit walk from place start nodes
+abbrev pub fit_in : WalkSetting → SpotForms → SpotForms → List Step → ReachClaim → List Claim
+fit_in walk target from place (same equal) = shown_fit (same_count walk.program from target) (place ++ Key SAME ∷ []) equal ∷ []
+fit_in walk target from place (walked start nodes) = walked_fit walk from place start nodes

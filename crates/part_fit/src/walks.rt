@@ -8,10 +8,11 @@ ghost use Rattle.dep_quast.specs.Views.{read_of};
 ghost use Rattle.part_fit.specs.FitClaims.{FindsMisfit};
 ghost use Rattle.part_fit.specs.EntryFit.{leaf_names, names_in};
 ghost use Rattle.part_fit.specs.WalkFit.{fit_in, region_fit, row_count, rows_called as called_rows, same_count, spot_fit, take_fit, walk_fit, walked_fit};
-ghost use Rattle.iolb_model.specs.declared.limits.TheConstants.{NEST_VARIABLES};
+ghost use Rattle.iolb_model.specs.declared.limits.TheConstants.{LOOPS};
 ghost use Rattle.reuse_paths.specs.LeafClaims.{claim_of};
 ghost use Rattle.reuse_paths.specs.Quasts.{trees_of};
-ghost use Rattle.reuse_paths.specs.ReachClaims.{region_at, region_variables as variables_of, setting_of};
+ghost use Rattle.reuse_paths.specs.ReachClaims.{setting_of};
+ghost use Rattle.reuse_paths.specs.WalkSettings.{region_at, region_variables as variables_of, target_loops as loops_of_target};
 ghost use Rattle.reuse_paths.specs.WalkViews.{walk_of};
 ghost use Rattle.reuse_paths.specs.Walks.{reach_of, region_of, spot_of, tree_of_walk};
 
@@ -25,7 +26,7 @@ use claims::{Place, Step};
 use dep_quast::Quast;
 use dep_quast::reader::Reader;
 use domain_count::Nest;
-use reuse_paths::{Leaf, Quasts, Reach, Region, Spot, Walk, Walking};
+use reuse_paths::{Aim, Leaf, Quasts, Reach, Region, Spot, Walk, Walking, region_at};
 use std::alloc::Global;
 
 /// The place of what doesn't fit first of a spot with so many variables, at this place.
@@ -51,29 +52,36 @@ pub fn spot_misfit(
 }
 
 /// How many rows the region of a statement has: none where it has no region.
-fn region_rows(nodes: &[Option<Region>], statement: u16) -> usize
-    ensures { result ≡ row_count (region_at (map (option_map region_of) nodes.now) statement) }
+fn region_rows(walking: &Walking, statement: u16) -> usize
+    ensures { result ≡ row_count (region_at (walk_of walking.now).nodes statement) }
 {
-    match nodes.get(usize::from(statement)) {
-        Some(Some(region)) => region.rows.as_slice().len(),
-        _ => 0,
+    match region_at(walking, statement) {
+        Some(region) => region.rows.as_slice().len(),
+        None => 0,
+    }
+}
+
+/// How many loops are around the target of a walk: none where it has no target.
+fn target_loops(walking: &Walking) -> usize
+    ensures loops { result ≡ loops_of_target (walk_of walking.now) }
+    ensures few { result ≤ LOOPS }
+{
+    match walking.aim {
+        Aim::Arrive { target, .. } => loops_around(walking.program, target.statement),
+        Aim::Keep(_) => 0,
     }
 }
 
 /// How many rows say that a walk may go on, for each leaf of a tree that isn't empty, appended.
-fn push_called(
-    called: &mut Vec<usize>,
-    nodes: &[Option<Region>],
-    quast: &Quast,
-) -> Result<(), Memory>
-    ensures { OnOk result (called.new.items ≡ called.old.items ++ map (called_rows (map (option_map region_of) nodes.now)) (names_in (tree_of quast.now))) }
+fn push_called(called: &mut Vec<usize>, walking: &Walking, quast: &Quast) -> Result<(), Memory>
+    ensures { OnOk result (called.new.items ≡ called.old.items ++ map (called_rows (walk_of walking.now).nodes) (names_in (tree_of quast.now))) }
 {
     match quast {
         Quast::Test { yes, no, .. } => {
-            push_called(called, nodes, yes)?;
-            push_called(called, nodes, no)
+            push_called(called, walking, yes)?;
+            push_called(called, walking, no)
         }
-        Quast::Source { statement, .. } => Ok(called.push(region_rows(nodes, *statement))?),
+        Quast::Source { statement, .. } => Ok(called.push(region_rows(walking, *statement))?),
         Quast::Input { .. } | Quast::Blank => Ok(called.push(0)?),
         Quast::Empty { .. } => Ok(()),
     }
@@ -82,12 +90,12 @@ fn push_called(
 /// How many rows say that a walk may go on, for each leaf of a read's tree that isn't empty.
 fn rows_called(alloc: Global, walking: &Walking, reader: Reader) -> Result<Vec<usize>, Memory>
     ensures { IfOk result (λ called. called.items
-        ≡ map (called_rows (map (option_map region_of) walking.now.nodes.now)) (leaf_names (meaning walking.now.program.now) (trees_of walking.now.quasts.now) (read_of reader))) }
+        ≡ map (called_rows (walk_of walking.now).nodes) (leaf_names (meaning walking.now.program.now) (trees_of walking.now.quasts.now) (read_of reader))) }
 {
     let mut called = Vec::new(alloc);
     if usize::from(reader.read) < read_count(walking.program, reader.statement) {
         if let Some(quast) = walking.quasts.tree(reader.statement, reader.read) {
-            push_called(&mut called, walking.nodes, quast)?;
+            push_called(&mut called, walking, quast)?;
         }
     }
     Ok(called)
@@ -108,7 +116,7 @@ fn take_misfit(
     if entries.len() != rows.len() {
         return misfit_at(alloc, place, Step::Key(LEAVES));
     }
-    let loops = loops_around(walking.program, walking.target.statement);
+    let loops = target_loops(walking);
     if let Some(misfit) = entries_misfit(alloc, place, LEAVES, loops, rows, entries)? {
         return Ok(Some(misfit));
     }
@@ -187,12 +195,17 @@ fn region_misfit(
 }
 
 /// The place of what doesn't fit first of the statements' regions, in a list at this place.
-fn regions_misfit(alloc: Global, walking: &Walking, list: &Place) -> Result<Option<Place>, Memory>
-    requires { length walking.now.nodes.now ≡ length walking.now.program.now.statements }
-    ensures { IfOk result (λ found. FindsMisfit (numbered (region_fit (walk_of walking.now) list.now) 0 (map (option_map region_of) walking.now.nodes.now)) found) }
+fn regions_misfit(
+    alloc: Global,
+    walking: &Walking,
+    list: &Place,
+    nodes: &[Option<Region>],
+) -> Result<Option<Place>, Memory>
+    requires { length nodes.now ≡ length walking.now.program.now.statements }
+    ensures { IfOk result (λ found. FindsMisfit (numbered (region_fit (walk_of walking.now) list.now) 0 (map (option_map region_of) nodes.now)) found) }
 {
     let _params = walking.program.params();
-    for (statement, region) in walking.nodes.iter().enumerate() {
+    for (statement, region) in nodes.iter().enumerate() {
         if let Some(misfit) = region_misfit(alloc, walking, list, statement as u16, region)? {
             return Ok(Some(misfit));
         }
@@ -200,24 +213,26 @@ fn regions_misfit(alloc: Global, walking: &Walking, list: &Place) -> Result<Opti
     Ok(None)
 }
 
-/// The place of what doesn't fit first of what shows that a walk arrives, at this place.
+/// The place of what doesn't fit first of what shows that a walk through these regions arrives, at this place.
 fn walked_misfit(
     alloc: Global,
     walking: &Walking,
     from: &Spot,
     place: &Place,
     start: &[Multipliers],
+    nodes: &[Option<Region>],
 ) -> Result<Option<Place>, Memory>
-    ensures { IfOk result (λ found. FindsMisfit (walked_fit (walk_of walking.now) (spot_of from.now) place.now start.now (map (option_map region_of) walking.now.nodes.now)) found) }
+    requires { (walk_of walking.now).nodes ≡ map (option_map region_of) nodes.now }
+    ensures { IfOk result (λ found. FindsMisfit (walked_fit (walk_of walking.now) (spot_of from.now) place.now start.now (map (option_map region_of) nodes.now)) found) }
 {
-    if walking.nodes.len() != walking.program.statements().len() {
+    if nodes.len() != walking.program.statements().len() {
         return misfit_at(alloc, place, Step::Key(NODES));
     }
     let list = place.within(alloc, Step::Key(NODES))?;
-    if let Some(misfit) = regions_misfit(alloc, walking, &list)? {
+    if let Some(misfit) = regions_misfit(alloc, walking, &list, nodes)? {
         return Ok(Some(misfit));
     }
-    let called = region_rows(walking.nodes, from.statement);
+    let called = region_rows(walking, from.statement);
     list_misfit(alloc, place, Step::Key(START), start.len(), called)
 }
 
@@ -244,7 +259,7 @@ pub fn reach_misfit(
     reach: &Reach,
 ) -> Result<Option<Place>, Memory>
     ensures { IfOk result (λ found. FindsMisfit
-        (fit_in (setting_of (meaning program.now) (trees_of quasts.now) nest.now (spot_of to.now) (reach_of reach.now)) (spot_of from.now) place.now (reach_of reach.now)) found) }
+        (fit_in (setting_of (meaning program.now) (trees_of quasts.now) nest.now (spot_of to.now) (reach_of reach.now)) (spot_of to.now) (spot_of from.now) place.now (reach_of reach.now)) found) }
 {
     match reach {
         Reach::Same(equal) => {
@@ -254,15 +269,15 @@ pub fn reach_misfit(
             Ok(None)
         }
         Reach::Walked { start, nodes } => {
+            let nodes = nodes.as_slice();
             let walking = Walking {
                 program,
                 quasts,
                 nest,
-                nodes: nodes.as_slice(),
-                target: to,
+                aim: Aim::Arrive { nodes, target: to },
                 condition: 1,
             };
-            walked_misfit(alloc, &walking, from, place, start.as_slice())
+            walked_misfit(alloc, &walking, from, place, start.as_slice(), nodes)
         }
     }
 }

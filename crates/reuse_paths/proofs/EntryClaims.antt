@@ -1,6 +1,6 @@
 -- What is found in the claims of an entry.
-use Rattle.std.proofs.Common.{◌≡◌, refl, sym, subst, ℕ, ◌+◌, ◌*◌, ◌≤◌, List, [], ◌∷◌, ◌++◌, length, map, arith, lit<}
-use Rattle.std.specs.Prelude.{Option, Some, IsSomeAnd}
+use Rattle.std.proofs.Common.{◌≡◌, refl, sym, subst, ℕ, zero, suc, ◌+◌, ◌*◌, ◌≤◌, inl, inr, List, [], ◌∷◌, ◌++◌, length, map, arith, lit<}
+use Rattle.std.specs.Prelude.{Option, Some, None, IsSomeAnd}
 use Rattle.std.specs.List.{AllByRecursion}
 use Rattle.std.proofs.Math.IntN.{pos}
 use Rattle.base_laws.proofs.Lists.{All-append, All-replicate}
@@ -16,13 +16,13 @@ use Rattle.affine_form.specs.Multipliers.{FarkasMultipliers}
 use Rattle.affine_form.specs.Rows.{widened, equality_rows, IsSmallOver}
 use Rattle.affine_form.specs.System.{AffineSystem}
 use Rattle.affine_form.proofs.RowLemmas.{length-widened}
-use Rattle.dep_quast.specs.Claims.{IsFew, follow_claims}
-use Rattle.reuse_paths.specs.LeafClaims.{goes_on}
-use Rattle.reuse_paths.specs.OpenLeaves.{written, form_at}
-use Rattle.reuse_paths.specs.ReachClaims.{WalkSetting, spot_variables, region_variables, region_at, entering_rows, entry_claims, going_goals, first_place, start_claims}
-use Rattle.reuse_paths.specs.ReachFits.{RegionFits, RegionsFit}
-use Rattle.reuse_paths.proofs.Regions.{region-fits}
+use Rattle.dep_quast.specs.Claims.{follow_claims}
 use Rattle.domain_count.specs.Count.{rows_before}
+use Rattle.reuse_paths.specs.EntryClaims.{IsInRegion, going_goals}
+use Rattle.reuse_paths.specs.OpenLeaves.{written, form_at}
+use Rattle.reuse_paths.specs.ReachClaims.{start_claims}
+use Rattle.reuse_paths.specs.WalkFits.{RegionsFit, RegionRowsFit}
+use Rattle.reuse_paths.specs.WalkSettings.{WalkSetting, spot_variables, region_variables, region_at, entering_rows}
 use Rattle.reuse_paths.specs.Walks.{WalkRegion, SpotForms}
 use Rattle.iolb_model.specs.declared.limits.TheConstants.{NUMBER_SIZE}
 
@@ -44,23 +44,53 @@ equality_rows-many vars [] (g ∷ gs) same = absurd (omega (arith, same))
 equality_rows-many vars (f ∷ fs) [] same = absurd (omega (arith, same))
 equality_rows-many vars (f ∷ fs) (g ∷ gs) same = omega (arith, equality_rows-many vars fs gs (omega (arith, same)))
 
+-- what is found behind a claim that holds
+pub Finds-rest : (claim : Claim) (later : List Claim) (found : Option No) → claim.statement → Finds (claim ∷ later) found → Finds later found
+Finds-rest claim later None holds h = h.1
+Finds-rest claim later (Some n) holds (inl h) = absurd (h.0 holds)
+Finds-rest claim later (Some n) holds (inr h) = h.1
+
 -- a walk goes on into a region
 pub going-found : (condition : ℕ) (walk : WalkSetting) (place : List Step) (system : AffineSystem) (point : List AffineForm) (writer : ℕ) (values : List AffineForm) (region : WalkRegion)
-    (shown : List FarkasMultipliers) (found : Option No) → IsFew (length system.rows) → region_at walk.nodes writer ≡ Some region
+    (shown : List FarkasMultipliers) (found : Option No) → region_at walk.nodes writer ≡ Some region
     → Finds (follow_claims condition (place ++ Key ROWS ∷ []) system 0 (entering_rows walk system.vars (Some region) (map (form_at system.vars point) values)) shown) found
-    → Finds (record { condition = 2; place = first_place place ROWS shown; statement = IsFew (length system.rows) } ∷ entry_claims condition walk place system point (written writer values) (goes_on shown [])) found
-going-found condition walk place system point writer values region shown found few is h =
-    let goals : List AffineForm = going_goals walk system.vars point (written writer values) in
-    let follow : List Claim = follow_claims condition (place ++ Key ROWS ∷ []) system 0 goals shown in
-    Finds-later (record { condition = 2; place = first_place place ROWS shown; statement = IsFew (length system.rows) }) (entry_claims condition walk place system point (written writer values) (goes_on shown [])) found few
-    (Finds-later (record { condition = condition; place = place; statement = IsSomeAnd (region_at walk.nodes writer) (λ region. Unit {0}) }) follow found
+    → Finds (record { condition = condition; place = place; statement = IsInRegion walk (written writer values) }
+    ∷ follow_claims condition (place ++ Key ROWS ∷ []) system 0 (going_goals walk system.vars point (written writer values)) shown) found
+going-found condition walk place system point writer values region shown found is h =
+    let follow : List Claim = follow_claims condition (place ++ Key ROWS ∷ []) system 0 (going_goals walk system.vars point (written writer values)) shown in
+    Finds-later (record { condition = condition; place = place; statement = IsSomeAnd (region_at walk.nodes writer) (λ region. Unit {0}) }) follow found
     (subst (λ (o : Option WalkRegion). IsSomeAnd o (λ region. Unit {0})) (sym is) tt)
-    (subst (λ (o : Option WalkRegion). Finds (follow_claims condition (place ++ Key ROWS ∷ []) system 0 (entering_rows walk system.vars o (map (form_at system.vars point) values)) shown) found) (sym is) h))
+    (subst (λ (o : Option WalkRegion). Finds (follow_claims condition (place ++ Key ROWS ∷ []) system 0 (entering_rows walk system.vars o (map (form_at system.vars point) values)) shown) found) (sym is) h)
 
--- the rows of a statement's region are over its variables
-pub region-over : (walk : WalkSetting) (s : ℕ) (region : WalkRegion) → RegionsFit walk 0 walk.nodes → region_at walk.nodes s ≡ Some region
+-- the rows of regions that fit are over their variables
+pub rows-fit : (walk : WalkSetting) (first : ℕ) (nodes : List (Option WalkRegion)) → RegionsFit walk first nodes → RegionRowsFit walk first nodes
+rows-fit walk first [] fits = tt
+rows-fit walk first (None ∷ nodes) fits = rows-fit walk (suc first) nodes fits.1
+rows-fit walk first (Some region ∷ nodes) fits = (fits.0.0, rows-fit walk (suc first) nodes fits.1)
+
+rows-at : (walk : WalkSetting) (first s : ℕ) (nodes : List (Option WalkRegion)) (region : WalkRegion) → region_at nodes s ≡ Some region → RegionRowsFit walk first nodes
+    → AllByRecursion (IsSmallOver (region_variables walk (first + s))) region.rows
+rows-at walk first s [] region e fits = absurd cc
+rows-at walk first zero (None ∷ nodes) region e fits = absurd cc
+rows-at walk first zero (Some other ∷ nodes) region e fits =
+    let same : other ≡ region = cc in
+    subst (λ (n : ℕ). AllByRecursion (IsSmallOver (region_variables walk n)) region.rows) (plus first)
+    (subst (λ (r : WalkRegion). AllByRecursion (IsSmallOver (region_variables walk first)) r.rows) same fits.0) where
+      plus : (n : ℕ) → n ≡ n + 0
+      plus n = omega arith
+rows-at walk first (suc s) (None ∷ nodes) region e fits =
+    subst (λ (n : ℕ). AllByRecursion (IsSmallOver (region_variables walk n)) region.rows) (shift first s) (rows-at walk (suc first) s nodes region e fits) where
+      shift : (m n : ℕ) → suc m + n ≡ m + suc n
+      shift m n = omega arith
+rows-at walk first (suc s) (Some other ∷ nodes) region e fits =
+    subst (λ (n : ℕ). AllByRecursion (IsSmallOver (region_variables walk n)) region.rows) (shift first s) (rows-at walk (suc first) s nodes region e fits.1) where
+      shift : (m n : ℕ) → suc m + n ≡ m + suc n
+      shift m n = omega arith
+
+-- those of a statement's region are
+pub region-over : (walk : WalkSetting) (s : ℕ) (region : WalkRegion) → RegionRowsFit walk 0 walk.nodes → region_at walk.nodes s ≡ Some region
     → AllByRecursion (IsSmallOver (region_variables walk s)) region.rows
-region-over walk s region fits is = (subst (λ (n : ℕ). RegionFits walk n (Some region)) (none s) (region-fits walk 0 s walk.nodes region is fits)).0 where
+region-over walk s region fits is = subst (λ (n : ℕ). AllByRecursion (IsSmallOver (region_variables walk n)) region.rows) (none s) (rows-at walk 0 s walk.nodes region is fits) where
   none : (n : ℕ) → 0 + n ≡ n
   none n = omega arith
 

@@ -9,28 +9,31 @@ use Rattle.claims.specs.declared.place.Step.{Step}
 use Rattle.claims.specs.declared.place.Step.TheVariants.{Index}
 use Rattle.claims.specs.declared.refused.No.{No}
 use Rattle.claims.proofs.Found.{Finds-stop, Finds-go}
+use Rattle.dep_quast.specs.Context.{ReadOf}
 use Rattle.reuse_paths.specs.declared.leaf.Leaf.{Leaf}
 use Rattle.reuse_paths.specs.LeafClaims.{LeafClaim, claim_of}
 use Rattle.reuse_paths.specs.OpenLeaves.{OpenLeaf}
-use Rattle.reuse_paths.specs.ReachClaims.{WalkSetting, leaf_claims, leaves_claims}
-use Rattle.reuse_paths.specs.ReachFits.{EntryFits, EntriesFit, RegionFits, RegionsFit}
+use Rattle.reuse_paths.specs.EntryClaims.{leaf_claims}
+use Rattle.reuse_paths.specs.WalkClaims.{leaves_claims}
+use Rattle.reuse_paths.specs.WalkSettings.{WalkSetting}
+use Rattle.reuse_paths.specs.WalkFits.{EntryFits, EntriesFit, RegionFits, RegionsFit}
 use Rattle.reuse_paths.specs.Walks.{WalkRegion}
 
 -- there are as many entries as leaves, and each fits
-pub entries-many : (walk : WalkSetting) (vars : ℕ) (point : List AffineForm) (leaves : List OpenLeaf) (entries : List LeafClaim) → EntriesFit walk vars point leaves entries → length leaves ≡ length entries
-entries-many walk vars point [] [] fits = refl
-entries-many walk vars point [] (e ∷ entries) fits = absurd fits
-entries-many walk vars point (l ∷ leaves) [] fits = absurd fits
-entries-many walk vars point (l ∷ leaves) (e ∷ entries) fits = ap suc (entries-many walk vars point leaves entries fits.1)
+pub entries-many : (walk : WalkSetting) (reader : ReadOf) (leaves : List OpenLeaf) (entries : List LeafClaim) → EntriesFit walk reader leaves entries → length leaves ≡ length entries
+entries-many walk reader [] [] fits = refl
+entries-many walk reader [] (e ∷ entries) fits = absurd fits
+entries-many walk reader (l ∷ leaves) [] fits = absurd fits
+entries-many walk reader (l ∷ leaves) (e ∷ entries) fits = ap suc (entries-many walk reader leaves entries fits.1)
 
-pub entry-fits-at : (walk : WalkSetting) (vars : ℕ) (point : List AffineForm) (leaves : List OpenLeaf) (entries : List Leaf) (i : ℕ) (l : OpenLeaf) (e : Leaf) → EntriesFit walk vars point leaves (map claim_of entries)
-    → i < length leaves → l ≡ get_or leaves i l → e ≡ get_or entries i e → EntryFits walk vars point l (claim_of e)
-entry-fits-at walk vars point [] entries i l e fits below is is_e = absurd (omega (arith, below))
-entry-fits-at walk vars point (x ∷ leaves) [] i l e fits below is is_e = absurd fits
-entry-fits-at walk vars point (x ∷ leaves) (y ∷ entries) zero l e fits below is is_e =
-    subst (λ (z : Leaf). EntryFits walk vars point l (claim_of z)) (sym is_e) (subst (λ (z : OpenLeaf). EntryFits walk vars point z (claim_of y)) (sym is) fits.0)
-entry-fits-at walk vars point (x ∷ leaves) (y ∷ entries) (suc i) l e fits below is is_e =
-    entry-fits-at walk vars point leaves entries i l e fits.1 (omega (arith, below)) is is_e
+pub entry-fits-at : (walk : WalkSetting) (reader : ReadOf) (leaves : List OpenLeaf) (entries : List Leaf) (i : ℕ) (l : OpenLeaf) (e : Leaf) → EntriesFit walk reader leaves (map claim_of entries)
+    → i < length leaves → l ≡ get_or leaves i l → e ≡ get_or entries i e → EntryFits walk reader l.origin (claim_of e)
+entry-fits-at walk reader [] entries i l e fits below is is_e = absurd (omega (arith, below))
+entry-fits-at walk reader (x ∷ leaves) [] i l e fits below is is_e = absurd fits
+entry-fits-at walk reader (x ∷ leaves) (y ∷ entries) zero l e fits below is is_e =
+    subst (λ (z : Leaf). EntryFits walk reader l.origin (claim_of z)) (sym is_e) (subst (λ (z : OpenLeaf). EntryFits walk reader z.origin (claim_of y)) (sym is) fits.0)
+entry-fits-at walk reader (x ∷ leaves) (y ∷ entries) (suc i) l e fits below is is_e =
+    entry-fits-at walk reader leaves entries i l e fits.1 (omega (arith, below)) is is_e
 
 -- the region of a statement fits
 pub regions-fit-at : (walk : WalkSetting) (first i : ℕ) (nodes : List (Option WalkRegion)) (region : Option WalkRegion) → RegionsFit walk first nodes → i < length nodes → region ≡ get_or nodes i region
@@ -45,25 +48,25 @@ regions-fit-at walk first (suc i) (x ∷ nodes) region fits below is =
       shift : (m n : ℕ) → suc m + n ≡ m + suc n
       shift m n = omega arith
 
-module _ (condition : ℕ) (walk : WalkSetting) (list : List Step) (vars : ℕ) (rows point : List AffineForm) (leaves : List OpenLeaf) (entries : List Leaf) where
+module _ (condition : ℕ) (walk : WalkSetting) (reader : ReadOf) (list : List Step) (rows : List AffineForm) (leaves : List OpenLeaf) (entries : List Leaf) where
   abbrev from : ℕ → List Claim
-  from i = leaves_claims condition walk list vars rows point i (drop i leaves) (map claim_of (drop i entries))
+  from i = leaves_claims condition walk reader list rows i (drop i leaves) (map claim_of (drop i entries))
 
   pub leaves-ended : (i : ℕ) → length leaves ≤ i → AllHold (from i)
   leaves-ended i past =
-      subst (λ (ls : List OpenLeaf). AllHold (leaves_claims condition walk list vars rows point i ls (map claim_of (drop i entries)))) (sym (drop_all i leaves past)) tt
+      subst (λ (ls : List OpenLeaf). AllHold (leaves_claims condition walk reader list rows i ls (map claim_of (drop i entries)))) (sym (drop_all i leaves past)) tt
 
   module _ (i : ℕ) (l : OpenLeaf) (e : Leaf) (below : i < length leaves) (below_e : i < length entries) (is : l ≡ get_or leaves i l) (is_e : e ≡ get_or entries i e)
       (place : List Step) (at : place ≡ list ++ Index i ∷ []) where
     abbrev here : List Claim
-    here = leaf_claims condition walk place vars rows point l (claim_of e)
+    here = leaf_claims condition walk reader place rows l (claim_of e)
 
     split : from i ≡ here ++ from (i + 1)
     split =
-        ap (λ (ls : List OpenLeaf). leaves_claims condition walk list vars rows point i ls (map claim_of (drop i entries))) (rest_at leaves i l below is)
-        ∙ ap (λ (es : List Leaf). leaves_claims condition walk list vars rows point i (l ∷ drop (i + 1) leaves) (map claim_of es)) (rest_at entries i e below_e is_e)
-        ∙ ap (λ (p : List Step). leaf_claims condition walk p vars rows point l (claim_of e) ++ leaves_claims condition walk list vars rows point (suc i) (drop (i + 1) leaves) (map claim_of (drop (i + 1) entries))) (sym at)
-        ∙ ap (λ (n : ℕ). here ++ leaves_claims condition walk list vars rows point n (drop (i + 1) leaves) (map claim_of (drop (i + 1) entries))) (add-one i)
+        ap (λ (ls : List OpenLeaf). leaves_claims condition walk reader list rows i ls (map claim_of (drop i entries))) (rest_at leaves i l below is)
+        ∙ ap (λ (es : List Leaf). leaves_claims condition walk reader list rows i (l ∷ drop (i + 1) leaves) (map claim_of es)) (rest_at entries i e below_e is_e)
+        ∙ ap (λ (p : List Step). leaf_claims condition walk reader p rows l (claim_of e) ++ leaves_claims condition walk reader list rows (suc i) (drop (i + 1) leaves) (map claim_of (drop (i + 1) entries))) (sym at)
+        ∙ ap (λ (n : ℕ). here ++ leaves_claims condition walk reader list rows n (drop (i + 1) leaves) (map claim_of (drop (i + 1) entries))) (add-one i)
 
     pub leaves-stop : (n : No) (found : Option No) → found ≡ Some n → Finds here found → Finds (from i) (Some n)
     leaves-stop n found none h = subst (λ (cs : List Claim). Finds cs (Some n)) (sym split) (Finds-stop here (from (i + 1)) n (subst (Finds here) none h))

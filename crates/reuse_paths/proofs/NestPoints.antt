@@ -1,9 +1,10 @@
 -- The points of a nest: they are within its bounds, differ, and meet its rows.
-use Rattle.std.proofs.Common.{◌≡◌, sym, ◌∙◌, subst, ℕ, ◌+◌, List, [], ◌∷◌, ◌++◌, length, map, arith}
-use Rattle.std.specs.Prelude.{flat_map}
-use Rattle.std.specs.List.{AllByRecursion}
+use Rattle.std.proofs.Common.{◌≡◌, refl, sym, ◌∙◌, subst, inl, inr, ℕ, ◌+◌, List, [], ◌∷◌, ◌++◌, length, map, arith}
+use Rattle.std.specs.Prelude.{nat_eq, false, flat_map}
+use Rattle.std.specs.List.{AllByRecursion, IsDistinct}
 use Rattle.std.proofs.Math.IntN.{ℤ, pos, ◌+ℤ◌, ◌-ℤ◌}
 use lib.Signed.{◌≤ℤ◌}
+use Rattle.std.proofs.lemmas.Bool.{ne_eqb}
 use Rattle.std.proofs.lemmas.List.{append_assoc, append-nil, length-map}
 use Rattle.base_laws.proofs.Lists.{All-append, All-weaken, All-map, All-every, All-flat_map}
 use Rattle.iolb_model.specs.Form.{AffineForm, form_value}
@@ -12,7 +13,8 @@ use Rattle.iolb_model.specs.Bound.{IsAdmitted}
 use Rattle.iolb_model.specs.Execution.{natural, range}
 use Rattle.iolb_model.specs.Domain.{IsWithin}
 use Rattle.execution_laws.proofs.Ordered.{All-from}
-use Rattle.execution_laws.proofs.Ranges.{range-within}
+use Rattle.execution_laws.proofs.Members.{Member, Member-map, Member-flat_map}
+use Rattle.execution_laws.proofs.Ranges.{range-has, range-within}
 use Rattle.execution_laws.proofs.Different.{Differ, Differ-append, Differ-map, Differ-rising, same_head, same_tail}
 use Rattle.affine_form.specs.Substitution.{values_at}
 use Rattle.affine_form.specs.System.{IsMet}
@@ -33,6 +35,17 @@ points-within (bounds ∷ nest) before =
     let there : (lower ≤ℤ v) × (v ≤ℤ upper) = range-within lower upper v m in
     All-map inside (λ (u : List ℤ). v ∷ u) (points nest (before ++ v ∷ []))
     (All-weaken (λ (u : List ℤ). IsWithin (map step_of nest) (before ++ v ∷ []) u) (λ (u : List ℤ). inside (v ∷ u)) (points nest (before ++ v ∷ [])) (λ u h. (there.0, there.1, h)) (points-within nest (before ++ v ∷ [])))))
+
+-- all values that are within the bounds are among them
+pub points-all : (nest : List (AffineForm × AffineForm)) (before u : List ℤ) → IsWithin (map step_of nest) before u → Member u (points nest before)
+points-all [] before [] h = inl refl
+points-all [] before (v ∷ u) h = absurd h
+points-all (bounds ∷ nest) before [] h = absurd h
+points-all (bounds ∷ nest) before (v ∷ u) h =
+    let lower : ℤ = form_value bounds.0 before in
+    let upper : ℤ = form_value bounds.1 before in
+    Member-flat_map (λ (w : ℤ). map (λ (p : List ℤ). w ∷ p) (points nest (before ++ w ∷ []))) v (range lower upper) (v ∷ u) (range-has lower upper v h.0 h.1)
+    (Member-map (λ (p : List ℤ). v ∷ p) u (points nest (before ++ v ∷ [])) (points-all nest (before ++ v ∷ []) u h.2))
 
 -- they have a value for each variable
 pub points-long : (nest : List (AffineForm × AffineForm)) (before : List ℤ) → AllByRecursion (λ (u : List ℤ). length u ≡ length nest) (points nest before)
@@ -62,6 +75,17 @@ points-differ [] before = (tt, tt)
 points-differ (bounds ∷ nest) before =
     differ-parts (λ (v : ℤ). points nest (before ++ v ∷ [])) (λ v. points-differ nest (before ++ v ∷ [])) (range (form_value bounds.0 before) (form_value bounds.1 before))
     (Differ-rising (form_value bounds.0 before) (natural ((form_value bounds.1 before -ℤ form_value bounds.0 before) +ℤ pos 1)))
+
+-- images of different things differ
+apart-images : (f : List ℤ → ℕ) (x : List ℤ) (xs : List (List ℤ)) → ((y : List ℤ) → Member y xs → f x ≡ f y → x ≡ y) → AllByRecursion (λ (y : List ℤ). x ≡ y → ⊥) xs
+    → AllByRecursion (λ (v : ℕ). nat_eq (f x) v ≡ false) (map f xs)
+apart-images f x [] one h = tt
+apart-images f x (y ∷ xs) one h = (ne_eqb (f x) (f y) (λ e. h.0 (one y (inl refl) e)), apart-images f x xs (λ z m. one z (inr m)) h.1)
+
+pub distinct-images : (f : List ℤ → ℕ) (xs : List (List ℤ)) → ((x y : List ℤ) → Member x xs → Member y xs → f x ≡ f y → x ≡ y) → Differ xs → IsDistinct nat_eq (map f xs)
+unfolding IsDistinct
+distinct-images f [] one h = tt
+distinct-images f (x ∷ xs) one h = (apart-images f x xs (λ y m. one x y (inl refl) (inr m)) h.0, distinct-images f xs (λ a b m n. one a b (inr m) (inr n)) h.1)
 
 -- the rows of a nest are met where the parameters are admitted and the values within its bounds, whatever values follow
 pub nest-met-before : (program : AffineProgram) (nest : List (AffineForm × AffineForm)) (values u rest : List ℤ) → IsWellFormed program → IsAdmitted program values

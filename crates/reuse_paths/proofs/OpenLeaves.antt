@@ -16,7 +16,7 @@ use Rattle.dep_quast.specs.Context.{ReadOf, no_row, variables_at}
 use Rattle.dep_quast.specs.Tree.{Leaf as TreeLeaf, source, input, empty, blank, SelectionTree, leaf, test}
 use Rattle.dep_quast.specs.Truth.{ReadFits, FitsUnder, LeafFits}
 use Rattle.dep_quast.proofs.Fits.{params-few, depth-few}
-use Rattle.reuse_paths.specs.ReachClaims.{WalkSetting, reading_point, region_variables}
+use Rattle.reuse_paths.specs.WalkSettings.{WalkSetting, reading_point, region_variables}
 use Rattle.reuse_paths.specs.WalkViews.{OpenLeafFits}
 use Rattle.reuse_paths.specs.OpenLeaves.{OpenLeaf, form_at, no_at, open_leaf, open_leaves, TestsFit}
 

@@ -1,5 +1,5 @@
 -- There are as many systems of pieces as pairs of their targets.
-use Rattle.std.proofs.Common.{◌≡◌, refl, sym, ◌∙◌, ap, ℕ, suc, ◌+◌, Bool, true, false, cond, List, [], ◌∷◌, ◌++◌, length, map, arith}
+use Rattle.std.proofs.Common.{◌≡◌, refl, ap, suc, Bool, true, false, cond, List, [], ◌∷◌, length, map, arith}
 use Rattle.std.specs.Prelude.{filter}
 use Rattle.std.proofs.lemmas.List.{length-append, length-map}
 use Rattle.iolb_model.specs.Program.{AffineProgram}

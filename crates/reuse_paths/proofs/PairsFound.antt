@@ -1,9 +1,9 @@
 -- What is found in the claims on pieces, part by part.
-use Rattle.std.proofs.Common.{◌≡◌, sym, ◌∙◌, ap, subst, ℕ, suc, ◌+◌, ◌<◌, ◌≤◌, Bool, true, false, cond, List, [], ◌∷◌, ◌++◌, length, map, get_or, drop, arith}
+use Rattle.std.proofs.Common.{◌≡◌, sym, ◌∙◌, ap, subst, ℕ, ◌+◌, ◌<◌, ◌≤◌, Bool, true, false, cond, List, [], ◌∷◌, ◌++◌, length, map, get_or, drop, arith}
 use Rattle.std.specs.Prelude.{Option, Some, None, IfNone, Vec}
 use Rattle.std.specs.List.{AllByRecursion}
 use Rattle.std.specs.Global.{Global}
-use Rattle.std.proofs.lemmas.List.{drop_all, length-append}
+use Rattle.std.proofs.lemmas.List.{length-append}
 use Rattle.base_laws.proofs.Lists.{rest_at}
 use Rattle.iolb_model.specs.Program.{AffineProgram}
 use Rattle.claims.specs.Claims.{Finds}
@@ -12,7 +12,7 @@ use Rattle.claims.specs.declared.place.Step.TheVariants.{Index}
 use Rattle.claims.specs.declared.refused.No.{No}
 use Rattle.affine_form.specs.Multipliers.{FarkasMultipliers}
 use Rattle.affine_form.specs.System.{AffineSystem}
-use Rattle.dep_quast.proofs.Chunks.{claims_from, claims_on, one-from, chunk-stop, chunk-go}
+use Rattle.dep_quast.proofs.Chunks.{claims_from, one-from, chunk-stop, chunk-go}
 use Rattle.reuse_paths.specs.declared.piece.Piece.{Piece}
 use Rattle.reuse_paths.specs.Pieces.{FootprintPiece, PieceFits, piece_of, pieces_of}
 use Rattle.reuse_paths.specs.DisjointClaims.{same_target, shared_system, with_target, systems_with, shared_systems, systems_with_lists, pairwise_systems, pair_claims}

@@ -1,6 +1,6 @@
 -- The points of a region: the parameters, a point of the nest, and the loop values of an instance.
-use Rattle.std.proofs.Common.{◌≡◌, sym, ◌∙◌, ap, subst, ℕ, zero, suc, ◌+◌, ◌≤◌, List, [], ◌∷◌, ◌++◌, length, map, arith}
-use Rattle.std.specs.Prelude.{Option, Some}
+use Rattle.std.proofs.Common.{◌≡◌, refl, sym, ◌∙◌, ap, subst, ℕ, zero, suc, ◌+◌, ◌≤◌, List, [], ◌∷◌, ◌++◌, length, map, arith}
+use Rattle.std.specs.Prelude.{Option, Some, None, IsSomeAnd}
 use Rattle.std.proofs.Math.IntN.{ℤ, pos}
 use lib.Signed.{◌≤ℤ◌}
 use Rattle.std.proofs.lemmas.List.{append_assoc, length-append, length-map, map-append}
@@ -13,20 +13,32 @@ use Rattle.iolb_model.specs.Domain.{IsWithin, IsAt}
 use Rattle.execution_laws.proofs.Domains.{domains_executed}
 use Rattle.claims.specs.Claims.{AllHold, numbered}
 use Rattle.claims.specs.declared.place.Step.{Step}
+use Rattle.claims.specs.declared.place.Step.TheVariants.{Key}
+use Rattle.claims.specs.declared.key.TheConstants.{ROWS}
 use Rattle.claims.proofs.Laws.{AllHold-left, AllHold-right}
+use Rattle.affine_form.specs.Multipliers.{FarkasMultipliers}
 use Rattle.affine_form.specs.Substitution.{values_at}
 use Rattle.affine_form.specs.System.{IsMet}
 use Rattle.affine_form.specs.Rows.{widened, variables_from, within_rows, step_of}
 use Rattle.affine_form.proofs.Meaning.{values-end, values-front, widened-stay, within_rows-met}
 use Rattle.affine_program.specs.Domain.{path_of, depth_of}
+use Rattle.dep_quast.specs.Claims.{follow_claims}
 use Rattle.dep_quast.specs.Context.{parameter_point}
 use Rattle.dep_quast.proofs.Points.{within-length, there-holds}
+use Rattle.dep_quast.proofs.Shown.{goals-met}
 use Rattle.domain_count.specs.Count.{rows_before}
-use Rattle.reuse_paths.specs.ReachClaims.{WalkSetting, spot_variables, region_variables, region_values, reading_point, region_context, region_at, entering_rows, region_claims}
-use Rattle.reuse_paths.specs.ReachFits.{RegionFits, RegionsFit}
+use Rattle.reuse_paths.specs.EntryClaims.{IsInRegion, going_goals}
+use Rattle.reuse_paths.specs.OpenLeaves.{written, form_at}
+use Rattle.reuse_paths.specs.ReachClaims.{region_claims}
+use Rattle.reuse_paths.specs.WalkFits.{RegionFits, RegionsFit}
+use Rattle.reuse_paths.specs.WalkSettings.{WalkSetting, spot_variables, region_variables, region_values, reading_point, region_context, region_at, forms_behind, entering_rows}
 use Rattle.reuse_paths.specs.Walks.{WalkRegion}
-use Rattle.reuse_paths.proofs.ChosenLeaves.{forms_at-met}
+use Rattle.reuse_paths.proofs.ChosenLeaves.{forms_at-met, forms_at-values}
 use Rattle.reuse_paths.proofs.NestPoints.{nest-met-before}
+
+pub there-is : (o : Option WalkRegion) → IsSomeAnd o (λ region. Unit {0}) → (region : WalkRegion) × (o ≡ Some region)
+there-is None h = absurd h
+there-is (Some region) h = (region, refl)
 
 -- what is claimed of a statement's region, and that it fits
 pub region-claimed : (condition : ℕ) (walk : WalkSetting) (place : List Step) (first s : ℕ) (nodes : List (Option WalkRegion)) (region : WalkRegion) → region_at nodes s ≡ Some region
@@ -68,6 +80,12 @@ module _ (walk : WalkSetting) (values u : List ℤ) (formed : IsWellFormed walk.
       ∙ ap (λ (q : List ℤ). q ++ values_at forms at)
       (ap (values_at (variables_from vars 0 (spot_variables walk))) is ∙ values-front vars (spot_variables walk) (values ++ u) rest spot-many room)
 
+  -- forms with others put in for their last variables have the values that they have at the others' values
+  pub behind-values : (vars : ℕ) (these forms : List AffineForm) (at rest : List ℤ) → spot_variables walk ≤ vars → at ≡ (values ++ u) ++ rest
+      → values_at (forms_behind walk vars forms these) at ≡ values_at these ((values ++ u) ++ values_at forms at)
+  behind-values vars these forms at rest room is =
+      forms_at-values vars (variables_from vars 0 (spot_variables walk) ++ forms) these at ((values ++ u) ++ values_at forms at) (behind-nest vars forms at rest room is)
+
   -- where the rows which say that loop values are in a region are met, its rows are met at them
   pub entering-met : (vars : ℕ) (region : WalkRegion) (forms : List AffineForm) (at rest : List ℤ) → spot_variables walk ≤ vars → at ≡ (values ++ u) ++ rest
       → IsMet (entering_rows walk vars (Some region) forms) at → IsMet region.rows ((values ++ u) ++ values_at forms at)
@@ -79,16 +97,16 @@ module _ (walk : WalkSetting) (values u : List ℤ) (formed : IsWellFormed walk.
     in-domain : IsWithin (path_of walk.program s) values x
     in-domain = there-holds (row_path walk.program.tree s) (λ path. IsWithin path values x) ((domains_executed walk.program values (record { statement = s; values = x }) formed).0 (n, here))
 
-    values-many : depth_of walk.program s ≡ length x
+    pub values-many : depth_of walk.program s ≡ length x
     values-many = sym (within-length (path_of walk.program s) values x in-domain)
 
     -- the parameters and the loop values, as forms over the variables of the region
-    params-there : values_at (parameter_point walk.program (region_variables walk s)) ((values ++ u) ++ x) ≡ values
+    pub params-there : values_at (parameter_point walk.program (region_variables walk s)) ((values ++ u) ++ x) ≡ values
     params-there =
         subst (λ (p : List ℤ). values_at (parameter_point walk.program (region_variables walk s)) p ≡ values) (sym (append_assoc values u x))
         (values-front (region_variables walk s) (length walk.program.parameters) values (u ++ x) (sym admitted.each) (omega arith))
 
-    loops-there : values_at (region_values walk s) ((values ++ u) ++ x) ≡ x
+    pub loops-there : values_at (region_values walk s) ((values ++ u) ++ x) ≡ x
     loops-there = values-end (region_variables walk s) (spot_variables walk) (depth_of walk.program s) (values ++ u) x spot-many values-many (omega arith)
 
     pub reading-there : values_at (reading_point walk s) ((values ++ u) ++ x) ≡ values ++ x
@@ -111,3 +129,21 @@ module _ (walk : WalkSetting) (values u : List ℤ) (formed : IsWellFormed walk.
         (subst (λ (ys : List ℤ). IsWithin (path_of walk.program s) values ys) (sym loops-there) in-domain)) in
         All-append (λ (row : AffineForm). pos 0 ≤ℤ form_value row point) (nest ++ domain) rows
         (All-append (λ (row : AffineForm). pos 0 ≤ℤ form_value row point) nest domain nest-rows domain-rows) met
+
+    -- a walk that goes on from a written word goes on in a region
+    pub going-met : (condition : ℕ) (place : List Step) (rows : List AffineForm) (writer : ℕ) (forms : List AffineForm) (shown : List FarkasMultipliers)
+        → length shown ≡ length (going_goals walk (region_variables walk s) (reading_point walk s) (written writer forms)) → IsMet rows ((values ++ u) ++ x)
+        → IsInRegion walk (written writer forms)
+        → AllHold (follow_claims condition (place ++ Key ROWS ∷ []) (record { vars = region_variables walk s; rows = rows }) 0 (going_goals walk (region_variables walk s) (reading_point walk s) (written writer forms)) shown)
+        → (region : WalkRegion) × ((region_at walk.nodes writer ≡ Some region) × IsMet region.rows ((values ++ u) ++ values_at forms (values ++ x)))
+    going-met condition place rows writer forms shown enough met is h =
+        let vars : ℕ = region_variables walk s in
+        let point : List ℤ = (values ++ u) ++ x in
+        let here_forms : List AffineForm = map (form_at vars (reading_point walk s)) forms in
+        let region : (r : WalkRegion) × (region_at walk.nodes writer ≡ Some r) = there-is (region_at walk.nodes writer) is in
+        let entering : IsMet (entering_rows walk vars (region_at walk.nodes writer) here_forms) point =
+        goals-met condition (place ++ Key ROWS ∷ []) (record { vars = vars; rows = rows }) 0 (going_goals walk vars (reading_point walk s) (written writer forms)) shown point (omega (arith, enough)) h met in
+        let inside : IsMet region.0.rows ((values ++ u) ++ values_at here_forms point) =
+        entering-met vars region.0 here_forms point x (omega arith) refl
+        (subst (λ (o : Option WalkRegion). IsMet (entering_rows walk vars o here_forms) point) region.1 entering) in
+        (region.0, (region.1, subst (λ (v : List ℤ). IsMet region.0.rows ((values ++ u) ++ v)) (forms_at-values vars (reading_point walk s) forms point (values ++ x) reading-there) inside))

@@ -1,6 +1,6 @@
 -- A vertex of two pieces is a point of their system.
-use Rattle.std.proofs.Common.{◌≡◌, refl, sym, ◌∙◌, ap, subst, inl, inr, ℕ, zero, suc, ◌+◌, ◌<◌, ◌≤◌, true, List, [], ◌∷◌, ◌++◌, length, map, replicate, take, drop, eq-eqb, arith}
-use Rattle.std.specs.Prelude.{◌⊎◌, Some, slice_get, ◌==◌}
+use Rattle.std.proofs.Common.{◌≡◌, refl, sym, ◌∙◌, ap, subst, inl, inr, ℕ, zero, suc, ◌+◌, ◌≤◌, true, List, [], ◌∷◌, ◌++◌, length, map, replicate, take, drop, eq-eqb, arith}
+use Rattle.std.specs.Prelude.{Some, slice_get}
 use Rattle.std.specs.List.{AllByRecursion}
 use Rattle.std.proofs.Math.IntN.{ℤ, pos, ◌+ℤ◌, ◌*ℤ◌}
 use lib.Signed.{◌≤ℤ◌}
@@ -16,8 +16,6 @@ use Rattle.iolb_model.specs.Execution.{Instance, execution}
 use Rattle.iolb_model.specs.Source.{Cell as InputCell}
 use Rattle.iolb_model.specs.Graph.{input_cells}
 use Rattle.execution_laws.proofs.Members.{Member, Member-append_left, Member-append_right, Member-map, Member-filter, Member-flat_map}
-use Rattle.claims.specs.Claims.{AllHold}
-use Rattle.claims.specs.declared.place.Step.{Step}
 use Rattle.claims.specs.declared.place.Step.TheVariants.{Key}
 use Rattle.affine_form.specs.Form.{variables}
 use Rattle.affine_form.specs.Rows.{widened, equality_rows}

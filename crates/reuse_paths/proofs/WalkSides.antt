@@ -9,7 +9,8 @@ use Rattle.claims.specs.declared.key.TheConstants.{NO, YES}
 use Rattle.claims.specs.declared.refused.No.{No}
 use Rattle.claims.proofs.Found.{Finds-stop, Finds-go}
 use Rattle.dep_quast.specs.Context.{no_row}
-use Rattle.reuse_paths.specs.ReachClaims.{WalkSetting, region_variables, walk_claims}
+use Rattle.reuse_paths.specs.WalkClaims.{walk_claims}
+use Rattle.reuse_paths.specs.WalkSettings.{WalkSetting, region_variables}
 use Rattle.reuse_paths.specs.Walks.{WalkTree, test, tree_of_walk}
 use Rattle.reuse_paths.specs.declared.walk.Walk.{Walk}
 

@@ -1,5 +1,5 @@
 -- Pairs of pieces with one target, by the targets alone.
-use Rattle.std.specs.Prelude.{ℕ, List, [], ◌∷◌, ◌++◌, map, flat_map, filter, Vec}
+use Rattle.std.specs.Prelude.{List, [], ◌∷◌, ◌++◌, flat_map, filter, Vec}
 use Rattle.std.specs.Global.{Global}
 use Rattle.reuse_paths.specs.declared.piece.Target.{Target}
 use Rattle.reuse_paths.specs.DisjointClaims.{same_target}

@@ -1,5 +1,5 @@
 -- What the parts of the check of a walk are, and what makes them fit.
-use Rattle.std.specs.Prelude.{◌≡◌, ℕ, ◌<◌, ⊤, map, length, option_map}
+use Rattle.std.specs.Prelude.{◌≡◌, ℕ, ◌<◌, ⊤, List, map, length, Option, option_map}
 use Rattle.std.specs.List.{AllByRecursion}
 use Rattle.iolb_model.specs.Program.{AffineProgram}
 use Rattle.affine_form.specs.Rows.{IsSmallOver}
@@ -7,13 +7,34 @@ use Rattle.affine_form.specs.System.{AllOver}
 use Rattle.affine_program.specs.Domain.{depth_of}
 use Rattle.affine_program.specs.Parts.{meaning}
 use Rattle.dep_quast.specs.Context.{variables_at}
+use Rattle.reuse_paths.specs.declared.walking.Aim.{Aim}
+use Rattle.reuse_paths.specs.declared.walking.Aim.TheVariants as aims
+use Rattle.reuse_paths.specs.declared.walking.Kept.{Kept}
 use Rattle.reuse_paths.specs.declared.walking.Walking.{Walking}
+use Rattle.reuse_paths.specs.Families.{credit_of, family_of, node_label, node_region}
 use Rattle.reuse_paths.specs.OpenLeaves.{LeafOrigin, written, as_input, unknown, OpenLeaf}
 use Rattle.reuse_paths.specs.Quasts.{trees_of}
-use Rattle.reuse_paths.specs.ReachClaims.{WalkSetting, spot_variables, region_variables}
-use Rattle.reuse_paths.specs.ReachFits.{NestFits, SpotFits, RegionsFit}
 use Rattle.reuse_paths.specs.Trees.{read_of, RowsFit}
-use Rattle.reuse_paths.specs.Walks.{region_of, spot_of}
+use Rattle.reuse_paths.specs.WalkFits.{NestFits, AimFits, ReaderFits, RegionRowsFit}
+use Rattle.reuse_paths.specs.WalkSettings.{KeptLabels, WalkAim, arrives_at, keeps, WalkSetting, region_variables}
+use Rattle.reuse_paths.specs.Walks.{WalkRegion, region_of, spot_of}
+
+-- the regions that the code holds, and what it asks
+abbrev pub nodes_in : Aim → List (Option WalkRegion)
+nodes_in (aims.Arrive nodes target) = map (option_map region_of) nodes.now
+nodes_in (aims.Keep kept) = map node_region (family_of kept.family.now).nodes
+
+abbrev pub kept_of : Kept → KeptLabels
+kept_of kept = record {
+  reader = kept.reader.now;
+  instances = map node_label (family_of kept.family.now).nodes;
+  cells = (family_of kept.family.now).inputs;
+  credits = map credit_of kept.credits.now;
+}
+
+abbrev pub aim_of : Aim → WalkAim
+aim_of (aims.Arrive nodes target) = arrives_at (spot_of target.now)
+aim_of (aims.Keep kept) = keeps (kept_of kept)
 
 -- the setting that the code holds
 abbrev pub walk_of : Walking → WalkSetting
@@ -21,21 +42,28 @@ walk_of walking = record {
   program = meaning walking.program.now;
   trees = trees_of walking.quasts.now;
   nest = walking.nest.now;
-  nodes = map (option_map region_of) walking.nodes.now;
-  target = spot_of walking.target.now;
+  nodes = nodes_in walking.aim;
+  aim = aim_of walking.aim;
 }
 
--- a nest and a target fit
+-- a nest and what is asked fit
 pub record EndsFit (walk : WalkSetting) : Type 0 where
   pub nest : NestFits walk.program walk.nest
-  pub target : SpotFits walk.program (spot_variables walk) walk.target
+  pub aim : AimFits walk walk.aim
 
--- a setting fits: also its source trees, and its regions, one or none for each statement
+-- A setting fits: also its source trees, and its regions, one or none for each statement, whose rows are over the variables
+-- of the region.
 pub record SettingFits (walk : WalkSetting) : Type 0 where
   pub ends : EndsFit walk
   pub trees : RowsFit walk.program 0 walk.trees
   pub each : length walk.nodes ≡ length walk.program.statements
-  pub regions : RegionsFit walk 0 walk.nodes
+  pub rows : RegionRowsFit walk 0 walk.nodes
+
+-- A setting fits at readers of a statement: the statement is there, and the readers' label fits.
+pub record ReadingFits (walk : WalkSetting) (statement : ℕ) : Type 0 where
+  pub setting : SettingFits walk
+  pub there : statement < length walk.program.statements
+  pub reader : ReaderFits walk statement walk.aim
 
 -- where a leaf says that a word comes from fits: the statement is there, and has a loop value for each loop around it
 abbrev pub OriginFits : AffineProgram → ℕ → LeafOrigin → Type 0

@@ -3,8 +3,12 @@
 #![tactic(auto)]
 
 mod check;
+mod credited;
 mod disjoint;
 mod entry_shown;
+mod family;
+mod family_shown;
+mod kept_shown;
 pub mod law;
 mod leaf;
 pub mod open_leaves;
@@ -18,9 +22,12 @@ mod target_pairs;
 mod walk;
 mod walk_shown;
 mod walking;
+mod word_labels;
 
 pub use check::check_quasts;
 pub use disjoint::{check_disjoint, disjoint_pieces_are_apart, lists_shown};
+pub use family::{Credit, Family, FamilyNode};
+pub use family_shown::check_family;
 pub use leaf::Leaf;
 pub use piece::{Piece, Target};
 pub use quasts::Quasts;
@@ -28,4 +35,4 @@ pub use reach::{Reach, Spot};
 pub use reach_shown::check_reach;
 pub use target_pairs::has_pairs;
 pub use walk::{Region, Walk};
-pub use walking::Walking;
+pub use walking::{Aim, Kept, Walking, region_at};

@@ -1,22 +1,26 @@
 //! The check of reaches.
 
-ghost use Rattle.std.specs.Prelude.{◌≡◌, ◌*◌, length, IfOk, OnOk, IfErr};
+ghost use Rattle.std.specs.Prelude.{◌≡◌, ◌*◌, ◌++◌, ◌∷◌, [], ℕ, length, map, option_map, IfOk, OnOk, IfErr};
 ghost use Rattle.affine_program.specs.Domain.{depth_of};
 ghost use Rattle.affine_program.specs.Parts.{meaning};
-ghost use Rattle.claims.specs.Claims.{AllHold, Finds, IsRefusal};
+ghost use Rattle.claims.specs.Claims.{AllHold, Finds, IsRefusal, numbered};
+ghost use Rattle.claims.specs.declared.key.TheConstants.{NODES};
+ghost use Rattle.claims.specs.declared.place.Step.TheVariants.{Key};
 ghost use Rattle.reuse_paths.specs.Arrival.{Arrives};
 ghost use Rattle.reuse_paths.specs.Quasts.{trees_of};
-ghost use Rattle.reuse_paths.specs.ReachClaims.{claims_in, entering_rows, reach_claims, region_at, same_claims, spot_variables, start_claims};
-ghost use Rattle.reuse_paths.specs.ReachFits.{ReachFits, SpotFits};
+ghost use Rattle.reuse_paths.specs.ReachClaims.{reach_claims, region_claims, same_claims, start_claims};
+ghost use Rattle.reuse_paths.specs.ReachFits.{ReachFits};
 ghost use Rattle.reuse_paths.specs.Trees.{RowsAreTrue, RowsFit};
-ghost use Rattle.reuse_paths.specs.Walks.{reach_of, spot_of, walked};
-ghost use Rattle.reuse_paths.specs.WalkViews.{walk_of, EndsFit, SettingFits};
+ghost use Rattle.reuse_paths.specs.WalkFits.{NestFits, ReaderFits, RegionsFit, SpotFits};
+ghost use Rattle.reuse_paths.specs.Walks.{reach_of, region_of, spot_of};
+ghost use Rattle.reuse_paths.specs.WalkSettings.{entering_rows, region_at, spot_variables};
+ghost use Rattle.reuse_paths.specs.WalkViews.{walk_of, SettingFits};
 
 use crate::law::reaches_arrive;
-use crate::region::{entering_rows, equality_rows};
+use crate::region::{equality_rows, forms_behind};
 use crate::walk_shown::regions_shown;
-use crate::walking::{Walking, region_at, spot_variables};
-use crate::{Quasts, Reach, Spot};
+use crate::walking::{Aim, Walking, region_at, spot_variables};
+use crate::{Quasts, Reach, Region, Spot};
 use affine_form::{Memory, Multipliers};
 use affine_program::Program;
 use claims::key::{NODES, SAME, START};
@@ -29,27 +33,24 @@ use std::alloc::Global;
 fn same_shown(
     alloc: Global,
     walking: &Walking,
+    target: &Spot,
     place: &Place,
     from: &Spot,
     equal: &[Multipliers],
 ) -> Result<Option<No>, Memory>
-    requires ends { EndsFit (walk_of walking.now) }
+    requires nest { NestFits (walk_of walking.now).program (walk_of walking.now).nest }
+    requires target_fits { SpotFits (walk_of walking.now).program (spot_variables (walk_of walking.now)) (spot_of target.now) }
     requires from_fits { SpotFits (walk_of walking.now).program (spot_variables (walk_of walking.now)) (spot_of from.now) }
-    requires enough { from.now.statement ≡ (walk_of walking.now).target.statement → length equal.now ≡ 2 * depth_of (walk_of walking.now).program from.now.statement }
-    ensures { IfOk result (λ found. Finds (same_claims walking.now.condition (walk_of walking.now) place.now (spot_of from.now) equal.now) found) }
+    requires enough { from.now.statement ≡ target.now.statement → length equal.now ≡ 2 * depth_of (walk_of walking.now).program from.now.statement }
+    ensures { IfOk result (λ found. Finds (same_claims walking.now.condition (walk_of walking.now) (spot_of target.now) place.now (spot_of from.now) equal.now) found) }
 {
     let list = place.within(alloc, Step::Key(SAME))?;
-    if from.statement != walking.target.statement {
+    if from.statement != target.statement {
         return refusal(alloc, walking.condition, &list);
     }
     let vars = spot_variables(walking);
     let system = rows_before(alloc, walking.program, walking.nest.bounds())?;
-    let goals = equality_rows(
-        alloc,
-        vars,
-        from.point.as_slice(),
-        walking.target.point.as_slice(),
-    )?;
+    let goals = equality_rows(alloc, vars, from.point.as_slice(), target.point.as_slice())?;
     goals_shown(
         alloc,
         walking.condition,
@@ -79,7 +80,8 @@ fn start_shown(
     };
     let vars = spot_variables(walking);
     let system = rows_before(alloc, walking.program, walking.nest.bounds())?;
-    let goals = entering_rows(alloc, walking, vars, region, from.point.as_slice())?;
+    let values = from.point.as_slice();
+    let goals = forms_behind(alloc, walking, vars, values, region.rows.as_slice())?;
     goals_shown(
         alloc,
         walking.condition,
@@ -90,35 +92,40 @@ fn start_shown(
     )
 }
 
-/// Whether a walk from a spot is shown to arrive at the target.
+/// Whether what a walk from a spot through these regions claims is shown.
 fn walked_shown(
     alloc: Global,
     walking: &Walking,
     place: &Place,
     from: &Spot,
     start: &[Multipliers],
+    nodes: &[Option<Region>],
 ) -> Result<Option<No>, Memory>
     requires fits { SettingFits (walk_of walking.now) }
+    requires readers { (statement : ℕ) → ReaderFits (walk_of walking.now) statement (walk_of walking.now).aim }
     requires from_fits { SpotFits (walk_of walking.now).program (spot_variables (walk_of walking.now)) (spot_of from.now) }
     requires enough { length start.now ≡ length (entering_rows (walk_of walking.now) (spot_variables (walk_of walking.now)) (region_at (walk_of walking.now).nodes from.now.statement) (spot_of from.now).point) }
-    ensures { IfOk result (λ found. Finds (claims_in walking.now.condition (walk_of walking.now) place.now (spot_of from.now) (walked start.now (walk_of walking.now).nodes)) found) }
+    requires each { length nodes.now ≡ length (walk_of walking.now).program.statements }
+    requires regions_fit { RegionsFit (walk_of walking.now) 0 (map (option_map region_of) nodes.now) }
+    ensures { IfOk result (λ found. Finds (start_claims walking.now.condition (walk_of walking.now) place.now (spot_of from.now) start.now
+        ++ numbered (region_claims walking.now.condition (walk_of walking.now) (place.now ++ Key NODES ∷ [])) 0 (map (option_map region_of) nodes.now)) found) }
 {
     if let Some(no) = start_shown(alloc, walking, place, from, start)? {
         return Ok(Some(no));
     }
     let list = place.within(alloc, Step::Key(NODES))?;
-    regions_shown(alloc, walking, &list)
+    regions_shown(alloc, walking, &list, nodes)
 }
 
 /// Whether what a reach claims is shown.
-fn reach_shown(
+fn reach_shown<'a>(
     alloc: Global,
-    program: &Program,
-    quasts: &Quasts,
-    nest: &Nest,
+    program: &'a Program,
+    quasts: &'a Quasts,
+    nest: &'a Nest,
     from: &Spot,
-    to: &Spot,
-    reach: &Reach,
+    to: &'a Spot,
+    reach: &'a Reach,
     condition: u8,
     place: &Place,
 ) -> Result<Option<No>, Memory>
@@ -126,22 +133,30 @@ fn reach_shown(
     requires fits { ReachFits (meaning program.now) (trees_of quasts.now) nest.now (spot_of from.now) (spot_of to.now) (reach_of reach.now) }
     ensures { IfOk result (λ found. Finds (reach_claims (meaning program.now) (trees_of quasts.now) nest.now (spot_of from.now) (spot_of to.now) (reach_of reach.now) condition place.now) found) }
 {
-    let nodes = match reach {
-        Reach::Same(_) => &[],
-        Reach::Walked { nodes, .. } => nodes.as_slice(),
-    };
-    let walking = Walking {
-        program,
-        quasts,
-        nest,
-        nodes,
-        target: to,
-        condition,
-    };
     match reach {
-        Reach::Same(equal) => same_shown(alloc, &walking, place, from, equal.as_slice()),
-        Reach::Walked { start, .. } => {
-            walked_shown(alloc, &walking, place, from, start.as_slice())
+        Reach::Same(equal) => {
+            let walking = Walking {
+                program,
+                quasts,
+                nest,
+                aim: Aim::Arrive {
+                    nodes: &[],
+                    target: to,
+                },
+                condition,
+            };
+            same_shown(alloc, &walking, to, place, from, equal.as_slice())
+        }
+        Reach::Walked { start, nodes } => {
+            let nodes = nodes.as_slice();
+            let walking = Walking {
+                program,
+                quasts,
+                nest,
+                aim: Aim::Arrive { nodes, target: to },
+                condition,
+            };
+            walked_shown(alloc, &walking, place, from, start.as_slice(), nodes)
         }
     }
 }

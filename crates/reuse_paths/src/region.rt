@@ -1,19 +1,17 @@
 //! Rows of regions.
 
-ghost use Rattle.std.specs.Prelude.{◌≡◌, ◌+◌, ◌<◌, ◌≤◌, length, map, Some, IfOk};
+ghost use Rattle.std.specs.Prelude.{◌≡◌, ◌+◌, ◌<◌, ◌≤◌, length, map, IfOk};
 ghost use Rattle.std.specs.List.{AllByRecursion};
 ghost use Rattle.affine_form.specs.Form.{variables, IsSmallForm};
 ghost use Rattle.affine_form.specs.Rows.{equality_rows, widened, IsSmallOver};
 ghost use Rattle.affine_form.specs.System.{AllOver};
 ghost use Rattle.affine_program.specs.Domain.{depth_of};
 ghost use Rattle.reuse_paths.specs.OpenLeaves.{form_at};
-ghost use Rattle.reuse_paths.specs.ReachClaims.{entering_rows, reading_point, region_context, region_variables, spot_variables};
-ghost use Rattle.reuse_paths.specs.ReachFits.{NestFits};
-ghost use Rattle.reuse_paths.specs.Walks.{region_of};
+ghost use Rattle.reuse_paths.specs.WalkFits.{NestFits};
+ghost use Rattle.reuse_paths.specs.WalkSettings.{forms_behind, reading_point, region_context, region_variables, spot_variables};
 ghost use Rattle.reuse_paths.specs.WalkViews.{walk_of, EndsFit, OriginFits};
 ghost use Rattle.iolb_model.specs.declared.limits.TheConstants.{LOOPS, NEST_VARIABLES, PARAMETERS, PUT_SIZE, VARIABLES};
 
-use crate::Region;
 use crate::walking::{Walking, reading_point, region_values, region_variables, spot_variables};
 use affine_form::{Form, Memory, difference, put, variables_from, widened};
 use dep_quast::lists::{all_widened, followed_by};
@@ -31,7 +29,7 @@ pub(crate) fn region_context(
 ) -> Result<Vec<Form>, Memory>
     requires nest { NestFits (walk_of walking.now).program (walk_of walking.now).nest }
     requires there { statement < length (walk_of walking.now).program.statements }
-    requires rows_over { AllByRecursion (IsSmallOver (region_variables (walk_of walking.now) statement)) rows.now }
+    requires rows_over { AllOver (region_variables (walk_of walking.now) statement) rows.now }
     ensures rows { IfOk result (λ all. all.items ≡ region_context (walk_of walking.now) statement rows.now) }
     ensures over { IfOk result (λ all. AllOver (region_variables (walk_of walking.now) statement) all.items) }
 {
@@ -65,25 +63,25 @@ pub(crate) fn forms_at(
     Ok(all)
 }
 
-/// The rows which say that an instance with these loop values is in a region.
-pub(crate) fn entering_rows(
+/// Forms over the parameters, the nest's variables and some values, with forms put in for the values.
+pub(crate) fn forms_behind(
     alloc: Global,
     walking: &Walking,
     vars: usize,
-    region: &Region,
     values: &[Form],
+    forms: &[Form],
 ) -> Result<Vec<Form>, Memory>
     requires nest { NestFits (walk_of walking.now).program (walk_of walking.now).nest }
     requires room { spot_variables (walk_of walking.now) ≤ vars }
     requires few { vars ≤ VARIABLES }
     requires few_values { length values.now ≤ LOOPS }
-    requires over { AllByRecursion (IsSmallOver (spot_variables (walk_of walking.now) + length values.now)) region.now.rows.items }
+    requires over { AllByRecursion (IsSmallOver (spot_variables (walk_of walking.now) + length values.now)) forms.now }
     requires values_over { AllByRecursion (IsSmallOver vars) values.now }
-    ensures { IfOk result (λ rows. rows.items ≡ entering_rows (walk_of walking.now) vars (Some (region_of region.now)) values.now) }
+    ensures { IfOk result (λ all. all.items ≡ forms_behind (walk_of walking.now) vars values.now forms.now) }
 {
     let first = variables_from(alloc, vars, 0, spot_variables(walking))?;
     let point = followed_by(alloc, first, values)?;
-    forms_at(alloc, vars, region.rows.as_slice(), point.as_slice())
+    forms_at(alloc, vars, forms, point.as_slice())
 }
 
 /// The loop values of an instance that wrote a word, at the instance of a region's statement that reads it.

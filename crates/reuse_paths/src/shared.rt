@@ -66,7 +66,12 @@ fn all_moved(alloc: Global, place: usize, more: usize, forms: &[Form]) -> Result
 }
 
 /// The rows which say that points are equal.
-fn equal_rows(alloc: Global, vars: usize, one: &[Form], other: &[Form]) -> Result<Vec<Form>, Memory>
+pub(crate) fn equal_rows(
+    alloc: Global,
+    vars: usize,
+    one: &[Form],
+    other: &[Form],
+) -> Result<Vec<Form>, Memory>
     requires few { vars ≤ VARIABLES }
     requires one_within { AllByRecursion (λ form. variables form ≤ vars) one.now }
     requires other_within { AllByRecursion (λ form. variables form ≤ vars) other.now }

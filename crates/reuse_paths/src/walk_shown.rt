@@ -1,32 +1,103 @@
 //! Whether what a walk claims in its regions is shown.
 
-ghost use Rattle.std.specs.Prelude.{◌≡◌, ◌≤◌, ◌<◌, ◌++◌, ◌∷◌, [], length, map, option_map, Some, IfOk};
+ghost use Rattle.std.specs.Prelude.{◌≡◌, ◌≤◌, ◌<◌, ◌++◌, ◌+◌, ◌∷◌, [], ℕ, length, map, option_map, Some, IfOk};
 ghost use Rattle.std.specs.List.{AllByRecursion};
 ghost use Rattle.affine_form.specs.Rows.{IsSmallOver};
 ghost use Rattle.affine_form.specs.System.{AllOver};
 ghost use Rattle.claims.specs.Claims.{Finds, numbered};
+ghost use Rattle.dep_quast.specs.Claims.{IsFew};
 ghost use Rattle.dep_quast.specs.Context.{no_row};
 ghost use Rattle.dep_quast.specs.Truth.{ReadFits};
+ghost use Rattle.dep_quast.specs.Views.{read_of};
+ghost use Rattle.affine_program.specs.Domain.{depth_of};
+ghost use Rattle.reuse_paths.specs.OpenLeaves.{origin_of};
+ghost use Rattle.reuse_paths.specs.EntryClaims.{aimed_claims, leaf_claims};
 ghost use Rattle.reuse_paths.specs.LeafClaims.{claim_of};
-ghost use Rattle.reuse_paths.specs.OpenLeaves.{open_leaves};
 ghost use Rattle.reuse_paths.specs.Quasts.{tree_at, tree_for};
-ghost use Rattle.reuse_paths.specs.ReachClaims.{leaves_claims, reading_point, region_claims, region_variables, walk_claims};
-ghost use Rattle.reuse_paths.specs.ReachFits.{EntriesFit, RegionFits, TakeFits, WalkFits};
-ghost use Rattle.reuse_paths.specs.Trees.{read_of};
+ghost use Rattle.reuse_paths.specs.ReachClaims.{region_claims};
+ghost use Rattle.reuse_paths.specs.WalkClaims.{leaves_at, leaves_claims, walk_claims};
+ghost use Rattle.reuse_paths.specs.WalkFits.{EntriesFit, EntryFits, ReaderFits, RegionFits, RegionsFit, TakeFits, WalkFits};
 ghost use Rattle.reuse_paths.specs.Walks.{region_of, tree_of_walk};
-ghost use Rattle.reuse_paths.specs.WalkViews.{walk_of, SettingFits, OpenLeafFits};
+ghost use Rattle.reuse_paths.specs.WalkSettings.{reading_point, region_variables};
+ghost use Rattle.reuse_paths.specs.WalkViews.{walk_of, OpenLeafFits, OriginFits, ReadingFits, SettingFits};
 ghost use Rattle.iolb_model.specs.declared.limits.TheConstants.{VARIABLES};
 
-use crate::entry_shown::leaf_shown;
-use crate::open_leaves::{OpenLeaf, opposite, push_open_leaves};
+use crate::entry_shown::{arriving_shown, entry_place};
+use crate::kept_shown::keeping_shown;
+use crate::open_leaves::{OpenLeaf, Origin, opposite, push_open_leaves};
 use crate::region::region_context;
-use crate::walking::{Walking, reading_point, region_variables};
+use crate::walking::{Aim, Walking, reading_point, region_variables};
 use crate::{Leaf, Region, Walk};
 use affine_form::{Form, Memory};
 use claims::key::{LEAVES, NO, TREE, YES};
-use claims::{No, Place, Step};
-use dep_quast::lists::with_form;
+use claims::{No, Place, Step, refusal};
+use dep_quast::lists::{followed_by, with_form};
+use dep_quast::reader::Reader;
+use iolb_model::limits;
 use std::alloc::Global;
+
+/// Whether what an entry claims at a leaf is shown, by what is asked of the walk, in the system of the region of a
+/// statement with these rows, those of the leaf's tests among them.
+fn aimed_shown(
+    alloc: Global,
+    walking: &Walking,
+    place: &Place,
+    reader: Reader,
+    rows: &[Form],
+    origin: &Origin,
+    entry: &Leaf,
+) -> Result<Option<No>, Memory>
+    requires fits { ReadingFits (walk_of walking.now) reader.statement }
+    requires read_fits { ReadFits (walk_of walking.now).program (read_of reader) }
+    requires rows_over { AllOver (region_variables (walk_of walking.now) reader.statement) rows.now }
+    requires few { IsFew (length rows.now) }
+    requires origin { OriginFits (walk_of walking.now).program (length (walk_of walking.now).program.parameters + depth_of (walk_of walking.now).program reader.statement) (origin_of origin.now) }
+    requires entry_fits { EntryFits (walk_of walking.now) (read_of reader) (origin_of origin.now) (claim_of entry.now) }
+    ensures { IfOk result (λ found. Finds (aimed_claims walking.now.condition (walk_of walking.now) (walk_of walking.now).aim (read_of reader) place.now
+        (record { vars = region_variables (walk_of walking.now) reader.statement; rows = rows.now }) (reading_point (walk_of walking.now) reader.statement) (origin_of origin.now) (claim_of entry.now)) found) }
+{
+    match walking.aim {
+        Aim::Arrive { target, .. } => arriving_shown(
+            alloc, walking, target, place, reader, rows, origin, entry,
+        ),
+        Aim::Keep(kept) => keeping_shown(alloc, walking, kept, place, reader, rows, origin, entry),
+    }
+}
+
+/// Whether what an entry claims at an open leaf is shown, in the system of the region of a statement with these rows and the
+/// leaf's tests.
+fn leaf_shown(
+    alloc: Global,
+    walking: &Walking,
+    place: &Place,
+    reader: Reader,
+    rows: &[Form],
+    leaf: &OpenLeaf,
+    entry: &Leaf,
+) -> Result<Option<No>, Memory>
+    requires fits { ReadingFits (walk_of walking.now) reader.statement }
+    requires read_fits { ReadFits (walk_of walking.now).program (read_of reader) }
+    requires rows_over { AllOver (region_variables (walk_of walking.now) reader.statement) rows.now }
+    requires leaf_fits { OpenLeafFits (walk_of walking.now) reader.statement leaf.now }
+    requires entry_fits { EntryFits (walk_of walking.now) (read_of reader) leaf.now.origin (claim_of entry.now) }
+    ensures { IfOk result (λ found. Finds (leaf_claims walking.now.condition (walk_of walking.now) (read_of reader) place.now rows.now leaf.now (claim_of entry.now)) found) }
+{
+    let front = followed_by(alloc, Vec::new(alloc), rows)?;
+    let all = followed_by(alloc, front, leaf.tests.as_slice())?;
+    if all.as_slice().len() > limits::ROWS {
+        let first = entry_place(alloc, place, entry)?;
+        return refusal(alloc, 2, &first);
+    }
+    aimed_shown(
+        alloc,
+        walking,
+        place,
+        reader,
+        all.as_slice(),
+        &leaf.origin,
+        entry,
+    )
+}
 
 /// Whether what entries claim at open leaves is shown, one for each, in the system of the region of a statement with these
 /// rows: the first that isn't, by its place in the list at this place.
@@ -34,22 +105,21 @@ fn leaves_shown(
     alloc: Global,
     walking: &Walking,
     list: &Place,
-    statement: u16,
+    reader: Reader,
     rows: &[Form],
     leaves: &[OpenLeaf],
     entries: &[Leaf],
 ) -> Result<Option<No>, Memory>
-    requires fits { SettingFits (walk_of walking.now) }
-    requires there { statement < length (walk_of walking.now).program.statements }
-    requires rows_over { AllOver (region_variables (walk_of walking.now) statement) rows.now }
-    requires leaves_fit { AllByRecursion (OpenLeafFits (walk_of walking.now) statement) leaves.now }
-    requires entries_fit { EntriesFit (walk_of walking.now) (region_variables (walk_of walking.now) statement) (reading_point (walk_of walking.now) statement) leaves.now (map claim_of entries.now) }
-    ensures { IfOk result (λ found. Finds (leaves_claims walking.now.condition (walk_of walking.now) list.now (region_variables (walk_of walking.now) statement) rows.now
-        (reading_point (walk_of walking.now) statement) 0 leaves.now (map claim_of entries.now)) found) }
+    requires fits { ReadingFits (walk_of walking.now) reader.statement }
+    requires read_fits { ReadFits (walk_of walking.now).program (read_of reader) }
+    requires rows_over { AllOver (region_variables (walk_of walking.now) reader.statement) rows.now }
+    requires leaves_fit { AllByRecursion (OpenLeafFits (walk_of walking.now) reader.statement) leaves.now }
+    requires entries_fit { EntriesFit (walk_of walking.now) (read_of reader) leaves.now (map claim_of entries.now) }
+    ensures { IfOk result (λ found. Finds (leaves_claims walking.now.condition (walk_of walking.now) (read_of reader) list.now rows.now 0 leaves.now (map claim_of entries.now)) found) }
 {
     for (i, leaf) in leaves.iter().enumerate() {
         let place = list.within(alloc, Step::Index(i as u64))?;
-        if let Some(no) = leaf_shown(alloc, walking, &place, statement, rows, leaf, &entries[i])? {
+        if let Some(no) = leaf_shown(alloc, walking, &place, reader, rows, leaf, &entries[i])? {
             return Ok(Some(no));
         }
     }
@@ -57,24 +127,18 @@ fn leaves_shown(
 }
 
 /// The open leaves of the source tree of a read of a region's statement.
-fn leaves_of(
-    alloc: Global,
-    walking: &Walking,
-    statement: u16,
-    read: u16,
-) -> Result<Vec<OpenLeaf>, Memory>
+fn leaves_of(alloc: Global, walking: &Walking, reader: Reader) -> Result<Vec<OpenLeaf>, Memory>
     requires fits { SettingFits (walk_of walking.now) }
-    requires read_fits { ReadFits (walk_of walking.now).program (read_of statement read) }
-    requires there { tree_at (walk_of walking.now).trees statement read ≡ Some (tree_for (walk_of walking.now).trees (read_of statement read)) }
-    ensures leaves { IfOk result (λ leaves. leaves.items ≡ open_leaves (region_variables (walk_of walking.now) statement) (reading_point (walk_of walking.now) statement) []
-        (tree_for (walk_of walking.now).trees (read_of statement read))) }
-    ensures fit { IfOk result (λ leaves. AllByRecursion (OpenLeafFits (walk_of walking.now) statement) leaves.items) }
+    requires read_fits { ReadFits (walk_of walking.now).program (read_of reader) }
+    requires there { tree_at (walk_of walking.now).trees reader.statement reader.read ≡ Some (tree_for (walk_of walking.now).trees (read_of reader)) }
+    ensures leaves { IfOk result (λ leaves. leaves.items ≡ leaves_at (walk_of walking.now) (read_of reader)) }
+    ensures fit { IfOk result (λ leaves. AllByRecursion (OpenLeafFits (walk_of walking.now) reader.statement) leaves.items) }
 {
-    let Some(quast) = walking.quasts.tree(statement, read) else {
+    let Some(quast) = walking.quasts.tree(reader.statement, reader.read) else {
         unreachable!();
     };
-    let vars = region_variables(walking, statement);
-    let point = reading_point(alloc, walking, statement)?;
+    let vars = region_variables(walking, reader.statement);
+    let point = reading_point(alloc, walking, reader.statement)?;
     let mut leaves = Vec::new(alloc);
     push_open_leaves(alloc, &mut leaves, vars, point.as_slice(), &[], quast)?;
     Ok(leaves)
@@ -86,25 +150,22 @@ fn take_shown(
     alloc: Global,
     walking: &Walking,
     list: &Place,
-    statement: u16,
+    reader: Reader,
     rows: &[Form],
-    read: u16,
     entries: &[Leaf],
 ) -> Result<Option<No>, Memory>
-    requires fits { SettingFits (walk_of walking.now) }
-    requires rows_over { AllOver (region_variables (walk_of walking.now) statement) rows.now }
-    requires take_fits { TakeFits (walk_of walking.now) statement read (map claim_of entries.now) }
-    ensures { IfOk result (λ found. Finds (leaves_claims walking.now.condition (walk_of walking.now) list.now (region_variables (walk_of walking.now) statement) rows.now
-        (reading_point (walk_of walking.now) statement) 0
-        (open_leaves (region_variables (walk_of walking.now) statement) (reading_point (walk_of walking.now) statement) [] (tree_for (walk_of walking.now).trees (read_of statement read)))
+    requires fits { ReadingFits (walk_of walking.now) reader.statement }
+    requires rows_over { AllOver (region_variables (walk_of walking.now) reader.statement) rows.now }
+    requires take_fits { TakeFits (walk_of walking.now) reader.statement reader.read (map claim_of entries.now) }
+    ensures { IfOk result (λ found. Finds (leaves_claims walking.now.condition (walk_of walking.now) (read_of reader) list.now rows.now 0 (leaves_at (walk_of walking.now) (read_of reader))
         (map claim_of entries.now)) found) }
 {
-    let leaves = leaves_of(alloc, walking, statement, read)?;
+    let leaves = leaves_of(alloc, walking, reader)?;
     leaves_shown(
         alloc,
         walking,
         list,
-        statement,
+        reader,
         rows,
         leaves.as_slice(),
         entries,
@@ -123,7 +184,7 @@ fn rows_of_no(alloc: Global, vars: usize, rows: &[Form], form: &Form) -> Result<
 }
 
 /// Whether what a walk claims from the instances of a statement that meet these rows is shown, `yes` before `no`.
-fn walk_shown(
+pub(crate) fn walk_shown(
     alloc: Global,
     walking: &Walking,
     place: &Place,
@@ -131,8 +192,7 @@ fn walk_shown(
     rows: &[Form],
     tree: &Walk,
 ) -> Result<Option<No>, Memory>
-    requires fits { SettingFits (walk_of walking.now) }
-    requires there { statement < length (walk_of walking.now).program.statements }
+    requires fits { ReadingFits (walk_of walking.now) statement }
     requires rows_over { AllOver (region_variables (walk_of walking.now) statement) rows.now }
     requires walk_fits { WalkFits (walk_of walking.now) statement (tree_of_walk tree.now) }
     ensures { IfOk result (λ found. Finds (walk_claims walking.now.condition (walk_of walking.now) statement place.now rows.now (tree_of_walk tree.now)) found) }
@@ -161,15 +221,11 @@ fn walk_shown(
             leaves: entries,
         } => {
             let list = place.within(alloc, Step::Key(LEAVES))?;
-            take_shown(
-                alloc,
-                walking,
-                &list,
+            let reader = Reader {
                 statement,
-                rows,
-                *read,
-                entries.as_slice(),
-            )
+                read: *read,
+            };
+            take_shown(alloc, walking, &list, reader, rows, entries.as_slice())
         }
     }
 }
@@ -182,8 +238,7 @@ fn region_shown(
     statement: u16,
     node: &Option<Region>,
 ) -> Result<Option<No>, Memory>
-    requires fits { SettingFits (walk_of walking.now) }
-    requires there { statement < length (walk_of walking.now).program.statements }
+    requires fits { ReadingFits (walk_of walking.now) statement }
     requires region_fits { RegionFits (walk_of walking.now) statement (option_map region_of node.now) }
     ensures { IfOk result (λ found. Finds (region_claims walking.now.condition (walk_of walking.now) list.now statement (option_map region_of node.now)) found) }
 {
@@ -203,19 +258,23 @@ fn region_shown(
     )
 }
 
-/// Whether what a walk claims in its regions is shown, in the order of statements, each at its index in the list at this
-/// place.
+/// Whether what a walk claims in these regions, one or none for each statement, is shown, in the order of statements, each
+/// at its index in the list at this place.
 pub(crate) fn regions_shown(
     alloc: Global,
     walking: &Walking,
     list: &Place,
+    nodes: &[Option<Region>],
 ) -> Result<Option<No>, Memory>
-    requires { SettingFits (walk_of walking.now) }
-    ensures { IfOk result (λ found. Finds (numbered (region_claims walking.now.condition (walk_of walking.now) list.now) 0 (walk_of walking.now).nodes) found) }
+    requires fits { SettingFits (walk_of walking.now) }
+    requires readers { (statement : ℕ) → ReaderFits (walk_of walking.now) statement (walk_of walking.now).aim }
+    requires each { length nodes.now ≡ length (walk_of walking.now).program.statements }
+    requires regions_fit { RegionsFit (walk_of walking.now) 0 (map (option_map region_of) nodes.now) }
+    ensures { IfOk result (λ found. Finds (numbered (region_claims walking.now.condition (walk_of walking.now) list.now) 0 (map (option_map region_of) nodes.now)) found) }
 {
     let _params = walking.program.params();
-    for i in 0..walking.nodes.len() {
-        if let Some(no) = region_shown(alloc, walking, list, i as u16, &walking.nodes[i])? {
+    for i in 0..nodes.len() {
+        if let Some(no) = region_shown(alloc, walking, list, i as u16, &nodes[i])? {
             return Ok(Some(no));
         }
     }

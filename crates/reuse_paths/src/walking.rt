@@ -1,18 +1,20 @@
 //! What a walk is in, and the variables of its regions.
 
-ghost use Rattle.std.specs.Prelude.{◌≡◌, ◌+◌, ◌<◌, ◌≤◌, length, MatchOption, None, Some, IfOk};
+ghost use Rattle.std.specs.Prelude.{◌≡◌, ◌+◌, ◌<◌, ◌≤◌, length, map, option_map, MatchOption, None, Some, IfOk};
 ghost use Rattle.std.specs.List.{AllByRecursion};
 ghost use Rattle.affine_form.specs.Rows.{IsSmallOver};
 ghost use Rattle.affine_program.specs.Domain.{depth_of};
 ghost use Rattle.affine_program.specs.Parts.{IsProgram};
 ghost use Rattle.dep_quast.specs.Context.{variables_at};
-ghost use Rattle.reuse_paths.specs.ReachClaims.{region_at, region_values, region_variables, reading_point, spot_variables};
-ghost use Rattle.reuse_paths.specs.ReachFits.{NestFits};
+ghost use Rattle.reuse_paths.specs.Families.{family_of, node_region};
 ghost use Rattle.reuse_paths.specs.Trees.{read_of};
+ghost use Rattle.reuse_paths.specs.WalkFits.{NestFits};
 ghost use Rattle.reuse_paths.specs.Walks.{region_of};
+ghost use Rattle.reuse_paths.specs.WalkSettings.{region_at, region_values, region_variables, reading_point, spot_variables};
 ghost use Rattle.reuse_paths.specs.WalkViews.{walk_of};
 ghost use Rattle.iolb_model.specs.declared.limits.TheConstants.{LOOPS, NEST_VARIABLES, PARAMETERS};
 
+use crate::family::{Credit, Family, node_at};
 use crate::{Quasts, Region, Spot};
 use affine_form::{Form, Memory, variables_from};
 use affine_program::Program;
@@ -21,15 +23,35 @@ use dep_quast::reader::depth;
 use domain_count::Nest;
 use std::alloc::Global;
 
-/// What a walk is in: a program with its source trees; a nest; regions, one or none for each statement; the spot at which
-/// the walk is to arrive; and the number of the condition that it is to meet.
+/// The labels that the walks of a family keep, from readers whose label these forms are, over the variables of their region;
+/// and the credited nests, in which they may stop.
+#[derive(Clone, Copy)]
+pub struct Kept<'a> {
+    pub family: &'a Family,
+    pub credits: &'a [Credit],
+    pub reader: &'a [Form],
+}
+
+/// What is asked of walks.
+#[derive(Clone, Copy)]
+pub enum Aim<'a> {
+    /// That they arrive at a spot, through regions, one or none for each statement.
+    Arrive {
+        nodes: &'a [Option<Region>],
+        target: &'a Spot,
+    },
+    /// That they keep labels.
+    Keep(Kept<'a>),
+}
+
+/// What a walk is in: a program with its source trees; a nest; what is asked of it, with its regions; and the number of the
+/// condition that it is to meet.
 #[derive(Clone, Copy)]
 pub struct Walking<'a> {
     pub program: &'a Program,
     pub quasts: &'a Quasts,
     pub nest: &'a Nest,
-    pub nodes: &'a [Option<Region>],
-    pub target: &'a Spot,
+    pub aim: Aim<'a>,
     pub condition: u8,
 }
 
@@ -88,12 +110,34 @@ pub(crate) fn reading_point(
     followed_by(alloc, params, values.as_slice())
 }
 
-/// The region of a statement, where it has one.
-pub(crate) fn region_at<'a>(walking: &Walking<'a>, statement: u16) -> Option<&'a Region>
-    ensures { MatchOption result (region_at (walk_of walking.now).nodes statement ≡ None) (λ region. region_at (walk_of walking.now).nodes statement ≡ Some (region_of region.now)) }
+/// The region of a statement in a list, where it has one.
+fn region_in(nodes: &[Option<Region>], statement: u16) -> Option<&Region>
+    ensures { MatchOption result (region_at (map (option_map region_of) nodes.now) statement ≡ None)
+        (λ region. region_at (map (option_map region_of) nodes.now) statement ≡ Some (region_of region.now)) }
 {
-    match walking.nodes.get(usize::from(statement)) {
+    match nodes.get(usize::from(statement)) {
         Some(Some(region)) => Some(region),
         _ => None,
+    }
+}
+
+/// The region of a statement in a family, where it has one.
+fn family_region(family: &Family, statement: u16) -> Option<&Region>
+    ensures { MatchOption result (region_at (map node_region (family_of family.now).nodes) statement ≡ None)
+        (λ region. region_at (map node_region (family_of family.now).nodes) statement ≡ Some (region_of region.now)) }
+{
+    match &node_at(family, statement)?.region {
+        Some(region) => Some(region),
+        None => None,
+    }
+}
+
+/// The region of a statement, where it has one.
+pub fn region_at<'a>(walking: &Walking<'a>, statement: u16) -> Option<&'a Region>
+    ensures { MatchOption result (region_at (walk_of walking.now).nodes statement ≡ None) (λ region. region_at (walk_of walking.now).nodes statement ≡ Some (region_of region.now)) }
+{
+    match walking.aim {
+        Aim::Arrive { nodes, .. } => region_in(nodes, statement),
+        Aim::Keep(kept) => family_region(kept.family, statement),
     }
 }

@@ -1,9 +1,8 @@
 -- The vertex of a wavefront term depends on the outer variables alone, and different points have different words.
-use Rattle.std.proofs.Common.{◌≡◌, refl, sym, ◌∙◌, ap, subst, inl, inr, ℕ, suc, true, false, List, [], ◌∷◌, ◌++◌, length, map, drop, arith}
-use Rattle.std.specs.Prelude.{nat_eq, Option, Some, None, Bool}
-use Rattle.std.specs.List.{AllByRecursion, IsDistinct}
+use Rattle.std.proofs.Common.{◌≡◌, refl, sym, ◌∙◌, ap, subst, ℕ, suc, true, false, List, [], ◌∷◌, ◌++◌, length, drop, arith}
+use Rattle.std.specs.Prelude.{Option, Some, None, Bool}
+use Rattle.std.specs.List.{AllByRecursion}
 use Rattle.std.proofs.Math.IntN.{ℤ, pos, ◌+ℤ◌, ◌*ℤ◌}
-use Rattle.std.proofs.lemmas.Bool.{ne_eqb}
 use Rattle.std.proofs.lemmas.Int.{ints}
 use Rattle.std.proofs.lemmas.List.{append_assoc, map-append}
 use Rattle.base_laws.proofs.Ring.{zero-mul}
@@ -14,7 +13,6 @@ use Rattle.iolb_model.specs.Execution.{Instance, execution}
 use Rattle.iolb_model.specs.Graph.{input_cells, vertex_of}
 use Rattle.iolb_model.specs.Source.{Cell, Source, same_cell, input, read_cell}
 use Rattle.execution_laws.proofs.Cells.{same_cell-equal, position-apart}
-use Rattle.execution_laws.proofs.Different.{Differ}
 use Rattle.execution_laws.proofs.Members.{Member}
 use Rattle.execution_laws.proofs.Undone.{dot-append}
 use Rattle.pebble_game.proofs.InputVertices.{Member-input_cells}
@@ -27,7 +25,8 @@ use Rattle.reuse_paths.specs.Arrival.{instance_of}
 use Rattle.reuse_paths.specs.Walks.{SpotForms}
 use Rattle.wavefront.specs.FrontClaims.{front_variables, IsWithoutPast, outer_claim, user_point, telling_forms}
 use Rattle.wavefront.specs.FrontTerm.{WavefrontTerm, user_read}
-use Rattle.wavefront.specs.Fronts.{place_of, spot_values, word_vertex, IsThereAt, IsSoundAt}
+use Rattle.wavefront.specs.Fronts.{spot_values, word_vertex, IsThereAt, IsSoundAt}
+use Rattle.reuse_paths.specs.Places.{place_of}
 
 -- ---- the outer variables
 
@@ -121,14 +120,3 @@ module _ (program : AffineProgram) (term : WavefrontTerm) (parameters : List ℤ
         same_values a b n p q = ap (λ (i : Instance). i.values) (one a b (sym p ∙ q)) where
           one : (x y : Instance) → Some x ≡ Some y → x ≡ y
           one x y f = cc
-
--- images of different things differ
-apart-images : (f : List ℤ → ℕ) (x : List ℤ) (xs : List (List ℤ)) → ((y : List ℤ) → Member y xs → f x ≡ f y → x ≡ y) → AllByRecursion (λ (y : List ℤ). x ≡ y → ⊥) xs
-    → AllByRecursion (λ (v : ℕ). nat_eq (f x) v ≡ false) (map f xs)
-apart-images f x [] one h = tt
-apart-images f x (y ∷ xs) one h = (ne_eqb (f x) (f y) (λ e. h.0 (one y (inl refl) e)), apart-images f x xs (λ z m. one z (inr m)) h.1)
-
-pub distinct-images : (f : List ℤ → ℕ) (xs : List (List ℤ)) → ((x y : List ℤ) → Member x xs → Member y xs → f x ≡ f y → x ≡ y) → Differ xs → IsDistinct nat_eq (map f xs)
-unfolding IsDistinct
-distinct-images f [] one h = tt
-distinct-images f (x ∷ xs) one h = (apart-images f x xs (λ y m. one x y (inl refl) (inr m)) h.0, distinct-images f xs (λ a b m n. one a b (inr m) (inr n)) h.1)

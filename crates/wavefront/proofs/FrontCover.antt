@@ -22,10 +22,12 @@ use Rattle.reuse_paths.proofs.NestPoints.{points-within, points-long, nest-met}
 use Rattle.wavefront.specs.FrontClaims.{front_variables, front_system, telling_forms, word_forms}
 use Rattle.wavefront.specs.FrontFits.{PartsFit}
 use Rattle.wavefront.specs.FrontPieces.{front_target, front_piece, FrontPiecesCover}
-use Rattle.wavefront.specs.Fronts.{place_of, word_vertex, IsThereAt, IsSoundAt, front_footprint}
+use Rattle.wavefront.specs.Fronts.{word_vertex, IsThereAt, IsSoundAt, front_footprint}
+use Rattle.reuse_paths.specs.Places.{place_of}
 use Rattle.wavefront.specs.FrontTerm.{WavefrontTerm}
 use Rattle.wavefront.proofs.FrontApart.{cell, cell-is, input-there}
-use Rattle.wavefront.proofs.PiecesCover.{assumed-first, cell-vertex, wide-values}
+use Rattle.reuse_paths.proofs.PieceVertices.{cell-vertex, wide-values}
+use Rattle.wavefront.proofs.PiecesCover.{assumed-first}
 use Rattle.iolb_model.specs.declared.limits.TheConstants.{PUT_SIZE}
 
 -- the piece fits where the nest's rows and the word's forms are over the nest's variables, and the last are small

@@ -20,7 +20,8 @@ use Rattle.reuse_paths.specs.Arrival.{instance_of}
 use Rattle.reuse_paths.specs.Reached.{IsReached}
 use Rattle.reuse_paths.specs.Walks.{SpotForms}
 use Rattle.wavefront.specs.FrontTerm.{WavefrontTerm, outer_nest, user_read}
-use Rattle.wavefront.specs.Fronts.{place_of, spot_values, word_vertex, IsThereAt, IsSoundAt, IsSoundUnder, front_footprint, FrontsAreLoaded, FrontsHaveVertices}
+use Rattle.wavefront.specs.Fronts.{spot_values, word_vertex, IsThereAt, IsSoundAt, IsSoundUnder, front_footprint, FrontsAreLoaded, FrontsHaveVertices}
+use Rattle.reuse_paths.specs.Places.{place_of}
 use Rattle.wavefront.specs.Waves.{Wave, WavePoint, IsSoundPoint, IsSoundWave, words_of, all_words}
 use Rattle.reuse_paths.proofs.NestPoints.{points-long}
 use Rattle.reuse_paths.proofs.ReadSources.{source-read}

@@ -16,7 +16,6 @@ use Rattle.iolb_model.specs.Source.{written_at}
 use Rattle.execution_laws.proofs.Domains.{domains_executed, way-there}
 use Rattle.execution_laws.proofs.Members.{Member}
 use Rattle.execution_laws.proofs.Ordered.{All-from, All-member}
-use Rattle.execution_laws.proofs.Orders.{executed_once}
 use Rattle.claims.specs.Claims.{Claim, AllHold}
 use Rattle.claims.specs.declared.place.Step.{Step}
 use Rattle.claims.specs.declared.place.Step.TheVariants.{Key}
@@ -35,23 +34,24 @@ use Rattle.domain_count.specs.Points.{points}
 use Rattle.reuse_paths.specs.Arrival.{instance_of}
 use Rattle.reuse_paths.specs.Quasts.{tree_for}
 use Rattle.reuse_paths.specs.Reached.{IsReached}
-use Rattle.reuse_paths.specs.ReachFits.{SpotFits}
+use Rattle.reuse_paths.specs.WalkFits.{SpotFits}
 use Rattle.reuse_paths.specs.Trees.{RowsFit, RowsAreTrue}
 use Rattle.reuse_paths.specs.Walks.{SpotForms, ReachClaim}
 use Rattle.reuse_paths.proofs.Arrivals.{reaches-arrive}
 use Rattle.reuse_paths.proofs.ChosenLeaves.{chosen-stands}
-use Rattle.reuse_paths.proofs.NestPoints.{points-within, points-long, points-differ, nest-met}
+use Rattle.reuse_paths.proofs.NestPoints.{distinct-images, points-within, points-long, points-differ, nest-met}
 use Rattle.reuse_paths.proofs.TreeLemmas.{rows-at}
 use Rattle.wavefront.specs.FrontClaims.{front_variables, front_system, spot_goals, source_goals, front_goals, front_inside, outer_claims, user_point, word_forms, word_claims, edge_leaves, front_edges, source_reach, front_reach, front_back, wave_claims}
 use Rattle.wavefront.specs.FrontFits.{FrontFits, ReachesFit, ValidFrontsAreSound}
 use Rattle.wavefront.specs.FrontTerm.{WavefrontTerm, user_read}
-use Rattle.wavefront.specs.Fronts.{place_of, IsExecuted, spot_values, word_vertex, IsThereAt, IsSoundAt, IsSoundUnder}
+use Rattle.wavefront.specs.Fronts.{spot_values, word_vertex, IsThereAt, IsSoundAt, IsSoundUnder}
+use Rattle.reuse_paths.specs.Places.{place_of, IsExecuted}
 use Rattle.wavefront.specs.Inverse.{AreUndone}
-use Rattle.wavefront.proofs.FrontApart.{one-instance, user-at, told, distinct-images}
+use Rattle.wavefront.proofs.FrontApart.{one-instance, user-at, told}
 use Rattle.wavefront.proofs.FrontEdges.{IsSaid, IsLong, said}
 use Rattle.wavefront.proofs.InverseClaims.{hold-undone}
 use Rattle.wavefront.proofs.Lists.{first-part, second-part}
-use Rattle.wavefront.proofs.Places.{executed-there}
+use Rattle.reuse_paths.proofs.Places.{executed-there, stands-alone}
 use Rattle.wavefront.proofs.Undone.{undone-same}
 
 module _ (program : AffineProgram) (place : List Step) (trees : List (List SelectionTree)) (term : WavefrontTerm) (formed : IsWellFormed program)
@@ -122,11 +122,6 @@ module _ (program : AffineProgram) (place : List Step) (trees : List (List Selec
           (holds-there (row_path program.tree spot.statement) (λ p. IsWithin p parameters values) (way-there program spot.statement formed fit.there) within) in
           executed-there program parameters there.0 (instance_of spot parameters u) there.1
 
-      -- an instance stands at its place alone
-      stands-alone : (n : ℕ) (instance : Instance) → IsAt program parameters n instance → n ≡ place_of program parameters instance
-      stands-alone n instance at =
-          executed_once program parameters instance n (place_of program parameters instance) formed at (executed-there program parameters n instance at)
-
       module _ (u : List ℤ) (within : IsWithin (map step_of term.nest) parameters u) where
         abbrev at : List ℤ
         at = parameters ++ u
@@ -159,7 +154,7 @@ module _ (program : AffineProgram) (place : List Step) (trees : List (List Selec
         -- where a walk from an instance arrives at a spot's, this is reached from it
         arrived : (spot : SpotForms) (n : ℕ) → (end : ℕ) × (IsAt program parameters end (instance_of spot parameters u) × IsReached (computation_graph program parameters) n end)
             → IsReached (computation_graph program parameters) n (place_of program parameters (instance_of spot parameters u))
-        arrived spot n h = subst (λ (m : ℕ). IsReached (computation_graph program parameters) n m) (stands-alone h.0 (instance_of spot parameters u) h.1.0) h.1.1
+        arrived spot n h = subst (λ (m : ℕ). IsReached (computation_graph program parameters) n m) (stands-alone program parameters h.0 (instance_of spot parameters u) formed h.1.0) h.1.1
 
         behind : IsReached (computation_graph program parameters) (place_of program parameters user) (place_of program parameters vertex)
         behind =
@@ -182,7 +177,7 @@ module _ (program : AffineProgram) (place : List Step) (trees : List (List Selec
         there (Some spot) None fit h is = absurd fit
         there (Some spot) (Some arrives) fit h is = (
           executed-there program parameters is.0 (instance_of spot parameters u) is.1.0,
-          is.1.1 ∙ ap written_at (stands-alone is.0 (instance_of spot parameters u) is.1.0),
+          is.1.1 ∙ ap written_at (stands-alone program parameters is.0 (instance_of spot parameters u) formed is.1.0),
           arrived spot (place_of program parameters vertex)
               (reaches-arrive program trees term.nest term.vertex spot arrives 20 (place ++ Key REACH ∷ []) formed trees-fit trees-true fit h
               parameters u (place_of program parameters vertex) admitted within vertex-there),

@@ -2,12 +2,13 @@
 use Rattle.std.proofs.Common.{◌≡◌, refl, sym, subst, inl, inr, ℕ, List, arith}
 use Rattle.iolb_model.specs.Form.{AffineForm}
 use Rattle.affine_form.specs.Matrix.{IntegerMatrix}
+use Rattle.reuse_paths.specs.MatrixRows.{matrix_rows}
 use Rattle.claims.specs.declared.place.Step.{Step}
 use Rattle.claims.specs.declared.refused.No.{No}
 use Rattle.claims.specs.Claims.{Claim, AllHold, FirstFails, counted}
 use Rattle.claims.proofs.Members.{counts-hold, counts-each, counts-fail}
 use Rattle.execution_laws.specs.Inverse.{IsFirstDifference}
-use Rattle.wavefront.specs.Inverse.{matrix_rows, coefficients_past, AreUndone}
+use Rattle.wavefront.specs.Inverse.{coefficients_past, AreUndone}
 use Rattle.wavefront.specs.InverseClaims.{entry_place, entry_claim, inverse_claims}
 
 module _ (matrix : IntegerMatrix) (scale parameters size : ℕ) (forms : List AffineForm) (place : List Step) where

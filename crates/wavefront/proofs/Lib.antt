@@ -9,7 +9,6 @@ pub mod ColdCells
 pub mod ColdLoads
 pub mod WaveLoads
 pub mod Kept
-pub mod Places
 pub mod FrontLoads
 pub mod FrontBounds
 pub mod FrontWhole

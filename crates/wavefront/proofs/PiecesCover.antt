@@ -1,7 +1,6 @@
 -- The pieces of a cold term fit, and cover its footprint.
 use Rattle.std.proofs.Common.{◌≡◌, refl, sym, ◌∙◌, ap, subst, inl, inr, ℕ, suc, ◌+◌, ◌-◌, ◌<◌, ◌≤◌, Bool, true, false, if◌then◌else◌, List, [], ◌∷◌, ◌++◌, length, map, replicate, get_or, take, drop, append_assoc, arith}
-use Rattle.std.specs.Prelude.{Some, slice_get}
-use Rattle.std.specs.List.{AllByRecursion, position_or_len}
+use Rattle.std.specs.List.{AllByRecursion}
 use Rattle.std.proofs.Math.IntN.{ℤ, pos}
 use lib.Signed.{◌≤ℤ◌}
 use Rattle.std.proofs.lemmas.List.{length-map, map-append}
@@ -10,12 +9,11 @@ use Rattle.iolb_model.specs.Form.{AffineForm, form_value}
 use Rattle.iolb_model.specs.Program.{AffineProgram, IsWellFormed}
 use Rattle.iolb_model.specs.Bound.{IsAdmitted}
 use Rattle.iolb_model.specs.Domain.{IsWithin}
-use Rattle.iolb_model.specs.Source.{Cell as InputCell, same_cell, read_cell}
-use Rattle.iolb_model.specs.Graph.{input_cells, input_vertex}
+use Rattle.iolb_model.specs.Source.{read_cell}
+use Rattle.iolb_model.specs.Graph.{input_vertex}
 use Rattle.iolb_model.specs.Game.{stands_in}
 use Rattle.execution_laws.proofs.Members.{Member}
 use Rattle.execution_laws.proofs.Ordered.{All-member, Member-map_from}
-use Rattle.execution_laws.proofs.Cells.{position-Member}
 use Rattle.pebble_game.specs.Cold.{ReadsInput}
 use Rattle.pebble_game.proofs.Marks.{standing-member}
 use Rattle.pebble_game.proofs.InputVertices.{Member-input_cells}
@@ -28,7 +26,6 @@ use Rattle.affine_form.specs.Form.{variables, IsSmall, IsSmallForm}
 use Rattle.affine_form.specs.Rows.{widened, variables_from, within_rows, step_of}
 use Rattle.affine_form.specs.Substitution.{values_at}
 use Rattle.affine_form.specs.System.{AllOver, IsMet}
-use Rattle.affine_form.proofs.Meaning.{form_value-widened}
 use Rattle.affine_form.proofs.RowLemmas.{length-widened}
 use Rattle.affine_form.proofs.ShownLemmas.{Shows-none}
 use Rattle.dep_quast.specs.Claims.{IsFew}
@@ -50,6 +47,7 @@ use Rattle.wavefront.specs.Loads.{TermFits, ColdFits, instance_values, all_insta
 use Rattle.wavefront.specs.ColdClaims.{matrix_claims, instance_claims}
 use Rattle.wavefront.specs.ColdPieces.{rows_at_leaf, leaf_piece, stop_pieces, leaves_of, cold_pieces, LeavesAreFew, ColdPiecesCover}
 use Rattle.reuse_paths.proofs.NestPoints.{points-within, nest-met}
+use Rattle.reuse_paths.proofs.PieceVertices.{wide-values, cell-vertex}
 use Rattle.reuse_paths.proofs.ChosenLeaves.{StandsAmong, chosen-stands}
 use Rattle.wavefront.proofs.ColdCells.{instance-at, cell-is}
 use Rattle.wavefront.proofs.ColdLoads.{all-read}
@@ -191,20 +189,6 @@ module _ (program : AffineProgram) (term : ColdTerm) (parameters u : List ℤ) (
       member-in 0 (leaves_of program tree term) term.leaves l.0 le h l.1.0 l.1.1
 
 -- ---- a cold term's pieces
-
-pub wide-values : (vars : ℕ) (forms : List AffineForm) (point : List ℤ) → values_at (map (widened vars) forms) point ≡ values_at forms point
-wide-values vars [] point = refl
-wide-values vars (form ∷ forms) point =
-    let first = form_value-widened vars form point in
-    let others = wide-values vars forms point in cc
-
--- a cell that some instance reads before it is written is a vertex of its array at its subscripts
-pub cell-vertex : (program : AffineProgram) (parameters numbers : List ℤ) (cell : InputCell) → Member cell (input_cells program parameters) → numbers ≡ cell.subscripts
-    → IsVertexOf program parameters (Cell cell.array) numbers (input_vertex program parameters cell)
-cell-vertex program parameters numbers cell member same =
-    let cells : List InputCell = input_cells program parameters in
-    let there : slice_get cells (position_or_len (same_cell cell) cells) ≡ Some cell = position-Member cell cells member in
-    (position_or_len (same_cell cell) cells, refl, subst (λ (xs : List ℤ). slice_get cells (position_or_len (same_cell cell) cells) ≡ Some (record { array = cell.array; subscripts = xs })) (sym same) there)
 
 module _ (program : AffineProgram) (place : List Step) (tree : SelectionTree) (term : ColdTerm) (formed : IsWellFormed program) (fits : ColdFits program tree term)
     (true_tree : IsTrueTree program term.reader tree) (holds : AllHold (instance_claims program place tree term)) where

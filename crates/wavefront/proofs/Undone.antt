@@ -4,10 +4,11 @@ use Rattle.std.proofs.Math.IntN.{ℤ, ◌+ℤ◌}
 use Rattle.std.proofs.lemmas.Int.{ints}
 use Rattle.iolb_model.specs.Form.{AffineForm, dot, form_value}
 use Rattle.affine_form.specs.Matrix.{IntegerMatrix}
+use Rattle.reuse_paths.specs.MatrixRows.{matrix_rows}
 use Rattle.affine_form.specs.Substitution.{values_at}
 use Rattle.execution_laws.specs.Inverse.{IsScaledInverse}
 use Rattle.execution_laws.proofs.Undone.{same_point, dot-append}
-use Rattle.wavefront.specs.Inverse.{matrix_rows, coefficients_past, AreUndone}
+use Rattle.wavefront.specs.Inverse.{coefficients_past, AreUndone}
 
 -- forms that have the same values at two points of a nest have the same parts in its variables there
 nest_parts : (values xs ys : List ℤ) (forms : List AffineForm) → values_at forms (values ++ xs) ≡ values_at forms (values ++ ys)

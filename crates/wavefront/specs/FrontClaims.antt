@@ -19,7 +19,8 @@ use Rattle.domain_count.specs.CountClaims.{count_claims, sums_claims}
 use Rattle.reuse_paths.specs.LeafClaims.{LeafClaim, no_point, stops, is_credited, goes_on, arrives}
 use Rattle.reuse_paths.specs.OpenLeaves.{LeafOrigin, written, as_input, unknown, OpenLeaf, is_input, open_leaves}
 use Rattle.reuse_paths.specs.Quasts.{tree_for}
-use Rattle.reuse_paths.specs.ReachClaims.{IsWrittenBy, reach_claims}
+use Rattle.reuse_paths.specs.EntryClaims.{IsWrittenBy}
+use Rattle.reuse_paths.specs.ReachClaims.{reach_claims}
 use Rattle.reuse_paths.specs.Walks.{SpotForms, ReachClaim}
 use Rattle.wavefront.specs.FrontTerm.{WavefrontTerm, outer_nest, user_read}
 use Rattle.wavefront.specs.InverseClaims.{inverse_claims}

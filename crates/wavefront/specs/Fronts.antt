@@ -1,13 +1,10 @@
 -- Sound wavefront terms, and what they cost. (Elango et al. 2014, by loads alone.)
-use Rattle.std.specs.Prelude.{◌≡◌, ℕ, ◌+◌, ◌*◌, ◌≤◌, ℤ, Bool, ◌==◌, ◌&&◌, nat_eq, List, ◌++◌, map, length, Option, Some, None}
-use Rattle.std.specs.List.{AllByRecursion, IsDistinct, position_or_len}
-use Rattle.std.specs.Ordering.{int_eq}
-use lib.Pointwise.{pointwise}
+use Rattle.std.specs.Prelude.{◌≡◌, ℕ, ◌+◌, ◌*◌, ◌≤◌, ℤ, nat_eq, List, ◌++◌, map, length, Option, Some, None}
+use Rattle.std.specs.List.{AllByRecursion, IsDistinct}
 use Rattle.iolb_model.specs.declared.game.Move.{Move}
 use Rattle.iolb_model.specs.Program.{AffineProgram}
 use Rattle.iolb_model.specs.Bound.{IsAdmitted}
-use Rattle.iolb_model.specs.Domain.{IsAt}
-use Rattle.iolb_model.specs.Execution.{Instance, execution}
+use Rattle.iolb_model.specs.Execution.{execution}
 use Rattle.iolb_model.specs.Footprint.{AreVertices, Footprint}
 use Rattle.iolb_model.specs.Game.{IsCompletePebbling, loads_of}
 use Rattle.iolb_model.specs.Graph.{computation_graph, input_cells, vertex_of}
@@ -16,20 +13,10 @@ use Rattle.affine_form.specs.Substitution.{values_at}
 use Rattle.dep_quast.specs.Truth.{ReadFits, source_at}
 use Rattle.domain_count.specs.Points.{points, count}
 use Rattle.reuse_paths.specs.Arrival.{instance_of}
+use Rattle.reuse_paths.specs.Places.{place_of, IsExecuted}
 use Rattle.reuse_paths.specs.Reached.{IsReached}
 use Rattle.reuse_paths.specs.Walks.{SpotForms}
 use Rattle.wavefront.specs.FrontTerm.{WavefrontTerm, outer_nest, user_read}
-
--- whether two instances are one
-abbrev pub same_instance : Instance → Instance → Bool
-same_instance a b = (a.statement == b.statement) && pointwise int_eq a.values b.values
-
--- the place of an instance in the execution, which is past its end where it isn't executed; and that it is executed
-abbrev pub place_of : AffineProgram → List ℤ → Instance → ℕ
-place_of program parameters instance = position_or_len (same_instance instance) (execution program parameters)
-
-abbrev pub IsExecuted : AffineProgram → List ℤ → Instance → Type 0
-IsExecuted program parameters instance = IsAt program parameters (place_of program parameters instance) instance
 
 -- the loop values of a spot's instance at a point of the nest
 abbrev pub spot_values : SpotForms → List ℤ → List ℤ → List ℤ

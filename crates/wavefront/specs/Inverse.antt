@@ -1,13 +1,9 @@
 -- That different points of a nest have different values of forms, by a scaled inverse.
-use Rattle.std.specs.Prelude.{ℕ, ℤ, List, map, take, drop, ◌*◌}
-use Rattle.std.specs.List.{range_with_len}
+use Rattle.std.specs.Prelude.{ℕ, ℤ, List, map, drop}
 use Rattle.iolb_model.specs.Form.{AffineForm}
 use Rattle.affine_form.specs.Matrix.{IntegerMatrix}
+use Rattle.reuse_paths.specs.MatrixRows.{matrix_rows}
 use Rattle.execution_laws.specs.Inverse.{IsScaledInverse}
-
--- a matrix's rows
-abbrev pub matrix_rows : IntegerMatrix → List (List ℤ)
-matrix_rows matrix = map (λ row. take matrix.columns (drop (row * matrix.columns) matrix.cells)) (range_with_len 0 matrix.rows)
 
 -- the coefficients of forms past so many
 abbrev pub coefficients_past : ℕ → List AffineForm → List (List ℤ)

@@ -2,12 +2,13 @@
 use Rattle.std.specs.Prelude.{◌≡◌, ℕ, ℤ, List, [], ◌∷◌, ◌++◌}
 use Rattle.iolb_model.specs.Form.{AffineForm}
 use Rattle.affine_form.specs.Matrix.{IntegerMatrix}
+use Rattle.reuse_paths.specs.MatrixRows.{matrix_rows}
 use Rattle.claims.specs.Claims.{Claim, counted}
 use Rattle.claims.specs.declared.place.Step.{Step}
 use Rattle.claims.specs.declared.place.Step.TheVariants.{Key, Index}
 use Rattle.claims.specs.declared.key.TheConstants.{INVERSE, MATRIX}
 use Rattle.execution_laws.specs.Inverse.{product_entry, scaled_entry}
-use Rattle.wavefront.specs.Inverse.{matrix_rows, coefficients_past}
+use Rattle.wavefront.specs.Inverse.{coefficients_past}
 
 -- the place of an entry of the product of a term's matrix with forms' coefficients
 abbrev pub entry_place : List Step → ℕ → ℕ → List Step

@@ -5,7 +5,8 @@ ghost use Rattle.std.specs.List.{AllByRecursion};
 ghost use Rattle.iolb_model.specs.Form.{dot};
 ghost use Rattle.execution_laws.specs.Inverse.{scaled_entry, IsScaledInverse, IsFirstDifference};
 ghost use Rattle.affine_form.specs.Form.{IsSmall};
-ghost use Rattle.wavefront.specs.Inverse.{matrix_rows, coefficients_past};
+ghost use Rattle.wavefront.specs.Inverse.{coefficients_past};
+ghost use Rattle.reuse_paths.specs.MatrixRows.{matrix_rows};
 ghost use Rattle.wavefront.specs.Columns.{coefficients_at, AgreesBelow};
 ghost use Rattle.iolb_model.specs.declared.limits.TheConstants.{NUMBER_SIZE, COEFFICIENT_SIZE, VARIABLES, NEST_VARIABLES};
 

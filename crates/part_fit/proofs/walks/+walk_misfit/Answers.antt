@@ -1,7 +1,7 @@
 use Rattle.std.proofs.Common.{sym, ◌∙◌, ap, [], ◌∷◌, ◌++◌, length}
 use Rattle.claims.specs.declared.place.Step.TheVariants.{Key}
 use Rattle.claims.specs.declared.key.TheConstants.{FORM}
-use Rattle.reuse_paths.specs.ReachClaims.{region_variables}
+use Rattle.reuse_paths.specs.WalkSettings.{region_variables}
 use Rattle.reuse_paths.specs.Walks.{tree_of_walk}
 use Rattle.part_fit.specs.FitClaims.{FindsMisfit}
 use Rattle.part_fit.specs.PartFit.{form_fits}

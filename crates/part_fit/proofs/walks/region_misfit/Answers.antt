@@ -4,7 +4,7 @@ use Rattle.claims.specs.Claims.{Claim}
 use Rattle.claims.specs.declared.place.Step.{Step}
 use Rattle.claims.specs.declared.place.Step.TheVariants.{Key, Index}
 use Rattle.claims.specs.declared.key.TheConstants.{ROWS, TREE}
-use Rattle.reuse_paths.specs.ReachClaims.{region_variables}
+use Rattle.reuse_paths.specs.WalkSettings.{region_variables}
 use Rattle.reuse_paths.specs.Walks.{WalkRegion, region_of, tree_of_walk}
 use Rattle.part_fit.specs.FitClaims.{FirstMisfit, FindsMisfit}
 use Rattle.part_fit.specs.PartFit.{forms_fit}

@@ -9,15 +9,15 @@ use Rattle.part_fit.proofs.walks.regions_misfit.Goals as goal
 pub returns-in-Some : goal.returns-in-Some
 returns-in-Some c =
     let fit = region_fit (walk_of c.args.walking.now) c.args.list.now in
-    c.loop-statement.invariant (Some c.in-Some.misfit) (mapped-stop (option_map region_of) fit c.args.walking.now.nodes.now c.loop-statement.statement c.region-item.result c.loop-statement-test.true c.region-item.is c.in-Some.misfit
-    (found-some (fit c.loop-statement.statement (option_map region_of c.region-item.result)) c.in_ok-misfit.field-0 c.in-Some.misfit c.in-Some.is c.in_ok-misfit.ensures))
+    c.loop-statement.invariant (Some c.in-Some.misfit) (mapped-stop (option_map region_of) fit c.args.nodes.now c.loop-statement.statement c.index-nodes-statement.result c.loop-statement-test.true c.index-nodes-statement.is c.in-Some.misfit
+    (found-some (fit c.loop-statement.statement (option_map region_of c.index-nodes-statement.result)) c.in_ok-misfit.field-0 c.in-Some.misfit c.in-Some.is c.in_ok-misfit.ensures))
 
 pub loop-statement-preserved : goal.loop-statement-preserved
 loop-statement-preserved c = λ found h.
     let fit = region_fit (walk_of c.args.walking.now) c.args.list.now in
-    c.loop-statement.invariant found (mapped-next (option_map region_of) fit c.args.walking.now.nodes.now c.loop-statement.statement c.region-item.result c.loop-statement-test.true c.region-item.is found
-    (found-none (fit c.loop-statement.statement (option_map region_of c.region-item.result)) c.in_ok-misfit.field-0 c.in_default.is c.in_ok-misfit.ensures) h)
+    c.loop-statement.invariant found (mapped-next (option_map region_of) fit c.args.nodes.now c.loop-statement.statement c.index-nodes-statement.result c.loop-statement-test.true c.index-nodes-statement.is found
+    (found-none (fit c.loop-statement.statement (option_map region_of c.index-nodes-statement.result)) c.in_ok-misfit.field-0 c.in_default.is c.in_ok-misfit.ensures) h)
 
 pub returns : goal.returns
 returns c =
-    c.loop-statement.invariant None (mapped-ended (option_map region_of) (region_fit (walk_of c.args.walking.now) c.args.list.now) c.args.walking.now.nodes.now c.loop-statement.statement (drop_all c.loop-statement.statement c.args.walking.now.nodes.now c.loop-statement-test.false))
+    c.loop-statement.invariant None (mapped-ended (option_map region_of) (region_fit (walk_of c.args.walking.now) c.args.list.now) c.args.nodes.now c.loop-statement.statement (drop_all c.loop-statement.statement c.args.nodes.now c.loop-statement-test.false))

@@ -5,11 +5,11 @@ use Rattle.claims.specs.Claims.{Claim}
 use Rattle.claims.specs.declared.place.Step.{Step}
 use Rattle.claims.specs.declared.place.Step.TheVariants.{Key}
 use Rattle.claims.specs.declared.key.TheConstants.{LEAVES, READ}
-use Rattle.affine_program.specs.Domain.{depth_of}
 use Rattle.dep_quast.specs.Views.{read_of}
 use Rattle.reuse_paths.specs.LeafClaims.{LeafClaim, claim_of}
 use Rattle.part_fit.specs.EntryFit.{entries_fit, leaf_names}
 use Rattle.part_fit.specs.FitClaims.{FindsMisfit, so_many, names}
+use Rattle.reuse_paths.specs.WalkSettings.{target_loops}
 use Rattle.reuse_paths.specs.WalkViews.{walk_of}
 use Rattle.part_fit.specs.WalkFit.{rows_called, take_fit}
 use Rattle.part_fit.proofs.FitFound.{pair-stops, Finds-go, found-none}
@@ -24,11 +24,11 @@ returns-in-Some c =
     let called = leaf_names walk.program walk.trees reader in
     let entries : List LeafClaim = map claim_of c.args.entries.now in
     let list : List Step = place ++ Key LEAVES ∷ [] in
-    let loops : ℕ = depth_of walk.program walk.target.statement in
+    let loops : ℕ = target_loops walk in
     let asked : List ℕ = map (rows_called walk.nodes) called in
     let fits : length entries ≡ length called =
     length-map c.args.entries.now claim_of ∙ c.if-entries-rows.false ∙ ap length (c.as_slice-rows.ensures.value ∙ c.in_ok-called.ensures) ∙ length-map called (rows_called walk.nodes) in
-    let same = ap (λ (n : ℕ). entries_fit n c.as_slice-rows.result.now list entries) c.loops_around-loops.ensures.depth
+    let same = ap (λ (n : ℕ). entries_fit n c.as_slice-rows.result.now list entries) c.target_loops-loops.ensures.loops
     ∙ ap (λ (ns : List ℕ). entries_fit loops ns list entries) (c.as_slice-rows.ensures.value ∙ c.in_ok-called.ensures) in
     inr (
       fits,
@@ -44,11 +44,11 @@ returns c =
     let called = leaf_names walk.program walk.trees reader in
     let entries : List LeafClaim = map claim_of c.args.entries.now in
     let list : List Step = place ++ Key LEAVES ∷ [] in
-    let loops : ℕ = depth_of walk.program walk.target.statement in
+    let loops : ℕ = target_loops walk in
     let asked : List ℕ = map (rows_called walk.nodes) called in
     let fits : length entries ≡ length called =
     length-map c.args.entries.now claim_of ∙ c.if-entries-rows.false ∙ ap length (c.as_slice-rows.ensures.value ∙ c.in_ok-called.ensures) ∙ length-map called (rows_called walk.nodes) in
-    let same = ap (λ (n : ℕ). entries_fit n c.as_slice-rows.result.now list entries) c.loops_around-loops.ensures.depth
+    let same = ap (λ (n : ℕ). entries_fit n c.as_slice-rows.result.now list entries) c.target_loops-loops.ensures.loops
     ∙ ap (λ (ns : List ℕ). entries_fit loops ns list entries) (c.as_slice-rows.ensures.value ∙ c.in_ok-called.ensures) in
     let found = subst (λ (claims : List Claim). FindsMisfit claims c.in_ok-misfit.field-0) same c.in_ok-misfit.ensures in
     let named : ℕ → ℕ → List Claim = λ number count. names (place ++ Key READ ∷ []) number count ∷ [] in

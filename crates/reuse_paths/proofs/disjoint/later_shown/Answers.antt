@@ -1,6 +1,5 @@
-use Rattle.std.proofs.Common.{◌≡◌, sym, ◌∙◌, ap, subst, ℕ, ◌+◌, List, [], ◌∷◌, ◌++◌, length, map, drop, arith, Vec, Global}
-use Rattle.std.specs.Prelude.{Option, Some, None}
-use Rattle.affine_form.specs.Multipliers.{FarkasMultipliers}
+use Rattle.std.proofs.Common.{◌≡◌, ◌∙◌, ap, subst, ℕ, ◌+◌, List, ◌++◌, length, map, drop, Vec, Global}
+use Rattle.std.specs.Prelude.{Some}
 use Rattle.affine_form.specs.System.{AffineSystem}
 use Rattle.affine_program.specs.Parts.{meaning}
 use Rattle.claims.specs.Claims.{Finds}

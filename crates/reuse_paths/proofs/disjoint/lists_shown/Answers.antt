@@ -1,6 +1,5 @@
-use Rattle.std.proofs.Common.{◌≡◌, sym, ◌∙◌, ap, subst, ℕ, ◌+◌, List, [], ◌∷◌, ◌++◌, length, map, drop, arith, Vec, Global}
-use Rattle.std.specs.Prelude.{Option, Some, None}
-use Rattle.affine_form.specs.Multipliers.{FarkasMultipliers}
+use Rattle.std.proofs.Common.{◌≡◌, ◌∙◌, ap, subst, ℕ, ◌+◌, List, ◌++◌, length, map, drop, Vec, Global}
+use Rattle.std.specs.Prelude.{Some}
 use Rattle.affine_form.specs.System.{AffineSystem}
 use Rattle.affine_program.specs.Parts.{meaning}
 use Rattle.claims.specs.Claims.{Finds}
@@ -8,7 +7,7 @@ use Rattle.dep_quast.proofs.Chunks.{claims_from}
 use Rattle.reuse_paths.specs.declared.piece.Piece.{Piece}
 use Rattle.reuse_paths.specs.DisjointClaims.{pairwise_systems, systems_with_lists}
 use Rattle.reuse_paths.specs.Pieces.{FootprintPiece, piece_of, pieces_of}
-use Rattle.reuse_paths.proofs.PairsFound.{first-stop, first-go, rest-room, rest-end, split-lists, lists-fit, if-none}
+use Rattle.reuse_paths.proofs.PairsFound.{first-stop, first-go, rest-room, split-lists, lists-fit, if-none}
 use Rattle.reuse_paths.proofs.disjoint.lists_shown.Goals as goal
 
 pub returns-in-Some : goal.returns-in-Some

@@ -1,5 +1,4 @@
 use Rattle.std.proofs.Common.{◌≡◌, true, false, sym, ◌∙◌, ap, subst, ℕ, ◌+◌, List, [], ◌∷◌, ◌++◌, length, map, drop, arith}
-use Rattle.std.specs.Prelude.{Option, Some, None}
 use Rattle.affine_form.specs.Multipliers.{FarkasMultipliers}
 use Rattle.affine_form.specs.System.{AffineSystem}
 use Rattle.affine_program.specs.Parts.{meaning}
@@ -8,7 +7,7 @@ use Rattle.dep_quast.proofs.Chunks.{claims_from}
 use Rattle.reuse_paths.specs.declared.piece.Piece.{Piece}
 use Rattle.reuse_paths.specs.DisjointClaims.{same_target, shared_system, systems_with}
 use Rattle.reuse_paths.specs.Pieces.{FootprintPiece, piece_of}
-use Rattle.reuse_paths.proofs.PairsFound.{first-stop, first-go, rest-room, rest-end, split-other, split-same, pair-found, pieces-fit}
+use Rattle.reuse_paths.proofs.PairsFound.{first-go, rest-room, rest-end, split-other, split-same, pair-found, pieces-fit}
 use Rattle.reuse_paths.proofs.disjoint.piece_shown.Goals as goal
 use Rattle.reuse_paths.proofs.disjoint.piece_shown.Goals.{then-is_same+in_ok-member+in_ok-found+in_default, else-is_same}
 

@@ -1,13 +1,10 @@
-use Rattle.std.proofs.Common.{◌≡◌, sym, ◌∙◌, ap, subst, ℕ, ◌+◌, List, [], ◌∷◌, ◌++◌, length, map, drop, arith, Vec, Global}
-use Rattle.std.specs.Prelude.{Option, Some, None}
-use Rattle.affine_form.specs.Multipliers.{FarkasMultipliers}
+use Rattle.std.proofs.Common.{◌≡◌, ◌∙◌, ℕ, ◌+◌, List, ◌++◌, length, map, drop}
+use Rattle.std.specs.Prelude.{Some}
 use Rattle.affine_form.specs.System.{AffineSystem}
 use Rattle.affine_program.specs.Parts.{meaning}
-use Rattle.claims.specs.Claims.{Finds}
-use Rattle.dep_quast.proofs.Chunks.{claims_from}
 use Rattle.reuse_paths.specs.declared.piece.Piece.{Piece}
 use Rattle.reuse_paths.specs.DisjointClaims.{shared_systems, systems_with}
-use Rattle.reuse_paths.specs.Pieces.{FootprintPiece, piece_of, pieces_of}
+use Rattle.reuse_paths.specs.Pieces.{FootprintPiece, piece_of}
 use Rattle.reuse_paths.proofs.PairsFound.{first-stop, first-go, rest-room, rest-end, split-pieces, pieces-fit, if-none}
 use Rattle.reuse_paths.proofs.disjoint.pieces_shown.Goals as goal
 

@@ -1,5 +1,4 @@
 use Rattle.std.proofs.Common.{◌≡◌, ◌∙◌, sym, ap, subst, arith, ℕ, ◌+◌, List, [], ◌∷◌, ◌++◌, map, length}
-use Rattle.std.specs.Prelude.{Some}
 use Rattle.std.specs.List.{AllByRecursion}
 use Rattle.std.proofs.lemmas.List.{length-map}
 use Rattle.iolb_model.specs.Form.{AffineForm}
@@ -12,11 +11,11 @@ use Rattle.affine_form.specs.Rows.{IsSmallOver}
 use Rattle.affine_form.specs.System.{AffineSystem}
 use Rattle.affine_program.specs.Domain.{depth_of}
 use Rattle.affine_program.specs.Parts.{statement_of}
-use Rattle.dep_quast.specs.Claims.{IsFew, follow_claims}
+use Rattle.dep_quast.specs.Claims.{follow_claims}
 use Rattle.dep_quast.proofs.Fits.{depth-few}
-use Rattle.reuse_paths.specs.LeafClaims.{goes_on}
 use Rattle.reuse_paths.specs.OpenLeaves.{LeafOrigin, origin_of, written, form_at}
-use Rattle.reuse_paths.specs.ReachClaims.{WalkSetting, entering_rows, entry_claims, first_place, reading_point, region_variables, spot_variables}
+use Rattle.reuse_paths.specs.EntryClaims.{IsInRegion, going_goals}
+use Rattle.reuse_paths.specs.WalkSettings.{WalkSetting, forms_behind, reading_point, region_variables, spot_variables}
 use Rattle.reuse_paths.specs.Walks.{WalkRegion, region_of}
 use Rattle.reuse_paths.specs.WalkViews.{walk_of, OriginFits}
 use Rattle.reuse_paths.proofs.EntryClaims.{going-found, region-over}
@@ -42,7 +41,7 @@ region_shown-requires-clause-region_over c =
     let many : region_variables walk writer ≡ spot_variables walk + length c.as_slice.result.now =
     ap (λ (n : ℕ). spot_variables walk + n) (sym (ap (λ (l : List AffineForm). length l) c.as_slice.ensures.value ∙ fits.1)) in
     let region : WalkRegion = region_of c.in-Some.region.now in
-    subst (λ (n : ℕ). AllByRecursion (IsSmallOver n) region.rows) many (region-over walk writer region c.requires.fits.regions c.in-Some.ensures)
+    subst (λ (n : ℕ). AllByRecursion (IsSmallOver n) region.rows) many (region-over walk writer region c.requires.fits.setting.rows c.in-Some.ensures)
 
 pub returns : goal.returns
 returns c =
@@ -54,10 +53,10 @@ returns c =
     let system : AffineSystem = record { vars = vars; rows = c.args.rows.now } in
     let region : WalkRegion = region_of c.in-Some.region.now in
     let writer : ℕ = c.in-Written.writer in
-    let entered : List AffineForm → List Claim = λ values. follow_claims condition (place ++ Key ROWS ∷ []) system 0 (entering_rows walk vars (Some region) (map (form_at vars point) values)) c.args.shown.now in
+    let entered : List AffineForm → List Claim = λ values. follow_claims condition (place ++ Key ROWS ∷ []) system 0 (forms_behind walk vars (map (form_at vars point) values) region.rows) c.args.shown.now in
     let claimed : LeafOrigin → List Claim = λ origin.
-    record { condition = 2; place = first_place place ROWS c.args.shown.now; statement = IsFew (length c.args.rows.now) } ∷ entry_claims condition walk place system point origin (goes_on c.args.shown.now []) in
+    record { condition = condition; place = place; statement = IsInRegion walk origin } ∷ follow_claims condition (place ++ Key ROWS ∷ []) system 0 (going_goals walk vars point origin) c.args.shown.now in
     IfOk-then c.region_shown.result (λ found. Finds (entered c.as_slice.result.now) found) (λ found. Finds (claimed (origin_of c.args.origin.now)) found) c.region_shown.ensures
     (λ found h. subst (λ (origin : LeafOrigin). Finds (claimed origin) found) (sym (ap origin_of c.in-Written.is))
-    (going-found condition walk place system point writer c.in-Written.point.items region c.args.shown.now found (omega (arith, c.if-rows-gt-ROWS.false)) c.in-Some.ensures
+    (going-found condition walk place system point writer c.in-Written.point.items region c.args.shown.now found c.in-Some.ensures
     (subst (λ (values : List AffineForm). Finds (entered values) found) c.as_slice.ensures.value h)))

@@ -1,5 +1,5 @@
-use Rattle.std.proofs.Common.{◌∙◌, ap, subst, ℕ, List, [], ◌∷◌, ◌++◌}
-use Rattle.std.specs.Prelude.{Some, IfOk}
+use Rattle.std.proofs.Common.{◌∙◌, ap, subst, ℕ, map, List, [], ◌∷◌, ◌++◌}
+use Rattle.std.specs.Prelude.{IfOk}
 use Rattle.iolb_model.specs.Form.{AffineForm}
 use Rattle.claims.specs.Claims.{Claim, Finds}
 use Rattle.claims.specs.declared.place.Step.{Step}
@@ -7,8 +7,8 @@ use Rattle.claims.specs.declared.place.Step.TheVariants.{Key}
 use Rattle.claims.specs.declared.key.TheConstants.{ROWS}
 use Rattle.affine_form.specs.System.{AffineSystem}
 use Rattle.dep_quast.specs.Claims.{follow_claims}
-use Rattle.reuse_paths.specs.ReachClaims.{WalkSetting, entering_rows, region_variables}
-use Rattle.reuse_paths.specs.Walks.{region_of}
+use Rattle.reuse_paths.specs.OpenLeaves.{form_at}
+use Rattle.reuse_paths.specs.WalkSettings.{WalkSetting, forms_behind, reading_point, region_variables}
 use Rattle.reuse_paths.specs.WalkViews.{walk_of}
 use Rattle.reuse_paths.proofs.entry_shown.region_shown.Goals as goal
 
@@ -19,12 +19,14 @@ returns c =
     let condition : ℕ = c.args.walking.now.condition in
     let list : List Step = c.args.place.now ++ Key ROWS ∷ [] in
     let system : AffineSystem = record { vars = vars; rows = c.args.rows.now } in
+    let shown = c.args.shown.now in
     subst (λ (cs : List Claim). IfOk c.goals_shown.result (λ found. Finds cs found))
-    (ap (λ (place : List Step). follow_claims condition place c.in_ok-system.system 0 c.as_slice-2.result.now c.args.shown.now) c.in_ok-list.ensures
-    ∙ ap (λ (s : AffineSystem). follow_claims condition list s 0 c.as_slice-2.result.now c.args.shown.now)
+    (ap (λ (place : List Step). follow_claims condition place c.in_ok-system.system 0 c.as_slice-2.result.now shown) c.in_ok-list.ensures
+    ∙ ap (λ (s : AffineSystem). follow_claims condition list s 0 c.as_slice-2.result.now shown)
     (c.in_ok-system.ensures ∙ ap (λ (n : ℕ). record { vars = n; rows = c.args.rows.now }) c.region_variables-vars.ensures.variables)
-    ∙ ap (λ (goals : List AffineForm). follow_claims condition list system 0 goals c.args.shown.now)
+    ∙ ap (λ (goals : List AffineForm). follow_claims condition list system 0 goals shown)
     (c.as_slice-2.ensures.value ∙ c.in_ok-goals.ensures
-    ∙ ap (λ (n : ℕ). entering_rows walk n (Some (region_of c.args.region.now)) c.as_slice.result.now) c.region_variables-vars.ensures.variables
-    ∙ ap (entering_rows walk vars (Some (region_of c.args.region.now))) (c.as_slice.ensures.value ∙ c.in_ok-here.ensures.values)))
+    ∙ ap (λ (n : ℕ). forms_behind walk n c.as_slice.result.now c.as_slice-own.result.now) c.region_variables-vars.ensures.variables
+    ∙ ap (λ (values : List AffineForm). forms_behind walk vars values c.as_slice-own.result.now) (c.as_slice.ensures.value ∙ c.in_ok-here.ensures.values)
+    ∙ ap (forms_behind walk vars (map (form_at vars (reading_point walk c.args.statement)) c.args.values.now)) c.as_slice-own.ensures.value))
     c.goals_shown.ensures

@@ -14,29 +14,31 @@ use Rattle.affine_program.specs.Parts.{statement_of}
 use Rattle.dep_quast.specs.Claims.{follow_claims}
 use Rattle.dep_quast.proofs.Fits.{depth-few}
 use Rattle.domain_count.specs.Count.{rows_before}
-use Rattle.reuse_paths.specs.ReachClaims.{WalkSetting, entering_rows, region_variables, spot_variables, start_claims}
+use Rattle.reuse_paths.specs.ReachClaims.{start_claims}
+use Rattle.reuse_paths.specs.WalkSettings.{WalkSetting, entering_rows, forms_behind, region_variables, spot_variables}
 use Rattle.reuse_paths.specs.Walks.{WalkRegion, SpotForms, region_of, spot_of}
 use Rattle.reuse_paths.specs.WalkViews.{walk_of}
 use Rattle.reuse_paths.proofs.EntryClaims.{region-over, start-found}
 use Rattle.reuse_paths.proofs.reach_shown.start_shown.Goals as goal
 
-pub entering_rows-requires-clause-few_values : goal.entering_rows-requires-clause-few_values
-entering_rows-requires-clause-few_values c =
+pub forms_behind-requires-clause-few_values : goal.forms_behind-requires-clause-few_values
+forms_behind-requires-clause-few_values c =
     let parts = c.args.walking.now.program.now in
     omega (
       arith,
-      ap (λ (l : List AffineForm). length l) c.as_slice.ensures.value,
+      ap (λ (l : List AffineForm). length l) c.as_slice-values.ensures.value,
       c.requires.from_fits.point,
       depth-few parts c.spot_variables-vars.ensures.kept c.args.from.now.statement (omega (arith, length-map parts.statements statement_of, c.requires.from_fits.there)),
     )
 
-pub entering_rows-requires-clause-over : goal.entering_rows-requires-clause-over
-entering_rows-requires-clause-over c =
+pub forms_behind-requires-clause-over : goal.forms_behind-requires-clause-over
+forms_behind-requires-clause-over c =
     let walk : WalkSetting = walk_of c.args.walking.now in
     let region : WalkRegion = region_of c.in-Some.region.now in
-    let many : region_variables walk c.args.from.now.statement ≡ spot_variables walk + length c.as_slice.result.now =
-    ap (λ (n : ℕ). spot_variables walk + n) (sym (ap (λ (l : List AffineForm). length l) c.as_slice.ensures.value ∙ c.requires.from_fits.point)) in
-    subst (λ (n : ℕ). AllByRecursion (IsSmallOver n) region.rows) many (region-over walk c.args.from.now.statement region c.requires.fits.regions c.in-Some.ensures)
+    let many : region_variables walk c.args.from.now.statement ≡ spot_variables walk + length c.as_slice-values.result.now =
+    ap (λ (n : ℕ). spot_variables walk + n) (sym (ap (λ (l : List AffineForm). length l) c.as_slice-values.ensures.value ∙ c.requires.from_fits.point)) in
+    subst (AllByRecursion (IsSmallOver (spot_variables walk + length c.as_slice-values.result.now))) (sym c.as_slice.ensures.value)
+    (subst (λ (n : ℕ). AllByRecursion (IsSmallOver n) region.rows) many (region-over walk c.args.from.now.statement region c.requires.fits.rows c.in-Some.ensures))
 
 pub returns : goal.returns
 returns c =
@@ -55,8 +57,9 @@ returns c =
     (c.in_ok-system.ensures ∙ ap (rows_before walk.program) c.bounds.ensures)
     ∙ ap (λ (goals : List AffineForm). follow_claims condition list system 0 goals c.args.start.now)
     (c.as_slice-2.ensures.value ∙ c.in_ok-goals.ensures
-    ∙ ap (λ (n : ℕ). entering_rows walk n (Some region) c.as_slice.result.now) c.spot_variables-vars.ensures.variables
-    ∙ ap (entering_rows walk (spot_variables walk) (Some region)) c.as_slice.ensures.value))
+    ∙ ap (λ (n : ℕ). forms_behind walk n c.as_slice-values.result.now c.as_slice.result.now) c.spot_variables-vars.ensures.variables
+    ∙ ap (λ (values : List AffineForm). forms_behind walk (spot_variables walk) values c.as_slice.result.now) c.as_slice-values.ensures.value
+    ∙ ap (forms_behind walk (spot_variables walk) from.point) c.as_slice.ensures.value))
     c.goals_shown.ensures in
     IfOk-then c.goals_shown.result (λ found. Finds entered found) (λ found. Finds (start_claims condition walk place from c.args.start.now) found) all
     (λ found h. start-found condition walk place from region c.args.start.now found c.in-Some.ensures h)

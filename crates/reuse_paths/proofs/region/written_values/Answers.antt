@@ -5,7 +5,7 @@ use Rattle.affine_form.specs.Rows.{IsSmallOver}
 use Rattle.affine_program.specs.Domain.{depth_of}
 use Rattle.claims.proofs.Found.{IfOk-then}
 use Rattle.reuse_paths.specs.OpenLeaves.{form_at}
-use Rattle.reuse_paths.specs.ReachClaims.{WalkSetting, reading_point, region_variables, spot_variables}
+use Rattle.reuse_paths.specs.WalkSettings.{WalkSetting, reading_point, region_variables, spot_variables}
 use Rattle.reuse_paths.specs.WalkViews.{walk_of}
 use Rattle.reuse_paths.proofs.Renamed.{forms_at-small}
 use Rattle.reuse_paths.proofs.region.written_values.Goals as goal

@@ -4,7 +4,8 @@ use Rattle.claims.specs.Claims.{Finds}
 use Rattle.claims.specs.declared.place.Step.{Step}
 use Rattle.claims.proofs.Found.{IfOk-then}
 use Rattle.dep_quast.specs.Context.{no_row}
-use Rattle.reuse_paths.specs.ReachClaims.{WalkSetting, walk_claims}
+use Rattle.reuse_paths.specs.WalkClaims.{walk_claims}
+use Rattle.reuse_paths.specs.WalkSettings.{WalkSetting}
 use Rattle.reuse_paths.specs.Walks.{tree_of_walk}
 use Rattle.reuse_paths.specs.WalkViews.{walk_of}
 use Rattle.reuse_paths.proofs.WalkSides.{first-side-stops, both-sides}

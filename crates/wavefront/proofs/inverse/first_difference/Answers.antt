@@ -2,7 +2,8 @@ use Rattle.std.proofs.Common.{◌≡◌, sym, ◌∙◌, ap, subst, inl, inr, �
 use Rattle.std.specs.Prelude.{ℤ}
 use Rattle.iolb_model.specs.Form.{dot}
 use Rattle.execution_laws.specs.Inverse.{product_entry, scaled_entry}
-use Rattle.wavefront.specs.Inverse.{matrix_rows, coefficients_past}
+use Rattle.wavefront.specs.Inverse.{coefficients_past}
+use Rattle.reuse_paths.specs.MatrixRows.{matrix_rows}
 use Rattle.wavefront.specs.Columns.{coefficients_at}
 use Rattle.wavefront.proofs.Entries.{entry_is}
 use Rattle.wavefront.proofs.inverse.first_difference.Goals as goal

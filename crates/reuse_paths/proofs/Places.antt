@@ -1,4 +1,4 @@
--- An instance that is executed stands at its place.
+-- An instance that is executed stands at its place, and at no other.
 use Rattle.std.proofs.Common.{◌≡◌, refl, sym, ap, subst, inl, inr, ℕ, suc, ◌+◌, Bool, true, false, cond, not, List, ◌∷◌, [], arith}
 use Rattle.std.specs.Prelude.{◌==◌, ◌&&◌, ℤ, Some, slice_get}
 use Rattle.std.specs.List.{position_or_len}
@@ -9,9 +9,10 @@ use Rattle.std.proofs.lemmas.Slice.Eq.{slice_eq-Decides}
 use lib.Pointwise.{pointwise}
 use Rattle.iolb_model.specs.Domain.{IsAt}
 use Rattle.iolb_model.specs.Execution.{Instance, execution}
-use Rattle.iolb_model.specs.Program.{AffineProgram}
+use Rattle.iolb_model.specs.Program.{AffineProgram, IsWellFormed}
 use Rattle.execution_laws.proofs.Members.{Member, Member-slice_get}
-use Rattle.wavefront.specs.Fronts.{same_instance, IsExecuted}
+use Rattle.execution_laws.proofs.Orders.{executed_once}
+use Rattle.reuse_paths.specs.Places.{same_instance, place_of, IsExecuted}
 
 same_instance-equal : (a b : Instance) → same_instance a b ≡ true → a ≡ b
 same_instance-equal a b e =
@@ -44,3 +45,7 @@ place-Member a (y ∷ runs) m = place_first a y runs (position_or_len (same_inst
 pub executed-there : (program : AffineProgram) (parameters : List ℤ) (n : ℕ) (instance : Instance) → IsAt program parameters n instance → IsExecuted program parameters instance
 executed-there program parameters n instance at =
     place-Member instance (execution program parameters) (Member-slice_get (execution program parameters) n instance at)
+
+pub stands-alone : (program : AffineProgram) (parameters : List ℤ) (n : ℕ) (instance : Instance) → IsWellFormed program → IsAt program parameters n instance → n ≡ place_of program parameters instance
+stands-alone program parameters n instance formed at =
+    executed_once program parameters instance n (place_of program parameters instance) formed at (executed-there program parameters n instance at)
