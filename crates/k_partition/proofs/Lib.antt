@@ -2,3 +2,14 @@ pub mod Held
 pub mod Stretch
 pub mod Cut
 pub mod CompletePebblings
+pub mod ReusedWords
+pub mod TermCovers
+pub mod FixedRows
+pub mod TermLoads
+pub mod PartitionSound
+pub mod Weights
+pub mod Entries
+pub mod Members
+pub mod CreditSums
+pub mod Phases
+pub mod OwnPowers

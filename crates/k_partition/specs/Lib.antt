@@ -1,3 +1,11 @@
 pub mod Reuse
 pub mod Runs
 pub mod Laws
+pub mod Term
+pub mod ReusedWords
+pub mod TermLoads
+pub mod PartitionClaims
+pub mod PartitionFits
+pub mod View
+pub mod CreditSums
+pub mod Numbers

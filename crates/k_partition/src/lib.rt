@@ -2,5 +2,18 @@
 //! along walks, by the uniform cover inequality. (The partition argument of Hong and Kung 1981.)
 #![tactic(auto)]
 
+mod bound;
+mod cover_shown;
+mod credits_counted;
+mod families_checked;
+mod inside_shown;
+pub mod partitions;
 pub mod pebblings;
+mod sound_checker;
 pub mod stretches;
+mod term;
+pub mod terms_loaded;
+mod unit_shown;
+
+pub use sound_checker::check_sound;
+pub use term::{Partition, PartitionBound, Shape};

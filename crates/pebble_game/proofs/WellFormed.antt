@@ -29,7 +29,7 @@ apart true e = cc
 apart false e = refl
 
 -- members that are taken once are different
-IsDistinct-distinct : (xs : List ℕ) → IsDistinct nat_eq (distinct nat_eq xs)
+pub IsDistinct-distinct : (xs : List ℕ) → IsDistinct nat_eq (distinct nat_eq xs)
 unfolding IsDistinct
 IsDistinct-distinct [] = tt
 IsDistinct-distinct (x ∷ xs) = (

@@ -1,0 +1,9 @@
+use Rattle.k_partition.proofs.TermCovers.{sound-terms-are-sound}
+use Rattle.k_partition.proofs.TermLoads.{terms-loaded}
+use Rattle.k_partition.proofs.terms_loaded.sound_terms_are_loaded.Goals as goal
+
+pub returns-clause-sound : goal.returns-clause-sound
+returns-clause-sound c = sound-terms-are-sound
+
+pub returns-clause-loaded : goal.returns-clause-loaded
+returns-clause-loaded c = terms-loaded c.partitions_are_loaded.ensures.each c.partitions_are_loaded.ensures.sum

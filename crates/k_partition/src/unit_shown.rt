@@ -1,0 +1,99 @@
+//! Whether the matrix of coordinates has the inverse that stands beside it.
+
+ghost use Rattle.std.specs.Prelude.{◌≡◌, ◌≤◌, ◌<◌, ◌++◌, ◌∷◌, [], ◌+ℤ◌, ◌*ℤ◌, ◌+◌, ◌*◌, ◌^◌, unsigned_abs, length, Some, IfOk, IsTrue, ◌↔◌};
+ghost use Rattle.execution_laws.specs.Inverse.{product_entry, scaled_entry};
+ghost use Rattle.reuse_paths.specs.MatrixRows.{matrix_rows};
+ghost use Rattle.claims.specs.Claims.{Finds, counted};
+ghost use Rattle.claims.specs.declared.key.TheConstants.{INVERSE as INVERSE_KEY};
+ghost use Rattle.claims.specs.declared.place.Step.TheVariants.{Index, Key};
+ghost use Rattle.k_partition.specs.PartitionClaims.{unit_claim, unit_claims};
+ghost use Rattle.k_partition.specs.View.{partition_of, FitsMatrices};
+ghost use Rattle.iolb_model.specs.declared.limits.TheConstants.{NUMBER_SIZE};
+
+use crate::term::Partition;
+use affine_form::{Matrix, Memory};
+use claims::key::INVERSE;
+use claims::{No, Place, Step, refusal};
+use std::alloc::Global;
+
+/// Whether the product of the inverse with the matrix is 1 on the diagonal and else 0.
+pub(crate) fn unit_shown(
+    alloc: Global,
+    term: &Partition,
+    place: &Place,
+) -> Result<Option<No>, Memory>
+    requires { FitsMatrices term.now }
+    ensures { IfOk result (λ found. Finds (unit_claims place.now (partition_of term.now)) found) }
+{
+    for row in 0..term.nest.bounds().len() {
+        if let Some(no) = row_shown(alloc, term, row, place)? {
+            return Ok(Some(no));
+        }
+    }
+    Ok(None)
+}
+
+/// Whether a row of the product is so.
+fn row_shown(
+    alloc: Global,
+    term: &Partition,
+    row: usize,
+    place: &Place,
+) -> Result<Option<No>, Memory>
+    requires fits { FitsMatrices term.now }
+    requires there { row < length term.now.nest }
+    ensures { IfOk result (λ found. Finds (counted (unit_claim place.now (partition_of term.now) row) 0 (length term.now.nest)) found) }
+{
+    for col in 0..term.nest.bounds().len() {
+        if !is_unit_entry(term, row, col) {
+            return entry_failed(alloc, place, row, col);
+        }
+    }
+    Ok(None)
+}
+
+/// Whether an entry of the product is 1 on the diagonal and else 0.
+fn is_unit_entry(term: &Partition, row: usize, col: usize) -> bool
+    requires fits { FitsMatrices term.now }
+    requires row_in { row < length term.now.nest }
+    requires col_in { col < length term.now.nest }
+    ensures { IsTrue result ↔ (product_entry (matrix_rows term.now.inverse) (matrix_rows term.now.matrix) row col ≡ scaled_entry 1 row col) }
+{
+    let identity = if row == col { 1 } else { 0 };
+    product_entry(&term.inverse, &term.matrix, row, col) == identity
+}
+
+/// An entry of the product of two square matrices of one size.
+fn product_entry(first: &Matrix, second: &Matrix, row: usize, col: usize) -> i128
+    requires row_in { row < first.now.rows }
+    requires col_in { col < second.now.columns }
+    requires one_size { first.now.columns ≡ second.now.rows }
+    ensures { result ≡ product_entry (matrix_rows first.now) (matrix_rows second.now) row col }
+{
+    let _first = first.cells();
+    let _second = second.cells();
+    let mut sum = 0;
+    for k in 0..first.cols() {
+        sum = add_product(sum, first.entry(row, k), i128::from(second.entry(k, col)));
+    }
+    sum
+}
+
+/// A sum and one product more.
+fn add_product(sum: i128, x: i32, y: i128) -> i128
+    requires { unsigned_abs sum + unsigned_abs x * unsigned_abs y < 2 ^ 127 }
+    ensures { result ≡ sum +ℤ (x *ℤ y) }
+{
+    let product = i128::from(x) * y;
+    sum + product
+}
+
+/// The refusal by condition 16 at an entry of the product.
+fn entry_failed(alloc: Global, place: &Place, row: usize, col: usize) -> Result<Option<No>, Memory>
+    ensures { IfOk result (λ found. found ≡ Some (record { condition = 16; place = place.now ++ Key INVERSE_KEY ∷ Index row ∷ Index col ∷ [] })) }
+{
+    let inverse = place.within(alloc, Step::Key(INVERSE))?;
+    let row = inverse.within(alloc, Step::Index(row as u64))?;
+    let entry = row.within(alloc, Step::Index(col as u64))?;
+    refusal(alloc, 16, &entry)
+}
