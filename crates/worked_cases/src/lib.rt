@@ -1,5 +1,5 @@
 //! Worked cases of crates that the program's calls don't show: tokens, forms and matrices, polynomials, covers,
-//! replays.
+//! computation graphs, replays.
 #![tactic(auto)]
 
 #[cfg(test)]
@@ -7,9 +7,13 @@ mod cover_tests;
 #[cfg(test)]
 mod form_tests;
 #[cfg(test)]
+mod graph_tests;
+#[cfg(test)]
 mod polynomial_tests;
 #[cfg(test)]
 mod replay_tests;
+#[cfg(test)]
+mod schedule_tests;
 #[cfg(test)]
 mod texts;
 #[cfg(test)]
