@@ -77,3 +77,21 @@ pub const TERMS: usize = 16;
 
 /// Branches of a certificate, at most.
 pub const BRANCHES: usize = 8;
+
+/// Families of a partition term, at most.
+pub const FAMILIES: usize = 6;
+
+/// Credited nests of a partition term, at most.
+pub const CREDITS: usize = 4;
+
+/// How often the families' sets cover each coordinate, and the weight of a family, at most.
+pub const WEIGHT: u8 = 12;
+
+/// The weights of a partition term's families together, at most.
+pub const WEIGHTS: u8 = 24;
+
+/// The events of a stretch for each red pebble, at most.
+pub const STRETCH: u8 = 64;
+
+/// The events of a stretch beside these, at most.
+pub const STRETCH_MORE: u32 = 1 << 20;

@@ -11,7 +11,8 @@ use Rattle.dep_quast.specs.Tree.{SourceClaim, SelectionTree, leaf, test, leaf_co
 use Rattle.reuse_paths.specs.LeafClaims.{LeafClaim, no_point, stops, is_credited, goes_on, arrives, claim_of}
 use Rattle.reuse_paths.specs.Walks.{WalkTree, take, test as walk_test, entry_count, WalkRegion, SpotForms, ReachClaim, same, walked}
 use Rattle.reuse_paths.specs.declared.leaf.Leaf.{Leaf}
-use Rattle.iolb_model.specs.declared.limits.TheConstants.{NUMBER_SIZE, COEFFICIENT_SIZE, MEASURE, ROWS, VARIABLES, TREE_TESTS, TREE_LEAVES, REGION_ROWS}
+use Rattle.reuse_paths.specs.Families.{NodeForms, FamilyForms}
+use Rattle.iolb_model.specs.declared.limits.TheConstants.{NUMBER_SIZE, COEFFICIENT_SIZE, MEASURE, ROWS, VARIABLES, TREE_TESTS, TREE_LEAVES, REGION_ROWS, SCALE, WEIGHT}
 
 -- ---- parts
 
@@ -111,3 +112,25 @@ IsSmallWay (Some reach) = IsSmallReach reach
 abbrev pub IsSmallSpot : Option SpotForms → Type 0
 IsSmallSpot None = ⊤
 IsSmallSpot (Some spot) = AreSmall spot.point
+
+-- ---- families
+
+abbrev pub IsSmallLabel : Option (List AffineForm) → Type 0
+IsSmallLabel None = ⊤
+IsSmallLabel (Some label) = AreSmall label
+
+-- what a family says of a statement
+abbrev pub IsSmallFamilyNode : Option NodeForms → Type 0
+IsSmallFamilyNode None = ⊤
+IsSmallFamilyNode (Some node) = AreSmall node.label × IsSmallNode node.region
+
+-- a family: a scale from 1 to 2^20, and a weight from 1 to 12
+pub record IsSmallFamily (family : FamilyForms) : Type 0 where
+  pub some_scale : 1 ≤ family.scale
+  pub scale : family.scale ≤ SCALE
+  pub some_weight : 1 ≤ family.weight
+  pub weight : family.weight ≤ WEIGHT
+  pub start_label : AreSmall family.start_label
+  pub start : IsSmallWalk family.start
+  pub nodes : AllByRecursion IsSmallFamilyNode family.nodes
+  pub inputs : AllByRecursion IsSmallLabel family.inputs
