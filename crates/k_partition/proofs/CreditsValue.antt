@@ -79,7 +79,7 @@ count-uses parameters credit count few fits is = by credit.nest.nest credit.coun
   by : (nest : List (AffineForm × AffineForm)) (sums : List Quotient) → (length nest ≤ NEST_VARIABLES) × BoundsFit parameters nest → IsSumFrom parameters nest sums count → IsCanonical parameters count.tree
   by [] sums fits is = subst (λ (q : Quotient). IsCanonical parameters q.tree) (sym is) tt
   by (bounds ∷ nest) [] fits is = absurd is
-  by (bounds ∷ nest) (sum ∷ sums) fits is = sums-use parameters (bounds ∷ nest) (sum ∷ sums) count is.1.1.legal (omega (arith, few, fits.0)) fits.1 is
+  by (bounds ∷ nest) (sum ∷ sums) fits is = sums-use parameters (bounds ∷ nest) (sum ∷ sums) count is.1.1.between.less.legal (omega (arith, few, fits.0)) fits.1 is
 
 pub total-uses : (parameters : ℕ) (before : Quotient) (credits : List CreditTerm) (total : Quotient) → parameters ≤ 6 → 1 ≤ before.denominator → IsCanonical parameters before.tree
     → AllByRecursion (Fits parameters) credits → IsCreditsTotal parameters before credits total → IsCanonical parameters total.tree
@@ -143,4 +143,7 @@ pub credits-value : (program : AffineProgram) (place : List Step) (credits : Lis
     → AllByRecursion (Fits (length program.parameters)) credits → AllHold (numbered (credit_claims program place credits) 0 credits) → IsCreditsTotal (length program.parameters) no_points credits total
     → numerator_at total values ≡ pos (sum_by (λ (credit : CreditedNest). count credit.nest values) (map (λ (credit : CreditTerm). credit.nest) credits)) *ℤ pos total.denominator
 credits-value program place credits total values formed admitted law fits h is =
-    total-value (length program.parameters) no_points credits total values 0 (omega arith) refl (counts-from program place credits 0 credits values formed admitted law fits h) is
+    subst (λ (n : ℕ). numerator_at total values ≡ pos n *ℤ pos total.denominator) (none (sum_by (λ (credit : CreditedNest). count credit.nest values) (map (λ (credit : CreditTerm). credit.nest) credits)))
+    (total-value (length program.parameters) no_points credits total values 0 (omega arith) refl (counts-from program place credits 0 credits values formed admitted law fits h) is) where
+      none : (n : ℕ) → 0 + n ≡ n
+      none n = omega arith

@@ -42,7 +42,7 @@ use Rattle.k_partition.proofs.GreatestUpTo.{greatest-is}
 module _ (program : AffineProgram) (values : List ℤ) where
   vertex-of : (target : Target) (numbers : List ℤ) (vertex : ℕ) → IsVertexOf program values target numbers vertex → vertex < vertices (computation_graph program values)
   vertex-of (Cell array) numbers vertex is =
-      let place = slice_get_within (input_cells program values) is.0 _ is.1.1 in omega (arith, is.1.0, place)
+      let place = slice_get_within (input_cells program values) is.0 _ is.2 in omega (arith, is.1, place)
   vertex-of (Instance statement) numbers vertex is =
       let place = slice_get_within (execution program values) vertex _ is in omega (arith, place)
 
@@ -133,18 +133,18 @@ module _ (program : AffineProgram) (trees : List (List SelectionTree)) (term : P
     by (inl first) = inl (inr first)
     by (inr second) = inr second
 
+  -- a vertex of a family's footprint, or of those behind it, is in the pieces of all
+  first-or-later : (first second : List ℕ) (here later : List FootprintPiece) (values : List ℤ) (vertex : ℕ) → (stands_in first vertex ≡ true → IsInPieces program values here vertex)
+      → (stands_in second vertex ≡ true → IsInPieces program values later vertex) → Member vertex first ⊎ Member vertex second → IsInPieces program values (here ++ later) vertex
+  first-or-later first second here later values vertex in-here in-later (inl m) = in-left values here later vertex (in-here (member-stands first vertex m))
+  first-or-later first second here later values vertex in-here in-later (inr m) = in-right values here later vertex (in-later (member-stands second vertex m))
+
   pub families-cover : (families : List FamilyForms)
       → AllByRecursion (λ (family : FamilyForms). AreCovered program (family_footprint program term.statement term.nest family) (pieces_at family)) families
       → (values : List ℤ) (vertex : ℕ) → IsAdmitted program values → stands_in (flat_map (footprint_in program term values) families) vertex ≡ true → IsInPieces program values (flat_map pieces_at families) vertex
   families-cover [] covers values vertex admitted stands = absurd cc
   families-cover (family ∷ families) covers values vertex admitted stands =
-      by (member-either first second vertex (standing-member (first ++ second) vertex stands)) where
-        first : List ℕ
-        first = footprint_in program term values family
-
-        second : List ℕ
-        second = flat_map (footprint_in program term values) families
-
-        by : Member vertex first ⊎ Member vertex second → IsInPieces program values (pieces_at family ++ flat_map pieces_at families) vertex
-        by (inl here) = in-left values (pieces_at family) (flat_map pieces_at families) vertex (covers.0 values vertex admitted (member-stands first vertex here))
-        by (inr later) = in-right values (pieces_at family) (flat_map pieces_at families) vertex (families-cover families covers.1 values vertex admitted (member-stands second vertex later))
+      let first : List ℕ = footprint_in program term values family in
+      let second : List ℕ = flat_map (footprint_in program term values) families in
+      first-or-later first second (pieces_at family) (flat_map pieces_at families) values vertex (λ h. covers.0 values vertex admitted h) (λ h. families-cover families covers.1 values vertex admitted h)
+      (member-either first second vertex (standing-member (first ++ second) vertex stands))

@@ -45,6 +45,8 @@ use Rattle.reuse_paths.proofs.Places.{executed-there}
 use Rattle.k_partition.specs.declared.term.Shape.{Shape}
 use Rattle.k_partition.specs.declared.term.Shape.TheVariants.{Each, Sum}
 use Rattle.k_partition.specs.PartitionClaims.{inside_claims, inside_goals, credit_claims, unit_claim, unit_claims, cover_claim, cover_claims, family_claims_at, pieces_of_families, apart_claims, sound_claims}
+use Rattle.reuse_paths.specs.FewContexts.{few_contexts, ContextsAreFew}
+use Rattle.k_partition.specs.PartitionPieces.{HasPartitionPieces}
 use Rattle.k_partition.specs.PartitionFits.{HasApart, PartitionFits, PartitionsAreSound, PartitionsAreApart}
 use Rattle.k_partition.specs.ReusedWords.{FixesRows, IsSoundTerm}
 use Rattle.k_partition.specs.Term.{PartitionTerm, credited_nests}
@@ -76,6 +78,9 @@ module _ (program : AffineProgram) (trees : List (List SelectionTree)) (term : P
 
   holds-inside : AllHold inside
   holds-inside = AllHold-left inside credits (AllHold-right counts (inside ++ credits) (AllHold-left (counts ++ (inside ++ credits)) (units ++ covers) before-words))
+
+  pub holds-credits : AllHold credits
+  holds-credits = AllHold-right inside credits (AllHold-right counts (inside ++ credits) (AllHold-left (counts ++ (inside ++ credits)) (units ++ covers) before-words))
 
   holds-cover : AllHold (units ++ covers)
   holds-cover = AllHold-right (counts ++ (inside ++ credits)) (units ++ covers) before-words
@@ -210,3 +215,20 @@ pub families-covered : FamilyPiecesCover → (program : AffineProgram) (trees : 
     → AllByRecursion (λ (family : FamilyForms). AreCovered program (family_footprint program term.statement term.nest family) (family_pieces program trees term.statement term.nest family)) term.families
 families-covered law program trees term place formed trees-fit trees-true fits holds =
     covered-from program trees term place formed trees-fit trees-true fits holds 0 term.families fits.families (holds-families program trees term place formed trees-fit trees-true fits holds) law
+
+-- and the rows of each of its contexts are few
+few-from : ContextsAreFew → (program : AffineProgram) (trees : List (List SelectionTree)) (term : PartitionTerm) (place : List Step) (index : ℕ) (these : List FamilyForms)
+    → AllHold (numbered (family_claims_at program trees place term) index these)
+    → AllByRecursion (λ (family : FamilyForms). AllHold (few_contexts program trees term.statement term.nest family [])) these
+few-from law program trees term place index [] h = tt
+few-from law program trees term place index (family ∷ these) h =
+    let here : List Claim = family_claims_at program trees place term index family in
+    let later : List Claim = numbered (family_claims_at program trees place term) (suc index) these in (
+      law program trees term.statement term.nest term.matrix (credited_nests term) family (place ++ Key FAMILIES ∷ Index index ∷ []) [] (AllHold-left here later h),
+      few-from law program trees term place (suc index) these (AllHold-right here later h),
+    )
+
+pub contexts-are-few : ContextsAreFew → (program : AffineProgram) (trees : List (List SelectionTree)) (term : PartitionTerm) (place : List Step) → IsWellFormed program → RowsFit program 0 trees
+    → RowsAreTrue program 0 trees → PartitionFits program trees term → AllHold (sound_claims program trees place term) → HasPartitionPieces program trees term
+contexts-are-few law program trees term place formed trees-fit trees-true fits holds =
+    few-from law program trees term place 0 term.families (holds-families program trees term place formed trees-fit trees-true fits holds)

@@ -29,9 +29,14 @@ module _ (program : AffineProgram) (trees : List (List SelectionTree)) (term : P
       subst (λ (fs : List FamilyForms). (i < length fs) × (family_of family ≡ get_or fs i (family_of family))) same found
 
   pub fits-at : PartitionFits program trees term → FitsSome program trees term.statement term.nest (family_of family)
-  fits-at fits =
-      (term.matrix, (credited_nests term, subst (FamilyFits program trees term.statement term.nest term.matrix (credited_nests term)) (sym there.1)
-      (All-at (FamilyFits program trees term.statement term.nest term.matrix (credited_nests term)) term.families i (family_of family) fits.families there.0)))
+  fits-at fits = (
+    term.matrix,
+    (
+      credited_nests term,
+      subst (FamilyFits program trees term.statement term.nest term.matrix (credited_nests term)) (sym there.1)
+          (All-at (FamilyFits program trees term.statement term.nest term.matrix (credited_nests term)) term.families i (family_of family) fits.families there.0),
+    ),
+  )
 
   pub few-at : HasPartitionPieces program trees term → AllHold (few_contexts program trees term.statement term.nest (family_of family) [])
   few-at few =

@@ -73,7 +73,14 @@ fn pieces_of_families(
     let families = term.families.as_slice();
     let mut lists = Vec::new(alloc);
     for i in 0..families.len() {
-        let pieces = pieces_of_one(alloc, program, quasts, term.statement, &term.nest, &families[i])?;
+        let pieces = pieces_of_one(
+            alloc,
+            program,
+            quasts,
+            term.statement,
+            &term.nest,
+            &families[i],
+        )?;
         lists.push(pieces)?;
     }
     Ok(lists)
@@ -98,7 +105,14 @@ pub fn partition_pieces(
     let families = term.families.as_slice();
     let mut all = Vec::new(alloc);
     for i in 0..families.len() {
-        let mut pieces = pieces_of_one(alloc, program, quasts, term.statement, &term.nest, &families[i])?;
+        let mut pieces = pieces_of_one(
+            alloc,
+            program,
+            quasts,
+            term.statement,
+            &term.nest,
+            &families[i],
+        )?;
         all.append(&mut pieces)?;
     }
     Ok(all)
@@ -122,7 +136,14 @@ fn families_apart(
         return Ok(None);
     }
     let list = place.within(alloc, Step::Key(APART))?;
-    lists_shown(alloc, program, lists.as_slice(), term.apart.as_slice(), 18, &list)
+    lists_shown(
+        alloc,
+        program,
+        lists.as_slice(),
+        term.apart.as_slice(),
+        18,
+        &list,
+    )
 }
 
 /// Checks a partition term, which stands at this place of a certificate. The term and the source trees fit the program, and

@@ -125,7 +125,10 @@ module _ (walk : WalkSetting) (s : ℕ) (flat : length walk.nest ≡ 0) (few : d
         (piece-fits rows over begins piece refl refl (put-over values fits.2), tt)
     word-fits read there rows over begins as_input fits =
         let piece : FootprintPiece = record {
-          target = Cell (reference_of walk.program (read_of s read)).array; vars = depth; rows = rows; point = map (form_at vars point) (reference_of walk.program (read_of s read)).subscripts;
+          target = Cell (reference_of walk.program (read_of s read)).array;
+          vars = depth;
+          rows = rows;
+          point = map (form_at vars point) (reference_of walk.program (read_of s read)).subscripts;
         } in
         (piece-fits rows over begins piece refl refl (put-over (reference_of walk.program (read_of s read)).subscripts (read-over read there)), tt)
     word-fits read there rows over begins unknown fits = tt

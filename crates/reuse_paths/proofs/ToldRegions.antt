@@ -19,11 +19,10 @@ region_in node = node_region (option_map node_of node)
 pub region-at : (held : List (Option FamilyNode)) (regions : List (Option WalkRegion)) (i : ℕ) (d : Option FamilyNode) → regions ≡ map node_region (map (option_map node_of) held) → i < length held
     → d ≡ get_or held i d → (i < length regions) × (region_in d ≡ get_or regions i (region_in d))
 region-at held regions i d e below is =
-    subst (λ (rs : List (Option WalkRegion)). (i < length rs) × (region_in d ≡ get_or rs i (region_in d))) (sym e)
-    (
+    subst (λ (rs : List (Option WalkRegion)). (i < length rs) × (region_in d ≡ get_or rs i (region_in d))) (sym e) (
       omega (arith, below, length-map held (option_map node_of), length-map (map (option_map node_of) held) node_region),
       ap region_in is ∙ sym (get_or-map node_region (map (option_map node_of) held) i (option_map node_of d) (region_in d) (omega (arith, below, length-map held (option_map node_of)))
-      ∙ ap node_region (get_or-map (option_map node_of) held i d (option_map node_of d) below)),
+          ∙ ap node_region (get_or-map (option_map node_of) held i d (option_map node_of d) below)),
     )
 
 -- what the region of a statement takes is there

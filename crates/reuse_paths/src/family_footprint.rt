@@ -105,12 +105,28 @@ fn push_word(
             point,
         } => {
             let target = Target::Instance(*writer);
-            push_piece(alloc, pieces, walking, statement, rows, target, point.as_slice())
+            push_piece(
+                alloc,
+                pieces,
+                walking,
+                statement,
+                rows,
+                target,
+                point.as_slice(),
+            )
         }
         Origin::Input => {
             let cell = reference(walking.program, reader);
             let target = Target::Cell(cell.array);
-            push_piece(alloc, pieces, walking, statement, rows, target, cell.subs.as_slice())
+            push_piece(
+                alloc,
+                pieces,
+                walking,
+                statement,
+                rows,
+                target,
+                cell.subs.as_slice(),
+            )
         }
         Origin::Unknown => Ok(()),
     }
@@ -174,7 +190,16 @@ fn push_leaves(
 {
     for i in 0..leaves.len() {
         let place = list.within(alloc, Step::Index(i as u64))?;
-        push_leaf(alloc, pieces, walking, &place, reader, rows, &leaves[i], &entries[i])?;
+        push_leaf(
+            alloc,
+            pieces,
+            walking,
+            &place,
+            reader,
+            rows,
+            &leaves[i],
+            &entries[i],
+        )?;
     }
     Ok(())
 }
@@ -201,10 +226,26 @@ fn push_walk(
             let vars = region_variables(walking, statement);
             let above = with_form(alloc, rows, form.try_clone(alloc)?)?;
             let side = place.within(alloc, Step::Key(YES))?;
-            push_walk(alloc, pieces, walking, &side, statement, above.as_slice(), yes)?;
+            push_walk(
+                alloc,
+                pieces,
+                walking,
+                &side,
+                statement,
+                above.as_slice(),
+                yes,
+            )?;
             let below = rows_of_no(alloc, vars, rows, form)?;
             let side = place.within(alloc, Step::Key(NO))?;
-            push_walk(alloc, pieces, walking, &side, statement, below.as_slice(), no)
+            push_walk(
+                alloc,
+                pieces,
+                walking,
+                &side,
+                statement,
+                below.as_slice(),
+                no,
+            )
         }
         Walk::Take { read, leaves } => {
             let list = place.within(alloc, Step::Key(LEAVES))?;
@@ -212,7 +253,15 @@ fn push_walk(
                 statement,
                 read: *read,
             };
-            push_taken(alloc, pieces, walking, &list, reader, rows, leaves.as_slice())
+            push_taken(
+                alloc,
+                pieces,
+                walking,
+                &list,
+                reader,
+                rows,
+                leaves.as_slice(),
+            )
         }
     }
 }
@@ -235,7 +284,16 @@ fn push_taken(
     ensures refused { IfErr result (IsRefusal (few_leaves list.now rows.now 0 (leaves_at (walk_of walking.now) (read_of reader)) (map claim_of entries.now))) }
 {
     let leaves = leaves_of(alloc, walking, reader)?;
-    push_leaves(alloc, pieces, walking, list, reader, rows, leaves.as_slice(), entries)
+    push_leaves(
+        alloc,
+        pieces,
+        walking,
+        list,
+        reader,
+        rows,
+        leaves.as_slice(),
+        entries,
+    )
 }
 
 /// The place of a start walk in a family, and that of its nodes.
@@ -274,7 +332,15 @@ fn push_start(
     let own = start_rows(alloc, walking, statement, nest)?;
     let rows = region_context(alloc, walking, statement, own.as_slice())?;
     let place = place_of_start(alloc)?;
-    push_walk(alloc, pieces, walking, &place, statement, rows.as_slice(), tree)
+    push_walk(
+        alloc,
+        pieces,
+        walking,
+        &place,
+        statement,
+        rows.as_slice(),
+        tree,
+    )
 }
 
 /// Those of the walk from the instances in the region of a statement's node, where it has one, in a list at this place,
@@ -306,7 +372,15 @@ fn push_region(
     let at = list.within(alloc, Step::Index(u64::from(statement)))?;
     let inner = at.within(alloc, Step::Key(REGION))?;
     let place = inner.within(alloc, Step::Key(TREE))?;
-    push_walk(alloc, pieces, walking, &place, statement, rows.as_slice(), &region.tree)
+    push_walk(
+        alloc,
+        pieces,
+        walking,
+        &place,
+        statement,
+        rows.as_slice(),
+        &region.tree,
+    )
 }
 
 /// Those of the regions of nodes, in the order of statements, each at its index in the list at this place, appended.
