@@ -4,6 +4,7 @@
 
 pub mod counts;
 pub mod entries;
+pub mod family_limits;
 pub mod lists;
 pub mod part_limits;
 mod sources;
