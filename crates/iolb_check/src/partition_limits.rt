@@ -13,14 +13,9 @@ ghost use Rattle.reuse_paths.specs.Families.{family_of};
 use crate::term_limits::nest_is_small;
 use iolb_model::limits;
 use k_partition::Partition;
+use part_fit::family_limits::are_small_families;
 use part_fit::part_limits::name_rows;
 use reuse_paths::{Credit, Family};
-
-fn are_small_families(_families: &[Family]) -> bool
-    ensures { IsTrue result ↔ AllByRecursion IsSmallFamily (map family_of _families.now) }
-{
-    true
-}
 
 /// Whether credited nests are within their limits.
 fn are_small_credits(credits: &[Credit]) -> bool

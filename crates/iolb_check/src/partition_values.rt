@@ -1,6 +1,6 @@
 //! The values of partition terms at sizes.
 
-ghost use Rattle.std.specs.Prelude.{◌≡◌, ◌+◌, ◌-◌, ◌*◌, ◌/◌, ◌^◌, ◌≤◌, ◌↔◌, ◌⊎◌, length, IfOk, IsErr};
+ghost use Rattle.std.specs.Prelude.{◌≡◌, ◌+◌, ◌-◌, ◌*◌, ◌/◌, ◌^◌, ◌<◌, ◌≤◌, ◌↔◌, ◌⊎◌, length, IfOk, IsErr};
 ghost use Rattle.iolb_check.specs.Bounds.{AreWideEvents, AreWideLabels, IsStretching, IsWidePartition, numbers_of};
 ghost use Rattle.iolb_model.specs.Bound.{AreMet, count_value, events_of, labels_of, points_of};
 ghost use Rattle.iolb_model.specs.declared.limits.TheConstants.{MEASURE};
@@ -42,12 +42,20 @@ fn events_at(bound: &PartitionBound, points: u128, s: u64) -> Result<u128, Wide>
     ensures value { IfOk result (λ value. value ≡ events_of (numbers_of bound.now) s * ((points - 1) / points_of (numbers_of bound.now) s)) }
     ensures wide { IsErr result ↔ (AreWideLabels s (numbers_of bound.now) ⊎ (MEASURE ≤ events_of (numbers_of bound.now) s * ((points - 1) / points_of (numbers_of bound.now) s))) }
 {
-    let events = u128::from(bound.a) * u128::from(s) + u128::from(bound.b);
+    let events = stretch_at(bound, s);
     let most = points_at(bound, s, events)?;
     match events.checked_mul(points.saturating_sub(1) / most) {
         Some(total) if total < limits::MEASURE => Ok(total),
         _ => Err(Wide),
     }
+}
+
+/// The events of a stretch.
+fn stretch_at(bound: &PartitionBound, s: u64) -> u128
+    ensures events { result ≡ events_of (numbers_of bound.now) s }
+    ensures few { result < 2 ^ 73 }
+{
+    u128::from(bound.a) * u128::from(s) + u128::from(bound.b)
 }
 
 /// How many points at most are computed in a stretch of so many events.
@@ -56,6 +64,7 @@ fn points_at(bound: &PartitionBound, s: u64, events: u128) -> Result<u128, Wide>
     requires some_den { 1 ≤ bound.now.den }
     requires some { 1 ≤ s }
     requires are { events ≡ events_of (numbers_of bound.now) s }
+    requires few { events < 2 ^ 73 }
     ensures value { IfOk result (λ most. most ≡ points_of (numbers_of bound.now) s) }
     ensures some { IfOk result (λ most. 1 ≤ most) }
     ensures wide { IsErr result ↔ AreWideLabels s (numbers_of bound.now) }
