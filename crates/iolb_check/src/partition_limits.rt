@@ -29,6 +29,13 @@ fn are_small_credits(credits: &[Credit]) -> bool
     true
 }
 
+/// Whether the weights of a partition term's families are 24 together at most.
+fn is_light(term: &Partition) -> bool
+    ensures { IsTrue result ↔ (weight_of (partition_of term.now) ≤ WEIGHTS) }
+{
+    are_light(term.families.as_slice())
+}
+
 /// Whether the weights of families are 24 together at most.
 fn are_light(families: &[Family]) -> bool
     ensures { IsTrue result ↔ (sum_by (λ (f : family). f.weight) families.now ≤ WEIGHTS) }
@@ -54,20 +61,21 @@ fn numbers_are_small(term: &Partition) -> bool
         && (term.a >= 1 || term.b >= 1)
 }
 
-/// Whether the credits and the families of a partition term are within their limits.
-fn nests_and_walks_are_small(term: &Partition) -> bool
-    ensures { IsTrue result ↔ ((length term.now.credits.items ≤ CREDITS) × AllByRecursion IsSmallCredit term.now.credits.items
-        × (1 ≤ length term.now.families.items) × (length term.now.families.items ≤ FAMILIES)
-        × AllByRecursion IsSmallFamily (map family_of term.now.families.items) × (weight_of (partition_of term.now) ≤ WEIGHTS)) }
+/// Whether the credits of a partition term are few, and within their limits.
+fn has_small_credits(term: &Partition) -> bool
+    ensures { IsTrue result ↔ ((length term.now.credits.items ≤ CREDITS) × AllByRecursion IsSmallCredit term.now.credits.items) }
 {
     let credits = term.credits.as_slice();
+    credits.len() <= limits::CREDITS && are_small_credits(credits)
+}
+
+/// Whether the families of a partition term are some, but few, and within their limits.
+fn has_small_families(term: &Partition) -> bool
+    ensures { IsTrue result ↔ ((1 ≤ length term.now.families.items) × (length term.now.families.items ≤ FAMILIES)
+        × AllByRecursion IsSmallFamily (map family_of term.now.families.items)) }
+{
     let families = term.families.as_slice();
-    credits.len() <= limits::CREDITS
-        && are_small_credits(credits)
-        && !families.is_empty()
-        && families.len() <= limits::FAMILIES
-        && are_small_families(families)
-        && are_light(families)
+    !families.is_empty() && families.len() <= limits::FAMILIES && are_small_families(families)
 }
 
 /// Whether a partition term is within its limits.
@@ -77,6 +85,8 @@ pub(crate) fn is_small_partition(term: &Partition) -> bool
     nest_is_small(&term.nest, &term.sums)
         && name_rows(term.inside.as_slice())
         && numbers_are_small(term)
-        && nests_and_walks_are_small(term)
+        && has_small_credits(term)
+        && has_small_families(term)
+        && is_light(term)
         && name_rows(term.apart.as_slice())
 }
