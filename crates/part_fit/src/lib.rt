@@ -1,5 +1,6 @@
 //! The parts of certificates: whether they are within their limits, and whether they fit a program (condition 1): lists,
-//! forms, nests, matrices, polynomials, source trees, entries at their leaves, spots, and walks that arrive.
+//! forms, nests, matrices, polynomials, source trees, entries at their leaves, spots, walks, families of walks, and credited
+//! nests.
 #![tactic(auto)]
 
 pub mod counts;
