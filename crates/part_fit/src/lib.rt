@@ -4,7 +4,9 @@
 #![tactic(auto)]
 
 pub mod counts;
+pub mod credits;
 pub mod entries;
+pub mod families;
 pub mod family_limits;
 pub mod lists;
 pub mod part_limits;
