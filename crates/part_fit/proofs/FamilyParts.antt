@@ -24,8 +24,8 @@ use Rattle.reuse_paths.specs.FamilyFits.{CountedFits, NodesFit, FamilyFits}
 use Rattle.reuse_paths.specs.Trees.{RowsFit}
 use Rattle.reuse_paths.specs.WalkFits.{IsLabel, AreInstanceLabels, AreCellLabels, CreditFits}
 use Rattle.reuse_paths.specs.WalkSettings.{WalkSetting}
-use Rattle.part_fit.specs.FamilyFit.{label_fit, subscripts_of, input_fit, inputs_fit, node_fit, nodes_fit, set_fit, start_fit, family_fit, family_at, credit_nest_fit, credit_count_fit, credit_fit, credit_at}
-use Rattle.part_fit.specs.FamilyViews.{credit_parts}
+use Rattle.part_fit.specs.FamilyFit.{label_fit, subscripts_of, input_fit, inputs_fit, node_fit, nodes_fit, set_fit, start_fit, family_fit, family_at, credit_nest_fit, credit_count_fit, credit_fit}
+use Rattle.part_fit.specs.FamilyViews.{credit_at}
 use Rattle.part_fit.specs.Limits.{AreSmall, AreSmallBounds, IsSmallFamily, IsSmallFamilyNode, IsSmallLabel}
 use Rattle.part_fit.specs.TreeFit.{trees_fit}
 use Rattle.part_fit.specs.WalkFit.{region_fit_at, walk_fit}
@@ -192,22 +192,22 @@ credit-counts program place credit count few small h =
 -- credits do, from an index on, where each is within limits that say so of its nest
 module _ (program : ProgramParts) (place : List Step) (Small : Credit → Type 0)
     (nest : (credit : Credit) → Small credit → (length credit.nest ≤ NEST_VARIABLES) × AreSmallBounds credit.nest) where
-  pub credits-fit : (index : ℕ) (credits : List Credit) → AllByRecursion Small credits → AllHold (numbered (credit_at (meaning program) place) index (map credit_parts credits))
+  pub credits-fit : (index : ℕ) (credits : List Credit) → AllByRecursion Small credits → AllHold (numbered (credit_at (meaning program) place) index credits)
       → AllByRecursion (CreditFits (meaning program)) (map credit_of credits)
   credits-fit index [] small h = tt
   credits-fit index (credit ∷ credits) small h =
-      let here : List Claim = credit_at (meaning program) place index (credit_parts credit) in
-      let rest : List Claim = numbered (credit_at (meaning program) place) (suc index) (map credit_parts credits) in (
+      let here : List Claim = credit_at (meaning program) place index credit in
+      let rest : List Claim = numbered (credit_at (meaning program) place) (suc index) credits in (
         credit-fits (meaning program) (place ++ Index index ∷ []) (credit_of credit) credit.sums (nest credit small.0).1 (AllHold-left here rest h),
         credits-fit (suc index) credits small.1 (AllHold-right here rest h),
       )
 
-  pub credits-count : (index : ℕ) (credits : List Credit) → AllByRecursion Small credits → AllHold (numbered (credit_at (meaning program) place) index (map credit_parts credits))
+  pub credits-count : (index : ℕ) (credits : List Credit) → AllByRecursion Small credits → AllHold (numbered (credit_at (meaning program) place) index credits)
       → AllByRecursion (λ (credit : Credit). FitsCount program credit.nest credit.sums) credits
   credits-count index [] small h = tt
   credits-count index (credit ∷ credits) small h =
-      let here : List Claim = credit_at (meaning program) place index (credit_parts credit) in
-      let rest : List Claim = numbered (credit_at (meaning program) place) (suc index) (map credit_parts credits) in (
+      let here : List Claim = credit_at (meaning program) place index credit in
+      let rest : List Claim = numbered (credit_at (meaning program) place) (suc index) credits in (
         credit-counts program (place ++ Index index ∷ []) (credit_of credit) credit.sums (nest credit small.0).0 (nest credit small.0).1 (AllHold-left here rest h),
         credits-count (suc index) credits small.1 (AllHold-right here rest h),
       )

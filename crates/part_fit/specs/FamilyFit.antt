@@ -100,10 +100,3 @@ credit_count_fit program place credit count =
 -- A credit, its members in the order of their keys.
 abbrev pub credit_fit : AffineProgram → List Step → CreditedNest → SumClaims → List Claim
 credit_fit program place credit count = credit_nest_fit program place credit ++ credit_count_fit program place credit count
-
--- credits, each at its index in a list
-abbrev pub credit_at : AffineProgram → List Step → ℕ → CreditedNest × SumClaims → List Claim
-credit_at program place index credit = credit_fit program (place ++ Index index ∷ []) credit.0 credit.1
-
-abbrev pub credits_fit : AffineProgram → List Step → List (CreditedNest × SumClaims) → List Claim
-credits_fit program place credits = numbered (credit_at program place) 0 credits

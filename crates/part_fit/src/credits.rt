@@ -1,11 +1,11 @@
 //! Whether credited nests fit.
 
-ghost use Rattle.std.specs.Prelude.{◌≡◌, ◌∷◌, [], ◌++◌, length, map, IfOk};
+ghost use Rattle.std.specs.Prelude.{◌≡◌, ◌∷◌, [], ◌++◌, length, IfOk};
 ghost use Rattle.affine_program.specs.Parts.{meaning};
 ghost use Rattle.claims.specs.declared.key.TheConstants.{NEST, SHOWN, STATEMENT, SUMS};
 ghost use Rattle.claims.specs.declared.place.Step.TheVariants.{Key};
-ghost use Rattle.part_fit.specs.FamilyFit.{credit_fit, credit_nest_fit, credit_count_fit, credits_fit};
-ghost use Rattle.part_fit.specs.FamilyViews.{credit_parts};
+ghost use Rattle.part_fit.specs.FamilyFit.{credit_fit, credit_nest_fit, credit_count_fit};
+ghost use Rattle.part_fit.specs.FamilyViews.{credits_fit};
 ghost use Rattle.part_fit.specs.FitClaims.{FindsMisfit, names};
 ghost use Rattle.part_fit.specs.PartFit.{polynomials_fit};
 ghost use Rattle.reuse_paths.specs.Families.{credit_of};
@@ -77,7 +77,7 @@ pub fn credits_misfit(
     list: &Place,
     credits: &[Credit],
 ) -> Result<Option<Place>, Memory>
-    ensures { IfOk result (λ found. FindsMisfit (credits_fit (meaning program.now) list.now (map credit_parts credits.now)) found) }
+    ensures { IfOk result (λ found. FindsMisfit (credits_fit (meaning program.now) list.now credits.now) found) }
 {
     for (index, credit) in credits.iter().enumerate() {
         let at = list.within(alloc, Step::Index(index as u64))?;
