@@ -12,7 +12,7 @@ use Rattle.k_partition.specs.declared.term.Shape.{Shape}
 use Rattle.k_partition.specs.declared.term.Shape.TheVariants.{Each, Sum}
 use Rattle.k_partition.specs.Term.{CreditTerm, PartitionTerm, credited_nests}
 use Rattle.reuse_paths.specs.TargetPairs.{pairwise_targets}
-use Rattle.iolb_check.specs.Awaited.{credit_fit, families_fit}
+use Rattle.part_fit.specs.FamilyFit.{credit_fit, families_fit}
 use Rattle.part_fit.specs.FitClaims.{so_many, names}
 use Rattle.part_fit.specs.PartFit.{bounds_fit, matrix_fit, shown_fit, sums_fit}
 use Rattle.iolb_check.specs.FamilyTargets.{family_targets}
@@ -35,11 +35,13 @@ credit_at program place index credit = credit_fit program (place ++ Index index 
 abbrev pub credits_fit : AffineProgram → List Step → PartitionTerm → List Claim
 credits_fit program place term = numbered (credit_at program (place ++ Key CREDITS ∷ [])) 0 term.credits
 
+-- the families
+abbrev pub walked_fit : AffineProgram → List (List SelectionTree) → List Step → PartitionTerm → List Claim
+walked_fit program trees place term = families_fit program trees term.statement (credited_nests term) (place ++ Key FAMILIES ∷ []) term.families
+
 -- what shows that no two families have a word in common, the credits, and the families
 abbrev pub walks_fit : AffineProgram → List (List SelectionTree) → List Step → PartitionTerm → List Claim
-walks_fit program trees place term =
-    apart_fit program trees place term
-    ++ (credits_fit program place term ++ families_fit program trees term.statement (credited_nests term) (place ++ Key FAMILIES ∷ []) term.families)
+walks_fit program trees place term = apart_fit program trees place term ++ (credits_fit program place term ++ walked_fit program trees place term)
 
 -- ---- the points
 

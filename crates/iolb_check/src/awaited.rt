@@ -1,22 +1,19 @@
 //! Awaited from the crates below.
 
-ghost use Rattle.std.specs.Prelude.{◌≡◌, ◌++◌, ◌∷◌, [], map, length, IfOk, IfErr, OnOk};
+ghost use Rattle.std.specs.Prelude.{◌≡◌, length, IfOk, IfErr, OnOk};
 ghost use Rattle.std.specs.List.{AllByRecursion};
 ghost use Rattle.affine_program.specs.Parts.{meaning};
-ghost use Rattle.claims.specs.Claims.{AllHold, IsRefusal, numbered};
+ghost use Rattle.claims.specs.Claims.{AllHold, IsRefusal};
 ghost use Rattle.domain_count.specs.Count.{CountsPoints, IsCount};
-ghost use Rattle.iolb_check.specs.Awaited.{families_fit, HasPartitionPieces, partition_pieces};
-ghost use Rattle.iolb_check.specs.PartitionFit.{credit_at};
+ghost use Rattle.iolb_check.specs.Awaited.{HasPartitionPieces, partition_pieces};
 ghost use Rattle.iolb_check.specs.Bounds.{IsCounting, numbers_of};
 ghost use Rattle.iolb_model.specs.Bound.{partition};
 ghost use Rattle.iolb_model.specs.Footprint.{IsFootprintOf};
 ghost use Rattle.k_partition.specs.Numbers.{HasNumbers};
 ghost use Rattle.k_partition.specs.PartitionClaims.{partition_claims, no_points, IsCreditsTotal};
 ghost use Rattle.k_partition.specs.TermLoads.{term_footprint};
-ghost use Rattle.k_partition.specs.View.{credit_term_of, partition_of, FitsPartition};
-ghost use Rattle.part_fit.specs.FitClaims.{FindsMisfit};
+ghost use Rattle.k_partition.specs.View.{partition_of, FitsPartition};
 ghost use Rattle.poly_tree.specs.Printed.{polynomial_of};
-ghost use Rattle.reuse_paths.specs.Families.{credit_of, family_of};
 ghost use Rattle.reuse_paths.specs.Pieces.{AreCovered, PieceFits, pieces_of};
 ghost use Rattle.reuse_paths.specs.Quasts.{trees_of};
 
@@ -24,7 +21,7 @@ use affine_form::Memory;
 use affine_program::Program;
 use claims::{Place, Refused};
 use k_partition::{Partition, PartitionBound};
-use reuse_paths::{Credit, Family, Piece, Quasts};
+use reuse_paths::{Piece, Quasts};
 use std::alloc::Global;
 
 pub(crate) fn check_partition(
@@ -59,31 +56,6 @@ pub(crate) fn partition_pieces(
     requires pieces { HasPartitionPieces (meaning program.now) (trees_of quasts.now) (partition_of term.now) }
     ensures pieces { IfOk result (λ pieces. pieces_of pieces ≡ partition_pieces (meaning program.now) (trees_of quasts.now) (partition_of term.now)) }
     ensures fit { IfOk result (λ pieces. AllByRecursion (PieceFits (meaning program.now)) (pieces_of pieces)) }
-{
-    Err(Memory)
-}
-
-pub(crate) fn credits_misfit(
-    _alloc: Global,
-    program: &Program,
-    list: &Place,
-    credits: &[Credit],
-) -> Result<Option<Place>, Memory>
-    ensures { IfOk result (λ found. FindsMisfit (numbered (credit_at (meaning program.now) list.now) 0 (map credit_term_of credits.now)) found) }
-{
-    Err(Memory)
-}
-
-pub(crate) fn families_misfit(
-    _alloc: Global,
-    program: &Program,
-    quasts: &Quasts,
-    statement: u16,
-    credits: &[Credit],
-    list: &Place,
-    families: &[Family],
-) -> Result<Option<Place>, Memory>
-    ensures { IfOk result (λ found. FindsMisfit (families_fit (meaning program.now) (trees_of quasts.now) statement (map credit_of credits.now) list.now (map family_of families.now)) found) }
 {
     Err(Memory)
 }

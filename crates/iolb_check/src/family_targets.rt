@@ -197,7 +197,8 @@ fn push_taken_targets(
     ensures { OnOk result (targets.new.items ≡ targets.old.items ++ taken_targets leaves.now (map claim_of entries.now)) }
 {
     for i in 0..leaves.len().min(entries.len()) {
-        if let Some(target) = taken(leaves[i], &entries[i]) {
+        let leaf = leaves[i];
+        if let Some(target) = taken(leaf, &entries[i]) {
             targets.push(target)?;
         }
     }

@@ -4,12 +4,11 @@ ghost use Rattle.std.specs.Prelude.{◌≡◌, ◌≤◌, ◌↔◌, ◌++◌, �
 ghost use Rattle.affine_program.specs.Parts.{meaning};
 ghost use Rattle.claims.specs.declared.key.TheConstants.{SUMS};
 ghost use Rattle.claims.specs.declared.place.Step.TheVariants.{Key};
-ghost use Rattle.iolb_check.specs.PartitionFit.{apart_count, coordinates_fit, counted_fit, nest_fit, number_fit, partition_fit, points_fit, walks_fit};
+ghost use Rattle.iolb_check.specs.PartitionFit.{apart_count, apart_fit, coordinates_fit, counted_fit, credits_fit, nest_fit, number_fit, partition_fit, points_fit, walked_fit, walks_fit};
 ghost use Rattle.k_partition.specs.View.{partition_of};
 ghost use Rattle.part_fit.specs.FitClaims.{FindsMisfit, FindsStep};
 ghost use Rattle.reuse_paths.specs.Quasts.{trees_of};
 
-use crate::awaited::{credits_misfit, families_misfit};
 use crate::family_targets::targets_of_families;
 use crate::fit_colds::columns_called;
 use affine_form::Memory;
@@ -18,6 +17,8 @@ use claims::key::{APART, CREDITS, FAMILIES, INSIDE, INVERSE, MATRIX, NEST, SHOWN
 use claims::{Place, Step};
 use k_partition::{Partition, Shape};
 use part_fit::counts::loops_around;
+use part_fit::credits::credits_misfit;
+use part_fit::families::families_misfit;
 use part_fit::lists::{bounds_misfit, misfit_at, sums_misfit};
 use reuse_paths::{Quasts, has_pairs};
 use std::alloc::Global;
@@ -42,25 +43,47 @@ fn has_apart(
     }
 }
 
-/// The place of what doesn't fit first of what shows the families apart, of the credits, and of the families.
-fn walks_misfit(
+/// The place of what doesn't fit of what shows the families apart.
+fn apart_misfit(
     alloc: Global,
     program: &Program,
     quasts: &Quasts,
     place: &Place,
     term: &Partition,
 ) -> Result<Option<Place>, Memory>
-    ensures { IfOk result (λ found. FindsMisfit (walks_fit (meaning program.now) (trees_of quasts.now) place.now (partition_of term.now)) found) }
+    ensures { IfOk result (λ found. FindsMisfit (apart_fit (meaning program.now) (trees_of quasts.now) place.now (partition_of term.now)) found) }
 {
-    if !has_apart(alloc, program, quasts, term)? {
-        return misfit_at(alloc, place, Step::Key(APART));
+    if has_apart(alloc, program, quasts, term)? {
+        return Ok(None);
     }
-    let credits = term.credits.as_slice();
+    misfit_at(alloc, place, Step::Key(APART))
+}
+
+/// The place of what doesn't fit first of the credits.
+fn credited_misfit(
+    alloc: Global,
+    program: &Program,
+    place: &Place,
+    term: &Partition,
+) -> Result<Option<Place>, Memory>
+    ensures { IfOk result (λ found. FindsMisfit (credits_fit (meaning program.now) place.now (partition_of term.now)) found) }
+{
     let list = place.within(alloc, Step::Key(CREDITS))?;
-    if let Some(misfit) = credits_misfit(alloc, program, &list, credits)? {
-        return Ok(Some(misfit));
-    }
+    credits_misfit(alloc, program, &list, term.credits.as_slice())
+}
+
+/// The place of what doesn't fit first of the families.
+fn walked_misfit(
+    alloc: Global,
+    program: &Program,
+    quasts: &Quasts,
+    place: &Place,
+    term: &Partition,
+) -> Result<Option<Place>, Memory>
+    ensures { IfOk result (λ found. FindsMisfit (walked_fit (meaning program.now) (trees_of quasts.now) place.now (partition_of term.now)) found) }
+{
     let list = place.within(alloc, Step::Key(FAMILIES))?;
+    let credits = term.credits.as_slice();
     let families = term.families.as_slice();
     families_misfit(
         alloc,
@@ -71,6 +94,25 @@ fn walks_misfit(
         &list,
         families,
     )
+}
+
+/// The place of what doesn't fit first of what shows the families apart, of the credits, and of the families.
+fn walks_misfit(
+    alloc: Global,
+    program: &Program,
+    quasts: &Quasts,
+    place: &Place,
+    term: &Partition,
+) -> Result<Option<Place>, Memory>
+    ensures { IfOk result (λ found. FindsMisfit (walks_fit (meaning program.now) (trees_of quasts.now) place.now (partition_of term.now)) found) }
+{
+    if let Some(misfit) = apart_misfit(alloc, program, quasts, place, term)? {
+        return Ok(Some(misfit));
+    }
+    if let Some(misfit) = credited_misfit(alloc, program, place, term)? {
+        return Ok(Some(misfit));
+    }
+    walked_misfit(alloc, program, quasts, place, term)
 }
 
 /// What doesn't fit first of what shows that the points are instances, and of the matrices.
