@@ -34,6 +34,7 @@ use Rattle.part_fit.specs.PartFit.{sums_fit}
 use Rattle.part_fit.specs.TreeFit.{trees_fit}
 use Rattle.part_fit.proofs.FamilyParts.{families-fit, credits-fit, credits-count}
 use Rattle.part_fit.proofs.ReadTrees.{none, bounds-fit, columns-many}
+use Rattle.iolb_check.specs.Awaited.{ApartFits}
 use Rattle.iolb_check.specs.Fit.{PartitionTermFits}
 use Rattle.iolb_check.specs.Limits.{IsSmallCredit, IsSmallPartition}
 use Rattle.iolb_check.specs.PartitionFit.{apart_count, credit_at, credits_fit, walked_fit, walks_fit, coordinates_fit, nest_fit, points_fit, counted_fit, number_fit, partition_fit}

@@ -42,7 +42,7 @@ fn events_at(bound: &PartitionBound, points: u128, s: u64) -> Result<u128, Wide>
     ensures value { IfOk result (λ value. value ≡ events_of (numbers_of bound.now) s * ((points - 1) / points_of (numbers_of bound.now) s)) }
     ensures wide { IsErr result ↔ (AreWideLabels s (numbers_of bound.now) ⊎ (MEASURE ≤ events_of (numbers_of bound.now) s * ((points - 1) / points_of (numbers_of bound.now) s))) }
 {
-    let events = stretch_at(bound, s);
+    let events = stretch_at(bound.a, bound.b, s);
     let most = points_at(bound, s, events)?;
     match events.checked_mul(points.saturating_sub(1) / most) {
         Some(total) if total < limits::MEASURE => Ok(total),
@@ -50,12 +50,12 @@ fn events_at(bound: &PartitionBound, points: u128, s: u64) -> Result<u128, Wide>
     }
 }
 
-/// The events of a stretch.
-fn stretch_at(bound: &PartitionBound, s: u64) -> u128
-    ensures events { result ≡ events_of (numbers_of bound.now) s }
+/// The events of a stretch: a for each of s red pebbles, and b more.
+fn stretch_at(a: u8, b: u32, s: u64) -> u128
+    ensures events { result ≡ a * s + b }
     ensures few { result < 2 ^ 73 }
 {
-    u128::from(bound.a) * u128::from(s) + u128::from(bound.b)
+    u128::from(a) * u128::from(s) + u128::from(b)
 }
 
 /// How many points at most are computed in a stretch of so many events.
@@ -70,7 +70,8 @@ fn points_at(bound: &PartitionBound, s: u64, events: u128) -> Result<u128, Wide>
     ensures wide { IsErr result ↔ AreWideLabels s (numbers_of bound.now) }
 {
     let labels = u128::from(s) + events;
-    let (q, m) = (u32::from(bound.q), u32::from(bound.m));
+    let q = u32::from(bound.q);
+    let m = u32::from(bound.m);
     match greatest_u(q, bound.den, bound.num, labels, m) {
         Ok(most) => Ok(most),
         Err(_) => Err(Wide),
