@@ -11,14 +11,13 @@ use Rattle.reuse_paths.specs.Families.{CreditedNest, family_of}
 use Rattle.part_fit.specs.Limits.{NameRows}
 use Rattle.iolb_check.specs.Limits.{IsSmallCredit, IsSmallPartition}
 use Rattle.serde_json.specs.Data.{Data}
-use Rattle.cert_parts.specs.Outcome.{◌>>=◌}
 use Rattle.cert_parts.specs.Credits.{WrittenCredit, reads_all_credited}
 use Rattle.cert_parts.specs.Families.{reads_families}
 use Rattle.cert_parts.specs.Json.{part, reads_natural}
 use Rattle.cert_parts.specs.Nests.{reads_nest}
 use Rattle.cert_parts.specs.Parts.{reads_all_multipliers, reads_matrix}
 use Rattle.cert_parts.specs.Polynomials.{reads_polynomials}
-use Rattle.iolb_cert.specs.PartitionTexts.{partition_keys, reads_shape, PartitionHead, reads_partition_head, PartitionWalks, reads_partition_walks, PartitionCover, reads_partition_cover, PartitionRest, reads_partition_rest, reads_partition_members, with_events, reads_partition}
+use Rattle.iolb_cert.specs.PartitionTexts.{partition_keys, reads_shape, PartitionHead, reads_partition_head, PartitionWalks, reads_partition_walks, PartitionCover, reads_partition_cover, PartitionRest, reads_partition_rest, reads_partition_members, with_events, reads_whole_partition, reads_partition}
 use Rattle.iolb_cert.specs.Read.{PartitionClaim, WrittenPartition, IsCreditTerm, IsPartition, claim_of_partition}
 use Rattle.cert_written.proofs.CreditLimits.{IsSmallWrittenCredit, AreSmallCredits, credits_small}
 use Rattle.cert_written.proofs.EntryLimits.{IsSmallNest, nest_small}
@@ -138,9 +137,9 @@ some_events written small = tested written.claim.a written.claim.b refl refl whe
   tested 0 (suc b) is is' = rw (is, is') (record { members = small; some_events = omega (arith, is') })
 
 pub partition_small : (d : Data) → IfOk (reads_partition d) IsSmallWrittenPartition
-unfolding reads_partition
+unfolding reads_partition reads_whole_partition
 partition_small d =
-    given_keys partition_keys d (λ object. reads_partition_members object >>= with_events) IsSmallWrittenPartition
+    given_keys partition_keys d reads_whole_partition IsSmallWrittenPartition
     (given_then (reads_partition_members d) with_events AreSmallMembers IsSmallWrittenPartition (members_small d) some_events)
 
 -- ---- what was read of it

@@ -17,7 +17,7 @@ use Rattle.cert_parts.specs.Json.{has_keys, with_keys}
 use Rattle.cert_written.specs.Credits.{written_credit}
 use Rattle.cert_written.specs.FamilyReadBack.{HasSmallNest, CreditIsRead, FamilyIsRead}
 use Rattle.cert_written.specs.ReadBack.{AreMultipliersRead, MatrixIsRead, PairIsRead, PolynomialIsRead}
-use Rattle.iolb_cert.specs.PartitionTexts.{reads_shape, reads_partition_head, reads_partition_walks, reads_partition_cover, reads_partition_rest, reads_partition_members, with_events, reads_partition}
+use Rattle.iolb_cert.specs.PartitionTexts.{reads_shape, reads_partition_head, reads_partition_walks, reads_partition_cover, reads_partition_rest, reads_partition_members, with_events, reads_whole_partition, reads_partition}
 use Rattle.iolb_cert.specs.Read.{WrittenPartition, IsCreditTerm}
 use Rattle.iolb_cert.specs.Terms.{reads_partition_term, reads_term}
 use Rattle.iolb_cert.specs.WrittenCertificates.{shape_name, partition_data}
@@ -84,7 +84,7 @@ events-read : (written : WrittenPartition) → 1 ≤ written.claim.a + written.c
 events-read written some = rw (some-events written.claim.a written.claim.b some) refl
 
 pub partition-read : (partition : Partition) → IsSmallPartition partition → ArePartitionMembersRead partition → PartitionIsRead partition
-unfolding reads_partition with_keys has_keys
+unfolding reads_partition reads_whole_partition with_keys has_keys
 partition-read partition small h = record {
   says = rw (members-read partition small h) (events-read (written_partition partition) small.some_events);
   is = record {

@@ -114,13 +114,14 @@ reads_partition_members d = do
   rest ← reads_partition_rest d
   Ok (record { claim = claim_in head rest.walks rest.cover; sums = rest.sums; credits = credits })
 
--- a stretch without events is fault 3 at a, behind all members
+-- a stretch without events is fault 3 at a
 abbrev pub with_events : WrittenPartition → Outcome WrittenPartition
 with_events written = if written.claim.a == 0 && written.claim.b == 0 then under (Key A) (fault 3) else Ok written
 
+-- That its stretches have events is tested behind its members.
+unfoldable pub reads_whole_partition : Data → Outcome WrittenPartition
+reads_whole_partition d = reads_partition_members d >>= with_events
+
 -- A partition term.
 unfoldable pub reads_partition : Data → Outcome WrittenPartition
-reads_partition d = do
-  object ← with_keys partition_keys d
-  written ← reads_partition_members object
-  with_events written
+reads_partition d = with_keys partition_keys d >>= reads_whole_partition

@@ -3,8 +3,8 @@
 ghost use Rattle.std.specs.Prelude.{◌≡◌, map};
 ghost use Rattle.serde_json.specs.View.{view};
 ghost use Rattle.k_partition.specs.View.{partition_of};
-ghost use Rattle.cert_parts.specs.Outcome.{◌>>=◌, Gives, GivesBy};
-ghost use Rattle.iolb_cert.specs.PartitionTexts.{reads_partition_head, reads_partition_walks, reads_partition_cover, reads_partition_rest, reads_partition_members, reads_partition, with_events as have_events, claim_in};
+ghost use Rattle.cert_parts.specs.Outcome.{Gives, GivesBy};
+ghost use Rattle.iolb_cert.specs.PartitionTexts.{reads_partition_head, reads_partition_walks, reads_partition_cover, reads_partition_rest, reads_partition_members, reads_whole_partition, reads_partition, claim_in};
 ghost use Rattle.iolb_cert.specs.Views.{partition_head_of, partition_walks_of, partition_cover_of, IsPartitionRest};
 ghost use Rattle.iolb_cert.specs.Read.{IsPartition, claim_of_partition};
 
@@ -157,9 +157,9 @@ fn members(alloc: Global, value: &Value) -> Result<Partition, CertError>
     Ok(made(head, credits, rest.walks, rest.cover, rest.sums))
 }
 
-/// The members of a partition term, whose stretches have events.
-fn with_events(alloc: Global, value: &Value) -> Result<Partition, CertError>
-    ensures { GivesBy (λ said found. IsPartition said (partition_of found)) result (reads_partition_members (view value.now) >>= have_events) }
+/// The members of a partition term, and that its stretches have events.
+fn whole(alloc: Global, value: &Value) -> Result<Partition, CertError>
+    ensures { GivesBy (λ said found. IsPartition said (partition_of found)) result (reads_whole_partition (view value.now)) }
 {
     let found = members(alloc, value)?;
     if found.a == 0 && found.b == 0 {
@@ -192,5 +192,5 @@ pub(crate) fn partition(alloc: Global, value: &Value) -> Result<Partition, CertE
     if !has_keys(value, &keys) {
         return Err(fault(alloc, 2));
     }
-    with_events(alloc, value)
+    whole(alloc, value)
 }
