@@ -38,3 +38,12 @@ fails_then (Fault g) read f fails = ap (λ r. r >>= f) fails
 pub hands_on : {A X : Type 0} (view : X → A) (r : Result X CertError) (e : CertError) (read : Outcome A) → IsErr r × IsErrAnd r (λ e'. e' ≡ e) → Fails e read → Gives view r read
 hands_on view (Ok x) e read handed fails = absurd handed.1
 hands_on view (Err e') e read handed fails = subst (λ (f : CertError). Fails f read) (sym handed.1) fails
+
+pub hands_on_by : {A X : Type 0} (Holds : A → X → Type 0) (r : Result X CertError) (e : CertError) (read : Outcome A) → IsErr r × IsErrAnd r (λ e'. e' ≡ e) → Fails e read → GivesBy Holds r read
+hands_on_by Holds (Ok x) e read handed fails = absurd handed.1
+hands_on_by Holds (Err e') e read handed fails = subst (λ (f : CertError). Fails f read) (sym handed.1) fails
+
+-- a failure behind a step that didn't fail
+pub fails_behind : {A B : Type 0} (e : CertError) (read : Outcome A) (f : A → Outcome B) (a : A) → read ≡ Ok a → Fails e (f a) → Fails e (read >>= f)
+fails_behind Memory read f a is fails = tt
+fails_behind (Fault g) read f a is fails = ap (λ r. r >>= f) is ∙ fails

@@ -10,3 +10,5 @@ pub mod Leaves
 pub mod Read
 pub mod Walks
 pub mod Reaches
+pub mod Families
+pub mod Credits

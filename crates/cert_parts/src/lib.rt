@@ -1,5 +1,5 @@
 //! The texts of the parts of certificates: forms, multipliers, matrices, polynomials, nests, source trees, claims at their
-//! leaves, and walks back along the sources of reads, with what shows that they arrive.
+//! leaves, walks back along the sources of reads, with what shows that they arrive, families of walks, and credited nests.
 //!
 //! Each reader takes a JSON value (RFC 8259) and answers what it says, or the first fault of one walk over it: of an object
 //! the keys first, then the values by the byte order of their keys; of a list its length, where that has a limit, then its
@@ -8,7 +8,9 @@
 #![tactic(auto)]
 
 mod apart;
+mod credits;
 mod error;
+mod families;
 mod forms;
 mod json;
 mod leaves;
@@ -21,14 +23,16 @@ mod reaches;
 mod trees;
 mod walks;
 
+pub use credits::credit_list;
 pub use error::{CertError, CertFault, fault, under};
+pub use families::family_list;
 pub use forms::{form, form_list};
 pub use json::{has_keys, list, natural, short_list};
-pub use matrices::matrix;
 pub use multipliers::all_multipliers;
-pub use nests::nest;
-pub use parts::{all_shown_part, form_part, forms_part, leaves_part, natural_part};
-pub use polynomials::polynomial_list;
+pub use parts::{
+    all_shown_part, form_part, forms_part, leaves_part, matrix_part, natural_part, nest_part,
+    polynomials_part,
+};
 pub use reaches::{reach, source, spot, way};
 pub use trees::all_trees;
 pub use walks::walk;

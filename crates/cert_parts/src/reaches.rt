@@ -92,8 +92,8 @@ fn rows_part(alloc: Global, value: &Value) -> Result<Vec<Form>, CertError>
     }
 }
 
-/// The member `tree` of a region.
-fn tree_part(alloc: Global, value: &Value) -> Result<Walk, CertError>
+/// The member `tree`: a walk.
+pub(crate) fn tree_part(alloc: Global, value: &Value) -> Result<Walk, CertError>
     ensures { Gives tree_of_walk result (part (codes "tree") TREE reads_walk (view value.now)) }
 {
     match value.get("tree") {
@@ -129,7 +129,7 @@ fn region(alloc: Global, value: &Value) -> Result<Region, CertError>
 
 /// A statement's region, if it has one.
 #[tactic(auto, unfolding(crate::specs::Reaches::reads_or_null))]
-fn node(alloc: Global, value: &Value) -> Result<Option<Region>, CertError>
+pub(crate) fn node(alloc: Global, value: &Value) -> Result<Option<Region>, CertError>
     ensures { Gives (option_map region_of) result (reads_or_null reads_region (view value.now)) }
 {
     if value.is_null() {

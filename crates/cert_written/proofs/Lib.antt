@@ -4,12 +4,17 @@ pub mod EntryLimits
 pub mod PolynomialLimits
 pub mod TreeLimits
 pub mod WalkLimits
+pub mod FamilyLimits
+pub mod CreditLimits
 pub mod Plain
 pub mod PlainWalks
+pub mod PlainFamilies
 pub mod ReadLists
 pub mod ReadParts
 pub mod ReadLeaves
 pub mod ReadPolynomials
 pub mod ReadTrees
 pub mod ReadWalks
+pub mod ReadFamilies
+pub mod ReadCredits
 pub mod Rest

@@ -8,7 +8,7 @@ use Rattle.cert_written.specs.Leaves.{leaf_data}
 use Rattle.cert_written.specs.Walks.{walk_data, region_data, or_null, spot_data, reach_data}
 use Rattle.cert_written.proofs.Plain.{IsPlain, more, plain-list, plain-map, plain-none, plain-member, plain-object, plain-one, plain-natural, plain-form, plain-forms, plain-all_multipliers, plain-leaf}
 
-plain-walk : (nested : ℕ) (walk : WalkTree) → IsNestedWalk nested walk → IsPlain (nested + 5) (walk_data walk)
+pub plain-walk : (nested : ℕ) (walk : WalkTree) → IsNestedWalk nested walk → IsPlain (nested + 5) (walk_data walk)
 plain-walk nested (take read entries) h =
     more 5 (nested + 5) (walk_data (take read entries)) (omega arith)
     (plain-object 4 _ (plain-member 4 4 _ _ _ (omega arith) (plain-map 3 leaf_data entries plain-leaf) (plain-member 0 4 _ _ _ (omega arith) (plain-natural read) (plain-none 4))))
@@ -24,10 +24,13 @@ plain-region region h =
     plain-object 21 _ (plain-member 2 21 _ _ _ (omega arith) (plain-forms region.rows)
     (plain-member 21 21 _ _ _ (omega arith) (more (16 + 5) 21 (walk_data region.tree) (omega arith) (plain-walk 16 region.tree h.tree.nested)) (plain-none 21)))
 
+pub plain-node : (node : Option WalkRegion) → IsSmallNode node → IsPlain 22 (or_null region_data node)
+plain-node None h = record { deep = omega arith; exact = refl }
+plain-node (Some region) h = plain-region region h
+
 plain-nodes : (nodes : List (Option WalkRegion)) → AllByRecursion IsSmallNode nodes → AllByRecursion (IsPlain 22) (map (or_null region_data) nodes)
 plain-nodes [] h = tt
-plain-nodes (None ∷ nodes) h = (record { deep = omega arith; exact = refl }, plain-nodes nodes h.1)
-plain-nodes (Some region ∷ nodes) h = (plain-region region h.0, plain-nodes nodes h.1)
+plain-nodes (node ∷ nodes) h = (plain-node node h.0, plain-nodes nodes h.1)
 
 pub plain-reach : (reach : ReachClaim) → IsSmallReach reach → IsPlain 24 (reach_data reach)
 plain-reach (same equal) h = more 3 24 (reach_data (same equal)) (omega arith) (plain-one 2 _ _ (plain-all_multipliers equal))

@@ -52,7 +52,7 @@ unfolding reads_nested_walk reads_walk_test has_keys
 test-read form above below f a b zero small = absurd small
 test-read form above below f a b (suc nested) small = rw (f small.0, b nested small.2, a nested small.1) refl
 
-walk-read : (walk : Walk) → WalkIsRead walk → IsSmallWalk (tree_of_walk walk) → reads_walk (walk_data (tree_of_walk walk)) ≡ Ok (tree_of_walk walk)
+pub walk-read : (walk : Walk) → WalkIsRead walk → IsSmallWalk (tree_of_walk walk) → reads_walk (walk_data (tree_of_walk walk)) ≡ Ok (tree_of_walk walk)
 unfolding reads_walk
 walk-read walk h small = rw (h 16 small.nested, le-leb (entry_count (tree_of_walk walk)) TREE_LEAVES small.few) refl
 

@@ -60,7 +60,7 @@ nested_small (suc n) d =
     (λ above small_above. (small_form, small_above, small_below)))))
     (take_nested (suc n) d)
 
-walk_small : (d : Data) → IfOk (reads_walk d) IsSmallWalk
+pub walk_small : (d : Data) → IfOk (reads_walk d) IsSmallWalk
 unfolding reads_walk
 walk_small d =
     given_then (reads_nested_walk 16 d) _ (IsNestedWalk 16) IsSmallWalk (nested_small 16 d)
@@ -69,7 +69,7 @@ walk_small d =
 
 -- ---- what is read, or nothing
 
-or_null_small : {A : Type 0} (reader : Data → Outcome A) (P : A → Type 0) (Q : Option A → Type 0) (d : Data) → IfOk (reader d) P → Q None → ((a : A) → P a → Q (Some a)) → IfOk (reads_or_null reader d) Q
+pub or_null_small : {A : Type 0} (reader : Data → Outcome A) (P : A → Type 0) (Q : Option A → Type 0) (d : Data) → IfOk (reader d) P → Q None → ((a : A) → P a → Q (Some a)) → IfOk (reads_or_null reader d) Q
 unfolding reads_or_null
 or_null_small reader P Q d h none some = given_if (is_some (as_null d)) (Ok None) _ Q (λ is. none) (given_then (reader d) _ P Q h some)
 
@@ -90,7 +90,7 @@ region_small d =
     (λ rows small_rows. given_then (part (codes "tree") TREE reads_walk d) _ IsSmallWalk IsSmallRegion (given_part (codes "tree") TREE reads_walk IsSmallWalk d walk_small)
     (λ tree small_tree. record { few = small_rows.1; rows = small_rows.0; tree = small_tree }))) tt
 
-node_small : (d : Data) → IfOk (reads_or_null reads_region d) IsSmallNode
+pub node_small : (d : Data) → IfOk (reads_or_null reads_region d) IsSmallNode
 node_small d = or_null_small reads_region IsSmallRegion IsSmallNode d (region_small d) tt (λ region small. small)
 
 nodes_small : (d : Data) → IfOk (reads_nodes d) (AllByRecursion IsSmallNode)

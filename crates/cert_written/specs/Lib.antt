@@ -5,3 +5,6 @@ pub mod Trees
 pub mod Walks
 pub mod ReadBack
 pub mod WalkReadBack
+pub mod Families
+pub mod Credits
+pub mod FamilyReadBack

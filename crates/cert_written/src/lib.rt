@@ -1,9 +1,12 @@
 //! The parts of certificates as JSON values, written: forms, multipliers, matrices, polynomials, nests, source trees,
-//! claims at their leaves, walks back along them, spots, and what shows that walks arrive.
+//! claims at their leaves, walks back along them, spots, what shows that walks arrive, families of walks, and credited
+//! nests.
 //!
 //! Each writer makes a JSON value (RFC 8259), exactly, and shows that the reader of the part gives it back.
 #![tactic(auto)]
 
+mod credits;
+mod families;
 mod forms;
 mod leaves;
 mod matrices;
@@ -16,6 +19,8 @@ mod reaches;
 mod trees;
 mod walks;
 
+pub use credits::all_credits;
+pub use families::all_families;
 pub use forms::all_forms;
 pub use leaves::all_leaves;
 pub use matrices::matrix;

@@ -155,3 +155,66 @@ pub(crate) fn walked_object(alloc: Global, nodes: Value, start: Value) -> Result
 {
     json!(in alloc; {"nodes": nodes, "start": start})
 }
+
+/// What is said of a statement.
+pub(crate) fn node_object(alloc: Global, label: Value, region: Value) -> Result<Value, AllocError>
+    ensures { IfOk result (λ value. view value
+        ≡ object (member (codes "label") (view label) (member (codes "region") (view region) no_members))) }
+{
+    json!(in alloc; {"label": label, "region": region})
+}
+
+/// The label of an instance that is counted, and its walk.
+pub(crate) fn start_object(alloc: Global, label: Value, tree: Value) -> Result<Value, AllocError>
+    ensures { IfOk result (λ value. view value
+        ≡ object (member (codes "label") (view label) (member (codes "tree") (view tree) no_members))) }
+{
+    json!(in alloc; {"label": label, "tree": tree})
+}
+
+/// A family.
+pub(crate) fn family_object(
+    alloc: Global,
+    inputs: Value,
+    nodes: Value,
+    scale: u32,
+    set: Value,
+    start: Value,
+    weight: u8,
+) -> Result<Value, AllocError>
+    ensures { IfOk result (λ value. view value ≡ object
+        (member (codes "inputs") (view inputs)
+        (member (codes "nodes") (view nodes)
+        (member (codes "scale") (natural scale)
+        (member (codes "set") (view set)
+        (member (codes "start") (view start)
+        (member (codes "weight") (natural weight)
+        no_members))))))) }
+{
+    json!(in alloc; {
+        "inputs": inputs,
+        "nodes": nodes,
+        "scale": scale,
+        "set": set,
+        "start": start,
+        "weight": weight,
+    })
+}
+
+/// A credited nest.
+pub(crate) fn credited_object(
+    alloc: Global,
+    nest: Value,
+    shown: Value,
+    statement: u16,
+    sums: Value,
+) -> Result<Value, AllocError>
+    ensures { IfOk result (λ value. view value ≡ object
+        (member (codes "nest") (view nest)
+        (member (codes "shown") (view shown)
+        (member (codes "statement") (natural statement)
+        (member (codes "sums") (view sums)
+        no_members))))) }
+{
+    json!(in alloc; {"nest": nest, "shown": shown, "statement": statement, "sums": sums})
+}

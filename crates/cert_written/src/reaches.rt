@@ -28,7 +28,7 @@ fn region(alloc: Global, region: &Region) -> Result<Value, Memory>
 }
 
 /// A statement's region, if it has one.
-fn node(alloc: Global, node: &Option<Region>) -> Result<Value, Memory>
+pub(crate) fn node(alloc: Global, node: &Option<Region>) -> Result<Value, Memory>
     ensures value { IfOk result (λ value. view value ≡ or_null region_data (option_map region_of node.now)) }
     ensures read { IfOk result (λ _. NodeIsRead node.now) }
 {

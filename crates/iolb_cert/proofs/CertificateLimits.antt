@@ -1,10 +1,10 @@
 -- Certificates that are read are within their limits.
-use Rattle.std.proofs.Common.{◌≡◌, suc, ◌≤◌, List, [], ◌∷◌, length, map, codes, Ok, refl, sym, subst, ap, arith}
+use Rattle.std.proofs.Common.{◌≡◌, ◌≤◌, List, [], ◌∷◌, length, map, codes, Ok, sym, subst, arith}
 use Rattle.std.proofs.lemmas.List.{length-map}
 use Rattle.std.proofs.lemmas.Result.{IfOk-at_ok}
 use Rattle.std.specs.Prelude.{IfOk}
 use Rattle.std.specs.List.{AllByRecursion}
-use Rattle.claims.specs.declared.key.TheConstants.{BRANCHES, COLD, DISJOINT, QUASTS, TERMS, VERSION, WAVEFRONT}
+use Rattle.claims.specs.declared.key.TheConstants.{BRANCHES, COLD, DISJOINT, PARTITION, QUASTS, TERMS, VERSION, WAVEFRONT}
 use Rattle.iolb_check.specs.declared.term.Term.{Term}
 use Rattle.iolb_check.specs.declared.term.Term.TheVariants as terms
 use Rattle.iolb_check.specs.declared.term.Branch.{Branch}
@@ -15,29 +15,38 @@ use Rattle.serde_json.specs.Data.{Data}
 use Rattle.cert_parts.specs.Outcome.{fault}
 use Rattle.cert_parts.specs.Json.{has_keys, part}
 use Rattle.cert_parts.specs.Parts.{reads_all_multipliers}
-use Rattle.cert_parts.specs.Read.{AreAll}
 use Rattle.cert_parts.specs.Trees.{reads_all_trees}
 use Rattle.iolb_cert.specs.ColdTexts.{reads_cold}
 use Rattle.iolb_cert.specs.FrontTexts.{reads_front}
-use Rattle.iolb_cert.specs.Terms.{reads_cold_term, reads_front_term, reads_term, reads_terms}
+use Rattle.iolb_cert.specs.PartitionTexts.{reads_partition}
+use Rattle.iolb_cert.specs.Terms.{reads_cold_term, reads_partition_term, reads_front_term, reads_term, reads_terms}
 use Rattle.iolb_cert.specs.Certificates.{reads_branch, reads_branches, reads_version, reads_certificate}
-use Rattle.iolb_cert.specs.Read.{WrittenTerm, as_cold, as_front, WrittenBranch, WrittenCertificate, IsTerm, IsBranch, IsCertificate}
+use Rattle.iolb_cert.specs.Read.{WrittenTerm, as_cold, as_partition, as_front, WrittenBranch, WrittenCertificate, IsTerm, IsBranch, IsCertificate}
 use Rattle.cert_written.proofs.Given.{given_then, given_behind, given_if, given_part, given_short_list, given_keys}
 use Rattle.cert_written.proofs.PartLimits.{all_multipliers_small}
 use Rattle.cert_written.proofs.TreeLimits.{all_trees_small, quasts_small}
 use Rattle.iolb_model.specs.declared.limits.TheConstants.{TERMS as MOST}
 use Rattle.iolb_cert.proofs.ColdLimits.{IsSmallWrittenCold, cold_small, read_cold_small}
 use Rattle.iolb_cert.proofs.FrontLimits.{IsSmallWrittenFront, front_small, read_front_small}
+use Rattle.iolb_cert.proofs.PartitionLimits.{IsSmallWrittenPartition, partition_small, read_partition_small}
+use Rattle.iolb_cert.proofs.Related.{all_related, as_many}
 
 -- a term as it is written is within its limits
 abbrev IsSmallWrittenTerm : WrittenTerm → Type 0
 IsSmallWrittenTerm (as_cold written) = IsSmallWrittenCold written
+IsSmallWrittenTerm (as_partition written) = IsSmallWrittenPartition written
 IsSmallWrittenTerm (as_front written) = IsSmallWrittenFront written
 
 cold_term_small : (d : Data) → IfOk (reads_cold_term d) IsSmallWrittenTerm
 unfolding reads_cold_term
 cold_term_small d =
     given_then (part (codes "cold") COLD reads_cold d) _ IsSmallWrittenCold IsSmallWrittenTerm (given_part (codes "cold") COLD reads_cold IsSmallWrittenCold d cold_small) (λ cold small. small)
+
+partition_term_small : (d : Data) → IfOk (reads_partition_term d) IsSmallWrittenTerm
+unfolding reads_partition_term
+partition_term_small d =
+    given_then (part (codes "partition") PARTITION reads_partition d) _ IsSmallWrittenPartition IsSmallWrittenTerm
+    (given_part (codes "partition") PARTITION reads_partition IsSmallWrittenPartition d partition_small) (λ partition small. small)
 
 front_term_small : (d : Data) → IfOk (reads_front_term d) IsSmallWrittenTerm
 unfolding reads_front_term
@@ -48,8 +57,8 @@ term_small : (d : Data) → IfOk (reads_term d) IsSmallWrittenTerm
 unfolding reads_term
 term_small d =
     given_if (has_keys (codes "cold" ∷ []) d) (reads_cold_term d) _ IsSmallWrittenTerm (λ is. cold_term_small d)
-    (given_if (has_keys (codes "wavefront" ∷ []) d) (reads_front_term d) _ IsSmallWrittenTerm (λ is. front_term_small d)
-    (given_if (has_keys (codes "partition" ∷ []) d) (fault 4) (fault 2) IsSmallWrittenTerm (λ is. tt) tt))
+    (given_if (has_keys (codes "partition" ∷ []) d) (reads_partition_term d) _ IsSmallWrittenTerm (λ is. partition_term_small d)
+    (given_if (has_keys (codes "wavefront" ∷ []) d) (reads_front_term d) (fault 2) IsSmallWrittenTerm (λ is. front_term_small d) tt))
 
 abbrev AreSmallTerms : List WrittenTerm → Type 0
 AreSmallTerms terms = AllByRecursion IsSmallWrittenTerm terms × (length terms ≤ MOST)
@@ -93,24 +102,16 @@ certificate_small d =
 
 -- ---- what was read of them
 
-all_related : {A B X : Type 0} (R : A → X → Type 0) (claim : B → X) (P : A → Type 0) (Q : B → Type 0) → ((a : A) (b : B) → R a (claim b) → P a → Q b)
-    → (written : List A) (bs : List B) → AreAll R written (map claim bs) → AllByRecursion P written → AllByRecursion Q bs
-all_related R claim P Q each_one [] [] are all = tt
-all_related R claim P Q each_one [] (b ∷ bs) are all = absurd are
-all_related R claim P Q each_one (a ∷ written) [] are all = absurd are
-all_related R claim P Q each_one (a ∷ written) (b ∷ bs) are all = (each_one a b are.0 all.0, all_related R claim P Q each_one written bs are.1 all.1)
-
-as_many : {A X : Type 0} (R : A → X → Type 0) (written : List A) (xs : List X) → AreAll R written xs → length xs ≡ length written
-as_many R [] [] are = refl
-as_many R [] (x ∷ xs) are = absurd are
-as_many R (a ∷ written) [] are = absurd are
-as_many R (a ∷ written) (x ∷ xs) are = ap suc (as_many R written xs are.1)
-
 read_term_small : (written : WrittenTerm) (term : Term) → IsTerm written (claim_of_term term) → IsSmallWrittenTerm written → IsSmallTerm term
 read_term_small (as_cold written) (terms.Cold cold) is small = read_cold_small written cold is small
+read_term_small (as_partition written) (terms.Partition partition) is small = read_partition_small written partition is small
 read_term_small (as_front written) (terms.Wavefront front) is small = read_front_small written front is small
+read_term_small (as_cold written) (terms.Partition partition) is small = absurd is
 read_term_small (as_cold written) (terms.Wavefront front) is small = absurd is
+read_term_small (as_partition written) (terms.Cold cold) is small = absurd is
+read_term_small (as_partition written) (terms.Wavefront front) is small = absurd is
 read_term_small (as_front written) (terms.Cold cold) is small = absurd is
+read_term_small (as_front written) (terms.Partition partition) is small = absurd is
 
 read_branch_small : (written : WrittenBranch) (branch : Branch) → IsBranch written (claim_of_branch branch) → IsSmallWrittenBranch written → IsSmallBranch branch
 read_branch_small written branch is small = record {

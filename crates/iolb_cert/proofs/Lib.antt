@@ -2,6 +2,8 @@ pub mod Branches
 pub mod CertificateLimits
 pub mod ColdLimits
 pub mod FrontLimits
+pub mod PartitionLimits
+pub mod Related
 pub mod OneCertificate
 pub mod Opened
 pub mod Steps
@@ -10,4 +12,5 @@ pub mod Plain
 pub mod ReadBack
 pub mod ReadCertificates
 pub mod ReadTerms
+pub mod ReadPartitions
 pub mod Texts

@@ -7,15 +7,19 @@ use Rattle.poly_tree.specs.Poly.{Quotient, SameValues, numerator_at}
 use Rattle.poly_tree.proofs.SameLemmas.{same-polynomial}
 use Rattle.domain_count.proofs.Determined.{crossed}
 use Rattle.dep_quast.specs.Tree.{SelectionTree}
-use Rattle.iolb_check.specs.Claims.{ColdClaim, FrontClaim, TermClaim, cold, front, BranchClaim, CertificateClaim}
+use Rattle.domain_count.specs.Claims.{SumClaims}
+use Rattle.k_partition.specs.Term.{CreditTerm, PartitionTerm}
+use Rattle.reuse_paths.specs.Families.{CreditedNest}
+use Rattle.iolb_check.specs.Claims.{ColdClaim, FrontClaim, TermClaim, cold, partition, front, BranchClaim, CertificateClaim}
 use Rattle.serde_json.specs.Data.{Data}
 use Rattle.cert_parts.specs.declared.error.CertFault.{CertFault}
 use Rattle.cert_parts.specs.Outcome.{Outcome}
+use Rattle.cert_parts.specs.Credits.{WrittenCredit}
 use Rattle.cert_parts.specs.Read.{AreAll, IsPolynomial, ArePolynomials}
 use Rattle.iolb_cert.specs.Certificates.{reads_certificate}
 use Rattle.iolb_cert.specs.OneCertificate.{HasCertificate, TextsHaveOneCertificate, TextsHaveOneAnswer}
 use Rattle.iolb_cert.specs.Texts.{HasValue, IsTextOf, IsTextFault}
-use Rattle.iolb_cert.specs.Read.{WrittenTerm, as_cold, as_front, WrittenBranch, WrittenCertificate, IsTerm, IsBranch, IsCertificate}
+use Rattle.iolb_cert.specs.Read.{PartitionClaim, WrittenPartition, WrittenTerm, as_cold, as_partition, as_front, WrittenBranch, WrittenCertificate, claim_of_partition, IsCreditTerm, IsPartition, IsTerm, IsBranch, IsCertificate}
 
 -- ---- the same text says the same
 
@@ -55,16 +59,59 @@ all-one R one (a ∷ written) (x ∷ xs) (y ∷ ys) h g = let first = one a x y 
 one-list : (written : List Polynomial) (qs rs : List Quotient) → ArePolynomials written qs → ArePolynomials written rs → qs ≡ rs
 one-list written qs rs h g = all-one IsPolynomial one-polynomial written qs rs h g
 
+one-credit : (written : WrittenCredit) (a b : CreditTerm) → IsCreditTerm written a → IsCreditTerm written b → a ≡ b
+one-credit written a b h g =
+    ap (λ (nest : CreditedNest). credit nest a.count) (h.nest ∙ sym g.nest) ∙ ap (credit b.nest)
+    (ap (λ (shown : List FarkasMultipliers). counted shown a.count.sums) (h.shown ∙ sym g.shown) ∙ ap (counted b.count.shown) (one-list written.sums a.count.sums b.count.sums h.sums g.sums)) where
+      credit : CreditedNest → SumClaims → CreditTerm
+      credit nest count = record { nest = nest; count = count }
+
+      counted : List FarkasMultipliers → List Quotient → SumClaims
+      counted shown sums = record { shown = shown; sums = sums }
+
+-- a partition term by what it claims, its polynomials and its credits
+joined : PartitionClaim → List Quotient → List CreditTerm → PartitionTerm
+joined claim sums credits = record {
+  statement = claim.statement;
+  nest = claim.nest;
+  count = record { shown = claim.shown; sums = sums };
+  inside = claim.inside;
+  matrix = claim.matrix;
+  inverse = claim.inverse;
+  q = claim.q;
+  shape = claim.shape;
+  a = claim.a;
+  b = claim.b;
+  credits = credits;
+  families = claim.families;
+  apart = claim.apart;
+}
+
+one-partition : (written : WrittenPartition) (a b : PartitionTerm) → IsPartition written a → IsPartition written b → a ≡ b
+one-partition written a b h g =
+    ap (λ (claim : PartitionClaim). joined claim a.count.sums a.credits) (h.claims ∙ sym g.claims)
+    ∙ ap (λ (sums : List Quotient). joined (claim_of_partition b) sums a.credits) (one-list written.sums a.count.sums b.count.sums h.sums g.sums)
+    ∙ ap (joined (claim_of_partition b) b.count.sums) (all-one IsCreditTerm one-credit written.credits a.credits b.credits h.credits g.credits)
+
 one-term : (written : WrittenTerm) (a b : TermClaim) → IsTerm written a → IsTerm written b → a ≡ b
 one-term (as_cold written) (cold claim qs) (cold other rs) h g =
     ap (λ (x : ColdClaim). cold x qs) (h.claims ∙ sym g.claims) ∙ ap (cold other) (one-list written.sums qs rs h.sums g.sums)
+one-term (as_partition written) (partition term) (partition other) h g = ap partition (one-partition written term other h g)
 one-term (as_front written) (front claim qs os) (front other rs ts) h g =
     ap (λ (x : FrontClaim). front x qs os) (h.claims ∙ sym g.claims) ∙ ap (λ (x : List Quotient). front other x os) (one-list written.sums qs rs h.sums g.sums)
     ∙ ap (front other rs) (one-list written.outer_sums os ts h.outer_sums g.outer_sums)
+one-term (as_cold written) (cold claim qs) (partition other) h g = absurd g
 one-term (as_cold written) (cold claim qs) (front other rs ts) h g = absurd g
+one-term (as_cold written) (partition term) b h g = absurd h
 one-term (as_cold written) (front claim qs os) b h g = absurd h
+one-term (as_partition written) (partition term) (cold other rs) h g = absurd g
+one-term (as_partition written) (partition term) (front other rs ts) h g = absurd g
+one-term (as_partition written) (cold claim qs) b h g = absurd h
+one-term (as_partition written) (front claim qs os) b h g = absurd h
 one-term (as_front written) (front claim qs os) (cold other rs) h g = absurd g
+one-term (as_front written) (front claim qs os) (partition other) h g = absurd g
 one-term (as_front written) (cold claim qs) b h g = absurd h
+one-term (as_front written) (partition term) b h g = absurd h
 
 one-branch : (written : WrittenBranch) (a b : BranchClaim) → IsBranch written a → IsBranch written b → a ≡ b
 one-branch written a b h g =

@@ -1,9 +1,8 @@
 -- Three steps of reading, one after the other.
-use Rattle.std.proofs.Common.{◌≡◌, Ok, Err, ap, sym, subst, ◌∙◌}
-use Rattle.std.specs.Prelude.{Result, IsErr, IsErrAnd}
+use Rattle.std.proofs.Common.{◌≡◌, Ok, ap, ◌∙◌}
 use Rattle.cert_parts.specs.declared.error.CertError.{CertError}
 use Rattle.cert_parts.specs.declared.error.CertError.TheVariants.{Fault, Memory}
-use Rattle.cert_parts.specs.Outcome.{Outcome, ◌>>=◌, Fails, GivesBy}
+use Rattle.cert_parts.specs.Outcome.{Outcome, ◌>>=◌, Fails}
 
 pub first_fails : {A B C D : Type 0} (a : Outcome A) (b : Outcome B) (c : Outcome C) (f : A → B → C → Outcome D) (e : CertError)
     → Fails e a → Fails e (a >>= λ x. b >>= λ y. c >>= λ z. f x y z)
@@ -26,8 +25,3 @@ pub all_read : {A B C D : Type 0} (a : Outcome A) (b : Outcome B) (c : Outcome C
     → a ≡ Ok x → b ≡ Ok y → c ≡ Ok z → (a >>= λ x. b >>= λ y. c >>= λ z. f x y z) ≡ f x y z
 all_read a b c f x y z is is' is'' =
     ap (λ r. r >>= λ x. b >>= λ y. c >>= λ z. f x y z) is ∙ ap (λ r. r >>= λ y. c >>= λ z. f x y z) is' ∙ ap (λ r. r >>= λ z. f x y z) is''
-
--- an error that is handed on
-pub hands_on_by : {A X : Type 0} (Holds : A → X → Type 0) (r : Result X CertError) (e : CertError) (read : Outcome A) → IsErr r × IsErrAnd r (λ e'. e' ≡ e) → Fails e read → GivesBy Holds r read
-hands_on_by Holds (Ok x) e read handed fails = absurd handed.1
-hands_on_by Holds (Err e') e read handed fails = subst (λ (f : CertError). Fails f read) (sym handed.1) fails

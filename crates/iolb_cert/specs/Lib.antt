@@ -1,6 +1,7 @@
 pub mod Certificates
 pub mod ColdTexts
 pub mod FrontTexts
+pub mod PartitionTexts
 pub mod OneCertificate
 pub mod Terms
 pub mod Texts

@@ -9,12 +9,18 @@ use Rattle.iolb_check.specs.Claims.{CertificateClaim, claim_of_certificate}
 use Rattle.iolb_check.specs.declared.term.Branch.{Branch}
 use Rattle.iolb_cert.specs.declared.read_cold.ColdParts.{ColdParts}
 use Rattle.iolb_cert.specs.declared.read_cold.ColdPlaces.{ColdPlaces}
+use Rattle.iolb_cert.specs.declared.read_partition.PartitionParts.{PartitionParts}
+use Rattle.iolb_cert.specs.declared.read_partition.PartitionPaths.{PartitionPaths}
+use Rattle.iolb_cert.specs.declared.read_partition.PartitionPlaces.{PartitionPlaces}
+use Rattle.iolb_cert.specs.declared.read_partition.PartitionBehind.{PartitionBehind}
 use Rattle.iolb_cert.specs.declared.read_front.FrontParts.{FrontParts}
 use Rattle.iolb_cert.specs.declared.read_front.FrontWays.{FrontWays}
 use Rattle.iolb_cert.specs.declared.read_front.FrontEnds.{FrontEnds}
 use Rattle.iolb_cert.specs.declared.read_front.FrontBehind.{FrontBehind}
 use Rattle.iolb_cert.specs.ColdTexts.{ColdHead, ColdMiddle}
 use Rattle.iolb_cert.specs.FrontTexts.{FrontHead, FrontMiddle, FrontSpots, FrontRest}
+use Rattle.iolb_cert.specs.PartitionTexts.{PartitionHead, PartitionWalks, PartitionCover, PartitionRest}
+use Rattle.reuse_paths.specs.Families.{family_of}
 
 abbrev pub head_of : ColdParts → ColdHead
 head_of head = record {
@@ -27,6 +33,27 @@ head_of head = record {
 
 abbrev pub middle_of : ColdPlaces → ColdMiddle
 middle_of middle = record { point = middle.point.items; read = middle.read; shown = middle.shown.items; statement = middle.statement }
+
+abbrev pub partition_head_of : PartitionParts → PartitionHead
+partition_head_of head = record { a = head.a; apart = head.apart.items; b = head.b }
+
+abbrev pub partition_walks_of : PartitionPaths → PartitionWalks
+partition_walks_of walks = record {
+  families = map family_of walks.families.items;
+  inside = walks.inside.items;
+  inverse = walks.inverse;
+  matrix = walks.matrix;
+  nest = walks.nest;
+}
+
+abbrev pub partition_cover_of : PartitionPlaces → PartitionCover
+partition_cover_of cover = record { q = cover.q; shape = cover.shape; shown = cover.shown.items; statement = cover.statement }
+
+-- the members behind the credits that are written
+pub record IsPartitionRest (said : PartitionRest) (rest : PartitionBehind) : Type 0 where
+  pub walks : said.walks ≡ partition_walks_of rest.walks
+  pub cover : said.cover ≡ partition_cover_of rest.cover
+  pub sums : ArePolynomials said.sums rest.sums.items
 
 abbrev pub front_head_of : FrontParts → FrontHead
 front_head_of head = record {

@@ -1,5 +1,7 @@
 -- What the text of a certificate says.
 use Rattle.std.specs.Prelude.{map}
+use Rattle.k_partition.specs.declared.term.Partition.{Partition}
+use Rattle.k_partition.specs.View.{partition_of}
 use Rattle.wavefront.specs.declared.cold.Cold.{Cold}
 use Rattle.wavefront.specs.declared.front.Wavefront.{Wavefront}
 use Rattle.iolb_check.specs.Limits.{CertificateParts}
@@ -8,11 +10,19 @@ use Rattle.iolb_check.specs.declared.term.Term.TheVariants as terms
 use Rattle.iolb_check.specs.declared.term.Branch.{Branch}
 use Rattle.reuse_paths.specs.Quasts.{row_trees}
 use Rattle.iolb_check.specs.Claims.{claim_of_cold, claim_of_front}
+use Rattle.cert_written.specs.Credits.{written_credit}
 use Rattle.cert_written.specs.Polynomials.{written_polynomial}
-use Rattle.iolb_cert.specs.Read.{WrittenCold, WrittenFront, WrittenTerm, as_cold, as_front, WrittenBranch, WrittenCertificate}
+use Rattle.iolb_cert.specs.Read.{WrittenCold, WrittenPartition, WrittenFront, WrittenTerm, as_cold, as_partition, as_front, WrittenBranch, WrittenCertificate, claim_of_partition}
 
 abbrev pub written_cold : Cold → WrittenCold
 written_cold cold = record { claim = claim_of_cold cold; sums = map written_polynomial cold.sums.sums }
+
+abbrev pub written_partition : Partition → WrittenPartition
+written_partition partition = record {
+  claim = claim_of_partition (partition_of partition);
+  sums = map written_polynomial partition.sums.sums;
+  credits = map written_credit partition.credits.items;
+}
 
 abbrev pub written_front : Wavefront → WrittenFront
 written_front front = record {
@@ -23,6 +33,7 @@ written_front front = record {
 
 abbrev pub written_term : Term → WrittenTerm
 written_term (terms.Cold cold) = as_cold (written_cold cold)
+written_term (terms.Partition partition) = as_partition (written_partition partition)
 written_term (terms.Wavefront front) = as_front (written_front front)
 
 abbrev pub written_branch : Branch → WrittenBranch

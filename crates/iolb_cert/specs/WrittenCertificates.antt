@@ -1,8 +1,12 @@
 -- Certificates as JSON values.
 use Rattle.std.specs.Prelude.{ℕ, List, map, codes}
 use Rattle.affine_form.specs.Matrix.{IntegerMatrix}
-use Rattle.serde_json.specs.Data.{Data, object, no_members, member}
-use Rattle.iolb_cert.specs.Read.{WrittenCold, WrittenFront, WrittenTerm, as_cold, as_front, WrittenBranch, WrittenCertificate}
+use Rattle.k_partition.specs.declared.term.Shape.{Shape}
+use Rattle.k_partition.specs.declared.term.Shape.TheVariants.{Each, Sum}
+use Rattle.serde_json.specs.Data.{Data, string, object, no_members, member}
+use Rattle.iolb_cert.specs.Read.{WrittenCold, WrittenPartition, WrittenFront, WrittenTerm, as_cold, as_partition, as_front, WrittenBranch, WrittenCertificate}
+use Rattle.cert_written.specs.Credits.{credits_data}
+use Rattle.cert_written.specs.Families.{families_data}
 use Rattle.cert_written.specs.Parts.{list, natural, forms_data, all_multipliers_data, matrix_data, nest_data}
 use Rattle.cert_written.specs.Polynomials.{polynomials_data}
 use Rattle.cert_written.specs.Leaves.{leaves_data}
@@ -29,6 +33,29 @@ cold_data cold = object
     (member (codes "sums") (polynomials_data cold.sums)
     no_members)))))))))
 
+-- the name of a shape
+abbrev pub shape_name : Shape → List ℕ
+shape_name Each = codes "each"
+shape_name Sum = codes "sum"
+
+abbrev pub partition_data : WrittenPartition → Data
+partition_data partition = object
+    (member (codes "a") (natural partition.claim.a)
+    (member (codes "apart") (all_multipliers_data partition.claim.apart)
+    (member (codes "b") (natural partition.claim.b)
+    (member (codes "credits") (credits_data partition.credits)
+    (member (codes "families") (families_data partition.claim.families)
+    (member (codes "inside") (all_multipliers_data partition.claim.inside)
+    (member (codes "inverse") (matrix_data partition.claim.inverse)
+    (member (codes "matrix") (matrix_data partition.claim.matrix)
+    (member (codes "nest") (nest_data partition.claim.nest)
+    (member (codes "q") (natural partition.claim.q)
+    (member (codes "shape") (string (shape_name partition.claim.shape))
+    (member (codes "shown") (all_multipliers_data partition.claim.shown)
+    (member (codes "statement") (natural partition.claim.statement)
+    (member (codes "sums") (polynomials_data partition.sums)
+    no_members))))))))))))))
+
 abbrev pub front_data : WrittenFront → Data
 front_data front = object
     (member (codes "back") (reach_data front.claim.back)
@@ -50,6 +77,7 @@ front_data front = object
 -- a term, by its kind
 abbrev pub term_data : WrittenTerm → Data
 term_data (as_cold cold) = object (member (codes "cold") (cold_data cold) no_members)
+term_data (as_partition partition) = object (member (codes "partition") (partition_data partition) no_members)
 term_data (as_front front) = object (member (codes "wavefront") (front_data front) no_members)
 
 abbrev pub branch_data : WrittenBranch → Data

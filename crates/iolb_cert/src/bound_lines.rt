@@ -1,16 +1,17 @@
 //! The text of a bound.
 
-ghost use Rattle.std.specs.Prelude.{◌≡◌, ◌∷◌, [], ◌++◌, ℕ, length, map, flat_map, codes, decimal, IfOk, OnOk};
+ghost use Rattle.std.specs.Prelude.{◌≡◌, ◌∷◌, [], ◌++◌, ℕ, length, map, flat_map, codes, decimal, string_bytes, IfOk, OnOk};
 ghost use Rattle.std.specs.List.{AllByRecursion};
-ghost use Rattle.iolb_model.specs.Bound.{wavefront};
+ghost use Rattle.iolb_model.specs.Bound.{partition, wavefront};
 ghost use Rattle.iolb_model.specs.Program.{IsOver};
 ghost use Rattle.poly_tree.specs.Printed.{polynomial_of};
-ghost use Rattle.iolb_model.specs.Printed.{assumption_text, bound_term_text, branches_text, bound_text as text_of_bound};
-ghost use Rattle.iolb_check.specs.Bounds.{bound_of, term_of};
+ghost use Rattle.iolb_model.specs.Printed.{assumption_text, bound_term_text, stretch_text, branches_text, bound_text as text_of_bound};
+ghost use Rattle.iolb_check.specs.Bounds.{bound_of, numbers_of, term_of};
 
 use affine_form::{Form, Memory, Name};
 use affine_program::Program;
 use iolb_check::{Bound, Value};
+use k_partition::PartitionBound;
 use poly_tree::Poly;
 use std::alloc::Global;
 
@@ -55,6 +56,29 @@ fn front_line(alloc: Global, names: &[Name], pairs: &Poly, outer: &Poly) -> Resu
     Ok(text)
 }
 
+/// The numbers of a partition term's stretches.
+fn stretch(alloc: Global, bound: &PartitionBound) -> Result<String, Memory>
+    ensures { IfOk result (λ text. string_bytes text ≡ stretch_text (numbers_of bound.now)) }
+{
+    let (a, b, q) = (bound.a, bound.b, bound.q);
+    let (den, num, m) = (bound.den, bound.num, bound.m);
+    Ok(format!(in alloc; " T {a}*S + {b} U^{q}*{den} <= {num}*(S + T)^{m}")?)
+}
+
+/// The line of a partition term: how many points it has, how many are credited, and the numbers of its stretches.
+fn partition_line(alloc: Global, names: &[Name], bound: &PartitionBound) -> Result<Vec<u8>, Memory>
+    ensures { IfOk result (λ text. text.items ≡ bound_term_text names.now (partition (polynomial_of bound.now.count) (polynomial_of bound.now.credits) (numbers_of bound.now))) }
+{
+    let mut text = Vec::new(alloc);
+    text.extend_from_slice(b"  partition count ")?;
+    text.extend_from_slice(bound.count.text(alloc, names)?.as_slice())?;
+    text.extend_from_slice(b" credits ")?;
+    text.extend_from_slice(bound.credits.text(alloc, names)?.as_slice())?;
+    text.extend_from_slice(stretch(alloc, bound)?.as_bytes())?;
+    text.push(b'\n')?;
+    Ok(text)
+}
+
 /// A term, written on a line at the end.
 fn push_term(alloc: Global, text: &mut Vec<u8>, names: &[Name], term: &Value) -> Result<(), Memory>
     ensures { OnOk result (text.new.items ≡ text.old.items ++ bound_term_text names.now (term_of term.now)) }
@@ -64,6 +88,9 @@ fn push_term(alloc: Global, text: &mut Vec<u8>, names: &[Name], term: &Value) ->
             text.extend_from_slice(b"  cold ")?;
             text.extend_from_slice(count.text(alloc, names)?.as_slice())?;
             text.push(b'\n')?;
+        }
+        Value::Partition(bound) => {
+            text.extend_from_slice(partition_line(alloc, names, bound)?.as_slice())?;
         }
         Value::Wavefront { pairs, outer } => {
             text.extend_from_slice(front_line(alloc, names, pairs, outer)?.as_slice())?;

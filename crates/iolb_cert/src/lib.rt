@@ -9,12 +9,14 @@ mod read_back;
 mod read_branches;
 mod read_cold;
 mod read_front;
+mod read_partition;
 mod reading;
 mod terms;
 mod text;
 mod written_branches;
 mod written_cold;
 mod written_front;
+mod written_partition;
 
 pub use bound_lines::bound_text;
 pub use cert_parts::{CertError, CertFault};

@@ -1,25 +1,25 @@
 //! Members of terms.
 
-ghost use Rattle.std.specs.Prelude.{◌≡◌, codes, option_map};
-ghost use Rattle.claims.specs.declared.key.TheConstants.{BACK, INVERSE, NEST, REACH, SOURCE};
+ghost use Rattle.std.specs.Prelude.{◌≡◌, codes, map, option_map};
+ghost use Rattle.claims.specs.declared.key.TheConstants.{BACK, CREDITS, FAMILIES, INVERSE, REACH, SHAPE, SOURCE};
 ghost use Rattle.serde_json.specs.View.{view};
 ghost use Rattle.cert_parts.specs.Outcome.{Gives, GivesBy};
+ghost use Rattle.cert_parts.specs.Credits.{reads_all_credited, AreCredits};
+ghost use Rattle.cert_parts.specs.Families.{reads_families};
 ghost use Rattle.cert_parts.specs.Json.{part};
-ghost use Rattle.cert_parts.specs.Nests.{reads_nest};
-ghost use Rattle.cert_parts.specs.Polynomials.{reads_polynomials};
-ghost use Rattle.cert_parts.specs.Read.{ArePolynomials};
 ghost use Rattle.cert_parts.specs.Reaches.{reads_or_null, reads_reach, reads_spot};
+ghost use Rattle.reuse_paths.specs.Families.{family_of};
 ghost use Rattle.reuse_paths.specs.Walks.{reach_of, spot_of};
 ghost use Rattle.iolb_cert.specs.ColdTexts.{reads_inverse};
+ghost use Rattle.iolb_cert.specs.PartitionTexts.{reads_shape};
 
 use cert_parts::{
-    CertError, fault, has_keys, matrix, natural_part, nest, polynomial_list, reach, source, spot,
-    under, way,
+    CertError, credit_list, family_list, fault, has_keys, matrix_part, natural_part, reach, source,
+    spot, under, way,
 };
 use claims::{Step, key};
-use domain_count::Nest;
-use poly_tree::Poly;
-use reuse_paths::{Reach, Spot};
+use k_partition::Shape;
+use reuse_paths::{Credit, Family, Reach, Spot};
 use serde_json::Value;
 use std::alloc::Global;
 use wavefront::Inverse;
@@ -32,13 +32,7 @@ fn inverse(alloc: Global, value: &Value) -> Result<Inverse, CertError>
     if !has_keys(value, &["matrix", "scale"]) {
         return Err(fault(alloc, 2));
     }
-    let matrix = match value.get("matrix") {
-        Some(member) => match matrix(alloc, member) {
-            Ok(matrix) => matrix,
-            Err(error) => return Err(under(alloc, Step::Key(key::MATRIX), error)),
-        },
-        None => return Err(fault(alloc, 2)),
-    };
+    let matrix = matrix_part(alloc, value, "matrix", key::MATRIX)?;
     let scale = natural_part(alloc, value, "scale", key::SCALE, 1, 1 << 20)? as u32;
     Ok(Inverse { matrix, scale })
 }
@@ -51,37 +45,6 @@ pub(crate) fn inverse_part(alloc: Global, value: &Value) -> Result<Inverse, Cert
         Some(member) => match inverse(alloc, member) {
             Ok(found) => Ok(found),
             Err(error) => Err(under(alloc, Step::Key(key::INVERSE), error)),
-        },
-        None => Err(fault(alloc, 2)),
-    }
-}
-
-/// The member `nest`.
-pub(crate) fn nest_part(alloc: Global, value: &Value) -> Result<Nest, CertError>
-    ensures { Gives (λ nest. nest) result (part (codes "nest") NEST reads_nest (view value.now)) }
-{
-    match value.get("nest") {
-        Some(member) => match nest(alloc, member) {
-            Ok(found) => Ok(found),
-            Err(error) => Err(under(alloc, Step::Key(key::NEST), error)),
-        },
-        None => Err(fault(alloc, 2)),
-    }
-}
-
-/// The member with this name, whose key has this number: an array of polynomials.
-pub(crate) fn polynomials_part(
-    alloc: Global,
-    value: &Value,
-    name: &str,
-    number: u8,
-) -> Result<Vec<Poly>, CertError>
-    ensures { GivesBy (λ said found. ArePolynomials said found.items) result (part name.now number reads_polynomials (view value.now)) }
-{
-    match value.get(name) {
-        Some(member) => match polynomial_list(alloc, member) {
-            Ok(found) => Ok(found),
-            Err(error) => Err(under(alloc, Step::Key(number), error)),
         },
         None => Err(fault(alloc, 2)),
     }
@@ -139,6 +102,62 @@ pub(crate) fn way_part(alloc: Global, value: &Value) -> Result<Option<Reach>, Ce
         Some(member) => match way(alloc, member) {
             Ok(found) => Ok(found),
             Err(error) => Err(under(alloc, Step::Key(key::REACH), error)),
+        },
+        None => Err(fault(alloc, 2)),
+    }
+}
+
+/// The member `credits`.
+pub(crate) fn credits_part(alloc: Global, value: &Value) -> Result<Vec<Credit>, CertError>
+    ensures { GivesBy (λ said found. AreCredits said found.items) result (part (codes "credits") CREDITS reads_all_credited (view value.now)) }
+{
+    match value.get("credits") {
+        Some(member) => match credit_list(alloc, member) {
+            Ok(found) => Ok(found),
+            Err(error) => Err(under(alloc, Step::Key(key::CREDITS), error)),
+        },
+        None => Err(fault(alloc, 2)),
+    }
+}
+
+/// The member `families`.
+pub(crate) fn families_part(alloc: Global, value: &Value) -> Result<Vec<Family>, CertError>
+    ensures { Gives (λ families. map family_of families.items) result (part (codes "families") FAMILIES reads_families (view value.now)) }
+{
+    match value.get("families") {
+        Some(member) => match family_list(alloc, member) {
+            Ok(found) => Ok(found),
+            Err(error) => Err(under(alloc, Step::Key(key::FAMILIES), error)),
+        },
+        None => Err(fault(alloc, 2)),
+    }
+}
+
+/// A shape, by its name.
+#[tactic(auto, unfolding(crate::specs::PartitionTexts::reads_shape))]
+fn shape(alloc: Global, value: &Value) -> Result<Shape, CertError>
+    ensures { Gives (λ shape. shape) result (reads_shape (view value.now)) }
+{
+    let Some(name) = value.as_str() else {
+        return Err(fault(alloc, 2));
+    };
+    if name == "each" {
+        return Ok(Shape::Each);
+    }
+    if name == "sum" {
+        return Ok(Shape::Sum);
+    }
+    Err(fault(alloc, 2))
+}
+
+/// The member `shape`.
+pub(crate) fn shape_part(alloc: Global, value: &Value) -> Result<Shape, CertError>
+    ensures { Gives (λ shape. shape) result (part (codes "shape") SHAPE reads_shape (view value.now)) }
+{
+    match value.get("shape") {
+        Some(member) => match shape(alloc, member) {
+            Ok(found) => Ok(found),
+            Err(error) => Err(under(alloc, Step::Key(key::SHAPE), error)),
         },
         None => Err(fault(alloc, 2)),
     }

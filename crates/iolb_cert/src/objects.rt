@@ -132,11 +132,96 @@ pub(crate) fn front_object(
     Ok(Value::Object(members))
 }
 
+/// The members of a partition term from `matrix` on, the last first.
+fn partition_behind(
+    alloc: Global,
+    matrix: Value,
+    nest: Value,
+    q: u8,
+    shape: Value,
+    shown: Value,
+    statement: u16,
+    sums: Value,
+) -> Result<Map<String, Value>, AllocError>
+    ensures { IfOk result (λ members. members_view members.entries ≡
+        member (codes "matrix") (view matrix)
+        (member (codes "nest") (view nest)
+        (member (codes "q") (natural q)
+        (member (codes "shape") (view shape)
+        (member (codes "shown") (view shown)
+        (member (codes "statement") (natural statement)
+        (member (codes "sums") (view sums)
+        no_members))))))) }
+{
+    let mut members = Map::new(alloc);
+    put(&mut members, alloc, "sums", sums)?;
+    put(&mut members, alloc, "statement", Value::from(statement))?;
+    put(&mut members, alloc, "shown", shown)?;
+    put(&mut members, alloc, "shape", shape)?;
+    put(&mut members, alloc, "q", Value::from(q))?;
+    put(&mut members, alloc, "nest", nest)?;
+    put(&mut members, alloc, "matrix", matrix)?;
+    Ok(members)
+}
+
+/// A partition term.
+pub(crate) fn partition_object(
+    alloc: Global,
+    a: u8,
+    apart: Value,
+    b: u32,
+    credits: Value,
+    families: Value,
+    inside: Value,
+    inverse: Value,
+    matrix: Value,
+    nest: Value,
+    q: u8,
+    shape: Value,
+    shown: Value,
+    statement: u16,
+    sums: Value,
+) -> Result<Value, AllocError>
+    ensures { IfOk result (λ value. view value ≡ object
+        (member (codes "a") (natural a)
+        (member (codes "apart") (view apart)
+        (member (codes "b") (natural b)
+        (member (codes "credits") (view credits)
+        (member (codes "families") (view families)
+        (member (codes "inside") (view inside)
+        (member (codes "inverse") (view inverse)
+        (member (codes "matrix") (view matrix)
+        (member (codes "nest") (view nest)
+        (member (codes "q") (natural q)
+        (member (codes "shape") (view shape)
+        (member (codes "shown") (view shown)
+        (member (codes "statement") (natural statement)
+        (member (codes "sums") (view sums)
+        no_members))))))))))))))) }
+{
+    let mut members = partition_behind(alloc, matrix, nest, q, shape, shown, statement, sums)?;
+    put(&mut members, alloc, "inverse", inverse)?;
+    put(&mut members, alloc, "inside", inside)?;
+    put(&mut members, alloc, "families", families)?;
+    put(&mut members, alloc, "credits", credits)?;
+    put(&mut members, alloc, "b", Value::from(b))?;
+    put(&mut members, alloc, "apart", apart)?;
+    put(&mut members, alloc, "a", Value::from(a))?;
+    Ok(Value::Object(members))
+}
+
 /// A term that is a cold one.
 pub(crate) fn cold_term_object(alloc: Global, cold: Value) -> Result<Value, AllocError>
     ensures { IfOk result (λ value. view value ≡ object (member (codes "cold") (view cold) no_members)) }
 {
     json!(in alloc; {"cold": cold})
+}
+
+/// A term that is a partition term.
+pub(crate) fn partition_term_object(alloc: Global, partition: Value) -> Result<Value, AllocError>
+    ensures { IfOk result (λ value. view value ≡ object (member (codes "partition") (view partition) no_members)) }
+{
+    json!(in alloc; {"partition": partition})
 }
 
 /// A term that is a wavefront term.

@@ -9,10 +9,11 @@ ghost use Rattle.iolb_cert.specs.ColdTexts.{reads_cold_head, reads_cold_middle, 
 ghost use Rattle.iolb_cert.specs.Views.{head_of, middle_of};
 ghost use Rattle.iolb_cert.specs.Read.{IsCold};
 
-use crate::members::{inverse_part, nest_part, polynomials_part};
+use crate::members::inverse_part;
 use affine_form::{Form, Multipliers};
 use cert_parts::{
-    CertError, all_shown_part, fault, forms_part, has_keys, leaves_part, natural_part,
+    CertError, all_shown_part, fault, forms_part, has_keys, leaves_part, natural_part, nest_part,
+    polynomials_part,
 };
 use claims::key;
 use domain_count::{Nest, Sums};

@@ -10,11 +10,12 @@ ghost use Rattle.iolb_cert.specs.FrontTexts.{reads_front_head, reads_front_middl
 ghost use Rattle.iolb_cert.specs.Views.{front_head_of, front_middle_of, spots_of, IsRest};
 ghost use Rattle.iolb_cert.specs.Read.{IsFront};
 
-use crate::members::{
-    back_part, inverse_part, nest_part, polynomials_part, source_part, spot_part, way_part,
-};
+use crate::members::{back_part, inverse_part, source_part, spot_part, way_part};
 use affine_form::Multipliers;
-use cert_parts::{CertError, all_shown_part, fault, has_keys, leaves_part, natural_part};
+use cert_parts::{
+    CertError, all_shown_part, fault, has_keys, leaves_part, natural_part, nest_part,
+    polynomials_part,
+};
 use claims::key;
 use domain_count::{Nest, Sums};
 use poly_tree::Poly;

@@ -1,23 +1,27 @@
 //! The texts of terms.
 
 ghost use Rattle.std.specs.Prelude.{◌≡◌, codes, map};
-ghost use Rattle.claims.specs.declared.key.TheConstants.{COLD, WAVEFRONT};
+ghost use Rattle.claims.specs.declared.key.TheConstants.{COLD, PARTITION, WAVEFRONT};
 ghost use Rattle.serde_json.specs.View.{view};
+ghost use Rattle.k_partition.specs.View.{partition_of};
 ghost use Rattle.iolb_check.specs.Claims.{claim_of_cold, claim_of_front, claim_of_term};
 ghost use Rattle.cert_parts.specs.Outcome.{GivesBy};
 ghost use Rattle.cert_parts.specs.Json.{part};
 ghost use Rattle.cert_parts.specs.Read.{AreAll};
 ghost use Rattle.iolb_cert.specs.ColdTexts.{reads_cold};
 ghost use Rattle.iolb_cert.specs.FrontTexts.{reads_front};
-ghost use Rattle.iolb_cert.specs.Terms.{reads_cold_term, reads_front_term, reads_term, reads_terms};
-ghost use Rattle.iolb_cert.specs.Read.{IsCold, IsFront, IsTerm};
+ghost use Rattle.iolb_cert.specs.PartitionTexts.{reads_partition};
+ghost use Rattle.iolb_cert.specs.Terms.{reads_cold_term, reads_partition_term, reads_front_term, reads_term, reads_terms};
+ghost use Rattle.iolb_cert.specs.Read.{IsCold, IsPartition, IsFront, IsTerm};
 
 use crate::read_cold::cold;
 use crate::read_front::front;
+use crate::read_partition::partition;
 use cert_parts::{CertError, fault, has_keys, short_list, under};
 use claims::{Step, key};
 use iolb_check::Term;
 use iolb_model::limits;
+use k_partition::Partition;
 use serde_json::Value;
 use std::alloc::Global;
 use wavefront::{Cold, Wavefront};
@@ -42,6 +46,28 @@ fn cold_term(alloc: Global, value: &Value) -> Result<Term, CertError>
 {
     let found = cold_part(alloc, value)?;
     Ok(Term::Cold(found))
+}
+
+/// The member `partition`.
+fn partition_part(alloc: Global, value: &Value) -> Result<Partition, CertError>
+    ensures { GivesBy (λ said found. IsPartition said (partition_of found)) result (part (codes "partition") PARTITION reads_partition (view value.now)) }
+{
+    match value.get("partition") {
+        Some(member) => match partition(alloc, member) {
+            Ok(found) => Ok(found),
+            Err(error) => Err(under(alloc, Step::Key(key::PARTITION), error)),
+        },
+        None => Err(fault(alloc, 2)),
+    }
+}
+
+/// A partition term, behind its key.
+#[tactic(auto, unfolding(crate::specs::Terms::reads_partition_term))]
+fn partition_term(alloc: Global, value: &Value) -> Result<Term, CertError>
+    ensures { GivesBy (λ said found. IsTerm said (claim_of_term found)) result (reads_partition_term (view value.now)) }
+{
+    let found = partition_part(alloc, value)?;
+    Ok(Term::Partition(found))
 }
 
 /// The member `wavefront`.
@@ -73,10 +99,10 @@ fn term(alloc: Global, value: &Value) -> Result<Term, CertError>
 {
     if has_keys(value, &["cold"]) {
         cold_term(alloc, value)
+    } else if has_keys(value, &["partition"]) {
+        partition_term(alloc, value)
     } else if has_keys(value, &["wavefront"]) {
         front_term(alloc, value)
-    } else if has_keys(value, &["partition"]) {
-        Err(fault(alloc, 4))
     } else {
         Err(fault(alloc, 2))
     }

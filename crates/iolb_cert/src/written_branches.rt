@@ -9,9 +9,12 @@ ghost use Rattle.cert_written.specs.Parts.{list};
 ghost use Rattle.iolb_cert.specs.ReadBack.{TermIsRead, BranchIsRead, CertificateIsRead};
 ghost use Rattle.iolb_cert.specs.Written.{written_term, written_branch, written_of};
 
-use crate::objects::{branch_object, certificate_object, cold_term_object, front_term_object};
+use crate::objects::{
+    branch_object, certificate_object, cold_term_object, front_term_object, partition_term_object,
+};
 use crate::written_cold::cold;
 use crate::written_front::front;
+use crate::written_partition::partition;
 use affine_form::Memory;
 use cert_written::{all_multipliers, all_trees};
 use iolb_check::{Branch, Certificate, Term};
@@ -28,6 +31,10 @@ fn term(alloc: Global, term: &Term) -> Result<Value, Memory>
         Term::Cold(term) => {
             let cold = cold(alloc, term)?;
             Ok(cold_term_object(alloc, cold)?)
+        }
+        Term::Partition(term) => {
+            let partition = partition(alloc, term)?;
+            Ok(partition_term_object(alloc, partition)?)
         }
         Term::Wavefront(term) => {
             let front = front(alloc, term)?;

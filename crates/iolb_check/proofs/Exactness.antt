@@ -1,26 +1,53 @@
 -- A certificate isn't both accepted and refused, and gives one bound.
-use Rattle.std.proofs.Common.{◌≡◌, sym, ◌∙◌, ap, List, [], ◌∷◌, length}
+use Rattle.std.proofs.Common.{◌≡◌, sym, ◌∙◌, ap, List, [], ◌∷◌, length, arith}
 use Rattle.iolb_model.specs.Program.{AffineProgram}
 use Rattle.claims.proofs.Laws.{accepted-stand, refused-one}
 use Rattle.domain_count.proofs.Claimed.{right-claims-give-one, sums-same}
+use Rattle.k_partition.proofs.CreditSums.{total-same}
+use Rattle.k_partition.specs.declared.term.PartitionBound.{PartitionBound}
+use Rattle.k_partition.specs.PartitionClaims.{no_points}
+use Rattle.k_partition.specs.Term.{PartitionTerm}
 use Rattle.poly_tree.specs.Poly.{Quotient}
 use Rattle.wavefront.specs.FrontTerm.{outer_nest}
-use Rattle.iolb_check.specs.Claims.{TermClaim, cold, front, cold_term, front_term, BranchClaim}
+use Rattle.iolb_check.specs.Claims.{TermClaim, cold, partition, front, cold_term, front_term, BranchClaim}
 use Rattle.iolb_check.specs.declared.bound.Value.{Value}
 use Rattle.iolb_check.specs.declared.bound.Value.TheVariants as values
-use Rattle.iolb_check.specs.Conditions.{conditions, IsValueOf, AreValuesOf, AreBranchValues}
+use Rattle.iolb_check.specs.Conditions.{conditions, IsPartitionValue, IsValueOf, AreValuesOf, AreBranchValues}
 use Rattle.iolb_check.specs.Exact.{RefusalsAreOne, ValidCertificatesGiveOne, ValidCertificatesStand}
 
 cons-same : {X : Type 0} {x y : X} {xs ys : List X} → x ≡ y → xs ≡ ys → x ∷ xs ≡ y ∷ ys
 cons-same {X} {x} {y} {xs} {ys} e f = ap (λ z. z ∷ xs) e ∙ ap (λ zs. y ∷ zs) f
 
+-- two bounds of a partition term are one
+bound-same : (program : AffineProgram) (term : PartitionTerm) (one other : PartitionBound) → IsPartitionValue program term one → IsPartitionValue program term other → one ≡ other
+bound-same program term one other h g =
+    let count : one.count ≡ other.count = right-claims-give-one program term.nest term.count one.count other.count h.count g.count in
+    let credits : one.credits ≡ other.credits =
+        total-same (length program.parameters) no_points term.credits one.credits other.credits (omega arith) h.credits g.credits in
+    let a : one.a ≡ other.a = h.numbers.a ∙ sym g.numbers.a in
+    let b : one.b ≡ other.b = h.numbers.b ∙ sym g.numbers.b in
+    let q : one.q ≡ other.q = h.numbers.q ∙ sym g.numbers.q in
+    let m : one.m ≡ other.m = h.numbers.m ∙ sym g.numbers.m in
+    let num : one.num ≡ other.num = h.numbers.num ∙ sym g.numbers.num in
+    let den : one.den ≡ other.den = h.numbers.den ∙ sym g.numbers.den in
+    λ i. record { count = count i; credits = credits i; a = a i; b = b i; q = q i; m = m i; num = num i; den = den i }
+
 value-same : (program : AffineProgram) (term : TermClaim) (one other : Value) → IsValueOf program term one → IsValueOf program term other → one ≡ other
 value-same program (cold claim sums) (values.Cold one) (values.Cold other) h g =
     ap values.Cold (right-claims-give-one program claim.nest (cold_term claim sums).count one other h g)
+value-same program (cold claim sums) (values.Cold one) (values.Partition bound) h g = absurd g
 value-same program (cold claim sums) (values.Cold one) (values.Wavefront pairs outer) h g = absurd g
+value-same program (cold claim sums) (values.Partition bound) other h g = absurd h
 value-same program (cold claim sums) (values.Wavefront pairs outer) other h g = absurd h
+value-same program (partition term) (values.Cold one) other h g = absurd h
+value-same program (partition term) (values.Partition one) (values.Cold other) h g = absurd g
+value-same program (partition term) (values.Partition one) (values.Partition other) h g = ap values.Partition (bound-same program term one other h g)
+value-same program (partition term) (values.Partition one) (values.Wavefront pairs outer) h g = absurd g
+value-same program (partition term) (values.Wavefront pairs outer) other h g = absurd h
 value-same program (front claim sums outer_sums) (values.Cold one) other h g = absurd h
+value-same program (front claim sums outer_sums) (values.Partition bound) other h g = absurd h
 value-same program (front claim sums outer_sums) (values.Wavefront pairs outer) (values.Cold other) h g = absurd g
+value-same program (front claim sums outer_sums) (values.Wavefront pairs outer) (values.Partition other) h g = absurd g
 value-same program (front claim sums outer_sums) (values.Wavefront pairs outer) (values.Wavefront others more) h g =
     ap (λ (p : Quotient). values.Wavefront p outer) (right-claims-give-one program claim.nest (front_term claim sums outer_sums).count pairs others h.0 g.0)
     ∙ ap (values.Wavefront others) (sums-same (length program.parameters) (outer_nest (front_term claim sums outer_sums)) outer_sums outer more h.1 g.1)

@@ -33,13 +33,13 @@ use Rattle.wavefront.specs.FrontTerm.{WavefrontTerm, user_read}
 use Rattle.wavefront.specs.View.{front_of}
 use Rattle.part_fit.specs.EntryFit.{entry_at}
 use Rattle.part_fit.specs.Limits.{IsSmallReach, IsSmallSpot, IsSmallWay}
-use Rattle.part_fit.specs.PartFit.{bounds_fit}
+use Rattle.part_fit.specs.PartFit.{bounds_fit, polynomials_fit}
 use Rattle.part_fit.specs.TreeFit.{trees_fit}
 use Rattle.part_fit.specs.WalkFit.{spot_fit}
 use Rattle.part_fit.proofs.ReadTrees.{open-many, none, bounds-fit, columns-many, tree-of, leaves-many}
 use Rattle.part_fit.proofs.WalkParts.{spot-fits, reach-fits}
 use Rattle.iolb_check.specs.Fit.{FrontTermFits}
-use Rattle.iolb_check.specs.FrontFit.{way_fit, back_fit, edge_fit, words_fit, outer_fit, reach_fit, source_way, read_fit, source_fit, polynomials_fit, inside_count, word_count, front_fit}
+use Rattle.iolb_check.specs.FrontFit.{way_fit, back_fit, edge_fit, words_fit, outer_fit, reach_fit, source_way, read_fit, source_fit, inside_count, word_count, front_fit}
 use Rattle.iolb_check.specs.Limits.{IsSmallFront}
 
 -- the rows of values within bounds: two for each loop
@@ -116,7 +116,7 @@ module _ (program : ProgramParts) (trees : List (List SelectionTree)) (fit : All
       let way : List Claim = reach_fit P trees place term in
       let read : List Claim = read_fit P place term in
       let source : List Claim = source_fit P place term term.source in
-      let sums : List Claim = polynomials_fit P (place ++ Key SUMS ∷ []) term.count.sums (length term.nest) in
+      let sums : List Claim = polynomials_fit (length P.parameters) (place ++ Key SUMS ∷ []) term.count.sums (length term.nest) in
       let user : List Claim = spot_fit P vars (place ++ Key USER ∷ []) term.user in
       let vertex : List Claim = spot_fit P vars (place ++ Key VERTEX ∷ []) term.vertex in
       let first : List Claim = back ++ (edge ++ words) in

@@ -6,7 +6,7 @@ use Rattle.std.proofs.lemmas.List.{length-map}
 use Rattle.iolb_model.specs.Program.{AffineProgram}
 use Rattle.claims.specs.declared.place.Step.{Step}
 use Rattle.claims.specs.declared.place.Step.TheVariants.{Key, Index}
-use Rattle.claims.specs.declared.key.TheConstants.{BRANCHES, COLD, NEST, POINT, QUASTS, SUMS, TERMS, WAVEFRONT}
+use Rattle.claims.specs.declared.key.TheConstants.{BRANCHES, COLD, NEST, PARTITION, POINT, QUASTS, SUMS, TERMS, WAVEFRONT}
 use Rattle.affine_form.specs.Rows.{BoundsFit}
 use Rattle.affine_program.specs.Parts.{ProgramParts, IsProgram, meaning}
 use Rattle.dep_quast.specs.Context.{ReadOf, reference_of}
@@ -33,6 +33,7 @@ use Rattle.claims.proofs.Laws.{AllHold-left, AllHold-right}
 use Rattle.part_fit.proofs.ReadTrees.{open-many, none, bounds-fit, columns-many, tree-of, leaves-many}
 use Rattle.part_fit.proofs.TreeParts.{forms-over, rows-fit}
 use Rattle.iolb_check.proofs.FitFronts.{front-fits}
+use Rattle.iolb_check.proofs.FitPartitions.{partition-fits}
 
 -- ---- terms
 
@@ -90,6 +91,12 @@ module _ (program : ProgramParts) (trees : List (List SelectionTree)) (fit : All
       let here : List Claim = term_at (meaning program) trees place index (claim_of_term (terms.Cold cold)) in
       let rest : List Claim = numbered (term_at (meaning program) trees place) (suc index) (map claim_of_term ts) in
       (cold-fits (place ++ Index index ∷ [] ++ Key COLD ∷ []) cold small.0 (AllHold-left here rest h), terms-fit place (suc index) ts small.1 (AllHold-right here rest h))
+  terms-fit place index (terms.Partition partition ∷ ts) small h =
+      let here : List Claim = term_at (meaning program) trees place index (claim_of_term (terms.Partition partition)) in
+      let rest : List Claim = numbered (term_at (meaning program) trees place) (suc index) (map claim_of_term ts) in (
+        partition-fits program trees fit rows (place ++ Index index ∷ [] ++ Key PARTITION ∷ []) partition small.0 (AllHold-left here rest h),
+        terms-fit place (suc index) ts small.1 (AllHold-right here rest h),
+      )
   terms-fit place index (terms.Wavefront front ∷ ts) small h =
       let here : List Claim = term_at (meaning program) trees place index (claim_of_term (terms.Wavefront front)) in
       let rest : List Claim = numbered (term_at (meaning program) trees place) (suc index) (map claim_of_term ts) in (

@@ -4,3 +4,6 @@ pub mod Exactness
 pub mod FitParts
 pub mod PiecesOf
 pub mod FitFronts
+pub mod FamilyTargets
+pub mod GreatestUpTo
+pub mod FitPartitions

@@ -22,6 +22,9 @@ use Rattle.reuse_paths.specs.Quasts.{tree_at, tree_for}
 use Rattle.reuse_paths.specs.Walks.{SpotForms}
 use Rattle.dep_quast.specs.Truth.{ReadFits}
 use Rattle.reuse_paths.proofs.PairCounts.{targets_of}
+use Rattle.iolb_check.specs.Awaited.{partition_pieces}
+use Rattle.k_partition.specs.Term.{PartitionTerm, credited_nests}
+use Rattle.k_partition.specs.View.{partition_of}
 use Rattle.wavefront.specs.declared.cold.Cold.{Cold as ColdOf}
 use Rattle.wavefront.specs.ColdClaims.{cold_claims, instance_claims, matrix_claims}
 use Rattle.wavefront.specs.ColdPieces.{stop_pieces, leaves_of, cold_pieces, LeavesAreFew}
@@ -30,13 +33,14 @@ use Rattle.wavefront.specs.Term.{ColdTerm, nest_variables, nest_system, instance
 use Rattle.wavefront.specs.FrontPieces.{front_pieces, front_target}
 use Rattle.wavefront.specs.FrontTerm.{WavefrontTerm, user_read}
 use Rattle.wavefront.specs.View.{front_of, term_of}
-use Rattle.wavefront.proofs.PiecesCover.{few-from}
 use Rattle.iolb_check.specs.declared.term.Term.{Term}
 use Rattle.iolb_check.specs.declared.term.Term.TheVariants as terms
 use Rattle.iolb_check.specs.Claims.{claim_of_term}
 use Rattle.iolb_check.specs.Conditions.{branch_pieces, term_claims_at}
 use Rattle.iolb_check.specs.Fit.{ColdTermFits, TermFits, HasPieces}
-use Rattle.iolb_check.specs.PairFit.{front_targets, leaf_targets, stop_targets, targets_if, cold_targets, term_targets}
+use Rattle.iolb_check.specs.FamilyTargets.{leaf_targets, partition_targets}
+use Rattle.iolb_check.proofs.FamilyTargets.{all-told}
+use Rattle.iolb_check.specs.PairFit.{front_targets, stop_targets, targets_if, cold_targets, term_targets}
 
 -- ---- targets that are told
 
@@ -92,10 +96,6 @@ module _ (program : ProgramParts) (trees : List (List SelectionTree)) (place : L
         (AllHold-left (inside_claims P place term ++ term_leaves P place (tree_for trees term.reader) term) (matrix_claims P place term)
         (AllHold-right (count_claims P term.nest term.count place) (instance_claims P place (tree_for trees term.reader) term) hold))
 
-    are-few : LeavesAreFew (meaning program) (tree_for trees (term_of cold).reader) (term_of cold)
-    are-few = few-from (meaning program) (term_of cold) (place ++ Key LEAVES ∷ []) 0 (leaves_of (meaning program) (tree_for trees (term_of cold).reader) (term_of cold)) (term_of cold).leaves
-        (omega (arith, fits.fits.leaves)) at-leaves
-
     cold-told : targets_of (cold_pieces (meaning program) (tree_for trees (term_of cold).reader) (term_of cold)) ≡ cold_targets (meaning program) trees (term_of cold)
     cold-told =
         let P : AffineProgram = meaning program in
@@ -128,29 +128,28 @@ module _ (program : ProgramParts) (trees : List (List SelectionTree)) (list : Li
   abbrev pub place-of : ℕ → List Step
   place-of index = (list ++ Index index ∷ []) ++ Key COLD ∷ []
 
-  pub have-pieces : (index : ℕ) (ts : List Term) → AllByRecursion (TermFits program trees) ts → AllHold (numbered (term_claims_at (meaning program) trees list) index (map claim_of_term ts))
-      → AllByRecursion (HasPieces program trees) ts
-  have-pieces index [] fits hold = tt
-  have-pieces index (terms.Cold cold ∷ ts) fits hold =
-      let here : List Claim = term_claims_at (meaning program) trees list index (claim_of_term (terms.Cold cold)) in
-      let rest : List Claim = claims-from (suc index) ts in
-      ((fits.0, are-few program trees (place-of index) cold fits.0 (AllHold-left here rest hold)), have-pieces (suc index) ts fits.1 (AllHold-right here rest hold))
-  have-pieces index (terms.Wavefront front ∷ ts) fits hold =
-      (fits.0.fits.parts, have-pieces (suc index) ts fits.1 (AllHold-right (term_claims_at (meaning program) trees list index (claim_of_term (terms.Wavefront front))) (claims-from (suc index) ts) hold))
-
-  pub pieces-told : (index : ℕ) (ts : List Term) → AllByRecursion (TermFits program trees) ts → AllHold (numbered (term_claims_at (meaning program) trees list) index (map claim_of_term ts))
+  pub pieces-told : (index : ℕ) (ts : List Term) → AllByRecursion (TermFits program trees) ts → AllByRecursion (HasPieces program trees) ts
+      → AllHold (numbered (term_claims_at (meaning program) trees list) index (map claim_of_term ts))
       → map targets_of (branch_pieces (meaning program) trees (map claim_of_term ts)) ≡ map (term_targets (meaning program) trees) (map claim_of_term ts)
-  pieces-told index [] fits hold = refl
-  pieces-told index (terms.Cold cold ∷ ts) fits hold =
+  pieces-told index [] fits pieces hold = refl
+  pieces-told index (terms.Cold cold ∷ ts) fits pieces hold =
       let here : List Claim = term_claims_at (meaning program) trees list index (claim_of_term (terms.Cold cold)) in
       let rest : List Claim = claims-from (suc index) ts in
       cons-same (targets_of (cold_pieces (meaning program) (tree_for trees (term_of cold).reader) (term_of cold))) (cold_targets (meaning program) trees (term_of cold))
       (map targets_of (branch_pieces (meaning program) trees (map claim_of_term ts))) (map (term_targets (meaning program) trees) (map claim_of_term ts))
-      (cold-told program trees (place-of index) cold fits.0 (AllHold-left here rest hold)) (pieces-told (suc index) ts fits.1 (AllHold-right here rest hold))
-  pieces-told index (terms.Wavefront front ∷ ts) fits hold =
+      (cold-told program trees (place-of index) cold fits.0 (AllHold-left here rest hold)) (pieces-told (suc index) ts fits.1 pieces.1 (AllHold-right here rest hold))
+  pieces-told index (terms.Partition partition ∷ ts) fits pieces hold =
+      let P : AffineProgram = meaning program in
+      let term : PartitionTerm = partition_of partition in
+      cons-same (targets_of (partition_pieces P trees term)) (partition_targets P trees term)
+      (map targets_of (branch_pieces P trees (map claim_of_term ts))) (map (term_targets P trees) (map claim_of_term ts))
+      (all-told P trees term.statement term.nest term.matrix (credited_nests term) term.families pieces.0.0.fits.families)
+      (pieces-told (suc index) ts fits.1 pieces.1
+      (AllHold-right (term_claims_at P trees list index (claim_of_term (terms.Partition partition))) (claims-from (suc index) ts) hold))
+  pieces-told index (terms.Wavefront front ∷ ts) fits pieces hold =
       let P : AffineProgram = meaning program in
       let term : WavefrontTerm = front_of front in
       cons-same (targets_of (front_pieces P term)) (front_targets P term term.source)
       (map targets_of (branch_pieces P trees (map claim_of_term ts))) (map (term_targets P trees) (map claim_of_term ts))
       (front-told P term term.source fits.0.fits.parts.read)
-      (pieces-told (suc index) ts fits.1 (AllHold-right (term_claims_at P trees list index (claim_of_term (terms.Wavefront front))) (claims-from (suc index) ts) hold))
+      (pieces-told (suc index) ts fits.1 pieces.1 (AllHold-right (term_claims_at P trees list index (claim_of_term (terms.Wavefront front))) (claims-from (suc index) ts) hold))

@@ -1,16 +1,17 @@
 -- Bounds as the checker makes them, and their values at numbers for the parameters.
-use Rattle.std.specs.Prelude.{◌≡◌, ℕ, ◌*◌, ◌≤◌, ◌⊎◌, ℤ, pos, ◌*ℤ◌, List, [], ◌∷◌, map, length, slice_get, Some, Result, Ok, Err, Vec, max, fold}
+use Rattle.std.specs.Prelude.{◌≡◌, ℕ, ◌-◌, ◌*◌, ◌/◌, ◌^◌, ◌≤◌, ◌⊎◌, ℤ, pos, ◌*ℤ◌, List, [], ◌∷◌, map, length, slice_get, Some, Result, Ok, Err, Vec, max, fold}
 use Rattle.std.specs.Global.{Global}
 use Rattle.std.specs.List.{AllByRecursion}
 use Rattle.iolb_model.specs.Form.{AffineForm}
-use Rattle.iolb_model.specs.Bound.{AreMet, Bound, BoundTerm, cold, wavefront, branch_value, count_value}
+use Rattle.iolb_model.specs.Bound.{AreMet, Bound, BoundTerm, cold, wavefront, partition, StretchNumbers, branch_value, count_value, events_of, labels_of, points_of}
 use Rattle.affine_form.specs.System.{AffineSystem}
 use Rattle.affine_program.specs.Assumptions.{IsFirstUnmet}
+use Rattle.k_partition.specs.declared.term.PartitionBound.{PartitionBound}
 use Rattle.poly_tree.specs.Expansion.{IsCanonical, at, size_at}
 use Rattle.poly_tree.specs.Poly.{Quotient, numerator_at}
 use Rattle.poly_tree.specs.Printed.{polynomial_of}
 use Rattle.iolb_check.specs.declared.bound.Value.{Value}
-use Rattle.iolb_check.specs.declared.bound.Value.TheVariants.{Cold, Wavefront}
+use Rattle.iolb_check.specs.declared.bound.Value.TheVariants.{Cold, Partition, Wavefront}
 use Rattle.iolb_check.specs.declared.value_fault.ValueFault.{ValueFault}
 use Rattle.iolb_check.specs.declared.value_fault.ValueFault.TheVariants.{OutsideAssumption, Wide}
 use Rattle.iolb_model.specs.declared.limits.TheConstants.{MEASURE}
@@ -20,9 +21,14 @@ pub record BoundParts : Type 0 where
   pub assumed : AffineSystem
   pub branches : List (List Value)
 
+-- the numbers of a partition term's stretches
+abbrev pub numbers_of : PartitionBound → StretchNumbers
+numbers_of bound = record { a = bound.a; b = bound.b; q = bound.q; m = bound.m; num = bound.num; den = bound.den }
+
 -- the term of a bound that a value is
 abbrev pub term_of : Value → BoundTerm
 term_of (Cold count) = cold (polynomial_of count)
+term_of (Partition bound) = partition (polynomial_of bound.count) (polynomial_of bound.credits) (numbers_of bound)
 term_of (Wavefront pairs outer) = wavefront (polynomial_of pairs) (polynomial_of outer)
 
 abbrev pub terms_of : List Value → List BoundTerm
@@ -43,8 +49,16 @@ pub record IsCounting (assumed : AffineSystem) (polynomial : Quotient) : Type 0 
   pub whole : (values : List ℤ) → length values ≡ assumed.vars → AreMet assumed.rows values
       → (n : ℕ) × (numerator_at polynomial values ≡ pos n *ℤ pos polynomial.denominator)
 
+-- the polynomials of a partition term's bound count something, and there is a greatest number of points of a stretch
+pub record IsStretching (assumed : AffineSystem) (bound : PartitionBound) : Type 0 where
+  pub count : IsCounting assumed bound.count
+  pub credits : IsCounting assumed bound.credits
+  pub some_q : 1 ≤ bound.q
+  pub some_den : 1 ≤ bound.den
+
 abbrev pub IsTermValue : AffineSystem → Value → Type 0
 IsTermValue assumed (Cold count) = IsCounting assumed count
+IsTermValue assumed (Partition bound) = IsStretching assumed bound
 IsTermValue assumed (Wavefront pairs outer) = IsCounting assumed pairs × IsCounting assumed outer
 
 -- what holds of each bound: its terms' polynomials count something
@@ -61,9 +75,23 @@ IsWideAt sizes polynomial = MEASURE ≤ size_at polynomial.tree (at sizes)
 abbrev pub IsWideTimes : List ℤ → ℕ → Quotient → Type 0
 IsWideTimes sizes s polynomial = MEASURE ≤ s * count_value (polynomial_of polynomial) sizes
 
+-- the labels of a stretch, to the power of the weights, reach 2^127
+abbrev pub AreWideLabels : ℕ → StretchNumbers → Type 0
+AreWideLabels s numbers = 2 ^ 127 ≤ labels_of numbers s
+
+-- the events of so many stretches as the points fill, but for the last, reach 2^126
+abbrev pub AreWideEvents : List ℤ → ℕ → Quotient → StretchNumbers → Type 0
+AreWideEvents sizes s count numbers = MEASURE ≤ events_of numbers s * ((count_value (polynomial_of count) sizes - 1) / points_of numbers s)
+
+-- one of a partition term's polynomials is wide, or the labels of a stretch, or the events of all stretches
+abbrev pub IsWidePartition : List ℤ → ℕ → PartitionBound → Type 0
+IsWidePartition sizes s bound =
+    IsWideAt sizes bound.count ⊎ (IsWideAt sizes bound.credits ⊎ (AreWideLabels s (numbers_of bound) ⊎ AreWideEvents sizes s bound.count (numbers_of bound)))
+
 -- one of a term's polynomials is wide, or what may be red for a wavefront term's vertices
 abbrev pub IsWideTerm : List ℤ → ℕ → Value → Type 0
 IsWideTerm sizes s (Cold count) = IsWideAt sizes count
+IsWideTerm sizes s (Partition bound) = IsWidePartition sizes s bound
 IsWideTerm sizes s (Wavefront pairs outer) = IsWideAt sizes pairs ⊎ (IsWideAt sizes outer ⊎ IsWideTimes sizes s outer)
 
 -- one of the terms is wide

@@ -5,6 +5,8 @@ use Rattle.affine_form.specs.Matrix.{IntegerMatrix}
 use Rattle.affine_form.specs.Multipliers.{FarkasMultipliers}
 use Rattle.poly_tree.specs.Poly.{Quotient}
 use Rattle.dep_quast.specs.Tree.{SelectionTree}
+use Rattle.k_partition.specs.Term.{PartitionTerm}
+use Rattle.k_partition.specs.View.{partition_of}
 use Rattle.reuse_paths.specs.LeafClaims.{LeafClaim, claim_of}
 use Rattle.reuse_paths.specs.Quasts.{trees_of}
 use Rattle.reuse_paths.specs.Walks.{SpotForms, ReachClaim, spot_of, reach_of}
@@ -48,6 +50,7 @@ pub record FrontClaim : Type 0 where
 -- what a term claims, with its polynomials: those of a wavefront term's points, and those of its outer variables'
 pub data TermClaim : Type 0 where
   cold : ColdClaim → List Quotient → TermClaim
+  partition : PartitionTerm → TermClaim
   front : FrontClaim → List Quotient → List Quotient → TermClaim
 
 -- a cold term of these claims with these polynomials
@@ -125,6 +128,7 @@ claim_of_front term = record {
 
 abbrev pub claim_of_term : Term → TermClaim
 claim_of_term (terms.Cold term) = cold (claim_of_cold term) term.sums.sums
+claim_of_term (terms.Partition term) = partition (partition_of term)
 claim_of_term (terms.Wavefront term) = front (claim_of_front term) term.sums.sums term.outer_sums.items
 
 abbrev pub claim_of_branch : Branch → BranchClaim

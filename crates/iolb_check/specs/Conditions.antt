@@ -6,11 +6,16 @@ use Rattle.iolb_model.specs.Program.{AffineProgram}
 use Rattle.claims.specs.Claims.{Claim, AllHold, numbered}
 use Rattle.claims.specs.declared.place.Step.{Step}
 use Rattle.claims.specs.declared.place.Step.TheVariants.{Key, Index}
-use Rattle.claims.specs.declared.key.TheConstants.{BRANCHES, COLD, DISJOINT, TERMS, WAVEFRONT}
+use Rattle.claims.specs.declared.key.TheConstants.{BRANCHES, COLD, DISJOINT, PARTITION, TERMS, WAVEFRONT}
 use Rattle.affine_program.specs.Parts.{ProgramParts, meaning}
 use Rattle.dep_quast.specs.Claims.{pointless_claims}
 use Rattle.dep_quast.specs.Tree.{SelectionTree}
 use Rattle.domain_count.specs.Count.{IsCount, IsSumFrom}
+use Rattle.k_partition.specs.declared.term.PartitionBound.{PartitionBound}
+use Rattle.k_partition.specs.Numbers.{HasNumbers}
+use Rattle.k_partition.specs.PartitionClaims.{IsCreditsTotal, no_points, partition_claims}
+use Rattle.iolb_check.specs.Awaited.{partition_pieces}
+use Rattle.k_partition.specs.Term.{PartitionTerm}
 use Rattle.reuse_paths.specs.DisjointClaims.{pairwise_systems}
 use Rattle.reuse_paths.specs.Pieces.{FootprintPiece, AreCovered}
 use Rattle.reuse_paths.specs.Quasts.{tree_for}
@@ -20,7 +25,7 @@ use Rattle.wavefront.specs.ColdPieces.{cold_pieces}
 use Rattle.wavefront.specs.FrontClaims.{front_claims}
 use Rattle.wavefront.specs.FrontPieces.{front_pieces}
 use Rattle.wavefront.specs.FrontTerm.{outer_nest}
-use Rattle.iolb_check.specs.Claims.{TermClaim, cold, front, cold_term, front_term, BranchClaim, CertificateClaim}
+use Rattle.iolb_check.specs.Claims.{TermClaim, cold, partition, front, cold_term, front_term, BranchClaim, CertificateClaim}
 use Rattle.iolb_check.specs.TermFit.{certificate_fit}
 use Rattle.iolb_check.specs.declared.bound.Value.{Value}
 use Rattle.iolb_check.specs.declared.bound.Value.TheVariants as values
@@ -28,11 +33,12 @@ use Rattle.iolb_check.specs.Bounds.{IsTermValue, term_of, terms_of}
 
 -- ---- claims
 
--- what a term at a place claims: a cold term over the source tree of its read (conditions 2, and 8 to 12), a wavefront term
--- over all source trees (conditions 2, 8 to 10, 12, and 19 to 22)
+-- what a term at a place claims: a cold term over the source tree of its read (conditions 2, and 8 to 12), a partition term
+-- over all source trees (conditions 2, 8 to 10, and 13 to 18), and so a wavefront term (conditions 2, 8 to 10, 12, and 19 to 22)
 abbrev pub term_claims : AffineProgram → List (List SelectionTree) → List Step → TermClaim → List Claim
 term_claims program trees place (cold claim sums) =
     cold_claims program (place ++ Key COLD ∷ []) (tree_for trees (cold_term claim sums).reader) (cold_term claim sums)
+term_claims program trees place (partition term) = partition_claims program trees (place ++ Key PARTITION ∷ []) term
 term_claims program trees place (front claim sums outer_sums) = front_claims program (place ++ Key WAVEFRONT ∷ []) trees (front_term claim sums outer_sums)
 
 -- what the terms in a list at a place claim, each at its index
@@ -49,6 +55,7 @@ terms_place branch = Key BRANCHES ∷ Index branch ∷ Key TERMS ∷ []
 -- the pieces of a term's footprint, and those of each of a branch's terms
 abbrev pub term_pieces : AffineProgram → List (List SelectionTree) → TermClaim → List FootprintPiece
 term_pieces program trees (cold claim sums) = cold_pieces program (tree_for trees (cold_term claim sums).reader) (cold_term claim sums)
+term_pieces program trees (partition term) = partition_pieces program trees term
 term_pieces program trees (front claim sums outer_sums) = front_pieces program (front_term claim sums outer_sums)
 
 abbrev pub branch_pieces : AffineProgram → List (List SelectionTree) → List TermClaim → List (List FootprintPiece)
@@ -68,18 +75,29 @@ abbrev pub branch_claims : AffineProgram → List (List SelectionTree) → ℕ �
 branch_claims program trees number branch = terms_claims program trees (terms_place number) branch.terms ++ disjoint_claims program trees number branch
 
 -- All conditions: that the certificate fits the program (1), what its source trees claim (2 to 7), and what its branches
--- claim (2, 8 to 12, and 19 to 23).
+-- claim (2, and 8 to 23).
 abbrev pub conditions : AffineProgram → CertificateClaim → List Claim
 conditions program certificate =
     certificate_fit program certificate ++ rows_claims program 0 certificate.trees ++ numbered (branch_claims program certificate.trees) 0 certificate.branches
 
 -- ---- values
 
+-- A partition term's value has the count that its sums give, the sum of its credits' counts, and the numbers of its stretches.
+pub record IsPartitionValue (program : AffineProgram) (term : PartitionTerm) (bound : PartitionBound) : Type 0 where
+  pub count : IsCount program term.nest term.count bound.count
+  pub credits : IsCreditsTotal (length program.parameters) no_points term.credits bound.credits
+  pub numbers : HasNumbers term bound
+
 -- this is a term's value: the count that its sums give, and for a wavefront term also that of its outer variables
 abbrev pub IsValueOf : AffineProgram → TermClaim → Value → Type 0
 IsValueOf program (cold claim sums) (values.Cold count) = IsCount program claim.nest (cold_term claim sums).count count
+IsValueOf program (cold claim sums) (values.Partition bound) = ⊥
 IsValueOf program (cold claim sums) (values.Wavefront pairs outer) = ⊥
+IsValueOf program (partition term) (values.Cold count) = ⊥
+IsValueOf program (partition term) (values.Partition bound) = IsPartitionValue program term bound
+IsValueOf program (partition term) (values.Wavefront pairs outer) = ⊥
 IsValueOf program (front claim sums outer_sums) (values.Cold count) = ⊥
+IsValueOf program (front claim sums outer_sums) (values.Partition bound) = ⊥
 IsValueOf program (front claim sums outer_sums) (values.Wavefront pairs outer) =
     IsCount program claim.nest (front_term claim sums outer_sums).count pairs
     × IsSumFrom (length program.parameters) (outer_nest (front_term claim sums outer_sums)) outer_sums outer

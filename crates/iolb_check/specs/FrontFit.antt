@@ -10,7 +10,6 @@ use Rattle.claims.specs.declared.key.TheConstants.{BACK, EDGE, INSIDE, INVERSE, 
 use Rattle.affine_program.specs.Domain.{depth_of}
 use Rattle.dep_quast.specs.Context.{reference_of}
 use Rattle.dep_quast.specs.Tree.{SelectionTree}
-use Rattle.poly_tree.specs.Poly.{Quotient}
 use Rattle.reuse_paths.specs.ReachClaims.{setting_of}
 use Rattle.reuse_paths.specs.Walks.{SpotForms, ReachClaim}
 use Rattle.wavefront.specs.FrontClaims.{front_variables}
@@ -18,7 +17,7 @@ use Rattle.wavefront.specs.FrontFits.{source_depth}
 use Rattle.wavefront.specs.FrontTerm.{WavefrontTerm, user_read}
 use Rattle.part_fit.specs.EntryFit.{entries_fit, leaf_names}
 use Rattle.part_fit.specs.FitClaims.{so_many, names}
-use Rattle.part_fit.specs.PartFit.{bounds_fit, matrix_fit, shown_fit, sums_fit}
+use Rattle.part_fit.specs.PartFit.{bounds_fit, matrix_fit, polynomials_fit, shown_fit}
 use Rattle.part_fit.specs.WalkFit.{fit_in, spot_fit}
 
 -- ---- the ways
@@ -76,14 +75,10 @@ source_fit program place term (Some spot) = spot_fit program (front_variables pr
 
 -- ---- the counts
 
--- so many polynomials in a list at a key
-abbrev pub polynomials_fit : AffineProgram → List Step → List Quotient → ℕ → List Claim
-polynomials_fit program place sums called = so_many place (length sums) called ∷ sums_fit (suc (length program.parameters)) place sums
-
 -- the outer variables are among the nest's
 abbrev pub outer_fit : AffineProgram → List Step → WavefrontTerm → List Claim
 outer_fit program place term =
-    names (place ++ Key OUTER ∷ []) term.outer (suc (length term.nest)) ∷ polynomials_fit program (place ++ Key OUTER_SUMS ∷ []) term.outer_sums term.outer
+    names (place ++ Key OUTER ∷ []) term.outer (suc (length term.nest)) ∷ polynomials_fit (length program.parameters) (place ++ Key OUTER_SUMS ∷ []) term.outer_sums term.outer
 
 -- ---- all
 
@@ -99,7 +94,7 @@ nest_fit program trees place term =
 -- the read, the word's instance, and the count
 abbrev pub count_fit : AffineProgram → List Step → WavefrontTerm → List Claim
 count_fit program place term =
-    read_fit program place term ++ (source_fit program place term term.source ++ polynomials_fit program (place ++ Key SUMS ∷ []) term.count.sums (length term.nest))
+    read_fit program place term ++ (source_fit program place term term.source ++ polynomials_fit (length program.parameters) (place ++ Key SUMS ∷ []) term.count.sums (length term.nest))
 
 -- the user and the vertex
 abbrev pub spots_fit : AffineProgram → List Step → WavefrontTerm → List Claim

@@ -1,9 +1,12 @@
+pub mod Awaited
 pub mod Bounds
 pub mod Conditions
 pub mod Exact
 pub mod Claims
 pub mod Limits
+pub mod FamilyTargets
 pub mod PairFit
 pub mod FrontFit
+pub mod PartitionFit
 pub mod TermFit
 pub mod Fit

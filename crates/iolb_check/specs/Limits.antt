@@ -1,17 +1,22 @@
 -- The limits of certificates, beside those of their parts.
-use Rattle.std.specs.Prelude.{◌≤◌, List, length, map, option_map}
+use Rattle.std.specs.Prelude.{◌+◌, ◌≤◌, List, length, map, option_map}
 use Rattle.std.specs.List.{AllByRecursion}
 use Rattle.dep_quast.specs.Tree.{tree_of}
+use Rattle.k_partition.specs.declared.term.Partition.{Partition}
+use Rattle.k_partition.specs.TermLoads.{weight_of}
+use Rattle.k_partition.specs.View.{partition_of}
+use Rattle.reuse_paths.specs.declared.family.Credit.{Credit}
+use Rattle.reuse_paths.specs.Families.{family_of}
 use Rattle.reuse_paths.specs.LeafClaims.{claim_of}
 use Rattle.reuse_paths.specs.declared.quasts.Quasts.{Quasts}
 use Rattle.reuse_paths.specs.Walks.{spot_of, reach_of}
-use Rattle.part_fit.specs.Limits.{AreSmall, AreSmallBounds, NameRows, IsSmallPolynomial, IsSmallTree, IsSmallEntry, IsSmallReach, IsSmallSpot, IsSmallWay}
+use Rattle.part_fit.specs.Limits.{AreSmall, AreSmallBounds, NameRows, IsSmallPolynomial, IsSmallTree, IsSmallEntry, IsSmallFamily, IsSmallReach, IsSmallSpot, IsSmallWay}
 use Rattle.wavefront.specs.declared.cold.Cold.{Cold}
 use Rattle.wavefront.specs.declared.front.Wavefront.{Wavefront}
 use Rattle.iolb_check.specs.declared.term.Term.{Term}
 use Rattle.iolb_check.specs.declared.term.Term.TheVariants as terms
 use Rattle.iolb_check.specs.declared.term.Branch.{Branch}
-use Rattle.iolb_model.specs.declared.limits.TheConstants.{NEST_VARIABLES, SCALE, TERMS, BRANCHES}
+use Rattle.iolb_model.specs.declared.limits.TheConstants.{NEST_VARIABLES, SCALE, TERMS, BRANCHES, WEIGHT, WEIGHTS, STRETCH, STRETCH_MORE, CREDITS, FAMILIES}
 
 -- ---- terms
 
@@ -44,8 +49,37 @@ pub record IsSmallFront (front : Wavefront) : Type 0 where
   pub reach : IsSmallWay (option_map reach_of front.reach)
   pub back : IsSmallReach (reach_of front.back)
 
+-- a credited nest: at most 6 variables
+pub record IsSmallCredit (credit : Credit) : Type 0 where
+  pub variables : length credit.nest ≤ NEST_VARIABLES
+  pub bounds : AreSmallBounds credit.nest
+  pub shown : NameRows credit.sums.shown
+  pub sums : AllByRecursion IsSmallPolynomial credit.sums.sums
+
+-- A partition term: at most 6 variables; a cover of 1 to 12 times; a from 0 to 64 and b from 0 to 2^20, not both 0; at most 4
+-- credits, and 1 to 6 families, of weights that are 24 together at most.
+pub record IsSmallPartition (partition : Partition) : Type 0 where
+  pub variables : length partition.nest ≤ NEST_VARIABLES
+  pub bounds : AreSmallBounds partition.nest
+  pub shown : NameRows partition.sums.shown
+  pub sums : AllByRecursion IsSmallPolynomial partition.sums.sums
+  pub inside : NameRows partition.inside.items
+  pub some_q : 1 ≤ partition.q
+  pub q : partition.q ≤ WEIGHT
+  pub a : partition.a ≤ STRETCH
+  pub b : partition.b ≤ STRETCH_MORE
+  pub some_events : 1 ≤ partition.a + partition.b
+  pub few_credits : length partition.credits.items ≤ CREDITS
+  pub credits : AllByRecursion IsSmallCredit partition.credits.items
+  pub some_families : 1 ≤ length partition.families.items
+  pub few_families : length partition.families.items ≤ FAMILIES
+  pub families : AllByRecursion IsSmallFamily (map family_of partition.families.items)
+  pub weights : weight_of (partition_of partition) ≤ WEIGHTS
+  pub apart : NameRows partition.apart.items
+
 abbrev pub IsSmallTerm : Term → Type 0
 IsSmallTerm (terms.Cold cold) = IsSmallCold cold
+IsSmallTerm (terms.Partition partition) = IsSmallPartition partition
 IsSmallTerm (terms.Wavefront front) = IsSmallFront front
 
 -- a branch: 16 terms at most

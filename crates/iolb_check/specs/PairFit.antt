@@ -8,29 +8,19 @@ use Rattle.claims.specs.declared.place.Step.{Step}
 use Rattle.claims.specs.declared.place.Step.TheVariants.{Key}
 use Rattle.claims.specs.declared.key.TheConstants.{DISJOINT}
 use Rattle.dep_quast.specs.Context.{reference_of}
-use Rattle.dep_quast.specs.Tree.{Leaf, source, input, empty, blank, SelectionTree, leaf, test}
+use Rattle.dep_quast.specs.Tree.{SelectionTree}
 use Rattle.reuse_paths.specs.declared.piece.Target.{Target}
 use Rattle.reuse_paths.specs.declared.piece.Target.TheVariants.{Cell, Instance}
+use Rattle.k_partition.specs.Term.{PartitionTerm}
 use Rattle.reuse_paths.specs.LeafClaims.{LeafClaim, is_stop}
 use Rattle.reuse_paths.specs.Quasts.{tree_at}
 use Rattle.reuse_paths.specs.TargetPairs.{pairwise_targets}
 use Rattle.wavefront.specs.Term.{ColdTerm}
 use Rattle.reuse_paths.specs.Walks.{SpotForms}
 use Rattle.wavefront.specs.FrontTerm.{WavefrontTerm, user_read}
-use Rattle.iolb_check.specs.Claims.{TermClaim, cold, front, cold_term, front_term, BranchClaim}
+use Rattle.iolb_check.specs.Claims.{TermClaim, cold, partition, front, cold_term, front_term, BranchClaim}
+use Rattle.iolb_check.specs.FamilyTargets.{leaf_targets, partition_targets}
 use Rattle.part_fit.specs.PartFit.{shown_fit}
-
--- the target of the piece of a leaf that isn't empty, where it has one
-abbrev pub leaf_target : ℕ → Leaf → List (Option Target)
-leaf_target array (source claim) = Some (Instance claim.statement) ∷ []
-leaf_target array (input shown) = Some (Cell array) ∷ []
-leaf_target array (empty shown) = []
-leaf_target array blank = None ∷ []
-
--- those of the leaves of the source tree of a read of an array
-abbrev pub leaf_targets : ℕ → SelectionTree → List (Option Target)
-leaf_targets array (leaf chosen) = leaf_target array chosen
-leaf_targets array (test form above below) = leaf_targets array above ++ leaf_targets array below
 
 -- those of the leaves at which the entries say that a walk stops
 abbrev pub stop_targets : List (Option Target) → List LeafClaim → List Target
@@ -56,6 +46,7 @@ front_targets program term (Some spot) = Instance spot.statement ∷ []
 
 abbrev pub term_targets : AffineProgram → List (List SelectionTree) → TermClaim → List Target
 term_targets program trees (cold claim sums) = cold_targets program trees (cold_term claim sums)
+term_targets program trees (partition term) = partition_targets program trees term
 term_targets program trees (front claim sums outer_sums) = front_targets program (front_term claim sums outer_sums) claim.source
 
 -- as many multipliers as pairs of one target of the terms

@@ -4,12 +4,12 @@ use Rattle.std.specs.Prelude.{ℕ, suc, ◌+◌, ◌*◌, List, [], ◌∷◌, �
 use Rattle.iolb_model.specs.Program.{AffineProgram, statement_at}
 use Rattle.claims.specs.declared.place.Step.{Step}
 use Rattle.claims.specs.declared.place.Step.TheVariants.{Key, Index}
-use Rattle.claims.specs.declared.key.TheConstants.{BRANCHES, COLD, INSIDE, INVERSE, LEAVES, MATRIX, NEST, POINT, READ, SHOWN, STATEMENT, SUMS, TERMS, WAVEFRONT}
+use Rattle.claims.specs.declared.key.TheConstants.{BRANCHES, COLD, INSIDE, INVERSE, LEAVES, MATRIX, NEST, PARTITION, POINT, READ, SHOWN, STATEMENT, SUMS, TERMS, WAVEFRONT}
 use Rattle.affine_program.specs.Domain.{depth_of}
 use Rattle.dep_quast.specs.Context.{reference_of}
 use Rattle.dep_quast.specs.Tree.{SelectionTree}
 use Rattle.wavefront.specs.Term.{ColdTerm}
-use Rattle.iolb_check.specs.Claims.{TermClaim, cold, front, cold_term, front_term, BranchClaim, CertificateClaim}
+use Rattle.iolb_check.specs.Claims.{TermClaim, cold, partition, front, cold_term, front_term, BranchClaim, CertificateClaim}
 use Rattle.iolb_check.specs.FrontFit.{front_fit}
 use Rattle.claims.specs.Claims.{Claim, numbered}
 use Rattle.part_fit.specs.EntryFit.{entries_fit, leaf_names}
@@ -17,6 +17,7 @@ use Rattle.part_fit.specs.FitClaims.{so_many, names}
 use Rattle.part_fit.specs.PartFit.{bounds_fit, forms_fit, matrix_fit, shown_fit, sums_fit}
 use Rattle.part_fit.specs.TreeFit.{trees_fit}
 use Rattle.iolb_check.specs.PairFit.{disjoint_fit}
+use Rattle.iolb_check.specs.PartitionFit.{partition_fit}
 
 -- the members of a cold term in the order of their keys, up to its nest
 abbrev pub cold_front_fit : AffineProgram → List (List SelectionTree) → List Step → ColdTerm → List Claim
@@ -49,6 +50,7 @@ cold_fit program trees place term =
 
 abbrev pub term_fit : AffineProgram → List (List SelectionTree) → List Step → TermClaim → List Claim
 term_fit program trees place (cold claim sums) = cold_fit program trees (place ++ Key COLD ∷ []) (cold_term claim sums)
+term_fit program trees place (partition term) = partition_fit program trees (place ++ Key PARTITION ∷ []) term
 term_fit program trees place (front claim sums outer_sums) = front_fit program trees (place ++ Key WAVEFRONT ∷ []) (front_term claim sums outer_sums)
 
 -- the terms of a branch

@@ -5,6 +5,7 @@ ghost use Rattle.std.specs.List.{AllByRecursion};
 ghost use Rattle.iolb_check.specs.Bounds.{IsBound, IsTermValue, lists};
 
 use affine_form::System;
+use k_partition::PartitionBound;
 use poly_tree::Poly;
 use std::marker::Model;
 
@@ -13,6 +14,8 @@ use std::marker::Model;
 pub enum Value {
     /// Of a cold term: how many input cells it names.
     Cold(Poly),
+    /// Of a partition term: how many instances it has and how many are credited, and the numbers of its stretches.
+    Partition(PartitionBound),
     /// Of a wavefront term: how many words it names, and for how many vertices.
     Wavefront { pairs: Poly, outer: Poly },
 }

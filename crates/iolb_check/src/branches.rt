@@ -1,13 +1,13 @@
 //! The conditions of branches.
 
-ghost use Rattle.std.specs.Prelude.{◌≡◌, [], ◌∷◌, ◌++◌, map, IfOk, IfErr};
+ghost use Rattle.std.specs.Prelude.{◌≡◌, [], ◌∷◌, ◌++◌, map, IfOk, IfErr, OnOk};
 ghost use Rattle.std.specs.List.{AllByRecursion};
 ghost use Rattle.affine_program.specs.Parts.{meaning};
 ghost use Rattle.claims.specs.Claims.{AllHold, IsRefusal, numbered};
 ghost use Rattle.reuse_paths.specs.Quasts.{trees_of};
 ghost use Rattle.reuse_paths.specs.Trees.{RowsAreTrue, RowsFit};
 ghost use Rattle.iolb_check.specs.Claims.{claim_of_branch, claim_of_term};
-ghost use Rattle.iolb_check.specs.Fit.{BranchFits, BranchesFit, TermFits};
+ghost use Rattle.iolb_check.specs.Fit.{BranchFits, BranchesFit, HasPieces, TermFits};
 ghost use Rattle.iolb_check.specs.Bounds.{lists};
 ghost use Rattle.iolb_check.specs.Conditions.{AreBranchValues, AreValuesOf, BranchHolds, TermsHold, branch_claims, branch_pieces, terms_claims, terms_place as place_of_terms};
 
@@ -100,6 +100,7 @@ fn check_terms(
     ensures accepted { IfOk result (λ values. AllHold (terms_claims (meaning program.now) (trees_of quasts.now) place.now (map claim_of_term terms.now))) }
     ensures values { IfOk result (λ values. AreValuesOf (meaning program.now) (map claim_of_term terms.now) values.items) }
     ensures hold { IfOk result (λ values. TermsHold program.now (branch_pieces (meaning program.now) (trees_of quasts.now) (map claim_of_term terms.now)) values.items) }
+    ensures pieces { OnOk result (AllByRecursion (HasPieces program.now (trees_of quasts.now)) terms.now) }
     ensures refused { IfErr result (IsRefusal (terms_claims (meaning program.now) (trees_of quasts.now) place.now (map claim_of_term terms.now))) }
 {
     let mut values = Vec::new(alloc);

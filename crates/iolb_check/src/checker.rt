@@ -26,8 +26,8 @@ use std::alloc::Global;
 /// # Errors
 ///
 /// The first condition that fails, with its place: whether the certificate fits the program (1), in the order of a walk
-/// through its text; then the source trees (2 to 7) by statement, read and leaf; then the branches (2, 8 to 12, and 19 to 23),
-/// their terms in order and then the pairs of their terms.
+/// through its text; then the source trees (2 to 7) by statement, read and leaf; then the branches (2, and 8 to 23), their
+/// terms in order and then the pairs of their terms.
 pub fn check(alloc: Global, program: &Program, certificate: &Certificate) -> Result<Bound, Refused>
     ensures assumed { IfOk result (λ bound. bound.assumed ≡ program.now.assumed) }
     ensures meets { IfOk result (λ bound. MeetsConditions (meaning program.now) (claim_of_certificate certificate.now) bound.branches) }

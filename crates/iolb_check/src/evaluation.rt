@@ -9,6 +9,7 @@ ghost use Rattle.iolb_check.specs.Bounds.{Evaluates, EvaluatesBranch, HasWideBra
 ghost use Rattle.iolb_model.specs.declared.limits.TheConstants.{MEASURE, VALUE_SIZE, VARIABLES};
 
 use crate::bound::{Bound, Value};
+use crate::partition_values::partition_at;
 use crate::value_fault::ValueFault;
 use affine_form::System;
 use affine_program::first_unmet;
@@ -23,7 +24,8 @@ impl Bound {
     ///
     /// `OutsideAssumption` names the first assumption that is false at the sizes. `Wide` comes where all are true, exactly
     /// where in some branch the terms of a polynomial, each coefficient's size times the powers of the variables' sizes,
-    /// reach 2^126 in sum, or s times the vertices of a wavefront term do, or the branch's value does.
+    /// reach 2^126 in sum, or s times the vertices of a wavefront term do, or the events of a partition term's stretches, or
+    /// the branch's value; or where the labels of a stretch, to the power of the weights, reach 2^127.
     pub fn value(&self, sizes: &[i64], s: u64) -> Result<u128, ValueFault>
         requires each { length sizes.now ≡ self.now.assumed.vars }
         requires small { AllByRecursion (IsSmall VALUE_SIZE) sizes.now }
@@ -88,6 +90,7 @@ fn greatest(
     requires counting { AllByRecursion (λ terms. AllByRecursion (IsTermValue assumed.now) terms) (lists branches.now) }
     requires each { length point.now ≡ assumed.now.vars }
     requires met { AreMet assumed.now.rows point.now }
+    requires some { 1 ≤ s }
     ensures { Evaluates [] point.now (greatest_branch (lists branches.now) point.now s 0) (HasWideBranch point.now s (lists branches.now)) result }
 {
     let mut best = 0;
@@ -103,6 +106,7 @@ fn branch_sum(terms: &[Value], assumed: &System, point: &[i128], s: u64) -> Resu
     requires counting { AllByRecursion (IsTermValue assumed.now) terms.now }
     requires each { length point.now ≡ assumed.now.vars }
     requires met { AreMet assumed.now.rows point.now }
+    requires some { 1 ≤ s }
     ensures { Evaluates [] point.now (branch_value (terms_of terms.now) point.now s) (IsWideBranch point.now s terms.now) result }
 {
     let mut total = 0;
@@ -124,11 +128,13 @@ fn value_of(term: &Value, assumed: &System, point: &[i128], s: u64) -> Result<u1
     requires counting { IsTermValue assumed.now term.now }
     requires each { length point.now ≡ assumed.now.vars }
     requires met { AreMet assumed.now.rows point.now }
+    requires some { 1 ≤ s }
     ensures value { IfOk result (λ value. value ≡ min (term_value (term_of term.now) point.now s) MEASURE) }
     ensures wide { IsErr result ↔ IsWideTerm point.now s term.now }
 {
     let value = match term {
         Value::Cold(count) => count_at(count, assumed, point)?,
+        Value::Partition(bound) => partition_at(bound, assumed, point, s)?,
         Value::Wavefront { pairs, outer } => {
             let words = count_at(pairs, assumed, point)?;
             let red = red_at(outer, assumed, point, s)?;
@@ -154,7 +160,7 @@ fn red_at(outer: &Poly, assumed: &System, point: &[i128], s: u64) -> Result<u128
 }
 
 /// The value at sizes that meet the assumptions of a polynomial that counts something.
-fn count_at(count: &Poly, assumed: &System, point: &[i128]) -> Result<u128, Wide>
+pub(crate) fn count_at(count: &Poly, assumed: &System, point: &[i128]) -> Result<u128, Wide>
     requires counting { IsCounting assumed.now count.now }
     requires each { length point.now ≡ assumed.now.vars }
     requires met { AreMet assumed.now.rows point.now }

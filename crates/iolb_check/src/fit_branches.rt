@@ -13,10 +13,11 @@ ghost use Rattle.iolb_check.specs.Claims.{claim_of_term, claim_of_branch};
 use crate::fit_colds::cold_misfit;
 use crate::fit_fronts::front_misfit;
 use crate::fit_pairs::branch_targets;
+use crate::fit_partitions::partition_misfit;
 use crate::{Branch, Term};
 use affine_form::Memory;
 use affine_program::Program;
-use claims::key::{BRANCHES, COLD, DISJOINT, TERMS, WAVEFRONT};
+use claims::key::{BRANCHES, COLD, DISJOINT, PARTITION, TERMS, WAVEFRONT};
 use claims::{Place, Step};
 use part_fit::lists::misfit_at;
 use reuse_paths::{Quasts, has_pairs};
@@ -36,6 +37,10 @@ fn term_misfit(
         Term::Cold(cold) => {
             let at = place.within(alloc, Step::Key(COLD))?;
             cold_misfit(alloc, program, quasts, &at, cold)
+        }
+        Term::Partition(partition) => {
+            let at = place.within(alloc, Step::Key(PARTITION))?;
+            partition_misfit(alloc, program, quasts, &at, partition)
         }
         Term::Wavefront(front) => {
             let at = place.within(alloc, Step::Key(WAVEFRONT))?;

@@ -5,9 +5,9 @@ ghost use Rattle.affine_program.specs.Parts.{meaning};
 ghost use Rattle.claims.specs.declared.key.TheConstants.{NEST, SUMS};
 ghost use Rattle.iolb_model.specs.declared.limits.TheConstants.{LOOPS};
 ghost use Rattle.claims.specs.declared.place.Step.TheVariants.{Key};
-ghost use Rattle.iolb_check.specs.FrontFit.{back_fit, count_fit, edge_fit, first_fit, front_fit, nest_fit, outer_fit, polynomials_fit, reach_fit, read_fit, source_fit, spots_fit, word_count as count_of_word, words_fit};
+ghost use Rattle.iolb_check.specs.FrontFit.{back_fit, count_fit, edge_fit, first_fit, front_fit, nest_fit, outer_fit, reach_fit, read_fit, source_fit, spots_fit, word_count as count_of_word, words_fit};
 ghost use Rattle.part_fit.specs.FitClaims.{FindsMisfit};
-ghost use Rattle.part_fit.specs.PartFit.{bounds_fit};
+ghost use Rattle.part_fit.specs.PartFit.{bounds_fit, polynomials_fit};
 ghost use Rattle.part_fit.specs.WalkFit.{spot_fit};
 ghost use Rattle.reuse_paths.specs.Quasts.{trees_of};
 ghost use Rattle.reuse_paths.specs.Walks.{spot_of};
@@ -25,9 +25,8 @@ use claims::{Place, Step};
 use dep_quast::reader::Reader;
 use part_fit::counts::{has_entry_each, is_twice, loops_around, read_count, subscript_count};
 use part_fit::entries::entries_misfit;
-use part_fit::lists::{bounds_misfit, list_misfit, misfit_at, sums_misfit};
+use part_fit::lists::{bounds_misfit, list_misfit, misfit_at, polynomials_misfit};
 use part_fit::walks::{reach_misfit, spot_misfit};
-use poly_tree::Poly;
 use reuse_paths::{Quasts, Spot};
 use std::alloc::Global;
 use wavefront::Wavefront;
@@ -155,23 +154,6 @@ fn first_misfit(
     words_misfit(alloc, program, place, front)
 }
 
-/// The place of what doesn't fit first of polynomials in a list at a key, of which so many are called for.
-fn polynomials_misfit(
-    alloc: Global,
-    program: &Program,
-    place: &Place,
-    key: u8,
-    sums: &[Poly],
-    called: usize,
-) -> Result<Option<Place>, Memory>
-    ensures { IfOk result (λ found. FindsMisfit (polynomials_fit (meaning program.now) (place.now ++ Key key ∷ []) sums.now called) found) }
-{
-    if sums.len() != called {
-        return misfit_at(alloc, place, Step::Key(key));
-    }
-    sums_misfit(alloc, place, key, program.params().len() + 1, sums)
-}
-
 /// The place of what doesn't fit first of the outer variables.
 fn outer_misfit(
     alloc: Global,
@@ -186,7 +168,8 @@ fn outer_misfit(
         return misfit_at(alloc, place, Step::Key(OUTER));
     }
     let sums = front.outer_sums.as_slice();
-    polynomials_misfit(alloc, program, place, OUTER_SUMS, sums, outer)
+    let params = program.params().len();
+    polynomials_misfit(alloc, place, OUTER_SUMS, params, sums, outer)
 }
 
 /// The place of what doesn't fit first of what shows the way from the vertex to the word's instance.
@@ -310,10 +293,11 @@ fn counted_misfit(
     place: &Place,
     front: &Wavefront,
 ) -> Result<Option<Place>, Memory>
-    ensures { IfOk result (λ found. FindsMisfit (polynomials_fit (meaning program.now) (place.now ++ Key SUMS ∷ []) (front_of front.now).count.sums (length (front_of front.now).nest)) found) }
+    ensures { IfOk result (λ found. FindsMisfit (polynomials_fit (length (meaning program.now).parameters) (place.now ++ Key SUMS ∷ []) (front_of front.now).count.sums (length (front_of front.now).nest)) found) }
 {
     let depth = front.nest.bounds().len();
-    polynomials_misfit(alloc, program, place, SUMS, front.sums.sums(), depth)
+    let params = program.params().len();
+    polynomials_misfit(alloc, place, SUMS, params, front.sums.sums(), depth)
 }
 
 /// The place of what doesn't fit first of the read, the word's instance, and the count.

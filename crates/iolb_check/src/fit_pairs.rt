@@ -4,13 +4,15 @@ ghost use Rattle.std.specs.Prelude.{◌≡◌, ◌++◌, if◌then◌else◌, No
 ghost use Rattle.affine_program.specs.Parts.{meaning};
 ghost use Rattle.dep_quast.specs.Tree.{tree_of};
 ghost use Rattle.iolb_check.specs.Claims.{claim_of_term};
-ghost use Rattle.iolb_check.specs.PairFit.{cold_targets, front_targets, leaf_targets, stop_targets, term_targets};
+ghost use Rattle.iolb_check.specs.FamilyTargets.{leaf_targets};
+ghost use Rattle.iolb_check.specs.PairFit.{cold_targets, front_targets, stop_targets, term_targets};
 ghost use Rattle.reuse_paths.specs.LeafClaims.{claim_of, is_stop};
 ghost use Rattle.reuse_paths.specs.Quasts.{trees_of};
 ghost use Rattle.reuse_paths.specs.TargetPairs.{items_of};
 ghost use Rattle.wavefront.specs.View.{front_of, term_of};
 
 use crate::Term;
+use crate::family_targets::targets_of_partition;
 use affine_form::Memory;
 use affine_program::Program;
 use dep_quast::Quast;
@@ -47,6 +49,7 @@ fn targets_of_term(
 {
     match term {
         Term::Cold(cold) => targets_of_cold(alloc, program, quasts, cold),
+        Term::Partition(partition) => targets_of_partition(alloc, program, quasts, partition),
         Term::Wavefront(front) => target_of_front(alloc, program, front),
     }
 }
@@ -111,7 +114,7 @@ fn targets_over(
 }
 
 /// The targets of the pieces at the leaves of a source tree, appended.
-fn push_leaf_targets(
+pub(crate) fn push_leaf_targets(
     targets: &mut Vec<Option<Target>>,
     array: u16,
     quast: &Quast,

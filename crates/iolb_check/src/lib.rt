@@ -1,19 +1,24 @@
 //! The checker: whether a certificate's claims hold of a program, and the bound on loads that they give.
 #![tactic(auto)]
 
+mod awaited;
 mod bound;
 mod branches;
 mod certificate;
 mod checker;
 mod evaluation;
+mod family_targets;
 mod fit_branches;
 mod fit_colds;
 mod fit_fronts;
 mod fit_pairs;
+mod fit_partitions;
 pub mod law;
 mod limits;
 mod misfit;
 mod pairs;
+mod partition_limits;
+mod partition_values;
 mod term;
 mod term_checks;
 mod term_limits;

@@ -10,6 +10,7 @@ ghost use Rattle.iolb_check.specs.Fit.{BranchFits, HasPieces};
 ghost use Rattle.reuse_paths.specs.Pieces.{ArePairwiseApart, PieceFits, pieces_of};
 ghost use Rattle.reuse_paths.specs.Quasts.{trees_of};
 
+use crate::awaited::partition_pieces;
 use crate::term::{Branch, Term};
 use affine_form::Memory;
 use affine_program::Program;
@@ -32,6 +33,7 @@ pub(crate) fn check_pairs(
     branch: &Branch,
 ) -> Result<(), Refused>
     requires fits { BranchFits program.now (trees_of quasts.now) branch.now }
+    requires pieces { AllByRecursion (HasPieces program.now (trees_of quasts.now)) branch.now.terms.items }
     requires shown { AllHold (terms_claims (meaning program.now) (trees_of quasts.now) (terms_place number) (map claim_of_term branch.now.terms.items)) }
     ensures hold { OnOk result (AllHold (disjoint_claims (meaning program.now) (trees_of quasts.now) number (claim_of_branch branch.now))) }
     ensures apart { OnOk result (ArePairwiseApart (meaning program.now) (branch_pieces (meaning program.now) (trees_of quasts.now) (map claim_of_term branch.now.terms.items))) }
@@ -95,6 +97,7 @@ fn pieces_of_term(
 {
     match term {
         Term::Cold(cold) => cold_pieces(alloc, program, quasts, cold),
+        Term::Partition(partition) => partition_pieces(alloc, program, quasts, partition),
         Term::Wavefront(front) => front_pieces(alloc, program, front),
     }
 }

@@ -1,6 +1,7 @@
 //! Branches of certificates, and their terms.
 
 use affine_form::Multipliers;
+use k_partition::Partition;
 use wavefront::{Cold, Wavefront};
 
 /// A term of a branch: what some words are claimed to be loaded for.
@@ -8,6 +9,8 @@ use wavefront::{Cold, Wavefront};
 pub enum Term {
     /// Words that are read before any instance wrote them.
     Cold(Cold),
+    /// Instances whose words are reused along walks, and so many of them as go into a stretch of moves.
+    Partition(Partition),
     /// Words that are there when vertices are computed, and are used behind them.
     Wavefront(Wavefront),
 }

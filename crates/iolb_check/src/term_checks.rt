@@ -1,11 +1,14 @@
 //! The conditions of terms.
 
-ghost use Rattle.std.specs.Prelude.{◌≡◌, [], ◌∷◌, ◌++◌, length, IfOk, IfErr};
+ghost use Rattle.std.specs.Prelude.{◌≡◌, [], ◌∷◌, ◌++◌, length, IfOk, IfErr, OnOk};
 ghost use Rattle.affine_program.specs.Parts.{meaning};
 ghost use Rattle.claims.specs.Claims.{AllHold, IsRefusal};
 ghost use Rattle.claims.specs.declared.place.Step.TheVariants.{Key, Index};
-ghost use Rattle.claims.specs.declared.key.TheConstants.{COLD, WAVEFRONT};
+ghost use Rattle.claims.specs.declared.key.TheConstants.{COLD, PARTITION, WAVEFRONT};
 ghost use Rattle.domain_count.specs.Count.{IsCount, IsSumFrom};
+ghost use Rattle.k_partition.specs.PartitionClaims.{partition_claims};
+ghost use Rattle.iolb_check.specs.Awaited.{partition_pieces};
+ghost use Rattle.k_partition.specs.View.{partition_of};
 ghost use Rattle.reuse_paths.specs.Quasts.{tree_for, trees_of};
 ghost use Rattle.reuse_paths.specs.Trees.{RowsAreTrue, RowsFit};
 ghost use Rattle.wavefront.specs.ColdClaims.{cold_claims};
@@ -15,14 +18,16 @@ ghost use Rattle.wavefront.specs.FrontPieces.{front_pieces};
 ghost use Rattle.wavefront.specs.FrontTerm.{outer_nest};
 ghost use Rattle.wavefront.specs.View.{front_of, term_of};
 ghost use Rattle.iolb_check.specs.Claims.{claim_of_term};
-ghost use Rattle.iolb_check.specs.Fit.{ColdTermFits, FrontTermFits, TermFits};
-ghost use Rattle.iolb_check.specs.Conditions.{IsValueOf, TermHolds, term_claims_at, term_pieces};
+ghost use Rattle.iolb_check.specs.Fit.{ColdTermFits, FrontTermFits, HasPieces, PartitionTermFits, TermFits};
+ghost use Rattle.iolb_check.specs.Conditions.{IsPartitionValue, IsValueOf, TermHolds, term_claims_at, term_pieces};
 
+use crate::awaited::check_partition;
 use crate::bound::Value;
 use crate::term::Term;
 use affine_form::Memory;
 use affine_program::Program;
 use claims::{Place, Refused, Step, key};
+use k_partition::{Partition, PartitionBound};
 use poly_tree::Poly;
 use reuse_paths::Quasts;
 use std::alloc::Global;
@@ -47,12 +52,17 @@ pub(crate) fn check_term(
     ensures accepted { IfOk result (λ value. AllHold (term_claims_at (meaning program.now) (trees_of quasts.now) place.now index (claim_of_term term.now))) }
     ensures value { IfOk result (λ value. IsValueOf (meaning program.now) (claim_of_term term.now) value) }
     ensures holds { IfOk result (λ value. TermHolds program.now (term_pieces (meaning program.now) (trees_of quasts.now) (claim_of_term term.now)) value) }
+    ensures pieces { OnOk result (HasPieces program.now (trees_of quasts.now) term.now) }
     ensures refused { IfErr result (IsRefusal (term_claims_at (meaning program.now) (trees_of quasts.now) place.now index (claim_of_term term.now))) }
 {
     match term {
         Term::Cold(cold) => {
             let count = check_cold_term(alloc, program, quasts, place, index, cold)?;
             Ok(Value::Cold(count))
+        }
+        Term::Partition(partition) => {
+            let bound = check_partition_term(alloc, program, quasts, place, index, partition)?;
+            Ok(Value::Partition(bound))
         }
         Term::Wavefront(front) => {
             let (pairs, outer) = check_front_term(alloc, program, quasts, place, index, front)?;
@@ -83,13 +93,42 @@ fn check_cold_term(
     ensures accepted { IfOk result (λ count. AllHold (cold_claims (meaning program.now) ((place.now ++ Index index ∷ []) ++ Key COLD ∷ []) (tree_for (trees_of quasts.now) (term_of cold.now).reader) (term_of cold.now))) }
     ensures value { IfOk result (λ count. IsCount (meaning program.now) cold.now.nest cold.now.sums count) }
     ensures holds { IfOk result (λ count. TermHolds program.now (cold_pieces (meaning program.now) (tree_for (trees_of quasts.now) (term_of cold.now).reader) (term_of cold.now)) (Value.Cold count)) }
+    ensures pieces { OnOk result (HasPieces program.now (trees_of quasts.now) (Term.Cold cold.now)) }
     ensures refused { IfErr result (IsRefusal (cold_claims (meaning program.now) ((place.now ++ Index index ∷ []) ++ Key COLD ∷ []) (tree_for (trees_of quasts.now) (term_of cold.now).reader) (term_of cold.now))) }
 {
     let _params = program.params();
     let Ok(place) = term_place(alloc, place, index, key::COLD) else {
         return Err(Refused::Memory);
     };
-    check_cold(alloc, program, quasts, cold, &place)
+    let count = check_cold(alloc, program, quasts, cold, &place)?;
+    Ok(count)
+}
+
+/// The bound of the partition term that stands in a list at a place.
+fn check_partition_term(
+    alloc: Global,
+    program: &Program,
+    quasts: &Quasts,
+    place: &Place,
+    index: usize,
+    partition: &Partition,
+) -> Result<PartitionBound, Refused>
+    requires fits { PartitionTermFits program.now (trees_of quasts.now) partition.now }
+    requires trees_fit { RowsFit (meaning program.now) 0 (trees_of quasts.now) }
+    requires are_true { RowsAreTrue (meaning program.now) 0 (trees_of quasts.now) }
+    ensures accepted { IfOk result (λ bound. AllHold (partition_claims (meaning program.now) (trees_of quasts.now) ((place.now ++ Index index ∷ []) ++ Key PARTITION ∷ []) (partition_of partition.now))) }
+    ensures value { IfOk result (λ bound. IsPartitionValue (meaning program.now) (partition_of partition.now) bound) }
+    ensures holds { IfOk result (λ bound. TermHolds program.now (partition_pieces (meaning program.now) (trees_of quasts.now) (partition_of partition.now)) (Value.Partition bound)) }
+    ensures pieces { OnOk result (HasPieces program.now (trees_of quasts.now) (Term.Partition partition.now)) }
+    ensures refused { IfErr result (IsRefusal (partition_claims (meaning program.now) (trees_of quasts.now) ((place.now ++ Index index ∷ []) ++ Key PARTITION ∷ []) (partition_of partition.now))) }
+{
+    let _params = program.params();
+    let _rows = partition.matrix.rows();
+    let Ok(place) = term_place(alloc, place, index, key::PARTITION) else {
+        return Err(Refused::Memory);
+    };
+    let bound = check_partition(alloc, program, quasts, partition, &place)?;
+    Ok(bound)
 }
 
 /// The counts of the wavefront term that stands in a list at a place: of its points, and of those of its outer variables.

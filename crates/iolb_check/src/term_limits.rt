@@ -8,6 +8,7 @@ ghost use Rattle.part_fit.specs.Limits.{AreSmall, AreSmallBounds, IsSmallEntry, 
 ghost use Rattle.iolb_check.specs.Limits.{IsSmallBranch, IsSmallCold, IsSmallFront, IsSmallTerm};
 ghost use Rattle.iolb_model.specs.declared.limits.TheConstants.{NEST_VARIABLES, SCALE};
 
+use crate::partition_limits::is_small_partition;
 use crate::term::{Branch, Term};
 use domain_count::{Nest, Sums};
 use iolb_model::limits;
@@ -16,7 +17,7 @@ use part_fit::walk_limits::{are_small_leaves, is_small_reach, is_small_spot, is_
 use wavefront::{Cold, Wavefront};
 
 /// Whether a term's nest is within its limits, and what is claimed of its number of points.
-fn nest_is_small(nest: &Nest, sums: &Sums) -> bool
+pub(crate) fn nest_is_small(nest: &Nest, sums: &Sums) -> bool
     ensures { IsTrue result ↔ ((length nest.now ≤ NEST_VARIABLES) × AreSmallBounds nest.now
         × NameRows sums.now.shown × AllByRecursion IsSmallPolynomial sums.now.sums) }
 {
@@ -89,6 +90,7 @@ fn is_small_term(term: &Term) -> bool
 {
     match term {
         Term::Cold(cold) => is_small_cold(cold),
+        Term::Partition(partition) => is_small_partition(partition),
         Term::Wavefront(front) => is_small_front(front),
     }
 }

@@ -53,7 +53,7 @@ with-same parameters before credit r s some h g =
     added-same before h.0 r s some (positive-from parameters credit.nest.nest credit.count.sums h.0 h.1.0) h.1.1
     (subst (λ (n : Quotient). IsAdded before n s) (sums-same parameters credit.nest.nest credit.count.sums g.0 h.0 g.1.0 h.1.0) g.1.1)
 
-total-same : (parameters : ℕ) (before : Quotient) (credits : List CreditTerm) (r s : Quotient) → 1 ≤ before.denominator → IsCreditsTotal parameters before credits r → IsCreditsTotal parameters before credits s
+pub total-same : (parameters : ℕ) (before : Quotient) (credits : List CreditTerm) (r s : Quotient) → 1 ≤ before.denominator → IsCreditsTotal parameters before credits r → IsCreditsTotal parameters before credits s
     → r ≡ s
 total-same parameters before [] r s some h g = h ∙ sym g
 total-same parameters before (credit ∷ credits) r s some h g =

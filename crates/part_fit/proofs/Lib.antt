@@ -4,3 +4,4 @@ pub mod Missing
 pub mod TreeParts
 pub mod ReadTrees
 pub mod WalkParts
+pub mod FamilyParts

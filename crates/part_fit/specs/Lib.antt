@@ -2,5 +2,8 @@ pub mod FitClaims
 pub mod PartFit
 pub mod TreeFit
 pub mod EntryFit
+pub mod EntryViews
 pub mod WalkFit
+pub mod FamilyFit
+pub mod FamilyViews
 pub mod Limits

@@ -1,5 +1,5 @@
 -- What is asked of forms, multipliers, nests, matrices and polynomials. A list is looked at before its members.
-use Rattle.std.specs.Prelude.{ℕ, ◌+◌, ◌==◌, if◌then◌else◌, List, [], ◌∷◌, ◌++◌, length}
+use Rattle.std.specs.Prelude.{ℕ, suc, ◌+◌, ◌==◌, if◌then◌else◌, List, [], ◌∷◌, ◌++◌, length}
 use Rattle.iolb_model.specs.Form.{AffineForm}
 use Rattle.affine_form.specs.Matrix.{IntegerMatrix}
 use Rattle.affine_form.specs.Multipliers.{FarkasMultipliers}
@@ -43,3 +43,8 @@ sum_at variables place index sum = uses (place ++ Index index ∷ []) sum (varia
 
 abbrev pub sums_fit : ℕ → List Step → List Quotient → List Claim
 sums_fit variables place sums = numbered (sum_at variables place) 0 sums
+
+-- Polynomials in a list at a place, of which so many are called for: over so many parameters, and one more variable for each
+-- before it and its own.
+abbrev pub polynomials_fit : ℕ → List Step → List Quotient → ℕ → List Claim
+polynomials_fit parameters place sums called = so_many place (length sums) called ∷ sums_fit (suc parameters) place sums

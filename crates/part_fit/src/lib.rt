@@ -1,9 +1,13 @@
 //! The parts of certificates: whether they are within their limits, and whether they fit a program (condition 1): lists,
-//! forms, nests, matrices, polynomials, source trees, entries at their leaves, spots, and walks that arrive.
+//! forms, nests, matrices, polynomials, source trees, entries at their leaves, spots, walks, families of walks, and credited
+//! nests.
 #![tactic(auto)]
 
 pub mod counts;
+pub mod credits;
 pub mod entries;
+pub mod families;
+pub mod family_limits;
 pub mod lists;
 pub mod part_limits;
 mod sources;

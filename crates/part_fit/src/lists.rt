@@ -4,7 +4,7 @@ ghost use Rattle.std.specs.Prelude.{◌≡◌, ◌≤◌, ◌++◌, ◌∷◌, [
 ghost use Rattle.claims.specs.declared.place.Step.TheVariants.{Key, Index};
 ghost use Rattle.part_fit.specs.FitClaims.{FindsMisfit};
 ghost use Rattle.part_fit.specs.FitClaims.{names, so_many};
-ghost use Rattle.part_fit.specs.PartFit.{bounds_fit, forms_fit, sums_fit};
+ghost use Rattle.part_fit.specs.PartFit.{bounds_fit, forms_fit, polynomials_fit, sums_fit};
 ghost use Rattle.iolb_model.specs.declared.limits.TheConstants.{PARAMETERS};
 
 use affine_form::{Form, Memory};
@@ -51,17 +51,35 @@ pub fn name_misfit(
     misfit_at(alloc, place, step)
 }
 
-/// The place of a member that doesn't fit, in the list with this key.
-fn member_misfit(
+/// The place of a member that doesn't fit, in the list one step further in.
+pub(crate) fn member_misfit(
     alloc: Global,
     place: &Place,
-    key: u8,
+    step: Step,
     index: usize,
 ) -> Result<Option<Place>, Memory>
-    ensures { IfOk result (λ found. found ≡ Some ((place.now ++ Key key ∷ []) ++ Index index ∷ [])) }
+    ensures { IfOk result (λ found. found ≡ Some ((place.now ++ step ∷ []) ++ Index index ∷ [])) }
 {
-    let list = place.within(alloc, Step::Key(key))?;
+    let list = place.within(alloc, step)?;
     misfit_at(alloc, &list, Step::Index(index as u64))
+}
+
+/// The place of the first form, in the list one step further in, that isn't over so many variables.
+pub(crate) fn forms_misfit_in(
+    alloc: Global,
+    place: &Place,
+    step: Step,
+    variables: u128,
+    forms: &[Form],
+) -> Result<Option<Place>, Memory>
+    ensures { IfOk result (λ found. FindsMisfit (forms_fit variables (place.now ++ step ∷ []) forms.now) found) }
+{
+    for (index, form) in forms.iter().enumerate() {
+        if form.coef().len() as u128 != variables {
+            return member_misfit(alloc, place, step, index);
+        }
+    }
+    Ok(None)
 }
 
 /// The place of the first form, in the list with this key, that isn't over so many variables.
@@ -74,12 +92,7 @@ pub fn forms_misfit(
 ) -> Result<Option<Place>, Memory>
     ensures { IfOk result (λ found. FindsMisfit (forms_fit variables (place.now ++ Key key ∷ []) forms.now) found) }
 {
-    for (index, form) in forms.iter().enumerate() {
-        if form.coef().len() as u128 != variables {
-            return member_misfit(alloc, place, key, index);
-        }
-    }
-    Ok(None)
+    forms_misfit_in(alloc, place, Step::Key(key), variables, forms)
 }
 
 /// The place of the first bound of a nest's variables, in the list with this key, that isn't over so many variables and one
@@ -134,8 +147,27 @@ pub fn sums_misfit(
 {
     for (index, sum) in sums.iter().enumerate() {
         if !sum.uses_below(variables + index) {
-            return member_misfit(alloc, place, key, index);
+            return member_misfit(alloc, place, Step::Key(key), index);
         }
     }
     Ok(None)
+}
+
+/// The place of what doesn't fit first of polynomials in the list with this key, of which so many are called for, over so
+/// many parameters.
+pub fn polynomials_misfit(
+    alloc: Global,
+    place: &Place,
+    key: u8,
+    parameters: usize,
+    sums: &[Poly],
+    called: usize,
+) -> Result<Option<Place>, Memory>
+    requires { parameters ≤ PARAMETERS }
+    ensures { IfOk result (λ found. FindsMisfit (polynomials_fit parameters (place.now ++ Key key ∷ []) sums.now called) found) }
+{
+    if sums.len() != called {
+        return misfit_at(alloc, place, Step::Key(key));
+    }
+    sums_misfit(alloc, place, key, parameters + 1, sums)
 }

@@ -60,7 +60,7 @@ fn entries(walk: &Walk) -> usize
 }
 
 /// Whether a walk is within its limits.
-fn is_small_walk(walk: &Walk) -> bool
+pub(crate) fn is_small_walk(walk: &Walk) -> bool
     ensures { IsTrue result ↔ IsSmallWalk (tree_of_walk walk.now) }
 {
     is_nested(walk, limits::TREE_TESTS) && entries(walk) <= usize::from(limits::TREE_LEAVES)
@@ -76,7 +76,7 @@ fn is_small_region(region: &Region) -> bool
 }
 
 /// Whether the region of a statement, if it has one, is within its limits.
-fn is_small_node(node: &Option<Region>) -> bool
+pub(crate) fn is_small_node(node: &Option<Region>) -> bool
     ensures { IsTrue result ↔ IsSmallNode (option_map region_of node.now) }
 {
     match node {

@@ -1,4 +1,4 @@
-//! Whether spots and walks that arrive fit.
+//! Whether spots and walks fit.
 
 ghost use Rattle.std.specs.Prelude.{◌≡◌, ◌≤◌, ◌++◌, map, option_map, length, IfOk, OnOk, IsTrue, ◌↔◌};
 ghost use Rattle.affine_program.specs.Parts.{meaning};
@@ -7,17 +7,17 @@ ghost use Rattle.dep_quast.specs.Tree.{tree_of};
 ghost use Rattle.dep_quast.specs.Views.{read_of};
 ghost use Rattle.part_fit.specs.FitClaims.{FindsMisfit};
 ghost use Rattle.part_fit.specs.EntryFit.{leaf_names, names_in};
-ghost use Rattle.part_fit.specs.WalkFit.{fit_in, region_fit, row_count, rows_called as called_rows, same_count, spot_fit, take_fit, walk_fit, walked_fit};
-ghost use Rattle.iolb_model.specs.declared.limits.TheConstants.{LOOPS};
+ghost use Rattle.part_fit.specs.EntryViews.{aim_of};
+ghost use Rattle.part_fit.specs.WalkFit.{entry_aim, fit_in, region_fit, region_fit_at, row_count, rows_called as called_rows, same_count, spot_fit, take_fit, walk_fit, walked_fit};
 ghost use Rattle.reuse_paths.specs.LeafClaims.{claim_of};
 ghost use Rattle.reuse_paths.specs.Quasts.{trees_of};
 ghost use Rattle.reuse_paths.specs.ReachClaims.{setting_of};
-ghost use Rattle.reuse_paths.specs.WalkSettings.{region_at, region_variables as variables_of, target_loops as loops_of_target};
+ghost use Rattle.reuse_paths.specs.WalkSettings.{region_at, region_variables as variables_of};
 ghost use Rattle.reuse_paths.specs.WalkViews.{walk_of};
 ghost use Rattle.reuse_paths.specs.Walks.{reach_of, region_of, spot_of, tree_of_walk};
 
 use crate::counts::{is_twice, loops_around, read_count};
-use crate::entries::entries_misfit;
+use crate::entries::{Aimed, aimed_entries_misfit};
 use crate::lists::{forms_misfit, list_misfit, misfit_at, name_misfit};
 use affine_form::{Memory, Multipliers};
 use affine_program::Program;
@@ -61,14 +61,21 @@ fn region_rows(walking: &Walking, statement: u16) -> usize
     }
 }
 
-/// How many loops are around the target of a walk: none where it has no target.
-fn target_loops(walking: &Walking) -> usize
-    ensures loops { result ≡ loops_of_target (walk_of walking.now) }
-    ensures few { result ≤ LOOPS }
+/// What gives the lists of entries their lengths.
+fn aimed<'a>(walking: &Walking<'a>) -> Aimed<'a>
+    ensures { aim_of result ≡ entry_aim (walk_of walking.now) }
 {
     match walking.aim {
-        Aim::Arrive { target, .. } => loops_around(walking.program, target.statement),
-        Aim::Keep(_) => 0,
+        Aim::Arrive { target, .. } => Aimed {
+            loops: loops_around(walking.program, target.statement),
+            label: 0,
+            credits: &[],
+        },
+        Aim::Keep(kept) => Aimed {
+            loops: 0,
+            label: kept.reader.len(),
+            credits: kept.credits,
+        },
     }
 }
 
@@ -116,8 +123,8 @@ fn take_misfit(
     if entries.len() != rows.len() {
         return misfit_at(alloc, place, Step::Key(LEAVES));
     }
-    let loops = target_loops(walking);
-    if let Some(misfit) = entries_misfit(alloc, place, LEAVES, loops, rows, entries)? {
+    let aimed = aimed(walking);
+    if let Some(misfit) = aimed_entries_misfit(alloc, place, LEAVES, aimed, rows, entries)? {
         return Ok(Some(misfit));
     }
     let count = read_count(walking.program, reader.statement);
@@ -140,7 +147,7 @@ fn region_variables(walking: &Walking, statement: u16) -> u128
 }
 
 /// The place of what doesn't fit first of a walk from the instances of a statement, at this place.
-fn walk_misfit(
+pub(crate) fn walk_misfit(
     alloc: Global,
     walking: &Walking,
     statement: u16,
@@ -171,26 +178,25 @@ fn walk_misfit(
     }
 }
 
-/// The place of what doesn't fit first of a statement's region, if it has one, in a list at this place.
-fn region_misfit(
+/// The place of what doesn't fit first of a statement's region, if it has one, at this place.
+pub(crate) fn region_misfit(
     alloc: Global,
     walking: &Walking,
-    list: &Place,
     statement: u16,
+    place: &Place,
     region: &Option<Region>,
 ) -> Result<Option<Place>, Memory>
-    ensures { IfOk result (λ found. FindsMisfit (region_fit (walk_of walking.now) list.now statement (option_map region_of region.now)) found) }
+    ensures { IfOk result (λ found. FindsMisfit (region_fit_at (walk_of walking.now) statement place.now (option_map region_of region.now)) found) }
 {
     let Some(region) = region else {
         return Ok(None);
     };
-    let at = list.within(alloc, Step::Index(u64::from(statement)))?;
     let variables = region_variables(walking, statement);
     let rows = region.rows.as_slice();
-    if let Some(misfit) = forms_misfit(alloc, &at, ROWS, variables, rows)? {
+    if let Some(misfit) = forms_misfit(alloc, place, ROWS, variables, rows)? {
         return Ok(Some(misfit));
     }
-    let tree = at.within(alloc, Step::Key(TREE))?;
+    let tree = place.within(alloc, Step::Key(TREE))?;
     walk_misfit(alloc, walking, statement, &tree, &region.tree)
 }
 
@@ -206,7 +212,8 @@ fn regions_misfit(
 {
     let _params = walking.program.params();
     for (statement, region) in nodes.iter().enumerate() {
-        if let Some(misfit) = region_misfit(alloc, walking, list, statement as u16, region)? {
+        let at = list.within(alloc, Step::Index(statement as u64))?;
+        if let Some(misfit) = region_misfit(alloc, walking, statement as u16, &at, region)? {
             return Ok(Some(misfit));
         }
     }

@@ -12,7 +12,8 @@ use Rattle.iolb_cert.specs.ColdTexts.{ColdHead, ColdMiddle, cold_claim, reads_co
 use Rattle.iolb_cert.specs.Views.{head_of, middle_of}
 use Rattle.iolb_cert.specs.Read.{WrittenCold, IsCold}
 use Rattle.iolb_check.specs.Claims.{claim_of_cold}
-use Rattle.iolb_cert.proofs.Steps.{hands_on_by, first_fails, second_fails, third_fails, all_read}
+use Rattle.cert_parts.proofs.Members.{hands_on_by}
+use Rattle.iolb_cert.proofs.Steps.{first_fails, second_fails, third_fails, all_read}
 use Rattle.iolb_cert.proofs.read_cold.members.Goals as goal
 
 made : ColdHead → ColdMiddle → List Polynomial → Outcome WrittenCold

@@ -12,7 +12,8 @@ use Rattle.iolb_check.specs.Claims.{claim_of_front}
 use Rattle.iolb_cert.specs.FrontTexts.{FrontHead, FrontMiddle, FrontRest, front_claim, reads_front_head, reads_front_rest, reads_front_members}
 use Rattle.iolb_cert.specs.Read.{WrittenFront, IsFront}
 use Rattle.iolb_cert.specs.Views.{front_head_of, spots_of}
-use Rattle.iolb_cert.proofs.Steps.{hands_on_by, first_fails, second_fails, third_fails, all_read}
+use Rattle.cert_parts.proofs.Members.{hands_on_by}
+use Rattle.iolb_cert.proofs.Steps.{first_fails, second_fails, third_fails, all_read}
 use Rattle.iolb_cert.proofs.read_front.members.Goals as goal
 
 made : FrontHead → List Polynomial → FrontRest → Outcome WrittenFront

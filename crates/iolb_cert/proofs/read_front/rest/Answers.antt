@@ -8,7 +8,8 @@ use Rattle.cert_parts.specs.Json.{part}
 use Rattle.cert_parts.specs.Polynomials.{reads_polynomials}
 use Rattle.iolb_cert.specs.FrontTexts.{FrontMiddle, FrontSpots, FrontRest, reads_front_middle, reads_front_spots, reads_front_rest}
 use Rattle.iolb_cert.specs.Views.{front_middle_of, spots_of, IsRest}
-use Rattle.iolb_cert.proofs.Steps.{hands_on_by, first_fails, second_fails, third_fails, all_read}
+use Rattle.cert_parts.proofs.Members.{hands_on_by}
+use Rattle.iolb_cert.proofs.Steps.{first_fails, second_fails, third_fails, all_read}
 use Rattle.iolb_cert.proofs.read_front.rest.Goals as goal
 
 made : FrontMiddle → List Polynomial → FrontSpots → Outcome FrontRest

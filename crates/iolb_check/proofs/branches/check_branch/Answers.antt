@@ -1,4 +1,5 @@
 use Rattle.std.proofs.Common.{rules, ◌≡◌, subst, ℕ, List, map}
+use Rattle.std.specs.List.{AllByRecursion}
 use Rattle.affine_program.specs.Parts.{ProgramParts, meaning}
 use Rattle.claims.specs.Claims.{Claim, AllHold, IsRefusal}
 use Rattle.claims.specs.declared.place.Step.{Step}
@@ -10,6 +11,7 @@ use Rattle.reuse_paths.specs.Quasts.{trees_of}
 use Rattle.iolb_check.specs.declared.term.Branch.{Branch}
 use Rattle.iolb_check.specs.declared.term.Term.{Term}
 use Rattle.iolb_check.specs.Claims.{claim_of_branch, claim_of_term}
+use Rattle.iolb_check.specs.Fit.{HasPieces}
 use Rattle.iolb_check.specs.Conditions.{AreValuesOf, TermsHold, branch_claims, branch_pieces, disjoint_claims, terms_claims, terms_place}
 use Rattle.iolb_check.proofs.Terms.{branch-holds}
 use Rattle.iolb_check.proofs.branches.check_branch.Goals as goal
@@ -32,6 +34,10 @@ module _ (program : ProgramParts) (trees : List (List SelectionTree)) (number : 
 pub check_pairs-requires-clause-shown : goal.check_pairs-requires-clause-shown
 check_pairs-requires-clause-shown c =
     these-hold c.args.program.now (trees_of c.args.quasts.now) c.args.number c.args.branch.now c.in-Ok.place c.as_slice.result.now c.in-Ok.ensures c.as_slice.ensures.value c.in_ok-values.ensures.accepted
+
+pub check_pairs-requires-clause-pieces : goal.check_pairs-requires-clause-pieces
+check_pairs-requires-clause-pieces c =
+    subst (AllByRecursion (HasPieces c.args.program.now (trees_of c.args.quasts.now))) c.as_slice.ensures.value c.in_ok-values.ensures.pieces
 
 pub returns-clause-accepted : goal.returns-clause-accepted
 returns-clause-accepted c =

@@ -11,7 +11,7 @@ use Rattle.reuse_paths.specs.Quasts.{trees_of}
 use Rattle.iolb_check.specs.declared.term.Term.{Term}
 use Rattle.iolb_check.specs.declared.bound.Value.{Value}
 use Rattle.iolb_check.specs.Claims.{TermClaim, claim_of_term}
-use Rattle.iolb_check.specs.Fit.{TermFits}
+use Rattle.iolb_check.specs.Fit.{HasPieces, TermFits}
 use Rattle.iolb_check.specs.Conditions.{AreValuesOf, TermsHold, branch_pieces, term_claims_at, terms_claims}
 use Rattle.iolb_check.proofs.branches.check_terms.Goals as goal
 
@@ -45,6 +45,8 @@ loop-index-preserved c =
           (subst (TermsHold program pieces) (sym (append_assoc c.loop-index.values.items (value ∷ []) others))
           (c.loop-index.invariant.hold (value ∷ others) (subst (λ (l : List Term). TermsHold program (branch_pieces (meaning program) trees (map claim_of_term l)) (value ∷ others)) (sym split)
           (c.in_ok-value.ensures.holds, subst (λ (n : ℕ). TermsHold program (branch_pieces (meaning program) trees (map claim_of_term (drop n terms))) others) (sym (next i)) h))));
+      pieces = λ h. c.loop-index.invariant.pieces (subst (AllByRecursion (HasPieces program trees)) (sym split)
+          (c.in_ok-value.ensures.pieces, subst (AllByRecursion (HasPieces program trees)) (sym more) h));
       refused = λ r h. c.loop-index.invariant.refused r (subst (λ (l : List Term). IsRefusal (numbered each i (map claim_of_term l)) r) (sym split)
           (refused-later here rest r c.in_ok-value.ensures.accepted (subst (λ (n : ℕ). IsRefusal (numbered each n (map claim_of_term (drop n terms))) r) (sym (next i)) h)));
     }

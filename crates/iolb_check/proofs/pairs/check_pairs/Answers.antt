@@ -19,21 +19,21 @@ use Rattle.iolb_check.specs.declared.term.Term.{Term}
 use Rattle.iolb_check.specs.Claims.{claim_of_term}
 use Rattle.iolb_check.specs.Conditions.{branch_pieces, terms_claims, terms_place}
 use Rattle.iolb_check.specs.Fit.{BranchFits, HasPieces}
-use Rattle.iolb_check.proofs.PiecesOf.{have-pieces, pieces-told}
+use Rattle.iolb_check.proofs.PiecesOf.{pieces-told}
 use Rattle.iolb_check.proofs.pairs.check_pairs.Goals as goal
 
 pub pieces_of_terms-requires : goal.pieces_of_terms-requires
 pieces_of_terms-requires c =
     subst (AllByRecursion (HasPieces c.args.program.now (trees_of c.args.quasts.now))) (sym c.as_slice.ensures.value)
-    (have-pieces c.args.program.now (trees_of c.args.quasts.now) (terms_place c.args.number) 0 c.args.branch.now.terms.items c.requires.fits.terms c.requires.shown)
+    c.requires.pieces
 
 -- there are multipliers for all systems of pieces
-enough : (program : ProgramParts) (trees : List (List SelectionTree)) (number : ℕ) (branch : Branch) → BranchFits program trees branch
+enough : (program : ProgramParts) (trees : List (List SelectionTree)) (number : ℕ) (branch : Branch) → BranchFits program trees branch → AllByRecursion (HasPieces program trees) branch.terms.items
     → AllHold (terms_claims (meaning program) trees (terms_place number) (map claim_of_term branch.terms.items))
     → length (pairwise_systems (meaning program) (branch_pieces (meaning program) trees (map claim_of_term branch.terms.items))) ≡ length branch.disjoint.items
-enough program trees number branch fits shown =
+enough program trees number branch fits pieces shown =
     pairs-many (meaning program) (branch_pieces (meaning program) trees (map claim_of_term branch.terms.items))
-    ∙ ap (λ (lists : List (List Target)). length (pairwise_targets lists)) (pieces-told program trees (terms_place number) 0 branch.terms.items fits.terms shown) ∙ sym fits.disjoint
+    ∙ ap (λ (lists : List (List Target)). length (pairwise_targets lists)) (pieces-told program trees (terms_place number) 0 branch.terms.items fits.terms pieces shown) ∙ sym fits.disjoint
 
 pub lists_shown-requires-clause-enough : goal.lists_shown-requires-clause-enough
 lists_shown-requires-clause-enough c =
@@ -41,7 +41,7 @@ lists_shown-requires-clause-enough c =
     let lists = ap (λ (v : List (Vec Piece Global)). length (pairwise_systems program (map pieces_of v))) c.as_slice-2.ensures.value
     ∙ ap (λ (l : List (List FootprintPiece)). length (pairwise_systems program l)) c.in-Ok-pieces_of_terms.ensures.pieces
     ∙ ap (λ (ts : List Term). length (pairwise_systems program (branch_pieces program (trees_of c.args.quasts.now) (map claim_of_term ts)))) c.as_slice.ensures.value in
-    omega (arith, lists, enough c.args.program.now (trees_of c.args.quasts.now) c.args.number c.args.branch.now c.requires.fits c.requires.shown, ap length c.as_slice-shown.ensures.value)
+    omega (arith, lists, enough c.args.program.now (trees_of c.args.quasts.now) c.args.number c.args.branch.now c.requires.fits c.requires.pieces c.requires.shown, ap length c.as_slice-shown.ensures.value)
 
 pub returns-in-Ok-None-clause-apart : goal.returns-in-Ok-None-clause-apart
 returns-in-Ok-None-clause-apart c =
@@ -61,4 +61,4 @@ returns-in-Ok-None-clause-apart c =
     let fit : AllByRecursion (AllByRecursion (PieceFits program)) made =
     subst (λ (v : List (Vec Piece Global)). AllByRecursion (AllByRecursion (PieceFits program)) (map pieces_of v)) (sym c.as_slice-2.ensures.value) c.in-Ok-pieces_of_terms.ensures.fit in
     pairwise-apart program 23 place pieces branch.disjoint.items (subst (AllByRecursion (AllByRecursion (PieceFits program))) same fit)
-    (omega (arith, enough c.args.program.now trees c.args.number branch c.requires.fits c.requires.shown)) hold
+    (omega (arith, enough c.args.program.now trees c.args.number branch c.requires.fits c.requires.pieces c.requires.shown)) hold

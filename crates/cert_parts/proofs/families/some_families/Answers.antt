@@ -1,0 +1,22 @@
+use Rattle.std.proofs.Common.{◌≡◌, [], ◌∷◌, ◌++◌, map}
+use Rattle.std.proofs.lemmas.List.{map_push}
+use Rattle.reuse_paths.specs.Families.{family_of}
+use Rattle.cert_parts.specs.Families.{reads_family, reads_some_families}
+use Rattle.serde_json.specs.View.{view}
+use Rattle.cert_parts.proofs.Loop.{goes_on, ends, is_done}
+use Rattle.cert_parts.proofs.families.some_families.Goals as goal
+
+pub returns-in-Err : goal.returns-in-Err
+returns-in-Err c =
+    ends reads_family (map family_of c.loop-i.families.items) c.in_ok-values.values.now c.loop-i.i c.loop-i.i c.index-values-i.result c.in-Err.error c.under.result (reads_some_families (view c.args.value.now))
+    c.loop-i-test.true c.index-values-i.is c.in-Err.ensures c.under.ensures c.loop-i.invariant
+
+pub loop-i-preserved : goal.loop-i-preserved
+loop-i-preserved c =
+    let front : map family_of c.push.new.self.items ≡ map family_of c.loop-i.families.items ++ family_of c.in-Ok.found ∷ [] = rw c.in_ok-push-in-Ok.ensures.items (map_push family_of c.loop-i.families.items c.in-Ok.found) in
+    rw front (goes_on reads_family (map family_of c.loop-i.families.items) c.in_ok-values.values.now c.loop-i.i c.loop-i.i c.index-values-i.result (family_of c.in-Ok.found) (reads_some_families (view c.args.value.now))
+    c.loop-i-test.true c.index-values-i.is c.in-Ok.ensures c.loop-i.invariant)
+
+pub returns : goal.returns
+returns c =
+    is_done reads_family (map family_of c.loop-i.families.items) c.in_ok-values.values.now c.loop-i.i c.loop-i.i (reads_some_families (view c.args.value.now)) c.loop-i-test.false c.loop-i.invariant

@@ -1,0 +1,27 @@
+use Rattle.std.proofs.Common.{◌≡◌, sym, ◌∙◌, ap, subst, List, [], ◌∷◌, ◌++◌}
+use Rattle.affine_program.specs.Parts.{meaning}
+use Rattle.claims.specs.Claims.{Claim}
+use Rattle.claims.specs.declared.key.TheConstants.{CREDITS}
+use Rattle.claims.specs.declared.place.Step.{Step}
+use Rattle.claims.specs.declared.place.Step.TheVariants.{Key}
+use Rattle.claims.proofs.Found.{IfOk-then}
+use Rattle.k_partition.specs.View.{partition_of}
+use Rattle.reuse_paths.specs.declared.family.Credit.{Credit}
+use Rattle.part_fit.specs.FamilyViews.{credits_fit as held_credits}
+use Rattle.part_fit.specs.FitClaims.{FindsMisfit}
+use Rattle.iolb_check.specs.PartitionFit.{credits_fit}
+use Rattle.iolb_check.proofs.FitPartitions.{credits-same}
+use Rattle.iolb_check.proofs.fit_partitions.credited_misfit.Goals as goal
+
+pub returns : goal.returns
+returns c =
+    let P = meaning c.args.program.now in
+    let term = partition_of c.args.term.now in
+    let place = c.args.place.now in
+    let at : List Step = place ++ Key CREDITS ∷ [] in
+    let credits : List Credit = c.args.term.now.credits.items in
+    let same : held_credits P c.in_ok-list.list c.as_slice.result.now ≡ credits_fit P place term =
+    ap (λ (p : List Step). held_credits P p c.as_slice.result.now) c.in_ok-list.ensures ∙ ap (held_credits P at) c.as_slice.ensures.value
+    ∙ sym (credits-same P at 0 credits) in
+    IfOk-then c.credits_misfit.result (FindsMisfit (held_credits P c.in_ok-list.list c.as_slice.result.now)) (FindsMisfit (credits_fit P place term)) c.credits_misfit.ensures
+    (λ found h. subst (λ (claims : List Claim). FindsMisfit claims found) same h)

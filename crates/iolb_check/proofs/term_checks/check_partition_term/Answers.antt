@@ -1,0 +1,60 @@
+use Rattle.std.proofs.Common.{◌≤◌, List, arith}
+use Rattle.affine_program.specs.Parts.{ProgramParts, meaning}
+use Rattle.dep_quast.specs.Tree.{SelectionTree}
+use Rattle.k_partition.specs.declared.term.Partition.{Partition}
+use Rattle.k_partition.specs.declared.term.Shape.{Shape}
+use Rattle.k_partition.specs.declared.term.Shape.TheVariants.{Each, Sum}
+use Rattle.k_partition.specs.Numbers.{factor_under}
+use Rattle.k_partition.specs.Term.{PartitionTerm}
+use Rattle.k_partition.specs.TermLoads.{term_footprint, weight_of}
+use Rattle.k_partition.specs.View.{partition_of, FitsPartition}
+use Rattle.affine_form.specs.Matrix.{HasShape}
+use Rattle.reuse_paths.specs.Quasts.{trees_of}
+use Rattle.reuse_paths.specs.Trees.{RowsFit, RowsAreTrue}
+use Rattle.uniform_cover.proofs.Powers.{self_pow_pos}
+use Rattle.iolb_check.specs.Fit.{PartitionTermFits}
+use Rattle.iolb_check.proofs.term_checks.check_partition_term.Goals as goal
+
+fits-partition : (program : ProgramParts) (trees : List (List SelectionTree)) (partition : Partition) → PartitionTermFits program trees partition → RowsFit (meaning program) 0 trees
+    → RowsAreTrue (meaning program) 0 trees → HasShape partition.matrix.rows partition.matrix.columns partition.matrix.cells → FitsPartition program trees partition
+fits-partition program trees partition h fit are_true shape = record {
+  fits = h.fits shape;
+  trees_fit = fit;
+  trees_true = are_true;
+  count = h.count;
+  credits = h.credits;
+  matrices = h.matrices;
+  light = h.light;
+}
+
+-- the factor's denominator is positive
+some-under : (shape : Shape) (term : PartitionTerm) → 1 ≤ factor_under shape term
+some-under Each term = omega arith
+some-under Sum term = omega (arith, self_pow_pos (weight_of term))
+
+pub check_partition-requires : goal.check_partition-requires
+check_partition-requires c =
+    fits-partition c.args.program.now (trees_of c.args.quasts.now) c.args.partition.now c.requires.fits c.requires.trees_fit c.requires.are_true c.rows-rows.ensures.shape
+
+pub returns-clause-holds : goal.returns-clause-holds
+returns-clause-holds c =
+    let program = c.args.program.now in
+    let trees = trees_of c.args.quasts.now in
+    let term = partition_of c.args.partition.now in
+    let bound = c.in_ok-bound.bound in
+    let is = c.in_ok-bound.ensures.numbers in
+    record {
+      footprint = term_footprint (meaning program) term;
+      loaded = c.in_ok-bound.ensures.loaded;
+      covered = c.in_ok-bound.ensures.covered;
+      counting = record {
+        count = c.in_ok-bound.ensures.counting;
+        credits = c.in_ok-bound.ensures.crediting;
+        some_q = omega (arith, is.q, (c.requires.fits.fits c.rows-rows.ensures.shape).positive);
+        some_den = omega (arith, is.den, some-under term.shape term);
+      };
+    }
+
+pub returns-clause-pieces : goal.returns-clause-pieces
+returns-clause-pieces c =
+    (fits-partition c.args.program.now (trees_of c.args.quasts.now) c.args.partition.now c.requires.fits c.requires.trees_fit c.requires.are_true c.rows-rows.ensures.shape, c.in_ok-bound.ensures.pieces)
