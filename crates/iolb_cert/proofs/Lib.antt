@@ -2,6 +2,7 @@ pub mod Branches
 pub mod CertificateLimits
 pub mod ColdLimits
 pub mod FrontLimits
+pub mod Events
 pub mod PartitionLimits
 pub mod Related
 pub mod OneCertificate

@@ -70,7 +70,7 @@ one-credit written a b h g =
       counted shown sums = record { shown = shown; sums = sums }
 
 -- a partition term by what it claims, its polynomials and its credits
-joined : PartitionClaim → List Quotient → List CreditTerm → PartitionTerm
+abbrev joined : PartitionClaim → List Quotient → List CreditTerm → PartitionTerm
 joined claim sums credits = record {
   statement = claim.statement;
   nest = claim.nest;

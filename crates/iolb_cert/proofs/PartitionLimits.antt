@@ -1,5 +1,5 @@
 -- Partition terms that are read are within their limits.
-use Rattle.std.proofs.Common.{◌≡◌, ℕ, suc, ◌+◌, ◌≤◌, length, map, codes, refl, sym, subst, arith}
+use Rattle.std.proofs.Common.{◌≡◌, ℕ, zero, suc, ◌+◌, ◌≤◌, length, map, codes, refl, sym, subst, arith}
 use Rattle.std.proofs.lemmas.List.{length-map}
 use Rattle.std.specs.Prelude.{IfOk}
 use Rattle.std.specs.List.{AllByRecursion}
@@ -25,6 +25,7 @@ use Rattle.cert_written.proofs.FamilyLimits.{AreSmallFamilies, IsUpTo, families_
 use Rattle.cert_written.proofs.Given.{given_then, given_behind, given_part, given_keys}
 use Rattle.cert_written.proofs.PartLimits.{natural_small, all_multipliers_small}
 use Rattle.cert_written.proofs.PolynomialLimits.{IsSmallWritten, polynomials_small, all_read_small}
+use Rattle.iolb_cert.proofs.Events.{first-counts, second-counts, no-events, some-events}
 use Rattle.iolb_cert.proofs.Related.{all_related, as_many}
 use Rattle.iolb_model.specs.declared.limits.TheConstants.{STRETCH, STRETCH_MORE, WEIGHT}
 
@@ -132,9 +133,11 @@ members_small d =
 some_events : (written : WrittenPartition) → AreSmallMembers written → IfOk (with_events written) IsSmallWrittenPartition
 some_events written small = tested written.claim.a written.claim.b refl refl where
   tested : (a b : ℕ) → written.claim.a ≡ a → written.claim.b ≡ b → IfOk (with_events written) IsSmallWrittenPartition
-  tested 0 0 is is' = rw (is, is') tt
-  tested (suc a) b is is' = rw is (record { members = small; some_events = omega (arith, is) })
-  tested 0 (suc b) is is' = rw (is, is') (record { members = small; some_events = omega (arith, is') })
+  tested zero zero is is' = rw (no-events written is is') tt
+  tested zero (suc b) is is' =
+      rw (some-events written (second-counts written.claim.a written.claim.b (λ none. omega (arith, none, is')))) (record { members = small; some_events = omega (arith, is') })
+  tested (suc a) b is is' =
+      rw (some-events written (first-counts written.claim.a written.claim.b (λ none. omega (arith, none, is)))) (record { members = small; some_events = omega (arith, is) })
 
 pub partition_small : (d : Data) → IfOk (reads_partition d) IsSmallWrittenPartition
 unfolding reads_partition reads_whole_partition

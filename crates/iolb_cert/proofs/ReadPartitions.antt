@@ -1,5 +1,5 @@
 -- Partition terms that are written, read.
-use Rattle.std.proofs.Common.{◌≡◌, ℕ, suc, ◌+◌, ◌≤◌, false, Ok, refl, subst, arith}
+use Rattle.std.proofs.Common.{◌≡◌, ℕ, zero, suc, ◌+◌, ◌≤◌, false, Ok, refl, subst, arith}
 use Rattle.std.specs.Prelude.{◌==◌, ◌&&◌}
 use Rattle.std.specs.List.{AllByRecursion}
 use Rattle.base_laws.proofs.Lists.{All-weaken}
@@ -28,6 +28,7 @@ use Rattle.cert_written.proofs.ReadFamilies.{all_families-read}
 use Rattle.cert_written.proofs.ReadLists.{natural-read}
 use Rattle.cert_written.proofs.ReadParts.{all_multipliers-read, nest-read}
 use Rattle.cert_written.proofs.ReadPolynomials.{are-polynomials, polynomials-read}
+use Rattle.iolb_cert.proofs.Events.{first-counts, second-counts, some-events}
 use Rattle.iolb_cert.proofs.Related.{all-mapped}
 use Rattle.iolb_model.specs.declared.limits.TheConstants.{STRETCH, STRETCH_MORE, WEIGHT}
 
@@ -75,13 +76,11 @@ members-read partition small h =
       polynomials-read partition.sums.sums h.sums,
     ) refl
 
-some-events : (a b : ℕ) → 1 ≤ a + b → (a == 0 && b == 0) ≡ false
-some-events 0 0 some = absurd (omega (arith, some))
-some-events 0 (suc b) some = refl
-some-events (suc a) b some = refl
-
 events-read : (written : WrittenPartition) → 1 ≤ written.claim.a + written.claim.b → with_events written ≡ Ok written
-events-read written some = rw (some-events written.claim.a written.claim.b some) refl
+events-read written some = some-events written (tested written.claim.a written.claim.b some) where
+  tested : (a b : ℕ) → 1 ≤ a + b → (a == 0 && b == 0) ≡ false
+  tested zero b some = second-counts zero b (λ none. omega (arith, none, some))
+  tested (suc a) b some = first-counts (suc a) b (λ none. omega (arith, none))
 
 pub partition-read : (partition : Partition) → IsSmallPartition partition → ArePartitionMembersRead partition → PartitionIsRead partition
 unfolding reads_partition reads_whole_partition with_keys has_keys
