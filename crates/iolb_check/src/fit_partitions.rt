@@ -13,7 +13,9 @@ use crate::family_targets::targets_of_families;
 use crate::fit_colds::columns_called;
 use affine_form::Memory;
 use affine_program::Program;
-use claims::key::{APART, CREDITS, FAMILIES, INSIDE, INVERSE, MATRIX, NEST, SHOWN, STATEMENT, SUMS};
+use claims::key::{
+    APART, CREDITS, FAMILIES, INSIDE, INVERSE, MATRIX, NEST, SHOWN, STATEMENT, SUMS,
+};
 use claims::{Place, Step};
 use k_partition::{Partition, Shape};
 use part_fit::counts::loops_around;
