@@ -1,6 +1,9 @@
 -- Awaited from the crates below.
-use Rattle.std.specs.Prelude.{◌≤◌, List, flat_map, length}
+use Rattle.std.specs.Prelude.{◌≡◌, ◌≤◌, ℤ, pos, ◌*ℤ◌, List, flat_map, length}
 use Rattle.iolb_model.specs.Program.{AffineProgram}
+use Rattle.iolb_model.specs.Bound.{IsAdmitted}
+use Rattle.poly_tree.specs.Poly.{Quotient, numerator_at}
+use Rattle.k_partition.specs.TermLoads.{credited_count}
 use Rattle.dep_quast.specs.Tree.{SelectionTree}
 use Rattle.k_partition.specs.declared.term.Shape.{Shape}
 use Rattle.k_partition.specs.declared.term.Shape.TheVariants.{Each, Sum}
@@ -19,3 +22,7 @@ pub record HasPartitionPieces (program : AffineProgram) (trees : List (List Sele
 abbrev pub ApartFits : Shape → AffineProgram → List (List SelectionTree) → PartitionTerm → Type 0
 ApartFits Each program trees term = Unit {0}
 ApartFits Sum program trees term = length (pairwise_systems program (pieces_of_families program trees term)) ≤ length term.apart
+
+abbrev pub CountsCredits : AffineProgram → PartitionTerm → Quotient → Type 0
+CountsCredits program term poly = (values : List ℤ) → IsAdmitted program values
+    → numerator_at poly values ≡ pos (credited_count term values) *ℤ pos poly.denominator
