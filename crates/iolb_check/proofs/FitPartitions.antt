@@ -18,6 +18,7 @@ use Rattle.k_partition.specs.declared.term.Partition.{Partition}
 use Rattle.k_partition.specs.declared.term.Shape.{Shape}
 use Rattle.k_partition.specs.declared.term.Shape.TheVariants.{Each, Sum}
 use Rattle.k_partition.specs.PartitionClaims.{pieces_of_families}
+use Rattle.k_partition.specs.PartitionFits.{HasApart}
 use Rattle.k_partition.specs.Term.{CreditTerm, PartitionTerm, credited_nests}
 use Rattle.k_partition.specs.View.{credit_term_of, partition_of, FitsCredit, IsSquare}
 use Rattle.reuse_paths.specs.declared.family.Credit.{Credit}
@@ -34,7 +35,6 @@ use Rattle.part_fit.specs.Limits.{AreSmallBounds}
 use Rattle.part_fit.specs.TreeFit.{trees_fit}
 use Rattle.part_fit.proofs.FamilyParts.{families-fit, credit-fits, credit-counts, credits-fit, credits-count}
 use Rattle.part_fit.proofs.ReadTrees.{columns-many}
-use Rattle.iolb_check.specs.Awaited.{ApartFits}
 use Rattle.iolb_check.specs.Fit.{PartitionTermFits}
 use Rattle.iolb_check.specs.Limits.{IsSmallCredit, IsSmallPartition}
 use Rattle.iolb_check.specs.PartitionFit.{apart_count, credit_at, credits_fit, walked_fit, walks_fit, coordinates_fit, counted_nest, nest_fit, points_fit, number_fit, partition_fit}
@@ -118,7 +118,7 @@ module _ (program : ProgramParts) (trees : List (List SelectionTree)) (fit : All
     families : AllByRecursion (FamilyFits P trees term.statement term.nest term.matrix (credited_nests term)) term.families
     families = families-fit P trees fit rows (credited_nests term) term.statement term.nest term.matrix counted credited (place ++ Key FAMILIES ∷ []) 0 term.families small.families in-families
 
-    apart-many : (shape : Shape) → length term.apart ≡ apart_count shape P trees term → ApartFits shape P trees term
+    apart-many : (shape : Shape) → length term.apart ≡ apart_count shape P trees term → HasApart shape P trees term
     apart-many Each e = tt
     apart-many Sum e =
         omega (

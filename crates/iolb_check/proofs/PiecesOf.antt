@@ -22,7 +22,7 @@ use Rattle.reuse_paths.specs.Quasts.{tree_at, tree_for}
 use Rattle.reuse_paths.specs.Walks.{SpotForms}
 use Rattle.dep_quast.specs.Truth.{ReadFits}
 use Rattle.reuse_paths.proofs.PairCounts.{targets_of}
-use Rattle.iolb_check.specs.Awaited.{partition_pieces}
+use Rattle.k_partition.specs.PartitionPieces.{partition_pieces}
 use Rattle.k_partition.specs.Term.{PartitionTerm, credited_nests}
 use Rattle.k_partition.specs.View.{partition_of}
 use Rattle.wavefront.specs.declared.cold.Cold.{Cold as ColdOf}
