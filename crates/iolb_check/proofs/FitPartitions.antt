@@ -20,7 +20,7 @@ use Rattle.k_partition.specs.declared.term.Shape.TheVariants.{Each, Sum}
 use Rattle.k_partition.specs.PartitionClaims.{pieces_of_families}
 use Rattle.k_partition.specs.PartitionFits.{HasApart}
 use Rattle.k_partition.specs.Term.{CreditTerm, PartitionTerm, credited_nests}
-use Rattle.k_partition.specs.View.{credit_term_of, partition_of, FitsCredit, IsSquare}
+use Rattle.k_partition.specs.View.{credit_term_of, partition_of, IsSquare}
 use Rattle.reuse_paths.specs.declared.family.Credit.{Credit}
 use Rattle.reuse_paths.specs.declared.piece.Target.{Target}
 use Rattle.reuse_paths.specs.Families.{CreditedNest, credit_of}

@@ -1,4 +1,4 @@
-use Rattle.std.proofs.Common.{◌≡◌, sym, ◌∙◌, ap, ℕ, ◌≤◌, List, ◌++◌, length, append-nil, arith}
+use Rattle.std.proofs.Common.{sym, ◌∙◌, ap, ◌≤◌, List, ◌++◌, length, append-nil, arith}
 use Rattle.std.specs.Prelude.{option_map}
 use Rattle.std.proofs.lemmas.List.{length-map}
 use Rattle.affine_program.specs.Parts.{meaning, statement_of}

@@ -1,4 +1,4 @@
-use Rattle.std.proofs.Common.{◌≡◌, ◌∙◌, sym, ap, subst, ℕ, ◌≤◌, List, sum_by}
+use Rattle.std.proofs.Common.{◌≡◌, ◌∙◌, sym, ap, subst, ℕ, ◌≤◌, sum_by}
 use Rattle.std.specs.Prelude.{◌↔◌, IsTrue}
 use Rattle.iolb_model.specs.declared.limits.TheConstants.{WEIGHTS}
 use Rattle.reuse_paths.specs.declared.family.Family.{Family}

@@ -1,4 +1,4 @@
-use Rattle.std.proofs.Common.{◌≡◌, ◌∙◌, ap, subst, ℕ, ◌+◌, ◌*◌, ◌^◌, arith}
+use Rattle.std.proofs.Common.{◌≡◌, ◌∙◌, ap, subst, ℕ, ◌+◌, ◌*◌, ◌^◌}
 use Rattle.iolb_model.specs.Bound.{labels_of, points_of}
 use Rattle.uniform_cover.specs.Greatest.{IsGreatest}
 use Rattle.k_partition.proofs.GreatestUpTo.{greatest-is, greatest-one}
