@@ -1,5 +1,5 @@
 -- The value of the sum of credits' counts, and the variables that it uses.
-use Rattle.std.proofs.Common.{◌≡◌, refl, sym, ◌∙◌, ap, subst, ℕ, suc, ◌+◌, ◌*◌, ◌<◌, ◌≤◌, List, [], ◌∷◌, ◌++◌, length, map, arith}
+use Rattle.std.proofs.Common.{◌≡◌, refl, sym, ◌∙◌, ap, subst, ℕ, suc, ◌+◌, ◌*◌, ◌≤◌, List, [], ◌∷◌, length, map, arith}
 use Rattle.std.specs.Prelude.{sum_by}
 use Rattle.std.specs.List.{AllByRecursion}
 use Rattle.std.proofs.Math.IntN.{ℤ, pos, ◌+ℤ◌, ◌*ℤ◌}
@@ -9,12 +9,12 @@ use Rattle.iolb_model.specs.Form.{AffineForm}
 use Rattle.iolb_model.specs.Program.{AffineProgram, IsWellFormed}
 use Rattle.iolb_model.specs.Bound.{IsAdmitted}
 use Rattle.affine_form.specs.Rows.{BoundsFit}
-use Rattle.affine_program.specs.Parts.{ProgramParts, meaning}
+use Rattle.affine_program.specs.Parts.{ProgramParts}
 use Rattle.claims.specs.Claims.{AllHold, numbered}
 use Rattle.claims.specs.declared.place.Step.{Step}
 use Rattle.claims.proofs.Laws.{AllHold-left, AllHold-right}
 use Rattle.poly_tree.specs.Expansion.{IsCanonical, at}
-use Rattle.poly_tree.specs.Poly.{Quotient, IsLegal, numerator_at}
+use Rattle.poly_tree.specs.Poly.{Quotient, numerator_at}
 use Rattle.poly_tree.proofs.Unique.{agree}
 use Rattle.domain_count.specs.Count.{IsSumFrom, RightClaimsCount}
 use Rattle.domain_count.specs.CountClaims.{count_claims}

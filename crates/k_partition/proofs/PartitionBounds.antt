@@ -1,8 +1,8 @@
 -- The counts of a partition term and the numbers of its bound are the value of a term with its footprint.
-use Rattle.std.proofs.Common.{◌≡◌, refl, sym, ◌∙◌, ap, subst, inl, inr, ℕ, ◌+◌, ◌-◌, ◌*◌, ◌/◌, ◌^◌, ◌<◌, ◌≤◌, true, List, [], ◌∷◌, ◌++◌, length, map, arith}
+use Rattle.std.proofs.Common.{◌≡◌, refl, sym, ◌∙◌, ap, subst, inl, inr, ℕ, ◌+◌, ◌-◌, ◌*◌, ◌/◌, ◌^◌, ◌<◌, ◌≤◌, true, List, [], ◌∷◌, ◌++◌, arith}
 use Rattle.std.specs.Prelude.{◌⊎◌, flat_map}
 use Rattle.std.specs.List.{AllByRecursion}
-use Rattle.std.proofs.Math.IntN.{ℤ, pos, ◌*ℤ◌}
+use Rattle.std.proofs.Math.IntN.{ℤ}
 use Rattle.std.proofs.lemmas.Option.{slice_get_within}
 use Rattle.iolb_model.specs.Program.{AffineProgram, IsWellFormed}
 use Rattle.iolb_model.specs.Bound.{IsAdmitted, count_value, events_of, labels_of, points_of, partition}
@@ -12,9 +12,8 @@ use Rattle.iolb_model.specs.Game.{loads_of, stands_in, vertices}
 use Rattle.iolb_model.specs.Graph.{computation_graph, input_cells}
 use Rattle.execution_laws.proofs.Members.{Member}
 use Rattle.pebble_game.proofs.Marks.{member-stands, standing-member}
-use Rattle.claims.specs.Claims.{AllHold}
 use Rattle.dep_quast.specs.Tree.{SelectionTree}
-use Rattle.poly_tree.specs.Poly.{Quotient, IsLegal, numerator_at}
+use Rattle.poly_tree.specs.Poly.{IsLegal}
 use Rattle.poly_tree.specs.Printed.{polynomial_of, TermsHaveTheValue}
 use Rattle.domain_count.specs.Count.{CountsPoints}
 use Rattle.domain_count.specs.Points.{count}
@@ -24,7 +23,7 @@ use Rattle.reuse_paths.specs.declared.piece.Target.TheVariants.{Cell, Instance}
 use Rattle.reuse_paths.specs.Families.{FamilyForms}
 use Rattle.reuse_paths.specs.FamilyFootprint.{family_footprint}
 use Rattle.reuse_paths.specs.FamilyPieces.{family_pieces}
-use Rattle.reuse_paths.specs.Pieces.{FootprintPiece, AreCovered, IsInPiece, IsInPieces, IsVertexOf}
+use Rattle.reuse_paths.specs.Pieces.{FootprintPiece, AreCovered, IsInPieces, IsVertexOf}
 use Rattle.uniform_cover.specs.Greatest.{IsGreatest}
 use Rattle.uniform_cover.proofs.Powers.{self_pow_pos}
 use Rattle.k_partition.specs.declared.term.PartitionBound.{PartitionBound}

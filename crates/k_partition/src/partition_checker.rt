@@ -1,6 +1,6 @@
 //! The check of partition terms, and their pieces.
 
-ghost use Rattle.std.specs.Prelude.{◌≡◌, ◌++◌, ◌∷◌, [], length, map, IfErr, IfOk, OnOk};
+ghost use Rattle.std.specs.Prelude.{◌≡◌, [], length, map, IfErr, IfOk, OnOk};
 ghost use Rattle.std.specs.List.{AllByRecursion};
 ghost use Rattle.affine_program.specs.Parts.{meaning};
 ghost use Rattle.claims.specs.Claims.{AllHold, Finds, IsRefusal};

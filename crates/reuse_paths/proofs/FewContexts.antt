@@ -1,5 +1,5 @@
 -- A family whose claims hold has few rows in each context.
-use Rattle.std.proofs.Common.{ℕ, zero, suc, List, [], ◌∷◌, ◌++◌, length, map}
+use Rattle.std.proofs.Common.{ℕ, suc, List, [], ◌∷◌, ◌++◌, length, map}
 use Rattle.std.specs.Prelude.{Option, Some, None}
 use Rattle.iolb_model.specs.Form.{AffineForm}
 use Rattle.iolb_model.specs.Program.{AffineProgram}
@@ -11,7 +11,7 @@ use Rattle.claims.specs.declared.place.Step.TheVariants.{Key, Index}
 use Rattle.claims.proofs.Laws.{AllHold-append, AllHold-left, AllHold-right}
 use Rattle.dep_quast.specs.Context.{ReadOf, no_row}
 use Rattle.dep_quast.specs.Tree.{SelectionTree}
-use Rattle.reuse_paths.specs.EntryClaims.{aimed_claims, leaf_claims}
+use Rattle.reuse_paths.specs.EntryClaims.{leaf_claims}
 use Rattle.reuse_paths.specs.Families.{CreditedNest, FamilyForms, NodeForms, node_region}
 use Rattle.reuse_paths.specs.FamilyClaims.{family_setting, label_rows, node_walk, region_walk, start_rows, start_walk}
 use Rattle.reuse_paths.specs.FewContexts.{few_leaves, few_walk, few_region, ContextsAreFew}
@@ -19,7 +19,7 @@ use Rattle.reuse_paths.specs.LeafClaims.{LeafClaim}
 use Rattle.reuse_paths.specs.OpenLeaves.{OpenLeaf}
 use Rattle.reuse_paths.specs.Trees.{read_of}
 use Rattle.reuse_paths.specs.WalkClaims.{leaves_at, leaves_claims, walk_claims}
-use Rattle.reuse_paths.specs.WalkSettings.{WalkSetting, reading_point, region_context, region_variables}
+use Rattle.reuse_paths.specs.WalkSettings.{WalkSetting, region_context, region_variables}
 use Rattle.reuse_paths.specs.Walks.{WalkTree, take, test, WalkRegion}
 
 leaves-few : (walk : WalkSetting) (reader : ReadOf) (place other : List Step) (rows : List AffineForm) (i j : ℕ) (leaves : List OpenLeaf) (entries : List LeafClaim)

@@ -1,6 +1,5 @@
 -- The pieces of a family's walks fit.
-use Rattle.std.proofs.Common.{◌≡◌, refl, sym, ◌∙◌, ap, subst, ℕ, zero, suc, ◌+◌, ◌-◌, ◌<◌, ◌≤◌, List, [], ◌∷◌, ◌++◌, length, map, take, replicate, append_assoc, arith, lit<}
-use Rattle.std.specs.Prelude.{Option, Some, None}
+use Rattle.std.proofs.Common.{◌≡◌, refl, sym, ◌∙◌, ap, subst, ℕ, ◌+◌, ◌-◌, ◌≤◌, List, [], ◌∷◌, ◌++◌, length, map, take, replicate, append_assoc, arith}
 use Rattle.std.specs.List.{AllByRecursion}
 use Rattle.std.proofs.Math.IntN.{ℤ, pos, negsuc}
 use Rattle.std.proofs.Math.Seq.{take-append_seam}
@@ -13,9 +12,8 @@ use Rattle.affine_form.specs.Rows.{IsSmallOver, variables_from, widened, within_
 use Rattle.affine_form.specs.System.{AllOver}
 use Rattle.affine_form.proofs.RowLemmas.{length-difference, length-variables, small-wider, variables-over}
 use Rattle.affine_program.specs.Domain.{depth_of, path_of}
-use Rattle.dep_quast.specs.Context.{ReadOf, reference_of, no_row, parameter_point, variables_at}
+use Rattle.dep_quast.specs.Context.{reference_of, no_row, parameter_point}
 use Rattle.dep_quast.specs.Truth.{ReadFits, TreeFits}
-use Rattle.domain_count.specs.Count.{rows_before}
 use Rattle.reuse_paths.specs.FewContexts.{TakenFits, TakesFit}
 use Rattle.reuse_paths.specs.LeafClaims.{LeafClaim, no_point, stops, is_credited, goes_on, arrives}
 use Rattle.reuse_paths.specs.OpenLeaves.{LeafOrigin, written, as_input, unknown, OpenLeaf, form_at}
@@ -31,7 +29,7 @@ use Rattle.reuse_paths.specs.Walks.{WalkTree, take as take_read, test}
 use Rattle.reuse_paths.proofs.OpenLeaves.{open-fits}
 use Rattle.reuse_paths.proofs.Renamed.{forms_at-small}
 use Rattle.reuse_paths.proofs.TreeLemmas.{rows-fit-at}
-use Rattle.iolb_model.specs.declared.limits.TheConstants.{NEST_VARIABLES, NUMBER_SIZE, PUT_SIZE}
+use Rattle.iolb_model.specs.declared.limits.TheConstants.{NEST_VARIABLES, PUT_SIZE}
 
 -- a form over all of so many variables is read over them as it is
 as-wide : (many : ℕ) (form : AffineForm) → variables form ≡ many → widened many form ≡ form

@@ -1,5 +1,5 @@
 -- A family that fits is one whose pieces are told: they need nothing of its credits.
-use Rattle.std.proofs.Common.{◌≡◌, sym, ℕ, zero, suc, List, [], ◌∷◌, length, map}
+use Rattle.std.proofs.Common.{sym, ℕ, suc, List, [], ◌∷◌, map}
 use Rattle.std.specs.Prelude.{Option, Some, None}
 use Rattle.iolb_model.specs.Form.{AffineForm}
 use Rattle.iolb_model.specs.Program.{AffineProgram}

@@ -1,11 +1,11 @@
 -- The pieces of regions, region by region.
-use Rattle.std.proofs.Common.{◌≡◌, refl, sym, ◌∙◌, ap, subst, ℕ, zero, suc, ◌+◌, ◌<◌, ◌≤◌, List, [], ◌∷◌, ◌++◌, length, get_or, map, drop, append_assoc, arith}
+use Rattle.std.proofs.Common.{◌≡◌, sym, ◌∙◌, ap, subst, ℕ, zero, suc, ◌+◌, ◌<◌, ◌≤◌, List, [], ◌∷◌, ◌++◌, length, get_or, map, drop, append_assoc, arith}
 use Rattle.std.specs.Prelude.{Option, option_map}
 use Rattle.std.specs.List.{AllByRecursion}
 use Rattle.std.proofs.lemmas.List.{append-nil, drop_all, get_or-map, length-map}
 use Rattle.base_laws.proofs.Lists.{rest_at, add-one, All-append}
 use Rattle.reuse_paths.specs.declared.family.FamilyNode.{FamilyNode}
-use Rattle.reuse_paths.specs.Families.{NodeForms, node_of, node_region}
+use Rattle.reuse_paths.specs.Families.{node_of, node_region}
 use Rattle.reuse_paths.specs.FamilyPieces.{region_pieces, regions_pieces}
 use Rattle.reuse_paths.specs.FewContexts.{RegionTakesFit, RegionsTakeFit}
 use Rattle.reuse_paths.specs.Pieces.{FootprintPiece, PieceFits}

@@ -1,6 +1,6 @@
 //! The pieces of a family's footprint.
 
-ghost use Rattle.std.specs.Prelude.{◌≡◌, ◌≤◌, ◌<◌, ◌+◌, ◌++◌, ◌∷◌, [], length, map, option_map, IfErr, IfOk, OnOk};
+ghost use Rattle.std.specs.Prelude.{◌≡◌, ◌<◌, ◌+◌, ◌++◌, ◌∷◌, [], length, map, option_map, IfErr, IfOk, OnOk};
 ghost use Rattle.std.specs.List.{AllByRecursion};
 ghost use Rattle.affine_form.specs.Rows.{BoundsFit, IsSmallOver};
 ghost use Rattle.affine_form.specs.System.{AllOver};
@@ -15,7 +15,7 @@ ghost use Rattle.dep_quast.specs.Views.{read_of};
 ghost use Rattle.reuse_paths.specs.Families.{family_of, node_of, node_region};
 ghost use Rattle.reuse_paths.specs.FamilyClaims.{start_rows as rows_of_start};
 ghost use Rattle.reuse_paths.specs.FamilyPieces.{family_pieces, region_pieces, regions_pieces};
-ghost use Rattle.reuse_paths.specs.FewContexts.{few_claim, few_contexts, few_leaves, few_region, few_walk, ContextsAreFew, FitsSome, ReadersFit, RegionTakesFit, RegionsTakeFit, TakenFits, TakesFit};
+ghost use Rattle.reuse_paths.specs.FewContexts.{few_claim, few_contexts, few_leaves, few_region, few_walk, FitsSome, ReadersFit, RegionTakesFit, RegionsTakeFit, TakenFits, TakesFit};
 ghost use Rattle.reuse_paths.specs.LeafClaims.{claim_of};
 ghost use Rattle.reuse_paths.specs.OpenLeaves.{form_at, origin_of};
 ghost use Rattle.reuse_paths.specs.Pieces.{pieces_of, PieceFits};
@@ -25,7 +25,7 @@ ghost use Rattle.reuse_paths.specs.WalkClaims.{leaves_at};
 ghost use Rattle.reuse_paths.specs.WalkPieces.{entry_pieces, leaves_pieces, walk_pieces, word_pieces};
 ghost use Rattle.reuse_paths.specs.WalkSettings.{reading_point, region_context as context_of, region_variables as variables_of};
 ghost use Rattle.reuse_paths.specs.WalkViews.{walk_of, OpenLeafFits, OriginFits, SettingFits};
-ghost use Rattle.reuse_paths.specs.Walks.{region_of, tree_of_walk};
+ghost use Rattle.reuse_paths.specs.Walks.{tree_of_walk};
 
 use crate::entry_shown::entry_place;
 use crate::family::{Family, FamilyNode};

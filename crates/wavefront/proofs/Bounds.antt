@@ -1,18 +1,12 @@
 -- The polynomial that counts a cold term's points is the value of a term with its footprint.
-use Rattle.std.proofs.Common.{◌≡◌, sym, ◌∙◌, ap, subst, ℕ, ◌≤◌}
-use Rattle.std.proofs.Math.IntN.{ℤ, pos, ◌*ℤ◌}
-use Rattle.std.proofs.Math.Nat.{mul-div_cancel}
-use Rattle.std.specs.Prelude.{int_div}
+use Rattle.std.proofs.Common.{sym, subst, ℕ, ◌≤◌}
 use Rattle.iolb_model.specs.Program.{AffineProgram}
-use Rattle.iolb_model.specs.Polynomial.{numerator}
 use Rattle.iolb_model.specs.Bound.{cold}
 use Rattle.iolb_model.specs.Footprint.{IsFootprintOf}
-use Rattle.iolb_model.specs.Execution.{natural}
 use Rattle.iolb_model.specs.Game.{loads_of}
 use Rattle.poly_tree.specs.Poly.{Quotient, IsLegal}
 use Rattle.poly_tree.specs.Printed.{polynomial_of, TermsHaveTheValue}
 use Rattle.domain_count.specs.Count.{CountsPoints}
-use Rattle.domain_count.specs.Points.{count}
 use Rattle.domain_count.proofs.Counted.{counted}
 use Rattle.wavefront.specs.Term.{ColdTerm}
 use Rattle.wavefront.specs.Loads.{footprint_of, HasFootprint, CostsItsCount}

@@ -1,11 +1,8 @@
 -- The polynomials that count a wavefront term's points, and those of its outer variables, are the value of a term with its
 -- footprint.
-use Rattle.std.proofs.Common.{◌≡◌, sym, ◌∙◌, subst, ℕ, ◌+◌, ◌-◌, ◌*◌, ◌≤◌, List, arith}
-use Rattle.std.proofs.Math.IntN.{ℤ}
-use Rattle.iolb_model.specs.Form.{AffineForm}
+use Rattle.std.proofs.Common.{◌≡◌, sym, subst, ℕ, ◌+◌, ◌-◌, ◌*◌, ◌≤◌, arith}
 use Rattle.iolb_model.specs.Program.{AffineProgram}
-use Rattle.iolb_model.specs.Polynomial.{numerator}
-use Rattle.iolb_model.specs.Bound.{IsAdmitted, count_value, wavefront}
+use Rattle.iolb_model.specs.Bound.{count_value, wavefront}
 use Rattle.iolb_model.specs.Footprint.{IsFootprintOf}
 use Rattle.iolb_model.specs.Game.{loads_of}
 use Rattle.poly_tree.specs.Poly.{Quotient, IsLegal}

@@ -1,7 +1,5 @@
-use Rattle.std.proofs.Common.{rules, ◌≡◌, subst, arith, ◌≤◌, ℕ, List, ◌++◌, length}
-use Rattle.std.specs.Prelude.{None, Some, Option}
-use Rattle.std.proofs.Math.IntN.{ℤ}
-use Rattle.iolb_model.specs.Bound.{IsAdmitted}
+use Rattle.std.proofs.Common.{rules, subst, arith, List, length}
+use Rattle.std.specs.Prelude.{Option}
 use Rattle.affine_program.specs.Parts.{meaning}
 use Rattle.claims.specs.Claims.{Claim, AllHold, Finds, IsRefusal}
 use Rattle.claims.specs.declared.refused.No.{No}
@@ -9,12 +7,11 @@ use Rattle.claims.specs.declared.refused.Refused.{Refused}
 use Rattle.claims.proofs.Found.{refused-first}
 use Rattle.claims.proofs.Laws.{AllHold-append, later-fails}
 use Rattle.dep_quast.proofs.Fits.{params-few}
-use Rattle.poly_tree.specs.Expansion.{IsCanonical}
 use Rattle.reuse_paths.specs.Pieces.{AreCovered}
 use Rattle.reuse_paths.specs.Quasts.{trees_of}
 use Rattle.k_partition.specs.PartitionClaims.{apart_claims, no_points, partition_claims, sound_claims}
-use Rattle.k_partition.specs.PartitionPieces.{partition_pieces, CountsCredits, HasPartitionPieces}
-use Rattle.k_partition.specs.TermLoads.{AreApartFor, term_footprint}
+use Rattle.k_partition.specs.PartitionPieces.{partition_pieces, CountsCredits}
+use Rattle.k_partition.specs.TermLoads.{term_footprint}
 use Rattle.k_partition.specs.View.{partition_of}
 use Rattle.k_partition.proofs.CreditsValue.{credits-fit, credits-value, total-uses}
 use Rattle.k_partition.proofs.PartitionBounds.{families-cover, partition-footprint-is}

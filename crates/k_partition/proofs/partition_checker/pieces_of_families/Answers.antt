@@ -1,17 +1,15 @@
-use Rattle.std.proofs.Common.{rules, ◌≡◌, refl, sym, ◌∙◌, ap, subst, arith, ℕ, List, [], ◌∷◌, ◌++◌, map, length, Vec, Global}
+use Rattle.std.proofs.Common.{◌≡◌, sym, ◌∙◌, ap, subst, List, [], ◌∷◌, ◌++◌, map, Vec, Global}
 use Rattle.std.specs.List.{AllByRecursion}
-use Rattle.std.proofs.lemmas.List.{append-nil, map-append}
+use Rattle.std.proofs.lemmas.List.{map-append}
 use Rattle.base_laws.proofs.Lists.{All-append}
 use Rattle.affine_program.specs.Parts.{meaning}
-use Rattle.reuse_paths.specs.declared.family.Family.{Family}
 use Rattle.reuse_paths.specs.declared.piece.Piece.{Piece}
-use Rattle.reuse_paths.specs.Families.{FamilyForms, family_of}
-use Rattle.reuse_paths.specs.FamilyPieces.{family_pieces}
-use Rattle.reuse_paths.specs.Pieces.{FootprintPiece, pieces_of, PieceFits}
+use Rattle.reuse_paths.specs.Families.{family_of}
+use Rattle.reuse_paths.specs.Pieces.{pieces_of, PieceFits}
 use Rattle.reuse_paths.specs.Quasts.{trees_of}
 use Rattle.k_partition.specs.PartitionClaims.{pieces_of_families}
 use Rattle.k_partition.specs.View.{partition_of}
-use Rattle.k_partition.proofs.ToldFamilies.{fits-at, few-at, lists-next, none-left}
+use Rattle.k_partition.proofs.ToldFamilies.{fits-at, few-at, lists-next}
 use Rattle.k_partition.proofs.partition_checker.pieces_of_families.Goals as goal
 
 pub pieces_of_one-requires-clause-fits : goal.pieces_of_one-requires-clause-fits

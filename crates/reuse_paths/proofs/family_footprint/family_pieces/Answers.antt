@@ -1,5 +1,4 @@
-use Rattle.std.proofs.Common.{rules, ◌≡◌, ◌∙◌, sym, ap, subst, ℕ, List, [], ◌∷◌, ◌++◌, map}
-use Rattle.std.specs.Prelude.{Option}
+use Rattle.std.proofs.Common.{rules, ◌≡◌, ◌∙◌, sym, ap, subst, List, [], ◌∷◌}
 use Rattle.claims.specs.Claims.{Claim, AllHold, IsRefusal, numbered}
 use Rattle.claims.specs.declared.key.TheConstants.{NODES, START, TREE}
 use Rattle.claims.specs.declared.place.Step.{Step}
@@ -8,7 +7,7 @@ use Rattle.claims.specs.declared.refused.Refused.{Refused}
 use Rattle.claims.proofs.Found.{refused-first, refused-later}
 use Rattle.claims.proofs.Laws.{AllHold-append}
 use Rattle.affine_program.specs.Parts.{meaning}
-use Rattle.reuse_paths.specs.Families.{FamilyForms, family_of, node_region}
+use Rattle.reuse_paths.specs.Families.{FamilyForms, family_of}
 use Rattle.reuse_paths.specs.FamilyClaims.{family_setting, start_rows}
 use Rattle.reuse_paths.specs.FewContexts.{few_contexts, few_region, few_walk, ReadersFit, RegionsTakeFit, TakesFit}
 use Rattle.reuse_paths.specs.Quasts.{trees_of}

@@ -1,4 +1,4 @@
-use Rattle.std.proofs.Common.{rules, ◌≡◌, ◌∙◌, sym, ap, subst, arith, ℕ, List, ◌≤◌, length}
+use Rattle.std.proofs.Common.{rules, ◌≡◌, ◌∙◌, sym, ap, subst, arith, ℕ, List, ◌≤◌}
 use Rattle.std.specs.Prelude.{Option, Some, option_map}
 use Rattle.std.specs.List.{AllByRecursion}
 use Rattle.std.proofs.lemmas.List.{length-map}
@@ -16,7 +16,7 @@ use Rattle.reuse_paths.specs.Pieces.{PieceFits}
 use Rattle.reuse_paths.specs.Trees.{read_of}
 use Rattle.reuse_paths.specs.WalkPieces.{walk_pieces}
 use Rattle.reuse_paths.specs.WalkSettings.{region_context, region_variables}
-use Rattle.reuse_paths.specs.Walks.{WalkRegion, region_of, tree_of_walk}
+use Rattle.reuse_paths.specs.Walks.{WalkRegion, region_of}
 use Rattle.reuse_paths.specs.WalkViews.{walk_of}
 use Rattle.reuse_paths.proofs.PiecesFit.{context-begins, walk-fits}
 use Rattle.reuse_paths.proofs.family_footprint.push_region.Goals as goal
