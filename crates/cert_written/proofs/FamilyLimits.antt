@@ -1,7 +1,7 @@
 -- Families of walks that are read are within their limits.
 use Rattle.std.proofs.Common.{◌≡◌, ℕ, ◌≤◌, List, [], ◌∷◌, length, codes, if◌then◌else◌, Ok, Err, arith}
 use Rattle.std.proofs.lemmas.Bool.{leb-true, ne_eqb}
-use Rattle.std.specs.Prelude.{◌==◌, IfOk, Option, nat_le}
+use Rattle.std.specs.Prelude.{◌==◌, IfOk, nat_le}
 use Rattle.std.specs.List.{AllByRecursion}
 use Rattle.iolb_model.specs.Form.{AffineForm}
 use Rattle.claims.specs.declared.key.TheConstants.{INPUTS, LABEL, NODES, REGION, SCALE, SET, START, TREE, WEIGHT}

@@ -3,7 +3,7 @@ use Rattle.std.proofs.Common.{ℕ, ◌+◌, List, [], ◌∷◌, map, None, Some
 use Rattle.std.specs.Prelude.{Option}
 use Rattle.std.specs.List.{AllByRecursion}
 use Rattle.iolb_model.specs.Form.{AffineForm}
-use Rattle.part_fit.specs.Limits.{IsSmallWalk, IsSmallNode, IsSmallFamilyNode, IsSmallFamily}
+use Rattle.part_fit.specs.Limits.{IsSmallWalk, IsSmallFamilyNode, IsSmallFamily}
 use Rattle.reuse_paths.specs.Families.{NodeForms, FamilyForms}
 use Rattle.reuse_paths.specs.Walks.{WalkTree}
 use Rattle.cert_parts.specs.Credits.{WrittenCredit}

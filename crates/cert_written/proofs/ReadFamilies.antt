@@ -11,7 +11,6 @@ use Rattle.reuse_paths.specs.declared.family.Family.{Family}
 use Rattle.reuse_paths.specs.declared.family.FamilyNode.{FamilyNode}
 use Rattle.reuse_paths.specs.declared.walk.Walk.{Walk}
 use Rattle.reuse_paths.specs.Families.{NodeForms, FamilyForms, forms_of, node_of, family_of}
-use Rattle.reuse_paths.specs.Walks.{tree_of_walk}
 use Rattle.serde_json.specs.Data.{Data}
 use Rattle.cert_parts.specs.Families.{reads_set, reads_labels, reads_node_members, reads_node, reads_family_nodes, reads_start_members, reads_start, reads_family_members, reads_family, reads_some_list, reads_some_families, weights_of, reads_families}
 use Rattle.cert_parts.specs.Json.{has_keys, reads_natural}

@@ -12,9 +12,7 @@ use Rattle.iolb_check.specs.Limits.{IsSmallCredit, IsSmallPartition}
 use Rattle.iolb_check.specs.declared.term.Term.{Term}
 use Rattle.iolb_check.specs.declared.term.Term.TheVariants as terms
 use Rattle.serde_json.specs.Data.{string}
-use Rattle.cert_parts.specs.Credits.{IsCredit}
 use Rattle.cert_parts.specs.Json.{has_keys, with_keys}
-use Rattle.cert_written.specs.Credits.{written_credit}
 use Rattle.cert_written.specs.FamilyReadBack.{HasSmallNest, CreditIsRead, FamilyIsRead}
 use Rattle.cert_written.specs.ReadBack.{AreMultipliersRead, MatrixIsRead, PairIsRead, PolynomialIsRead}
 use Rattle.iolb_cert.specs.PartitionTexts.{reads_shape, reads_partition_head, reads_partition_walks, reads_partition_cover, reads_partition_rest, reads_partition_members, with_events, reads_whole_partition, reads_partition}

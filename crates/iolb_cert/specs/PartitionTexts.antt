@@ -12,7 +12,7 @@ use Rattle.reuse_paths.specs.Families.{FamilyForms}
 use Rattle.serde_json.specs.Data.{Data}
 use Rattle.serde_json.specs.Find.{as_str}
 use Rattle.cert_parts.specs.Outcome.{Outcome, ◌>>=◌, fault, under}
-use Rattle.cert_parts.specs.Credits.{WrittenCredit, reads_all_credited}
+use Rattle.cert_parts.specs.Credits.{reads_all_credited}
 use Rattle.cert_parts.specs.Families.{reads_families}
 use Rattle.cert_parts.specs.Json.{with_keys, part, reads_natural}
 use Rattle.cert_parts.specs.Nests.{reads_nest}

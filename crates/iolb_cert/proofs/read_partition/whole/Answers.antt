@@ -1,4 +1,4 @@
-use Rattle.std.proofs.Common.{◌≡◌, ℕ, false, Ok, refl, sym, ap, subst, ◌∙◌}
+use Rattle.std.proofs.Common.{◌≡◌, false, Ok, refl, sym, ap, subst, ◌∙◌}
 use Rattle.std.specs.Prelude.{◌==◌, ◌&&◌}
 use Rattle.claims.specs.declared.key.TheConstants.{A}
 use Rattle.claims.specs.declared.place.Step.TheVariants.{Key}
@@ -6,7 +6,7 @@ use Rattle.k_partition.specs.declared.term.Partition.{Partition}
 use Rattle.k_partition.specs.View.{partition_of}
 use Rattle.serde_json.specs.Data.{Data}
 use Rattle.serde_json.specs.View.{view}
-use Rattle.cert_parts.specs.Outcome.{Outcome, fault, under, Fails}
+use Rattle.cert_parts.specs.Outcome.{fault, under, Fails}
 use Rattle.iolb_cert.specs.PartitionTexts.{reads_partition_members, with_events, reads_whole_partition}
 use Rattle.iolb_cert.specs.Read.{PartitionClaim, WrittenPartition, IsPartition}
 use Rattle.cert_parts.proofs.Members.{fails_fault, fails_under, fails_then, hands_on_by}
@@ -51,7 +51,7 @@ returns c =
     let d : Data = view c.args.value.now in
     let said = c.in_ok-found.ensures in
     let some : (said.0.claim.a == 0 && said.0.claim.b == 0) ≡ false = elim c.else-found-eq0.branch [
-      else-found-eq0-via-then-found-eq0+else-found-eq0-2 w ↦ second-counts said.0.claim.a said.0.claim.b (λ none. w.if-found-eq0-2.false (sym (b-is said.0 c.in_ok-found.found said.2) ∙ none))
+      | else-found-eq0-via-then-found-eq0+else-found-eq0-2 w ↦ second-counts said.0.claim.a said.0.claim.b (λ none. w.if-found-eq0-2.false (sym (b-is said.0 c.in_ok-found.found said.2) ∙ none))
       | else-found-eq0-via-else-found-eq0 w ↦ first-counts said.0.claim.a said.0.claim.b (λ none. w.if-found-eq0.false (sym (a-is said.0 c.in_ok-found.found said.2) ∙ none))
     ] in
     (said.0, having d said.0 said.1 some, said.2)
