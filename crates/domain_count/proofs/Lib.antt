@@ -13,3 +13,4 @@ pub mod RangesShown
 pub mod Whole
 pub mod Parted
 pub mod Front
+pub mod Counted

@@ -23,7 +23,7 @@ bound-same : (program : AffineProgram) (term : PartitionTerm) (one other : Parti
 bound-same program term one other h g =
     let count : one.count ≡ other.count = right-claims-give-one program term.nest term.count one.count other.count h.count g.count in
     let credits : one.credits ≡ other.credits =
-        total-same (length program.parameters) no_points term.credits one.credits other.credits (omega arith) h.credits g.credits in
+    total-same (length program.parameters) no_points term.credits one.credits other.credits (omega arith) h.credits g.credits in
     let a : one.a ≡ other.a = h.numbers.a ∙ sym g.numbers.a in
     let b : one.b ≡ other.b = h.numbers.b ∙ sym g.numbers.b in
     let q : one.q ≡ other.q = h.numbers.q ∙ sym g.numbers.q in

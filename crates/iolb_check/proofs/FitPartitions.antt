@@ -7,19 +7,20 @@ use Rattle.iolb_model.specs.declared.limits.TheConstants.{NEST_VARIABLES}
 use Rattle.claims.specs.Claims.{Claim, AllHold, numbered}
 use Rattle.claims.specs.declared.place.Step.{Step}
 use Rattle.claims.specs.declared.place.Step.TheVariants.{Key}
-use Rattle.claims.specs.declared.key.TheConstants.{CREDITS, FAMILIES, NEST, SUMS}
-use Rattle.claims.proofs.Laws.{AllHold-left, AllHold-right}
+use Rattle.claims.specs.declared.key.TheConstants.{CREDITS, FAMILIES}
+use Rattle.claims.proofs.Laws.{AllHold-append, AllHold-left, AllHold-right}
 use Rattle.affine_form.specs.Matrix.{IntegerMatrix}
-use Rattle.affine_form.specs.Rows.{BoundsFit}
 use Rattle.affine_program.specs.Domain.{depth_of}
 use Rattle.affine_program.specs.Parts.{ProgramParts, meaning}
 use Rattle.dep_quast.specs.Tree.{SelectionTree}
+use Rattle.domain_count.specs.Claims.{FitsCount}
 use Rattle.k_partition.specs.declared.term.Partition.{Partition}
 use Rattle.k_partition.specs.declared.term.Shape.{Shape}
 use Rattle.k_partition.specs.declared.term.Shape.TheVariants.{Each, Sum}
 use Rattle.k_partition.specs.PartitionClaims.{pieces_of_families}
+use Rattle.k_partition.specs.PartitionFits.{HasApart}
 use Rattle.k_partition.specs.Term.{CreditTerm, PartitionTerm, credited_nests}
-use Rattle.k_partition.specs.View.{credit_term_of, partition_of, FitsCredit, IsSquare}
+use Rattle.k_partition.specs.View.{credit_term_of, partition_of, IsSquare}
 use Rattle.reuse_paths.specs.declared.family.Credit.{Credit}
 use Rattle.reuse_paths.specs.declared.piece.Target.{Target}
 use Rattle.reuse_paths.specs.Families.{CreditedNest, credit_of}
@@ -28,16 +29,15 @@ use Rattle.reuse_paths.specs.TargetPairs.{pairwise_targets}
 use Rattle.reuse_paths.specs.Trees.{RowsFit}
 use Rattle.reuse_paths.specs.WalkFits.{CreditFits}
 use Rattle.reuse_paths.proofs.PairCounts.{pairs-many}
+use Rattle.part_fit.specs.FamilyFit.{credit_fit}
 use Rattle.part_fit.specs.FamilyViews.{credit_at as held_credit}
 use Rattle.part_fit.specs.Limits.{AreSmallBounds}
-use Rattle.part_fit.specs.PartFit.{sums_fit}
 use Rattle.part_fit.specs.TreeFit.{trees_fit}
-use Rattle.part_fit.proofs.FamilyParts.{families-fit, credits-fit, credits-count}
-use Rattle.part_fit.proofs.ReadTrees.{none, bounds-fit, columns-many}
-use Rattle.iolb_check.specs.Awaited.{ApartFits}
+use Rattle.part_fit.proofs.FamilyParts.{families-fit, credit-fits, credit-counts, credits-fit, credits-count}
+use Rattle.part_fit.proofs.ReadTrees.{columns-many}
 use Rattle.iolb_check.specs.Fit.{PartitionTermFits}
 use Rattle.iolb_check.specs.Limits.{IsSmallCredit, IsSmallPartition}
-use Rattle.iolb_check.specs.PartitionFit.{apart_count, credit_at, credits_fit, walked_fit, walks_fit, coordinates_fit, nest_fit, points_fit, counted_fit, number_fit, partition_fit}
+use Rattle.iolb_check.specs.PartitionFit.{apart_count, credit_at, credits_fit, walked_fit, walks_fit, coordinates_fit, counted_nest, nest_fit, points_fit, number_fit, partition_fit}
 use Rattle.iolb_check.proofs.FamilyTargets.{families-told}
 
 -- a matrix with so many rows, and so many columns where it has one, is square of each size that is so many
@@ -81,21 +81,18 @@ module _ (program : ProgramParts) (trees : List (List SelectionTree)) (fit : All
     in-nest : AllHold (nest_fit P place term)
     in-nest = AllHold-right (coordinates_fit P term place) (nest_fit P place term) in-points
 
-    in-count : AllHold (counted_fit P term place)
-    in-count =
-        AllHold-left (counted_fit P term place) (sums_fit (suc (length P.parameters)) (place ++ Key SUMS ∷ []) term.count.sums)
-        (AllHold-right (points_fit P place term) (number_fit P place term) behind)
+    -- what is asked of the points and of their number is asked as of a credit
+    as-credit : AllHold (credit_fit P place (counted_nest term) term.count)
+    as-credit = AllHold-append (nest_fit P place term) (number_fit P place term) in-nest (AllHold-right (points_fit P place term) (number_fit P place term) behind)
 
-    bounds-over : BoundsFit (length program.params) partition.nest
-    bounds-over =
-        let params : ℕ = length program.params in
-        subst (λ (n : ℕ). BoundsFit n partition.nest) (none params) (bounds-fit params 0 (place ++ Key NEST ∷ []) partition.nest small.bounds in-nest.1)
+    counts : FitsCount program term.nest term.count
+    counts = credit-counts program place (counted_nest term) term.count small.variables small.bounds as-credit
 
     counted : CountedFits P term.statement term.nest term.matrix
-    counted = record {
-      there = in-count.1.0;
-      each = in-nest.0;
-      bounds = bounds-over;
+    counted = let points = credit-fits P place (counted_nest term) term.count small.bounds as-credit in record {
+      there = points.there;
+      each = points.each;
+      bounds = points.bounds;
       rows = in-coordinates.1.1.1.0;
       columns = columns-many term.matrix.rows term.matrix.columns (depth_of P term.statement) in-coordinates.1.1.1.1.0;
     }
@@ -121,7 +118,7 @@ module _ (program : ProgramParts) (trees : List (List SelectionTree)) (fit : All
     families : AllByRecursion (FamilyFits P trees term.statement term.nest term.matrix (credited_nests term)) term.families
     families = families-fit P trees fit rows (credited_nests term) term.statement term.nest term.matrix counted credited (place ++ Key FAMILIES ∷ []) 0 term.families small.families in-families
 
-    apart-many : (shape : Shape) → length term.apart ≡ apart_count shape P trees term → ApartFits shape P trees term
+    apart-many : (shape : Shape) → length term.apart ≡ apart_count shape P trees term → HasApart shape P trees term
     apart-many Each e = tt
     apart-many Sum e =
         omega (
@@ -141,7 +138,7 @@ module _ (program : ProgramParts) (trees : List (List SelectionTree)) (fit : All
         families = families;
         apart = apart-many term.shape in-walks.0;
       };
-      count = record { few = small.variables; bounds = bounds-over; shown = in-count.0; sums = in-count.1.1.0 };
+      count = counts;
       credits = credits-count program (place ++ Key CREDITS ∷ []) IsSmallCredit nest-small 0 partition.credits.items small.credits held-credits;
       matrices = record {
         matrix = square (depth_of P term.statement) (length partition.nest) partition.matrix in-nest.0 in-coordinates.1.1.1.0 in-coordinates.1.1.1.1.0;

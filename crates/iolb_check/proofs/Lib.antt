@@ -5,5 +5,4 @@ pub mod FitParts
 pub mod PiecesOf
 pub mod FitFronts
 pub mod FamilyTargets
-pub mod GreatestUpTo
 pub mod FitPartitions

@@ -22,12 +22,12 @@ use Rattle.reuse_paths.specs.Quasts.{tree_at, tree_for}
 use Rattle.reuse_paths.specs.Walks.{SpotForms}
 use Rattle.dep_quast.specs.Truth.{ReadFits}
 use Rattle.reuse_paths.proofs.PairCounts.{targets_of}
-use Rattle.iolb_check.specs.Awaited.{partition_pieces}
+use Rattle.k_partition.specs.PartitionPieces.{partition_pieces}
 use Rattle.k_partition.specs.Term.{PartitionTerm, credited_nests}
 use Rattle.k_partition.specs.View.{partition_of}
 use Rattle.wavefront.specs.declared.cold.Cold.{Cold as ColdOf}
 use Rattle.wavefront.specs.ColdClaims.{cold_claims, instance_claims, matrix_claims}
-use Rattle.wavefront.specs.ColdPieces.{stop_pieces, leaves_of, cold_pieces, LeavesAreFew}
+use Rattle.wavefront.specs.ColdPieces.{stop_pieces, leaves_of, cold_pieces}
 use Rattle.wavefront.specs.Leaves.{leaves_claims, inside_claims, term_leaves}
 use Rattle.wavefront.specs.Term.{ColdTerm, nest_variables, nest_system, instance_point}
 use Rattle.wavefront.specs.FrontPieces.{front_pieces, front_target}

@@ -10,19 +10,17 @@ use Rattle.iolb_model.specs.Headline.{BoundHolds}
 use Rattle.iolb_model.specs.Footprint.{Footprint, AreDisjoint, ArePairwiseDisjoint, AreFootprintsOf}
 use Rattle.pebble_game.proofs.BranchLoads.{branches_loaded}
 use Rattle.affine_program.specs.Parts.{ProgramParts, meaning}
-use Rattle.domain_count.specs.Count.{CountsPoints}
-use Rattle.domain_count.specs.Points.{count}
-use Rattle.iolb_model.specs.Form.{AffineForm}
 use Rattle.poly_tree.specs.Poly.{Quotient, numerator_at}
 use Rattle.reuse_paths.specs.Pieces.{FootprintPiece, AreApartPieces, AreCovered, ArePairwiseApart}
 use Rattle.iolb_check.specs.declared.bound.Value.{Value}
 use Rattle.iolb_check.specs.Bounds.{BoundParts, IsBound, IsTermValue, bound_of, terms_of}
 use Rattle.iolb_check.specs.Conditions.{BranchHolds, TermsHold}
 
--- a count's values are whole
-pub whole : (program : ProgramParts) (nest : List (AffineForm × AffineForm)) (q : Quotient) → program.assumed.vars ≡ length program.params → CountsPoints (meaning program) nest q
+-- the values of a polynomial that counts something at all admitted parameter values are whole
+pub whole : (program : ProgramParts) (number : List ℤ → ℕ) (q : Quotient) → program.assumed.vars ≡ length program.params
+    → ((values : List ℤ) → IsAdmitted (meaning program) values → numerator_at q values ≡ pos (number values) *ℤ pos q.denominator)
     → (values : List ℤ) → length values ≡ program.assumed.vars → AreMet program.assumed.rows values → (n : ℕ) × (numerator_at q values ≡ pos n *ℤ pos q.denominator)
-whole program nest q kept counts values many met = (count nest values, counts values (record { each = many ∙ kept; met = met }))
+whole program number q kept counts values many met = (number values, counts values (record { each = many ∙ kept; met = met }))
 
 pub is-bound : (program : ProgramParts) (branches : List (List Value)) → AllByRecursion (BranchHolds program) branches → IsBound (record { assumed = program.assumed; branches = branches })
 is-bound program [] h = tt

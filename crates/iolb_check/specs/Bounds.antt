@@ -7,6 +7,7 @@ use Rattle.iolb_model.specs.Bound.{AreMet, Bound, BoundTerm, cold, wavefront, pa
 use Rattle.affine_form.specs.System.{AffineSystem}
 use Rattle.affine_program.specs.Assumptions.{IsFirstUnmet}
 use Rattle.k_partition.specs.declared.term.PartitionBound.{PartitionBound}
+use Rattle.k_partition.specs.Numbers.{numbers_of}
 use Rattle.poly_tree.specs.Expansion.{IsCanonical, at, size_at}
 use Rattle.poly_tree.specs.Poly.{Quotient, numerator_at}
 use Rattle.poly_tree.specs.Printed.{polynomial_of}
@@ -20,10 +21,6 @@ use Rattle.iolb_model.specs.declared.limits.TheConstants.{MEASURE}
 pub record BoundParts : Type 0 where
   pub assumed : AffineSystem
   pub branches : List (List Value)
-
--- the numbers of a partition term's stretches
-abbrev pub numbers_of : PartitionBound → StretchNumbers
-numbers_of bound = record { a = bound.a; b = bound.b; q = bound.q; m = bound.m; num = bound.num; den = bound.den }
 
 -- the term of a bound that a value is
 abbrev pub term_of : Value → BoundTerm

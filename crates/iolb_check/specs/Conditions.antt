@@ -14,7 +14,7 @@ use Rattle.domain_count.specs.Count.{IsCount, IsSumFrom}
 use Rattle.k_partition.specs.declared.term.PartitionBound.{PartitionBound}
 use Rattle.k_partition.specs.Numbers.{HasNumbers}
 use Rattle.k_partition.specs.PartitionClaims.{IsCreditsTotal, no_points, partition_claims}
-use Rattle.iolb_check.specs.Awaited.{partition_pieces}
+use Rattle.k_partition.specs.PartitionPieces.{partition_pieces}
 use Rattle.k_partition.specs.Term.{PartitionTerm}
 use Rattle.reuse_paths.specs.DisjointClaims.{pairwise_systems}
 use Rattle.reuse_paths.specs.Pieces.{FootprintPiece, AreCovered}

@@ -6,6 +6,7 @@ use Rattle.dep_quast.specs.Tree.{SelectionTree}
 use Rattle.domain_count.specs.Claims.{FitsCount}
 use Rattle.k_partition.specs.declared.term.Partition.{Partition}
 use Rattle.k_partition.specs.PartitionFits.{PartitionFits}
+use Rattle.k_partition.specs.PartitionPieces.{HasPartitionPieces}
 use Rattle.k_partition.specs.TermLoads.{weight_of}
 use Rattle.k_partition.specs.View.{partition_of, FitsCredit, FitsMatrices, FitsPartition}
 use Rattle.affine_form.specs.Matrix.{HasShape}
@@ -18,7 +19,6 @@ use Rattle.wavefront.specs.ColdPieces.{LeavesAreFew}
 use Rattle.wavefront.specs.FrontFits.{FrontFits, PartsFit as FrontPartsFit}
 use Rattle.wavefront.specs.Loads.{ColdFits}
 use Rattle.wavefront.specs.View.{term_of, front_of}
-use Rattle.iolb_check.specs.Awaited.{HasPartitionPieces}
 use Rattle.iolb_check.specs.declared.term.Term.{Term}
 use Rattle.iolb_check.specs.declared.term.Term.TheVariants as terms
 use Rattle.iolb_check.specs.declared.term.Branch.{Branch}

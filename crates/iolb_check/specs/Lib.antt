@@ -1,4 +1,3 @@
-pub mod Awaited
 pub mod Bounds
 pub mod Conditions
 pub mod Exact

@@ -11,7 +11,6 @@ use Rattle.dep_quast.specs.Context.{reference_of}
 use Rattle.dep_quast.specs.Tree.{SelectionTree}
 use Rattle.reuse_paths.specs.declared.piece.Target.{Target}
 use Rattle.reuse_paths.specs.declared.piece.Target.TheVariants.{Cell, Instance}
-use Rattle.k_partition.specs.Term.{PartitionTerm}
 use Rattle.reuse_paths.specs.LeafClaims.{LeafClaim, is_stop}
 use Rattle.reuse_paths.specs.Quasts.{tree_at}
 use Rattle.reuse_paths.specs.TargetPairs.{pairwise_targets}

@@ -1,20 +1,20 @@
 -- What is asked of partition terms. A statement that isn't there counts as one without loops and reads, a read that isn't
 -- there as one without leaves, and a credit that isn't there as one without variables.
-use Rattle.std.specs.Prelude.{ℕ, suc, ◌*◌, List, [], ◌∷◌, ◌++◌, length, map}
+use Rattle.std.specs.Prelude.{ℕ, ◌*◌, List, [], ◌∷◌, ◌++◌, length, map}
 use Rattle.iolb_model.specs.Program.{AffineProgram}
 use Rattle.claims.specs.Claims.{Claim, numbered}
 use Rattle.claims.specs.declared.place.Step.{Step}
 use Rattle.claims.specs.declared.place.Step.TheVariants.{Key, Index}
-use Rattle.claims.specs.declared.key.TheConstants.{APART, CREDITS, FAMILIES, INSIDE, INVERSE, MATRIX, NEST, SHOWN, STATEMENT, SUMS}
+use Rattle.claims.specs.declared.key.TheConstants.{APART, CREDITS, FAMILIES, INSIDE, INVERSE, MATRIX}
 use Rattle.affine_program.specs.Domain.{depth_of}
 use Rattle.dep_quast.specs.Tree.{SelectionTree}
 use Rattle.k_partition.specs.declared.term.Shape.{Shape}
 use Rattle.k_partition.specs.declared.term.Shape.TheVariants.{Each, Sum}
 use Rattle.k_partition.specs.Term.{CreditTerm, PartitionTerm, credited_nests}
+use Rattle.reuse_paths.specs.Families.{CreditedNest}
 use Rattle.reuse_paths.specs.TargetPairs.{pairwise_targets}
-use Rattle.part_fit.specs.FamilyFit.{credit_fit, families_fit}
-use Rattle.part_fit.specs.FitClaims.{so_many, names}
-use Rattle.part_fit.specs.PartFit.{bounds_fit, matrix_fit, shown_fit, sums_fit}
+use Rattle.part_fit.specs.FamilyFit.{credit_fit, credit_nest_fit, credit_count_fit, families_fit}
+use Rattle.part_fit.specs.PartFit.{matrix_fit, shown_fit}
 use Rattle.iolb_check.specs.FamilyTargets.{family_targets}
 
 -- ---- the families
@@ -52,25 +52,19 @@ coordinates_fit program term place =
     shown_fit (2 * loops) (place ++ Key INSIDE ∷ []) term.inside
     ∷ matrix_fit loops loops (place ++ Key INVERSE ∷ []) term.inverse ++ matrix_fit loops loops (place ++ Key MATRIX ∷ []) term.matrix
 
--- the nest: a variable for each loop
+-- the nest, as of a credit: a variable for each loop
+abbrev pub counted_nest : PartitionTerm → CreditedNest
+counted_nest term = record { statement = term.statement; nest = term.nest }
+
 abbrev pub nest_fit : AffineProgram → List Step → PartitionTerm → List Claim
-nest_fit program place term =
-    so_many (place ++ Key NEST ∷ []) (length term.nest) (depth_of program term.statement) ∷ bounds_fit (length program.parameters) (place ++ Key NEST ∷ []) term.nest
+nest_fit program place term = credit_nest_fit program place (counted_nest term)
 
 abbrev pub points_fit : AffineProgram → List Step → PartitionTerm → List Claim
 points_fit program place term = coordinates_fit program term place ++ nest_fit program place term
 
--- ---- their number
-
--- the statement, and the members that count its instances, but for each sum
-abbrev pub counted_fit : AffineProgram → PartitionTerm → List Step → List Claim
-counted_fit program term place =
-    shown_fit (length term.nest) (place ++ Key SHOWN ∷ []) term.count.shown
-    ∷ names (place ++ Key STATEMENT ∷ []) term.statement (length program.statements)
-    ∷ so_many (place ++ Key SUMS ∷ []) (length term.count.sums) (length term.nest) ∷ []
-
+-- the statement, and what is claimed of their number, as of a credit
 abbrev pub number_fit : AffineProgram → List Step → PartitionTerm → List Claim
-number_fit program place term = counted_fit program term place ++ sums_fit (suc (length program.parameters)) (place ++ Key SUMS ∷ []) term.count.sums
+number_fit program place term = credit_count_fit program place (counted_nest term) term.count
 
 -- A partition term, its members in the order of their keys.
 abbrev pub partition_fit : AffineProgram → List (List SelectionTree) → List Step → PartitionTerm → List Claim

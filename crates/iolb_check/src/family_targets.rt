@@ -118,10 +118,12 @@ fn push_region_targets(
         return Ok(());
     }
     match node {
-        Some(FamilyNode {
-            region: Some(region),
-            ..
-        }) => push_walk_targets(alloc, targets, program, quasts, number as u16, &region.tree),
+        Some(
+            FamilyNode {
+                region: Some(region),
+                ..
+            },
+        ) => push_walk_targets(alloc, targets, program, quasts, number as u16, &region.tree),
         _ => Ok(()),
     }
 }

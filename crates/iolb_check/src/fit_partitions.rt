@@ -2,9 +2,9 @@
 
 ghost use Rattle.std.specs.Prelude.{◌≡◌, ◌≤◌, ◌↔◌, ◌++◌, ◌∷◌, [], map, length, IsTrue, IfOk};
 ghost use Rattle.affine_program.specs.Parts.{meaning};
-ghost use Rattle.claims.specs.declared.key.TheConstants.{SUMS};
+ghost use Rattle.claims.specs.declared.key.TheConstants.{NEST, SHOWN, STATEMENT, SUMS};
 ghost use Rattle.claims.specs.declared.place.Step.TheVariants.{Key};
-ghost use Rattle.iolb_check.specs.PartitionFit.{apart_count, apart_fit, coordinates_fit, counted_fit, credits_fit, nest_fit, number_fit, partition_fit, points_fit, walked_fit, walks_fit};
+ghost use Rattle.iolb_check.specs.PartitionFit.{apart_count, apart_fit, coordinates_fit, credits_fit, nest_fit, number_fit, partition_fit, points_fit, walked_fit, walks_fit};
 ghost use Rattle.k_partition.specs.View.{partition_of};
 ghost use Rattle.part_fit.specs.FitClaims.{FindsMisfit, FindsStep};
 ghost use Rattle.reuse_paths.specs.Quasts.{trees_of};
@@ -13,13 +13,15 @@ use crate::family_targets::targets_of_families;
 use crate::fit_colds::columns_called;
 use affine_form::Memory;
 use affine_program::Program;
-use claims::key::{APART, CREDITS, FAMILIES, INSIDE, INVERSE, MATRIX, NEST, SHOWN, STATEMENT, SUMS};
+use claims::key::{
+    APART, CREDITS, FAMILIES, INSIDE, INVERSE, MATRIX, NEST, SHOWN, STATEMENT, SUMS,
+};
 use claims::{Place, Step};
 use k_partition::{Partition, Shape};
 use part_fit::counts::loops_around;
 use part_fit::credits::credits_misfit;
 use part_fit::families::families_misfit;
-use part_fit::lists::{bounds_misfit, misfit_at, sums_misfit};
+use part_fit::lists::{bounds_misfit, misfit_at, polynomials_misfit};
 use reuse_paths::{Quasts, has_pairs};
 use std::alloc::Global;
 
@@ -170,24 +172,7 @@ fn points_misfit(
     nest_misfit(alloc, program, place, term)
 }
 
-/// What doesn't fit first of the statement and of what counts its instances, but for each sum.
-fn misfit_of_count(program: &Program, term: &Partition) -> Option<Step>
-    ensures { FindsStep (counted_fit (meaning program.now) (partition_of term.now)) result }
-{
-    let depth = term.nest.bounds().len();
-    if term.sums.shown().len() != depth {
-        return Some(Step::Key(SHOWN));
-    }
-    if usize::from(term.statement) >= program.statements().len() {
-        return Some(Step::Key(STATEMENT));
-    }
-    if term.sums.sums().len() != depth {
-        return Some(Step::Key(SUMS));
-    }
-    None
-}
-
-/// The place of what doesn't fit first of the number of points.
+/// The place of what doesn't fit first of the statement, and of what is claimed of the number of points.
 fn number_misfit(
     alloc: Global,
     program: &Program,
@@ -196,11 +181,15 @@ fn number_misfit(
 ) -> Result<Option<Place>, Memory>
     ensures { IfOk result (λ found. FindsMisfit (number_fit (meaning program.now) place.now (partition_of term.now)) found) }
 {
-    if let Some(step) = misfit_of_count(program, term) {
-        return misfit_at(alloc, place, step);
+    let depth = term.nest.bounds().len();
+    if term.sums.shown().len() != depth {
+        return misfit_at(alloc, place, Step::Key(SHOWN));
+    }
+    if usize::from(term.statement) >= program.statements().len() {
+        return misfit_at(alloc, place, Step::Key(STATEMENT));
     }
     let params = program.params().len();
-    sums_misfit(alloc, place, SUMS, params + 1, term.sums.sums())
+    polynomials_misfit(alloc, place, SUMS, params, term.sums.sums(), depth)
 }
 
 /// The place of what doesn't fit first of a partition term at this place.

@@ -1,7 +1,6 @@
 //! The checker: whether a certificate's claims hold of a program, and the bound on loads that they give.
 #![tactic(auto)]
 
-mod awaited;
 mod bound;
 mod branches;
 mod certificate;

@@ -10,11 +10,11 @@ ghost use Rattle.iolb_check.specs.Fit.{BranchFits, HasPieces};
 ghost use Rattle.reuse_paths.specs.Pieces.{ArePairwiseApart, PieceFits, pieces_of};
 ghost use Rattle.reuse_paths.specs.Quasts.{trees_of};
 
-use crate::awaited::partition_pieces;
 use crate::term::{Branch, Term};
 use affine_form::Memory;
 use affine_program::Program;
 use claims::{Place, Refused, Step, key};
+use k_partition::partition_pieces;
 use reuse_paths::{Piece, Quasts, disjoint_pieces_are_apart, lists_shown};
 use std::alloc::Global;
 use wavefront::{cold_pieces, front_pieces};

@@ -1,7 +1,8 @@
 //! The values of partition terms at sizes.
 
 ghost use Rattle.std.specs.Prelude.{◌≡◌, ◌+◌, ◌-◌, ◌*◌, ◌/◌, ◌^◌, ◌<◌, ◌≤◌, ◌↔◌, ◌⊎◌, length, IfOk, IsErr};
-ghost use Rattle.iolb_check.specs.Bounds.{AreWideEvents, AreWideLabels, IsStretching, IsWidePartition, numbers_of};
+ghost use Rattle.iolb_check.specs.Bounds.{AreWideEvents, AreWideLabels, IsStretching, IsWidePartition};
+ghost use Rattle.k_partition.specs.Numbers.{numbers_of};
 ghost use Rattle.iolb_model.specs.Bound.{AreMet, count_value, events_of, labels_of, points_of};
 ghost use Rattle.iolb_model.specs.declared.limits.TheConstants.{MEASURE};
 ghost use Rattle.poly_tree.specs.Printed.{polynomial_of};

@@ -13,3 +13,7 @@ pub mod Members
 pub mod CreditSums
 pub mod Phases
 pub mod OwnPowers
+pub mod GreatestUpTo
+pub mod CreditsValue
+pub mod PartitionBounds
+pub mod ToldFamilies

@@ -1,11 +1,6 @@
 -- Members of lists that the code holds, and what is refused at them.
 use Rattle.std.proofs.Common.{◌≡◌, refl, sym, ◌∙◌, ap, subst, ℕ, ◌<◌, List, [], ◌∷◌, length, map, get_or, arith}
-use Rattle.std.specs.Prelude.{Option, Some}
 use Rattle.std.proofs.lemmas.List.{get_or-map, length-map}
-use Rattle.claims.specs.Claims.{Claim, Finds, IsRefusal}
-use Rattle.claims.specs.declared.refused.No.{No}
-use Rattle.claims.specs.declared.refused.Refused.{Refused}
-use Rattle.claims.specs.declared.refused.Refused.TheVariants.{No as not_so, Memory}
 use Rattle.reuse_paths.specs.declared.family.Credit.{Credit}
 use Rattle.reuse_paths.specs.Families.{CreditedNest, credit_of}
 use Rattle.k_partition.specs.Term.{CreditTerm}
@@ -22,8 +17,3 @@ pub member-of : {X Y : Type 0} (f : X → Y) (held xs : List X) (i : ℕ) (x : X
 member-of {X = X} f held xs i x same below is =
     subst (λ (l : List X). (i < length (map f l)) × (f x ≡ get_or (map f l) i (f x))) same
     (omega (arith, below, length-map held f), ap f is ∙ sym (get_or-map f held i x (f x) below))
-
--- what is found in later claims is found in all; so what is refused there is refused
-pub refused-there : (later all : List Claim) → ((found : Option No) → Finds later found → Finds all found) → (r : Refused) → IsRefusal later r → IsRefusal all r
-refused-there later all there (not_so n) h = there (Some n) h
-refused-there later all there Memory h = tt

@@ -45,7 +45,9 @@ use Rattle.reuse_paths.proofs.Places.{executed-there}
 use Rattle.k_partition.specs.declared.term.Shape.{Shape}
 use Rattle.k_partition.specs.declared.term.Shape.TheVariants.{Each, Sum}
 use Rattle.k_partition.specs.PartitionClaims.{inside_claims, inside_goals, credit_claims, unit_claim, unit_claims, cover_claim, cover_claims, family_claims_at, pieces_of_families, apart_claims, sound_claims}
-use Rattle.k_partition.specs.PartitionFits.{PartitionFits, PartitionsAreSound, PartitionsAreApart}
+use Rattle.reuse_paths.specs.FewContexts.{few_contexts, ContextsAreFew}
+use Rattle.k_partition.specs.PartitionPieces.{HasPartitionPieces}
+use Rattle.k_partition.specs.PartitionFits.{HasApart, PartitionFits, PartitionsAreSound, PartitionsAreApart}
 use Rattle.k_partition.specs.ReusedWords.{FixesRows, IsSoundTerm}
 use Rattle.k_partition.specs.Term.{PartitionTerm, credited_nests}
 use Rattle.k_partition.specs.TermLoads.{footprint_in, AreApartFor}
@@ -76,6 +78,9 @@ module _ (program : AffineProgram) (trees : List (List SelectionTree)) (term : P
 
   holds-inside : AllHold inside
   holds-inside = AllHold-left inside credits (AllHold-right counts (inside ++ credits) (AllHold-left (counts ++ (inside ++ credits)) (units ++ covers) before-words))
+
+  pub holds-credits : AllHold credits
+  holds-credits = AllHold-right inside credits (AllHold-right counts (inside ++ credits) (AllHold-left (counts ++ (inside ++ credits)) (units ++ covers) before-words))
 
   holds-cover : AllHold (units ++ covers)
   holds-cover = AllHold-right (counts ++ (inside ++ credits)) (units ++ covers) before-words
@@ -189,11 +194,11 @@ module _ (program : AffineProgram) (trees : List (List SelectionTree)) (term : P
 
     pub families-apart : AllHold (apart_claims term.shape program trees place term) → FamilyPiecesCover → PairwisePiecesAreApart → AllByRecursion (AllByRecursion (PieceFits program)) (pieces_of_families program trees term)
         → AreApartFor term.shape program term parameters
-    families-apart holds-apart law pairs fit = by term.shape holds-apart where
-      by : (shape : Shape) → AllHold (apart_claims shape program trees place term) → AreApartFor shape program term parameters
-      by Each h = tt
-      by Sum h = all-apart term.families (covered-from 0 term.families fits.families holds-families law)
-          (pairs program 18 (place ++ Key APART ∷ []) (pieces_of_families program trees term) term.apart fit fits.apart h)
+    families-apart holds-apart law pairs fit = by term.shape fits.apart holds-apart where
+      by : (shape : Shape) → HasApart shape program trees term → AllHold (apart_claims shape program trees place term) → AreApartFor shape program term parameters
+      by Each enough h = tt
+      by Sum enough h = all-apart term.families (covered-from 0 term.families fits.families holds-families law)
+          (pairs program 18 (place ++ Key APART ∷ []) (pieces_of_families program trees term) term.apart fit enough h)
 
 pub partitions-sound : FamiliesAreSound → PartitionsAreSound
 partitions-sound law program trees term place formed trees-fit trees-true fits holds = sound program trees term place formed trees-fit trees-true fits holds law
@@ -203,3 +208,27 @@ partitions-apart law pairs program trees term place parameters formed trees-fit 
     let first : List Claim = sound_claims program trees place term in
     let second : List Claim = apart_claims term.shape program trees place term in
     families-apart program trees term place formed trees-fit trees-true fits (AllHold-left first second holds) parameters admitted (AllHold-right first second holds) law pairs fit
+
+-- Each family of a partition term whose claims hold has a footprint that its pieces cover.
+pub families-covered : FamilyPiecesCover → (program : AffineProgram) (trees : List (List SelectionTree)) (term : PartitionTerm) (place : List Step) → IsWellFormed program → RowsFit program 0 trees
+    → RowsAreTrue program 0 trees → PartitionFits program trees term → AllHold (sound_claims program trees place term)
+    → AllByRecursion (λ (family : FamilyForms). AreCovered program (family_footprint program term.statement term.nest family) (family_pieces program trees term.statement term.nest family)) term.families
+families-covered law program trees term place formed trees-fit trees-true fits holds =
+    covered-from program trees term place formed trees-fit trees-true fits holds 0 term.families fits.families (holds-families program trees term place formed trees-fit trees-true fits holds) law
+
+-- and the rows of each of its contexts are few
+few-from : ContextsAreFew → (program : AffineProgram) (trees : List (List SelectionTree)) (term : PartitionTerm) (place : List Step) (index : ℕ) (these : List FamilyForms)
+    → AllHold (numbered (family_claims_at program trees place term) index these)
+    → AllByRecursion (λ (family : FamilyForms). AllHold (few_contexts program trees term.statement term.nest family [])) these
+few-from law program trees term place index [] h = tt
+few-from law program trees term place index (family ∷ these) h =
+    let here : List Claim = family_claims_at program trees place term index family in
+    let later : List Claim = numbered (family_claims_at program trees place term) (suc index) these in (
+      law program trees term.statement term.nest term.matrix (credited_nests term) family (place ++ Key FAMILIES ∷ Index index ∷ []) [] (AllHold-left here later h),
+      few-from law program trees term place (suc index) these (AllHold-right here later h),
+    )
+
+pub contexts-are-few : ContextsAreFew → (program : AffineProgram) (trees : List (List SelectionTree)) (term : PartitionTerm) (place : List Step) → IsWellFormed program → RowsFit program 0 trees
+    → RowsAreTrue program 0 trees → PartitionFits program trees term → AllHold (sound_claims program trees place term) → HasPartitionPieces program trees term
+contexts-are-few law program trees term place formed trees-fit trees-true fits holds =
+    few-from law program trees term place 0 term.families (holds-families program trees term place formed trees-fit trees-true fits holds)

@@ -9,3 +9,4 @@ pub mod PartitionFits
 pub mod View
 pub mod CreditSums
 pub mod Numbers
+pub mod PartitionPieces

@@ -1,5 +1,6 @@
 -- The numbers of a partition term's bound.
 use Rattle.std.specs.Prelude.{◌≡◌, ℕ, ◌^◌}
+use Rattle.iolb_model.specs.Bound.{StretchNumbers}
 use Rattle.uniform_cover.specs.Products.{product_by}
 use Rattle.reuse_paths.specs.Families.{FamilyForms}
 use Rattle.k_partition.specs.declared.term.PartitionBound.{PartitionBound}
@@ -25,3 +26,7 @@ pub record HasNumbers (term : PartitionTerm) (bound : PartitionBound) : Type 0 w
   pub m : bound.m ≡ weight_of term
   pub num : bound.num ≡ factor_over term.shape term
   pub den : bound.den ≡ factor_under term.shape term
+
+-- its numbers as those of a bound's term
+abbrev pub numbers_of : PartitionBound → StretchNumbers
+numbers_of bound = record { a = bound.a; b = bound.b; q = bound.q; m = bound.m; num = bound.num; den = bound.den }

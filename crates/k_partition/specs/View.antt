@@ -12,6 +12,7 @@ use Rattle.k_partition.specs.declared.term.Partition.{Partition}
 use Rattle.k_partition.specs.PartitionFits.{PartitionFits}
 use Rattle.k_partition.specs.Term.{CreditTerm, PartitionTerm}
 use Rattle.k_partition.specs.TermLoads.{weight_of}
+use Rattle.iolb_model.specs.declared.limits.TheConstants.{WEIGHTS}
 
 -- a credited nest that the code holds, with what is claimed of its number of points
 abbrev pub credit_term_of : Credit → CreditTerm
@@ -49,7 +50,7 @@ pub record FitsMatrices (partition : Partition) : Type 0 where
   pub matrix : IsSquare (length partition.nest) partition.matrix
   pub inverse : IsSquare (length partition.nest) partition.inverse
 
--- A partition term and the source trees fit the program, the trees are true, and the weights are at most 24 together.
+-- A partition term and the source trees fit the program, the trees are true, and the weights are few together.
 pub record FitsPartition (program : ProgramParts) (trees : List (List SelectionTree)) (partition : Partition) : Type 0 where
   pub fits : PartitionFits (meaning program) trees (partition_of partition)
   pub trees_fit : RowsFit (meaning program) 0 trees
@@ -57,4 +58,4 @@ pub record FitsPartition (program : ProgramParts) (trees : List (List SelectionT
   pub count : FitsCount program partition.nest partition.sums
   pub credits : AllByRecursion (FitsCredit program) partition.credits.items
   pub matrices : FitsMatrices partition
-  pub light : weight_of (partition_of partition) ≤ 24
+  pub light : weight_of (partition_of partition) ≤ WEIGHTS

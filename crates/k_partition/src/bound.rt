@@ -6,6 +6,7 @@ ghost use Rattle.k_partition.specs.TermLoads.{weight_of};
 ghost use Rattle.k_partition.specs.View.{partition_of};
 ghost use Rattle.reuse_paths.specs.declared.family.Family.{Family as family};
 ghost use Rattle.uniform_cover.specs.Products.{product_by};
+ghost use Rattle.iolb_model.specs.declared.limits.TheConstants.{WEIGHTS};
 
 use crate::term::{Partition, PartitionBound, Shape};
 use poly_tree::Poly;
@@ -13,7 +14,7 @@ use reuse_paths::Family;
 
 /// The bound of a term with these counts of its points and of its credits' points.
 pub(crate) fn bound_of(term: &Partition, count: Poly, credits: Poly) -> PartitionBound
-    requires { weight_of (partition_of term.now) ≤ 24 }
+    requires { weight_of (partition_of term.now) ≤ WEIGHTS }
     ensures count { result.count ≡ count }
     ensures credits { result.credits ≡ credits }
     ensures numbers { HasNumbers (partition_of term.now) result }
@@ -38,7 +39,7 @@ pub(crate) fn bound_of(term: &Partition, count: Poly, credits: Poly) -> Partitio
 
 /// The sum of the weights.
 fn weight_of(families: &[Family]) -> u8
-    requires { sum_by (λ (f : family). f.weight) families.now ≤ 24 }
+    requires { sum_by (λ (f : family). f.weight) families.now ≤ WEIGHTS }
     ensures { result ≡ sum_by (λ (f : family). f.weight) families.now }
 {
     let mut sum = 0;
@@ -50,7 +51,7 @@ fn weight_of(families: &[Family]) -> u8
 
 /// The product of the powers of the weights with themselves.
 fn powers_of(families: &[Family]) -> u128
-    requires { sum_by (λ (f : family). f.weight) families.now ≤ 24 }
+    requires { sum_by (λ (f : family). f.weight) families.now ≤ WEIGHTS }
     ensures { result ≡ product_by (λ (f : family). f.weight ^ f.weight) families.now }
 {
     let mut product = 1;
@@ -62,7 +63,7 @@ fn powers_of(families: &[Family]) -> u128
 
 /// The power of a number with itself, 1 for 0.
 fn own_power(n: u8) -> u128
-    requires { n ≤ 24 }
+    requires { n ≤ WEIGHTS }
     ensures { result ≡ n ^ n }
 {
     let mut power = 1;

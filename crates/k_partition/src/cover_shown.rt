@@ -10,7 +10,7 @@ ghost use Rattle.k_partition.specs.TermLoads.{weight_of};
 ghost use Rattle.k_partition.specs.View.{partition_of};
 ghost use Rattle.reuse_paths.specs.Families.{family_of};
 ghost use Rattle.reuse_paths.specs.declared.family.Family.{Family as family};
-ghost use Rattle.iolb_model.specs.declared.limits.TheConstants.{NEST_VARIABLES};
+ghost use Rattle.iolb_model.specs.declared.limits.TheConstants.{NEST_VARIABLES, WEIGHTS};
 
 use crate::term::Partition;
 use affine_form::Memory;
@@ -26,7 +26,7 @@ pub(crate) fn cover_shown(
     place: &Place,
 ) -> Result<Option<No>, Memory>
     requires few { length term.now.nest ≤ NEST_VARIABLES }
-    requires light { weight_of (partition_of term.now) ≤ 24 }
+    requires light { weight_of (partition_of term.now) ≤ WEIGHTS }
     ensures { IfOk result (λ found. Finds (cover_claims place.now (partition_of term.now)) found) }
 {
     let families = term.families.as_slice();
@@ -41,7 +41,7 @@ pub(crate) fn cover_shown(
 
 /// The weights of the sets in which a coordinate lies.
 fn weight_at(families: &[Family], coordinate: u8) -> u8
-    requires { sum_by (λ (f : family). f.weight) families.now ≤ 24 }
+    requires { sum_by (λ (f : family). f.weight) families.now ≤ WEIGHTS }
     ensures { result ≡ weight_at (map family_of families.now) coordinate }
 {
     let mut sum = 0;

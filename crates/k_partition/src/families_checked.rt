@@ -9,7 +9,7 @@ ghost use Rattle.k_partition.specs.Term.{credited_nests};
 ghost use Rattle.k_partition.specs.View.{partition_of};
 ghost use Rattle.reuse_paths.specs.FamilyFits.{FamilyFits};
 ghost use Rattle.reuse_paths.specs.Quasts.{trees_of};
-ghost use Rattle.reuse_paths.specs.Trees.{RowsFit};
+ghost use Rattle.reuse_paths.specs.Trees.{RowsAreTrue, RowsFit};
 
 use crate::term::Partition;
 use affine_program::Program;
@@ -27,6 +27,7 @@ pub(crate) fn families_checked(
     place: &Place,
 ) -> Result<(), Refused>
     requires trees_fit { RowsFit (meaning program.now) 0 (trees_of quasts.now) }
+    requires trees_true { RowsAreTrue (meaning program.now) 0 (trees_of quasts.now) }
     requires fits { AllByRecursion (FamilyFits (meaning program.now) (trees_of quasts.now) term.now.statement term.now.nest term.now.matrix (credited_nests (partition_of term.now))) (partition_of term.now).families }
     ensures holds { OnOk result (AllHold (numbered (family_claims_at (meaning program.now) (trees_of quasts.now) place.now (partition_of term.now)) 0 (partition_of term.now).families)) }
     ensures refused { IfErr result (λ refused. IsRefusal (numbered (family_claims_at (meaning program.now) (trees_of quasts.now) place.now (partition_of term.now)) 0 (partition_of term.now).families) refused) }

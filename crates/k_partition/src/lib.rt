@@ -7,6 +7,7 @@ mod cover_shown;
 mod credits_counted;
 mod families_checked;
 mod inside_shown;
+mod partition_checker;
 pub mod partitions;
 pub mod pebblings;
 mod sound_checker;
@@ -15,5 +16,6 @@ mod term;
 pub mod terms_loaded;
 mod unit_shown;
 
+pub use partition_checker::{check_partition, partition_pieces};
 pub use sound_checker::check_sound;
 pub use term::{Partition, PartitionBound, Shape};

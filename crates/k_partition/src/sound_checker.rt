@@ -9,8 +9,9 @@ ghost use Rattle.k_partition.specs.PartitionClaims.{cover_claims, no_points, sou
 ghost use Rattle.k_partition.specs.ReusedWords.{IsSoundTerm};
 ghost use Rattle.k_partition.specs.View.{partition_of, FitsMatrices, FitsPartition};
 ghost use Rattle.k_partition.specs.TermLoads.{weight_of};
+ghost use Rattle.poly_tree.specs.Expansion.{IsCanonical};
 ghost use Rattle.reuse_paths.specs.Quasts.{trees_of};
-ghost use Rattle.iolb_model.specs.declared.limits.TheConstants.{NEST_VARIABLES};
+ghost use Rattle.iolb_model.specs.declared.limits.TheConstants.{NEST_VARIABLES, WEIGHTS};
 
 use crate::bound::bound_of;
 use crate::cover_shown::cover_shown;
@@ -31,7 +32,7 @@ use std::alloc::Global;
 fn coordinates_shown(alloc: Global, term: &Partition, place: &Place) -> Result<Option<No>, Memory>
     requires matrices { FitsMatrices term.now }
     requires few { length term.now.nest ≤ NEST_VARIABLES }
-    requires light { weight_of (partition_of term.now) ≤ 24 }
+    requires light { weight_of (partition_of term.now) ≤ WEIGHTS }
     ensures { IfOk result (λ found. Finds (unit_claims place.now (partition_of term.now) ++ cover_claims place.now (partition_of term.now)) found) }
 {
     if let Some(no) = unit_shown(alloc, term, place)? {
@@ -65,6 +66,7 @@ pub fn check_sound(
     requires { FitsPartition program.now (trees_of quasts.now) term.now }
     ensures right { IfOk result (λ bound. IsCount (meaning program.now) term.now.nest term.now.sums bound.count) }
     ensures counts { IfOk result (λ bound. CountsPoints (meaning program.now) term.now.nest bound.count) }
+    ensures parameters { IfOk result (λ bound. IsCanonical (length program.now.params) bound.count.tree) }
     ensures total { IfOk result (λ bound. IsCreditsTotal (length program.now.params) no_points (partition_of term.now).credits bound.credits) }
     ensures numbers { IfOk result (λ bound. HasNumbers (partition_of term.now) bound) }
     ensures holds { OnOk result (AllHold (sound_claims (meaning program.now) (trees_of quasts.now) place.now (partition_of term.now))) }

@@ -4,10 +4,12 @@ use Rattle.std.specs.Prelude.{Option, Some, None}
 use Rattle.std.proofs.lemmas.List.{drop_all}
 use Rattle.base_laws.proofs.Lists.{rest_at, add-one}
 use Rattle.iolb_model.specs.Form.{AffineForm}
-use Rattle.claims.specs.Claims.{Claim, AllHold, Finds}
+use Rattle.claims.specs.Claims.{Claim, AllHold, Finds, IsRefusal}
 use Rattle.claims.specs.declared.place.Step.{Step}
 use Rattle.claims.specs.declared.place.Step.TheVariants.{Index}
 use Rattle.claims.specs.declared.refused.No.{No}
+use Rattle.claims.specs.declared.refused.Refused.{Refused}
+use Rattle.claims.specs.declared.refused.Refused.TheVariants.{No as not_so, Memory}
 use Rattle.claims.proofs.Found.{Finds-stop, Finds-go}
 use Rattle.dep_quast.specs.Context.{ReadOf}
 use Rattle.reuse_paths.specs.declared.leaf.Leaf.{Leaf}
@@ -73,3 +75,8 @@ module _ (condition : ℕ) (walk : WalkSetting) (reader : ReadOf) (list : List S
 
     pub leaves-next : (before found : Option No) → before ≡ None → Finds here before → Finds (from (i + 1)) found → Finds (from i) found
     leaves-next before found none h g = subst (λ (cs : List Claim). Finds cs found) (sym split) (Finds-go here (from (i + 1)) found (subst (Finds here) none h) g)
+
+-- a refusal of the later claims is one of all, where what is found in the later is found in all
+pub refused-there : (later all : List Claim) → ((found : Option No) → Finds later found → Finds all found) → (r : Refused) → IsRefusal later r → IsRefusal all r
+refused-there later all there (not_so n) h = there (Some n) h
+refused-there later all there Memory h = tt

@@ -25,3 +25,9 @@ pub mod KeptWords
 pub mod FamilyWalks
 pub mod FamilyWords
 pub mod FamilyCover
+pub mod PiecesFit
+pub mod FewContexts
+pub mod ToldLeaves
+pub mod ToldSides
+pub mod ToldRegions
+pub mod ToldFamilies

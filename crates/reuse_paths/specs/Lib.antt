@@ -24,3 +24,4 @@ pub mod SoundFamilies
 pub mod FamilyFootprint
 pub mod FamilyPieces
 pub mod WalkViews
+pub mod FewContexts

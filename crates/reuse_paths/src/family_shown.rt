@@ -13,7 +13,8 @@ ghost use Rattle.reuse_paths.specs.Families.{credit_of, family_of, node_of, Node
 ghost use Rattle.reuse_paths.specs.FamilyClaims.{family_claims, family_setting, label_rows, node_walk, region_walk, start_rows, start_walk, IsScaledRow};
 ghost use Rattle.reuse_paths.specs.FamilyFits.{CountedFits, FamilyFits, NodeFits, NodesFit};
 ghost use Rattle.reuse_paths.specs.Quasts.{trees_of};
-ghost use Rattle.reuse_paths.specs.Trees.{RowsFit};
+ghost use Rattle.reuse_paths.specs.SoundFamilies.{IsSoundFamily};
+ghost use Rattle.reuse_paths.specs.Trees.{RowsAreTrue, RowsFit};
 ghost use Rattle.reuse_paths.specs.WalkClaims.{walk_claims};
 ghost use Rattle.reuse_paths.specs.WalkFits.{IsLabel, NestFits, RegionFits, WalkFits};
 ghost use Rattle.reuse_paths.specs.Walks.{region_of, tree_of_walk};
@@ -22,6 +23,7 @@ ghost use Rattle.reuse_paths.specs.WalkViews.{walk_of, ReadingFits, SettingFits}
 ghost use Rattle.claims.specs.declared.key.TheConstants.{START, TREE};
 
 use crate::family::{Credit, Family, FamilyNode};
+use crate::law::families_are_sound;
 use crate::quasts::Quasts;
 use crate::region::region_context;
 use crate::walk::{Region, Walk};
@@ -98,7 +100,7 @@ fn label_shown(
 }
 
 /// The rows of a nest of instances of a statement, whose variables are the loop values.
-fn start_rows(
+pub(crate) fn start_rows(
     alloc: Global,
     walking: &Walking,
     statement: u16,
@@ -173,7 +175,7 @@ fn region_shown(
 }
 
 /// The walks of a family from readers with this label: there is no nest around them.
-fn walking_from<'a>(
+pub(crate) fn walking_from<'a>(
     program: &'a Program,
     quasts: &'a Quasts,
     none: &'a Nest,
@@ -333,10 +335,14 @@ pub fn check_family(
     place: &Place,
 ) -> Result<(), Refused>
     requires trees_fit { RowsFit (meaning program.now) 0 (trees_of quasts.now) }
+    requires trees_true { RowsAreTrue (meaning program.now) 0 (trees_of quasts.now) }
     requires fits { FamilyFits (meaning program.now) (trees_of quasts.now) statement nest.now matrix.now (map credit_of credits.now) (family_of family.now) }
     ensures hold { OnOk result (AllHold (family_claims (meaning program.now) (trees_of quasts.now) statement nest.now matrix.now (map credit_of credits.now) (family_of family.now) place.now)) }
     ensures refused { IfErr result (λ refused. IsRefusal (family_claims (meaning program.now) (trees_of quasts.now) statement nest.now matrix.now (map credit_of credits.now) (family_of family.now) place.now) refused) }
+    ensures sound { OnOk result (IsSoundFamily (meaning program.now) statement nest.now (map credit_of credits.now) (family_of family.now)) }
 {
+    let _params = program.params();
+    families_are_sound();
     match family_shown(
         alloc, program, quasts, statement, nest, matrix, credits, family, place,
     ) {

@@ -2,6 +2,7 @@
 
 ghost use Rattle.reuse_paths.specs.Arrival.{ReachesArrive};
 ghost use Rattle.reuse_paths.specs.FamilyPieces.{FamilyPiecesCover};
+ghost use Rattle.reuse_paths.specs.FewContexts.{ContextsAreFew};
 ghost use Rattle.reuse_paths.specs.SoundFamilies.{FamiliesAreSound};
 
 /// A law: where the claims of a reach hold, over true source trees, then at all admitted parameter values, of any size, and
@@ -23,4 +24,9 @@ pub fn families_are_sound()
 /// its footprint is in one of its pieces.
 pub fn family_pieces_cover()
     ensures { FamilyPiecesCover }
+{}
+
+/// A law: where the claims of a family hold, the rows of each of its contexts are few, so its pieces are told.
+pub fn contexts_are_few()
+    ensures { ContextsAreFew }
 {}

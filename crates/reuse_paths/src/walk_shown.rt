@@ -127,7 +127,11 @@ fn leaves_shown(
 }
 
 /// The open leaves of the source tree of a read of a region's statement.
-fn leaves_of(alloc: Global, walking: &Walking, reader: Reader) -> Result<Vec<OpenLeaf>, Memory>
+pub(crate) fn leaves_of(
+    alloc: Global,
+    walking: &Walking,
+    reader: Reader,
+) -> Result<Vec<OpenLeaf>, Memory>
     requires fits { SettingFits (walk_of walking.now) }
     requires read_fits { ReadFits (walk_of walking.now).program (read_of reader) }
     requires there { tree_at (walk_of walking.now).trees reader.statement reader.read ≡ Some (tree_for (walk_of walking.now).trees (read_of reader)) }
@@ -173,7 +177,12 @@ fn take_shown(
 }
 
 /// Rows, and that a form is at most -1.
-fn rows_of_no(alloc: Global, vars: usize, rows: &[Form], form: &Form) -> Result<Vec<Form>, Memory>
+pub(crate) fn rows_of_no(
+    alloc: Global,
+    vars: usize,
+    rows: &[Form],
+    form: &Form,
+) -> Result<Vec<Form>, Memory>
     requires few { vars ≤ VARIABLES }
     requires rows_over { AllOver vars rows.now }
     requires form_over { IsSmallOver vars form.now }

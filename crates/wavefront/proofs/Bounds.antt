@@ -13,12 +13,9 @@ use Rattle.poly_tree.specs.Poly.{Quotient, IsLegal}
 use Rattle.poly_tree.specs.Printed.{polynomial_of, TermsHaveTheValue}
 use Rattle.domain_count.specs.Count.{CountsPoints}
 use Rattle.domain_count.specs.Points.{count}
+use Rattle.domain_count.proofs.Counted.{counted}
 use Rattle.wavefront.specs.Term.{ColdTerm}
 use Rattle.wavefront.specs.Loads.{footprint_of, HasFootprint, CostsItsCount}
-
--- a whole number times a denominator, over the denominator
-pub whole : (z : ℤ) (n d : ℕ) → 1 ≤ d → z ≡ pos n *ℤ pos d → natural (int_div z (pos d)) ≡ n
-whole z n d some e = ap (λ (y : ℤ). natural (int_div y (pos d))) e ∙ mul-div_cancel n some
 
 pub footprint-is : (program : AffineProgram) (term : ColdTerm) (q : Quotient) → IsLegal q → CountsPoints program term.nest q → TermsHaveTheValue
     → HasFootprint program term → CostsItsCount program term → IsFootprintOf program (cold (polynomial_of q)) (footprint_of program term)
@@ -26,6 +23,6 @@ footprint-is program term q legal counts value vertices costs = record {
   vertices = vertices;
   loaded = λ values s moves admitted some game.
       subst (λ (n : ℕ). n ≤ loads_of (footprint_of program term values) moves)
-      (sym (whole (numerator (polynomial_of q) values) (count term.nest values) q.denominator legal.positive (value q legal values ∙ counts values admitted)))
+      (sym (counted program term.nest q values legal counts value admitted))
       (costs values s moves admitted game);
 }

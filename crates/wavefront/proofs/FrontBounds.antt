@@ -12,16 +12,10 @@ use Rattle.poly_tree.specs.Poly.{Quotient, IsLegal}
 use Rattle.poly_tree.specs.Printed.{polynomial_of, TermsHaveTheValue}
 use Rattle.domain_count.specs.Count.{CountsPoints}
 use Rattle.domain_count.specs.Points.{count}
+use Rattle.domain_count.proofs.Counted.{counted}
 use Rattle.wavefront.specs.FrontTerm.{WavefrontTerm, outer_nest}
 use Rattle.wavefront.specs.Fronts.{IsSoundFront, front_footprint}
-use Rattle.wavefront.proofs.Bounds.{whole}
 use Rattle.wavefront.proofs.FrontLoads.{fronts-loaded, fronts-vertices}
-
--- the value of a polynomial that counts a nest's points
-counted : (program : AffineProgram) (nest : List (AffineForm × AffineForm)) (q : Quotient) (values : List ℤ) → IsLegal q → CountsPoints program nest q → TermsHaveTheValue → IsAdmitted program values
-    → count_value (polynomial_of q) values ≡ count nest values
-counted program nest q values legal counts value admitted =
-    whole (numerator (polynomial_of q) values) (count nest values) q.denominator legal.positive (value q legal values ∙ counts values admitted)
 
 pub front-footprint-is : (program : AffineProgram) (term : WavefrontTerm) (pairs outer : Quotient) → IsLegal pairs → IsLegal outer → CountsPoints program term.nest pairs
     → CountsPoints program (outer_nest term) outer → TermsHaveTheValue → IsSoundFront program term

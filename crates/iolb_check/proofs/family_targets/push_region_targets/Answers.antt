@@ -1,4 +1,4 @@
-use Rattle.std.proofs.Common.{◌≡◌, sym, ◌∙◌, ap, ℕ, ◌≤◌, List, ◌++◌, length, append-nil, arith}
+use Rattle.std.proofs.Common.{sym, ◌∙◌, ap, ◌≤◌, List, ◌++◌, length, append-nil, arith}
 use Rattle.std.specs.Prelude.{option_map}
 use Rattle.std.proofs.lemmas.List.{length-map}
 use Rattle.affine_program.specs.Parts.{meaning, statement_of}
@@ -12,6 +12,6 @@ pub returns-then-number-statements : goal.returns-then-number-statements
 returns-then-number-statements c =
     let P = meaning c.args.program.now in
     let past : length P.statements ≤ c.args.number =
-        omega (arith, length-map c.args.program.now.statements statement_of, ap length c.statements.ensures.statements, c.if-number-statements.true) in
+    omega (arith, length-map c.args.program.now.statements statement_of, ap length c.statements.ensures.statements, c.if-number-statements.true) in
     sym (append-nil c.args.targets.now.items)
     ∙ ap (λ (rest : List Target). c.args.targets.now.items ++ rest) (sym (none-told P (trees_of c.args.quasts.now) c.args.number past (node_region (option_map node_of c.args.node.now))))

@@ -7,7 +7,6 @@ use Rattle.claims.specs.declared.place.Step.TheVariants.{Key}
 use Rattle.claims.proofs.Found.{IfOk-then}
 use Rattle.k_partition.specs.Term.{credited_nests}
 use Rattle.k_partition.specs.View.{partition_of}
-use Rattle.reuse_paths.specs.declared.family.Credit.{Credit}
 use Rattle.reuse_paths.specs.declared.family.Family.{Family}
 use Rattle.reuse_paths.specs.Families.{CreditedNest, credit_of, family_of}
 use Rattle.reuse_paths.specs.Quasts.{trees_of}

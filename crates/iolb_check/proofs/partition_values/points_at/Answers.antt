@@ -1,8 +1,8 @@
-use Rattle.std.proofs.Common.{◌≡◌, ◌∙◌, ap, subst, ℕ, ◌+◌, ◌*◌, ◌^◌, arith}
+use Rattle.std.proofs.Common.{◌≡◌, ◌∙◌, ap, subst, ℕ, ◌+◌, ◌*◌, ◌^◌}
 use Rattle.iolb_model.specs.Bound.{labels_of, points_of}
 use Rattle.uniform_cover.specs.Greatest.{IsGreatest}
-use Rattle.iolb_check.specs.Bounds.{numbers_of}
-use Rattle.iolb_check.proofs.GreatestUpTo.{greatest-is, greatest-once}
+use Rattle.k_partition.proofs.GreatestUpTo.{greatest-is, greatest-one}
+use Rattle.k_partition.specs.Numbers.{numbers_of}
 use Rattle.iolb_check.proofs.partition_values.points_at.Goals as goal
 
 pub returns-in-Ok-clause-value : goal.returns-in-Ok-clause-value
@@ -16,4 +16,4 @@ returns-in-Ok-clause-value c =
     let is : IsGreatest bound.q bound.den top c.in-Ok.most =
     subst (λ (n : ℕ). IsGreatest n bound.den top c.in-Ok.most) c.from-q.ensures
     (subst (λ (n : ℕ). IsGreatest c.from-q.result bound.den n c.in-Ok.most) same c.in-Ok.ensures.greatest) in
-    greatest-once bound.q bound.den top c.in-Ok.most (points_of (numbers_of bound) c.args.s) is (greatest-is bound.q bound.den top c.requires.some_q c.requires.some_den)
+    greatest-one bound.q bound.den top c.in-Ok.most (points_of (numbers_of bound) c.args.s) is (greatest-is bound.q bound.den top c.requires.some_q c.requires.some_den)

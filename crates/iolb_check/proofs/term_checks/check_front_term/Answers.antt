@@ -1,5 +1,6 @@
 use Rattle.std.proofs.Common.{◌≡◌, subst, sym, ℕ, length}
 use Rattle.affine_program.specs.Parts.{meaning}
+use Rattle.domain_count.specs.Points.{count}
 use Rattle.poly_tree.specs.Expansion.{IsCanonical}
 use Rattle.wavefront.specs.Fronts.{front_footprint}
 use Rattle.wavefront.specs.FrontTerm.{outer_nest}
@@ -29,11 +30,11 @@ returns-clause-holds c =
       counting = (
         record {
           parameters = subst (λ (n : ℕ). IsCanonical n counts.0.tree) (sym kept) c.in_ok-counts.ensures.parameters;
-          whole = whole program term.nest counts.0 kept c.in_ok-counts.ensures.counts;
+          whole = whole program (count term.nest) counts.0 kept c.in_ok-counts.ensures.counts;
         },
         record {
           parameters = subst (λ (n : ℕ). IsCanonical n counts.1.tree) (sym kept) c.in_ok-counts.ensures.outer_parameters;
-          whole = whole program (outer_nest term) counts.1 kept c.in_ok-counts.ensures.outer_counts;
+          whole = whole program (count (outer_nest term)) counts.1 kept c.in_ok-counts.ensures.outer_counts;
         },
       );
     }

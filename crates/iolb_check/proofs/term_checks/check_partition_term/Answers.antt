@@ -1,18 +1,21 @@
-use Rattle.std.proofs.Common.{◌≤◌, List, arith}
+use Rattle.std.proofs.Common.{◌≡◌, sym, subst, ℕ, ◌≤◌, List, length, arith}
 use Rattle.affine_program.specs.Parts.{ProgramParts, meaning}
 use Rattle.dep_quast.specs.Tree.{SelectionTree}
+use Rattle.domain_count.specs.Points.{count}
+use Rattle.poly_tree.specs.Expansion.{IsCanonical}
 use Rattle.k_partition.specs.declared.term.Partition.{Partition}
 use Rattle.k_partition.specs.declared.term.Shape.{Shape}
 use Rattle.k_partition.specs.declared.term.Shape.TheVariants.{Each, Sum}
 use Rattle.k_partition.specs.Numbers.{factor_under}
 use Rattle.k_partition.specs.Term.{PartitionTerm}
-use Rattle.k_partition.specs.TermLoads.{term_footprint, weight_of}
+use Rattle.k_partition.specs.TermLoads.{credited_count, term_footprint, weight_of}
 use Rattle.k_partition.specs.View.{partition_of, FitsPartition}
 use Rattle.affine_form.specs.Matrix.{HasShape}
 use Rattle.reuse_paths.specs.Quasts.{trees_of}
 use Rattle.reuse_paths.specs.Trees.{RowsFit, RowsAreTrue}
 use Rattle.uniform_cover.proofs.Powers.{self_pow_pos}
 use Rattle.iolb_check.specs.Fit.{PartitionTermFits}
+use Rattle.iolb_check.proofs.Terms.{whole}
 use Rattle.iolb_check.proofs.term_checks.check_partition_term.Goals as goal
 
 fits-partition : (program : ProgramParts) (trees : List (List SelectionTree)) (partition : Partition) → PartitionTermFits program trees partition → RowsFit (meaning program) 0 trees
@@ -39,17 +42,23 @@ check_partition-requires c =
 pub returns-clause-holds : goal.returns-clause-holds
 returns-clause-holds c =
     let program = c.args.program.now in
-    let trees = trees_of c.args.quasts.now in
     let term = partition_of c.args.partition.now in
+    let kept : program.assumed.vars ≡ length program.params = c.params-params.ensures.kept.assumed in
     let bound = c.in_ok-bound.bound in
     let is = c.in_ok-bound.ensures.numbers in
     record {
       footprint = term_footprint (meaning program) term;
-      loaded = c.in_ok-bound.ensures.loaded;
+      loaded = c.in_ok-bound.ensures.footprint;
       covered = c.in_ok-bound.ensures.covered;
       counting = record {
-        count = c.in_ok-bound.ensures.counting;
-        credits = c.in_ok-bound.ensures.crediting;
+        count = record {
+          parameters = subst (λ (n : ℕ). IsCanonical n bound.count.tree) (sym kept) c.in_ok-bound.ensures.parameters.0;
+          whole = whole program (count term.nest) bound.count kept c.in_ok-bound.ensures.counts;
+        };
+        credits = record {
+          parameters = subst (λ (n : ℕ). IsCanonical n bound.credits.tree) (sym kept) c.in_ok-bound.ensures.parameters.1;
+          whole = whole program (credited_count term) bound.credits kept c.in_ok-bound.ensures.credited;
+        };
         some_q = omega (arith, is.q, (c.requires.fits.fits c.rows-rows.ensures.shape).positive);
         some_den = omega (arith, is.den, some-under term.shape term);
       };
@@ -57,4 +66,4 @@ returns-clause-holds c =
 
 pub returns-clause-pieces : goal.returns-clause-pieces
 returns-clause-pieces c =
-    (fits-partition c.args.program.now (trees_of c.args.quasts.now) c.args.partition.now c.requires.fits c.requires.trees_fit c.requires.are_true c.rows-rows.ensures.shape, c.in_ok-bound.ensures.pieces)
+    (fits-partition c.args.program.now (trees_of c.args.quasts.now) c.args.partition.now c.requires.fits c.requires.trees_fit c.requires.are_true c.rows-rows.ensures.shape, c.in_ok-bound.ensures.few)

@@ -13,7 +13,8 @@ use Rattle.k_partition.specs.PartitionClaims.{credit_claims, credit_place, no_po
 use Rattle.k_partition.specs.Term.{CreditTerm}
 use Rattle.k_partition.specs.View.{credit_term_of}
 use Rattle.k_partition.proofs.CreditSums.{credit-holds, credit-refused, total-next}
-use Rattle.k_partition.proofs.Members.{member-of, refused-there}
+use Rattle.reuse_paths.proofs.FoundLeaves.{refused-there}
+use Rattle.k_partition.proofs.Members.{member-of}
 use Rattle.k_partition.proofs.credits_counted.credits_counted.Goals as goal
 
 -- the place of a credit

@@ -19,7 +19,8 @@ use Rattle.iolb_model.specs.Program.{AffineProgram}
 use Rattle.k_partition.specs.PartitionClaims.{family_claims_at}
 use Rattle.k_partition.specs.Term.{PartitionTerm, credited_nests}
 use Rattle.k_partition.specs.View.{partition_of}
-use Rattle.k_partition.proofs.Members.{member-of, nests-are, refused-there}
+use Rattle.reuse_paths.proofs.FoundLeaves.{refused-there}
+use Rattle.k_partition.proofs.Members.{member-of, nests-are}
 use Rattle.k_partition.proofs.families_checked.families_checked.Goals as goal
 
 -- the claims of a family, by what the code holds

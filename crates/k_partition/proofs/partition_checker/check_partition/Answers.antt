@@ -1,0 +1,108 @@
+use Rattle.std.proofs.Common.{rules, ◌≡◌, subst, arith, ◌≤◌, ℕ, List, ◌++◌, length}
+use Rattle.std.specs.Prelude.{None, Some, Option}
+use Rattle.std.proofs.Math.IntN.{ℤ}
+use Rattle.iolb_model.specs.Bound.{IsAdmitted}
+use Rattle.affine_program.specs.Parts.{meaning}
+use Rattle.claims.specs.Claims.{Claim, AllHold, Finds, IsRefusal}
+use Rattle.claims.specs.declared.refused.No.{No}
+use Rattle.claims.specs.declared.refused.Refused.{Refused}
+use Rattle.claims.proofs.Found.{refused-first}
+use Rattle.claims.proofs.Laws.{AllHold-append, later-fails}
+use Rattle.dep_quast.proofs.Fits.{params-few}
+use Rattle.poly_tree.specs.Expansion.{IsCanonical}
+use Rattle.reuse_paths.specs.Pieces.{AreCovered}
+use Rattle.reuse_paths.specs.Quasts.{trees_of}
+use Rattle.k_partition.specs.PartitionClaims.{apart_claims, no_points, partition_claims, sound_claims}
+use Rattle.k_partition.specs.PartitionPieces.{partition_pieces, CountsCredits, HasPartitionPieces}
+use Rattle.k_partition.specs.TermLoads.{AreApartFor, term_footprint}
+use Rattle.k_partition.specs.View.{partition_of}
+use Rattle.k_partition.proofs.CreditsValue.{credits-fit, credits-value, total-uses}
+use Rattle.k_partition.proofs.PartitionBounds.{families-cover, partition-footprint-is}
+use Rattle.k_partition.proofs.PartitionSound.{contexts-are-few, families-covered, holds-credits}
+use Rattle.k_partition.proofs.partition_checker.check_partition.Goals as goal
+
+pub returns-in_err-bound-clause-refused : goal.returns-in_err-bound-clause-refused
+returns-in_err-bound-clause-refused c =
+    let program = meaning c.args.program.now in
+    let trees = trees_of c.args.quasts.now in
+    let place = c.args.place.now in
+    let term = partition_of c.args.term.now in
+    let r : Refused = c.in_err-bound.field-0.0 in
+    let refused : IsRefusal (partition_claims program trees place term) r =
+    refused-first (sound_claims program trees place term) (apart_claims term.shape program trees place term) r c.in_err-bound.ensures.refused in
+    search rules
+
+pub families_apart-requires-clause-few : goal.families_apart-requires-clause-few
+families_apart-requires-clause-few c =
+    contexts-are-few c.contexts_are_few.ensures (meaning c.args.program.now) (trees_of c.args.quasts.now) (partition_of c.args.term.now) c.args.place.now c.params-params.ensures.kept.well_formed
+    c.requires.trees_fit c.requires.trees_true c.requires.fits c.in_ok-bound.ensures.holds
+
+pub returns-in-Some-clause-refused : goal.returns-in-Some-clause-refused
+returns-in-Some-clause-refused c =
+    let program = meaning c.args.program.now in
+    let trees = trees_of c.args.quasts.now in
+    let place = c.args.place.now in
+    let term = partition_of c.args.term.now in
+    let apart : List Claim = apart_claims term.shape program trees place term in
+    later-fails (sound_claims program trees place term) apart c.in-Some.no c.in_ok-bound.ensures.holds (subst (λ (found : Option No). Finds apart found) c.in-Some.is c.in_ok-no.ensures.found)
+
+pub returns-clause-credited : goal.returns-clause-credited
+returns-clause-credited c = λ values admitted.
+    let program = meaning c.args.program.now in
+    let trees = trees_of c.args.quasts.now in
+    let term = partition_of c.args.term.now in
+    credits-value program c.args.place.now term.credits c.in_ok-bound.bound.credits values c.params-params.ensures.kept.well_formed admitted c.right_claims_count.ensures
+    (credits-fit c.args.program.now c.args.term.now.credits.items c.requires.credits)
+    (holds-credits program trees term c.args.place.now c.params-params.ensures.kept.well_formed c.requires.trees_fit c.requires.trees_true c.requires.fits c.in_ok-bound.ensures.holds) c.in_ok-bound.ensures.total
+
+pub returns-clause-parameters : goal.returns-clause-parameters
+returns-clause-parameters c = (
+  c.in_ok-bound.ensures.parameters,
+  total-uses (length c.args.program.now.params) no_points (partition_of c.args.term.now).credits c.in_ok-bound.bound.credits (params-few c.args.program.now c.params-params.ensures.kept) (omega arith) tt
+      (credits-fit c.args.program.now c.args.term.now.credits.items c.requires.credits) c.in_ok-bound.ensures.total,
+)
+
+pub returns-clause-holds : goal.returns-clause-holds
+returns-clause-holds c =
+    let program = meaning c.args.program.now in
+    let trees = trees_of c.args.quasts.now in
+    let place = c.args.place.now in
+    let term = partition_of c.args.term.now in
+    let apart : List Claim = apart_claims term.shape program trees place term in
+    AllHold-append (sound_claims program trees place term) apart c.in_ok-bound.ensures.holds (subst (λ (found : Option No). Finds apart found) c.in_default.is c.in_ok-no.ensures.found)
+
+pub returns-clause-few : goal.returns-clause-few
+returns-clause-few c =
+    contexts-are-few c.contexts_are_few.ensures (meaning c.args.program.now) (trees_of c.args.quasts.now) (partition_of c.args.term.now) c.args.place.now c.params-params.ensures.kept.well_formed
+    c.requires.trees_fit c.requires.trees_true c.requires.fits c.in_ok-bound.ensures.holds
+
+pub returns-clause-covered : goal.returns-clause-covered
+returns-clause-covered c =
+    let program = meaning c.args.program.now in
+    let trees = trees_of c.args.quasts.now in
+    let term = partition_of c.args.term.now in
+    λ values vertex admitted stands.
+    families-cover program trees term term.families
+    (families-covered c.family_pieces_cover.ensures program trees term c.args.place.now c.params-params.ensures.kept.well_formed c.requires.trees_fit c.requires.trees_true c.requires.fits c.in_ok-bound.ensures.holds)
+    values vertex admitted stands
+
+pub returns-clause-footprint : goal.returns-clause-footprint
+returns-clause-footprint c =
+    let program = meaning c.args.program.now in
+    let trees = trees_of c.args.quasts.now in
+    let term = partition_of c.args.term.now in
+    let apart : List Claim = apart_claims term.shape program trees c.args.place.now term in
+    let holds : AllHold (partition_claims program trees c.args.place.now term) =
+    AllHold-append (sound_claims program trees c.args.place.now term) apart c.in_ok-bound.ensures.holds (subst (λ (found : Option No). Finds apart found) c.in_default.is c.in_ok-no.ensures.found) in
+    let covered : AreCovered program (term_footprint program term) (partition_pieces program trees term) = λ values vertex admitted stands.
+    families-cover program trees term term.families
+    (families-covered c.family_pieces_cover.ensures program trees term c.args.place.now c.params-params.ensures.kept.well_formed c.requires.trees_fit c.requires.trees_true c.requires.fits c.in_ok-bound.ensures.holds)
+    values vertex admitted stands in
+    let credited : CountsCredits program term c.in_ok-bound.bound.credits = λ values admitted.
+    credits-value program c.args.place.now term.credits c.in_ok-bound.bound.credits values c.params-params.ensures.kept.well_formed admitted c.right_claims_count.ensures
+    (credits-fit c.args.program.now c.args.term.now.credits.items c.requires.credits)
+    (holds-credits program trees term c.args.place.now c.params-params.ensures.kept.well_formed c.requires.trees_fit c.requires.trees_true c.requires.fits c.in_ok-bound.ensures.holds) c.in_ok-bound.ensures.total in
+    partition-footprint-is program trees term c.in_ok-bound.bound c.params-params.ensures.kept.well_formed c.in_ok-bound.ensures.sound c.sound_terms_are_loaded.ensures.loaded c.terms_have_the_value.ensures
+    c.in_ok-bound.ensures.numbers c.den-count.ensures.legal c.den-credits.ensures.legal c.in_ok-bound.ensures.counts credited
+    (λ values admitted. c.partitions_are_sound.ensures.apart program trees term c.args.place.now values c.params-params.ensures.kept.well_formed c.requires.trees_fit c.requires.trees_true c.requires.fits c.in_ok-no.ensures.fit holds admitted)
+    covered

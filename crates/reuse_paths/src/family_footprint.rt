@@ -1,0 +1,443 @@
+//! The pieces of a family's footprint.
+
+ghost use Rattle.std.specs.Prelude.{◌≡◌, ◌≤◌, ◌<◌, ◌+◌, ◌++◌, ◌∷◌, [], length, map, option_map, IfErr, IfOk, OnOk};
+ghost use Rattle.std.specs.List.{AllByRecursion};
+ghost use Rattle.affine_form.specs.Rows.{BoundsFit, IsSmallOver};
+ghost use Rattle.affine_form.specs.System.{AllOver};
+ghost use Rattle.affine_program.specs.Domain.{depth_of};
+ghost use Rattle.affine_program.specs.Parts.{meaning};
+ghost use Rattle.claims.specs.Claims.{AllHold, IsRefusal, numbered};
+ghost use Rattle.claims.specs.declared.key.TheConstants.{NODES, START, TREE};
+ghost use Rattle.claims.specs.declared.place.Step.TheVariants.{Key};
+ghost use Rattle.dep_quast.specs.Claims.{IsFew};
+ghost use Rattle.dep_quast.specs.Truth.{ReadFits};
+ghost use Rattle.dep_quast.specs.Views.{read_of};
+ghost use Rattle.reuse_paths.specs.Families.{family_of, node_of, node_region};
+ghost use Rattle.reuse_paths.specs.FamilyClaims.{start_rows as rows_of_start};
+ghost use Rattle.reuse_paths.specs.FamilyPieces.{family_pieces, region_pieces, regions_pieces};
+ghost use Rattle.reuse_paths.specs.FewContexts.{few_claim, few_contexts, few_leaves, few_region, few_walk, ContextsAreFew, FitsSome, ReadersFit, RegionTakesFit, RegionsTakeFit, TakenFits, TakesFit};
+ghost use Rattle.reuse_paths.specs.LeafClaims.{claim_of};
+ghost use Rattle.reuse_paths.specs.OpenLeaves.{form_at, origin_of};
+ghost use Rattle.reuse_paths.specs.Pieces.{pieces_of, PieceFits};
+ghost use Rattle.reuse_paths.specs.Quasts.{trees_of};
+ghost use Rattle.reuse_paths.specs.Trees.{RowsFit};
+ghost use Rattle.reuse_paths.specs.WalkClaims.{leaves_at};
+ghost use Rattle.reuse_paths.specs.WalkPieces.{entry_pieces, leaves_pieces, walk_pieces, word_pieces};
+ghost use Rattle.reuse_paths.specs.WalkSettings.{reading_point, region_context as context_of, region_variables as variables_of};
+ghost use Rattle.reuse_paths.specs.WalkViews.{walk_of, OpenLeafFits, OriginFits, SettingFits};
+ghost use Rattle.reuse_paths.specs.Walks.{region_of, tree_of_walk};
+
+use crate::entry_shown::entry_place;
+use crate::family::{Family, FamilyNode};
+use crate::family_shown::{start_rows, walking_from};
+use crate::leaf::Leaf;
+use crate::open_leaves::{OpenLeaf, Origin};
+use crate::piece::{Piece, Target};
+use crate::quasts::Quasts;
+use crate::region::{region_context, written_values};
+use crate::walk::Walk;
+use crate::walk_shown::{leaves_of, rows_of_no};
+use crate::walking::{Walking, region_variables};
+use affine_form::{Form, Memory, system_of};
+use affine_program::Program;
+use claims::key::{LEAVES, NO, NODES, REGION, START, TREE, YES};
+use claims::{No, Place, Refused, Step};
+use dep_quast::lists::{followed_by, with_form};
+use dep_quast::reader::{Reader, depth, reference};
+use domain_count::Nest;
+use iolb_model::limits;
+use std::alloc::Global;
+
+/// The vertices of a target at these forms, of readers that meet these rows, appended.
+fn push_piece(
+    alloc: Global,
+    pieces: &mut Vec<Piece>,
+    walking: &Walking,
+    statement: u16,
+    rows: &[Form],
+    target: Target,
+    forms: &[Form],
+) -> Result<(), Memory>
+    requires readers { ReadersFit (walk_of walking.now) statement }
+    requires rows_over { AllOver (variables_of (walk_of walking.now) statement) rows.now }
+    requires few { IsFew (length rows.now) }
+    requires over { AllByRecursion (IsSmallOver (length (walk_of walking.now).program.parameters + depth_of (walk_of walking.now).program statement)) forms.now }
+    ensures { OnOk result (pieces_of pieces.new ≡ pieces_of pieces.old ++ record {
+      target = target;
+      vars = depth_of (walk_of walking.now).program statement;
+      rows = rows.now;
+      point = map (form_at (variables_of (walk_of walking.now) statement) (reading_point (walk_of walking.now) statement)) forms.now;
+    } ∷ []) }
+{
+    let vars = region_variables(walking, statement);
+    let piece = Piece {
+        target,
+        vars: depth(walking.program, statement) as u8,
+        rows: system_of(alloc, vars, rows)?,
+        point: written_values(alloc, walking, statement, forms)?,
+    };
+    pieces.push(piece)?;
+    Ok(())
+}
+
+/// The vertices of a word of readers that meet these rows, appended: of the instances that wrote it, or of the input cells;
+/// none where the leaf doesn't say.
+fn push_word(
+    alloc: Global,
+    pieces: &mut Vec<Piece>,
+    walking: &Walking,
+    reader: Reader,
+    rows: &[Form],
+    origin: &Origin,
+) -> Result<(), Memory>
+    requires readers { ReadersFit (walk_of walking.now) reader.statement }
+    requires read_fits { ReadFits (walk_of walking.now).program (read_of reader) }
+    requires rows_over { AllOver (variables_of (walk_of walking.now) reader.statement) rows.now }
+    requires few { IsFew (length rows.now) }
+    requires origin { OriginFits (walk_of walking.now).program (length (walk_of walking.now).program.parameters + depth_of (walk_of walking.now).program reader.statement) (origin_of origin.now) }
+    ensures { OnOk result (pieces_of pieces.new ≡ pieces_of pieces.old ++ word_pieces (walk_of walking.now) (read_of reader) rows.now (origin_of origin.now)) }
+{
+    let _params = walking.program.params();
+    let statement = reader.statement;
+    match origin {
+        Origin::Written {
+            statement: writer,
+            point,
+        } => {
+            let target = Target::Instance(*writer);
+            push_piece(
+                alloc,
+                pieces,
+                walking,
+                statement,
+                rows,
+                target,
+                point.as_slice(),
+            )
+        }
+        Origin::Input => {
+            let cell = reference(walking.program, reader);
+            let target = Target::Cell(cell.array);
+            push_piece(
+                alloc,
+                pieces,
+                walking,
+                statement,
+                rows,
+                target,
+                cell.subs.as_slice(),
+            )
+        }
+        Origin::Unknown => Ok(()),
+    }
+}
+
+/// The vertices of the word at an open leaf with its entry, of readers that meet these rows and the leaf's tests, appended;
+/// none where no point comes to the leaf.
+fn push_leaf(
+    alloc: Global,
+    pieces: &mut Vec<Piece>,
+    walking: &Walking,
+    place: &Place,
+    reader: Reader,
+    rows: &[Form],
+    leaf: &OpenLeaf,
+    entry: &Leaf,
+) -> Result<(), Refused>
+    requires readers { ReadersFit (walk_of walking.now) reader.statement }
+    requires read_fits { ReadFits (walk_of walking.now).program (read_of reader) }
+    requires rows_over { AllOver (variables_of (walk_of walking.now) reader.statement) rows.now }
+    requires leaf_fits { OpenLeafFits (walk_of walking.now) reader.statement leaf.now }
+    ensures pieces { OnOk result (pieces_of pieces.new ≡ pieces_of pieces.old ++ entry_pieces (walk_of walking.now) (read_of reader) (rows.now ++ leaf.now.tests) leaf.now.origin (claim_of entry.now)) }
+    ensures few { OnOk result (IsFew (length (rows.now ++ leaf.now.tests))) }
+    ensures refused { IfErr result (IsRefusal (few_claim place.now rows.now leaf.now (claim_of entry.now) ∷ [])) }
+{
+    let front = followed_by(alloc, Vec::new(alloc), rows)?;
+    let all = followed_by(alloc, front, leaf.tests.as_slice())?;
+    if all.as_slice().len() > limits::ROWS {
+        let place = entry_place(alloc, place, entry)?;
+        return Err(Refused::No(No {
+            condition: 2,
+            place,
+        }));
+    }
+    if let Leaf::Empty(_) = entry {
+        return Ok(());
+    }
+    push_word(alloc, pieces, walking, reader, all.as_slice(), &leaf.origin)?;
+    Ok(())
+}
+
+/// Those at open leaves, each with its entry in the list at this place, appended.
+fn push_leaves(
+    alloc: Global,
+    pieces: &mut Vec<Piece>,
+    walking: &Walking,
+    list: &Place,
+    reader: Reader,
+    rows: &[Form],
+    leaves: &[OpenLeaf],
+    entries: &[Leaf],
+) -> Result<(), Refused>
+    requires readers { ReadersFit (walk_of walking.now) reader.statement }
+    requires read_fits { ReadFits (walk_of walking.now).program (read_of reader) }
+    requires rows_over { AllOver (variables_of (walk_of walking.now) reader.statement) rows.now }
+    requires leaves_fit { AllByRecursion (OpenLeafFits (walk_of walking.now) reader.statement) leaves.now }
+    requires one_each { length entries.now ≡ length leaves.now }
+    ensures pieces { OnOk result (pieces_of pieces.new ≡ pieces_of pieces.old ++ leaves_pieces (walk_of walking.now) (read_of reader) rows.now leaves.now (map claim_of entries.now)) }
+    ensures few { OnOk result (AllHold (few_leaves list.now rows.now 0 leaves.now (map claim_of entries.now))) }
+    ensures refused { IfErr result (IsRefusal (few_leaves list.now rows.now 0 leaves.now (map claim_of entries.now))) }
+{
+    for i in 0..leaves.len() {
+        let place = list.within(alloc, Step::Index(i as u64))?;
+        push_leaf(
+            alloc,
+            pieces,
+            walking,
+            &place,
+            reader,
+            rows,
+            &leaves[i],
+            &entries[i],
+        )?;
+    }
+    Ok(())
+}
+
+/// Those that a walk takes from the instances of a statement which meet these rows, `yes` before `no`, appended.
+fn push_walk(
+    alloc: Global,
+    pieces: &mut Vec<Piece>,
+    walking: &Walking,
+    place: &Place,
+    statement: u16,
+    rows: &[Form],
+    tree: &Walk,
+) -> Result<(), Refused>
+    requires readers { ReadersFit (walk_of walking.now) statement }
+    requires rows_over { AllOver (variables_of (walk_of walking.now) statement) rows.now }
+    requires walk_fits { TakesFit (walk_of walking.now) statement (tree_of_walk tree.now) }
+    ensures pieces { OnOk result (pieces_of pieces.new ≡ pieces_of pieces.old ++ walk_pieces (walk_of walking.now) statement rows.now (tree_of_walk tree.now)) }
+    ensures few { OnOk result (AllHold (few_walk (walk_of walking.now) statement place.now rows.now (tree_of_walk tree.now))) }
+    ensures refused { IfErr result (IsRefusal (few_walk (walk_of walking.now) statement place.now rows.now (tree_of_walk tree.now))) }
+{
+    match tree {
+        Walk::Test { form, yes, no } => {
+            let vars = region_variables(walking, statement);
+            let above = with_form(alloc, rows, form.try_clone(alloc)?)?;
+            let side = place.within(alloc, Step::Key(YES))?;
+            push_walk(
+                alloc,
+                pieces,
+                walking,
+                &side,
+                statement,
+                above.as_slice(),
+                yes,
+            )?;
+            let below = rows_of_no(alloc, vars, rows, form)?;
+            let side = place.within(alloc, Step::Key(NO))?;
+            push_walk(
+                alloc,
+                pieces,
+                walking,
+                &side,
+                statement,
+                below.as_slice(),
+                no,
+            )
+        }
+        Walk::Take { read, leaves } => {
+            let list = place.within(alloc, Step::Key(LEAVES))?;
+            let reader = Reader {
+                statement,
+                read: *read,
+            };
+            push_taken(
+                alloc,
+                pieces,
+                walking,
+                &list,
+                reader,
+                rows,
+                leaves.as_slice(),
+            )
+        }
+    }
+}
+
+/// Those at the open leaves of the source tree of a read, each with its entry in the list at this place, appended.
+fn push_taken(
+    alloc: Global,
+    pieces: &mut Vec<Piece>,
+    walking: &Walking,
+    list: &Place,
+    reader: Reader,
+    rows: &[Form],
+    entries: &[Leaf],
+) -> Result<(), Refused>
+    requires readers { ReadersFit (walk_of walking.now) reader.statement }
+    requires rows_over { AllOver (variables_of (walk_of walking.now) reader.statement) rows.now }
+    requires taken { TakenFits (walk_of walking.now) reader.statement reader.read (map claim_of entries.now) }
+    ensures pieces { OnOk result (pieces_of pieces.new ≡ pieces_of pieces.old ++ leaves_pieces (walk_of walking.now) (read_of reader) rows.now (leaves_at (walk_of walking.now) (read_of reader)) (map claim_of entries.now)) }
+    ensures few { OnOk result (AllHold (few_leaves list.now rows.now 0 (leaves_at (walk_of walking.now) (read_of reader)) (map claim_of entries.now))) }
+    ensures refused { IfErr result (IsRefusal (few_leaves list.now rows.now 0 (leaves_at (walk_of walking.now) (read_of reader)) (map claim_of entries.now))) }
+{
+    let leaves = leaves_of(alloc, walking, reader)?;
+    push_leaves(
+        alloc,
+        pieces,
+        walking,
+        list,
+        reader,
+        rows,
+        leaves.as_slice(),
+        entries,
+    )
+}
+
+/// The place of a start walk in a family, and that of its nodes.
+fn place_of_start(alloc: Global) -> Result<Place, Memory>
+    ensures { IfOk result (λ place. place ≡ Key START ∷ Key TREE ∷ []) }
+{
+    Ok(Place::new(vec![in alloc; Step::Key(START), Step::Key(TREE)]?))
+}
+
+fn place_of_nodes(alloc: Global) -> Result<Place, Memory>
+    ensures { IfOk result (λ place. place ≡ Key NODES ∷ []) }
+{
+    Ok(Place::new(vec![in alloc; Step::Key(NODES)]?))
+}
+
+/// Those of the walk from the instances in a nest, at `start/tree` of a family, appended.
+fn push_start(
+    alloc: Global,
+    pieces: &mut Vec<Piece>,
+    walking: &Walking,
+    statement: u16,
+    nest: &Nest,
+    tree: &Walk,
+) -> Result<(), Refused>
+    requires flat { length (walk_of walking.now).nest ≡ 0 }
+    requires readers { ReadersFit (walk_of walking.now) statement }
+    requires each { length nest.now ≡ depth_of (walk_of walking.now).program statement }
+    requires bounds { BoundsFit (length (walk_of walking.now).program.parameters) nest.now }
+    requires walk_fits { TakesFit (walk_of walking.now) statement (tree_of_walk tree.now) }
+    ensures pieces { OnOk result (pieces_of pieces.new ≡ pieces_of pieces.old ++ walk_pieces (walk_of walking.now) statement (context_of (walk_of walking.now) statement (rows_of_start (walk_of walking.now) statement nest.now)) (tree_of_walk tree.now)) }
+    ensures fit { OnOk result (AllByRecursion (PieceFits (walk_of walking.now).program) (walk_pieces (walk_of walking.now) statement (context_of (walk_of walking.now) statement (rows_of_start (walk_of walking.now) statement nest.now)) (tree_of_walk tree.now))) }
+    ensures few { OnOk result (AllHold (few_walk (walk_of walking.now) statement (Key START ∷ Key TREE ∷ []) (context_of (walk_of walking.now) statement (rows_of_start (walk_of walking.now) statement nest.now)) (tree_of_walk tree.now))) }
+    ensures refused { IfErr result (IsRefusal (few_walk (walk_of walking.now) statement (Key START ∷ Key TREE ∷ []) (context_of (walk_of walking.now) statement (rows_of_start (walk_of walking.now) statement nest.now)) (tree_of_walk tree.now))) }
+{
+    let _params = walking.program.params();
+    let own = start_rows(alloc, walking, statement, nest)?;
+    let rows = region_context(alloc, walking, statement, own.as_slice())?;
+    let place = place_of_start(alloc)?;
+    push_walk(
+        alloc,
+        pieces,
+        walking,
+        &place,
+        statement,
+        rows.as_slice(),
+        tree,
+    )
+}
+
+/// Those of the walk from the instances in the region of a statement's node, where it has one, in a list at this place,
+/// appended.
+fn push_region(
+    alloc: Global,
+    pieces: &mut Vec<Piece>,
+    walking: &Walking,
+    list: &Place,
+    statement: u16,
+    node: &Option<FamilyNode>,
+) -> Result<(), Refused>
+    requires flat { length (walk_of walking.now).nest ≡ 0 }
+    requires readers { ReadersFit (walk_of walking.now) statement }
+    requires takes { RegionTakesFit (walk_of walking.now) statement (node_region (option_map node_of node.now)) }
+    ensures pieces { OnOk result (pieces_of pieces.new ≡ pieces_of pieces.old ++ region_pieces (walk_of walking.now) statement (node_region (option_map node_of node.now))) }
+    ensures fit { OnOk result (AllByRecursion (PieceFits (walk_of walking.now).program) (region_pieces (walk_of walking.now) statement (node_region (option_map node_of node.now)))) }
+    ensures few { OnOk result (AllHold (few_region (walk_of walking.now) list.now statement (node_region (option_map node_of node.now)))) }
+    ensures refused { IfErr result (IsRefusal (few_region (walk_of walking.now) list.now statement (node_region (option_map node_of node.now)))) }
+{
+    let _params = walking.program.params();
+    let Some(node) = node else {
+        return Ok(());
+    };
+    let Some(region) = &node.region else {
+        return Ok(());
+    };
+    let rows = region_context(alloc, walking, statement, region.rows.as_slice())?;
+    let at = list.within(alloc, Step::Index(u64::from(statement)))?;
+    let inner = at.within(alloc, Step::Key(REGION))?;
+    let place = inner.within(alloc, Step::Key(TREE))?;
+    push_walk(
+        alloc,
+        pieces,
+        walking,
+        &place,
+        statement,
+        rows.as_slice(),
+        &region.tree,
+    )
+}
+
+/// Those of the regions of nodes, in the order of statements, each at its index in the list at this place, appended.
+fn push_regions(
+    alloc: Global,
+    pieces: &mut Vec<Piece>,
+    walking: &Walking,
+    list: &Place,
+    nodes: &[Option<FamilyNode>],
+) -> Result<(), Refused>
+    requires flat { length (walk_of walking.now).nest ≡ 0 }
+    requires nodes { (walk_of walking.now).nodes ≡ map node_region (map (option_map node_of) nodes.now) }
+    requires setting { SettingFits (walk_of walking.now) }
+    requires take { RegionsTakeFit (walk_of walking.now) 0 (walk_of walking.now).nodes }
+    ensures pieces { OnOk result (pieces_of pieces.new ≡ pieces_of pieces.old ++ regions_pieces (walk_of walking.now) 0 (walk_of walking.now).nodes) }
+    ensures fit { OnOk result (AllByRecursion (PieceFits (walk_of walking.now).program) (regions_pieces (walk_of walking.now) 0 (walk_of walking.now).nodes)) }
+    ensures few { OnOk result (AllHold (numbered (few_region (walk_of walking.now) list.now) 0 (walk_of walking.now).nodes)) }
+    ensures refused { IfErr result (IsRefusal (numbered (few_region (walk_of walking.now) list.now) 0 (walk_of walking.now).nodes)) }
+{
+    let _params = walking.program.params();
+    for i in 0..nodes.len() {
+        push_region(alloc, pieces, walking, list, i as u16, &nodes[i])?;
+    }
+    Ok(())
+}
+
+/// The pieces of the footprint of a family of a nest of instances of a statement: one for each open leaf of the source tree
+/// of a read that its walks take, unless its entry says that no point comes there or the leaf doesn't say where the word
+/// comes from. First those of the start walk, then those of the regions, in the order of statements. The source trees fit
+/// the program, and the family does, with some matrix and credits, of which the pieces need nothing.
+///
+/// # Errors
+///
+/// 2 at the first leaf, within the family, whose context has more than 128 rows: at the entry's first multipliers, or at the
+/// leaf where it has none.
+pub fn family_pieces(
+    alloc: Global,
+    program: &Program,
+    quasts: &Quasts,
+    statement: u16,
+    nest: &Nest,
+    family: &Family,
+) -> Result<Vec<Piece>, Refused>
+    requires trees_fit { RowsFit (meaning program.now) 0 (trees_of quasts.now) }
+    requires fits { FitsSome (meaning program.now) (trees_of quasts.now) statement nest.now (family_of family.now) }
+    ensures pieces { IfOk result (λ pieces. pieces_of pieces ≡ family_pieces (meaning program.now) (trees_of quasts.now) statement nest.now (family_of family.now)) }
+    ensures fit { IfOk result (λ pieces. AllByRecursion (PieceFits (meaning program.now)) (pieces_of pieces)) }
+    ensures few { OnOk result (AllHold (few_contexts (meaning program.now) (trees_of quasts.now) statement nest.now (family_of family.now) [])) }
+    ensures refused { IfErr result (IsRefusal (few_contexts (meaning program.now) (trees_of quasts.now) statement nest.now (family_of family.now) [])) }
+{
+    let _params = program.params();
+    let none = Nest::new(Vec::new(alloc));
+    let label = family.start_label.as_slice();
+    let walking = walking_from(program, quasts, &none, &[], family, label);
+    let mut pieces = Vec::new(alloc);
+    push_start(alloc, &mut pieces, &walking, statement, nest, &family.start)?;
+    let list = place_of_nodes(alloc)?;
+    push_regions(alloc, &mut pieces, &walking, &list, family.nodes.as_slice())?;
+    Ok(pieces)
+}
