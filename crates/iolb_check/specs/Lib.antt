@@ -9,3 +9,4 @@ pub mod FrontFit
 pub mod PartitionFit
 pub mod TermFit
 pub mod Fit
+pub mod Sound

@@ -1,12 +1,14 @@
 //! The checker.
 
-ghost use Rattle.std.specs.Prelude.{◌≡◌, IfOk, IfErr};
+ghost use Rattle.std.specs.Prelude.{◌≡◌, IfOk, IfErr, OnOk};
+ghost use Rattle.std.specs.List.{AllByRecursion};
 ghost use Rattle.iolb_model.specs.Headline.{BoundHolds};
 ghost use Rattle.affine_program.specs.Parts.{meaning};
 ghost use Rattle.iolb_check.specs.Bounds.{bound_of};
 ghost use Rattle.claims.specs.Claims.{IsRefusal};
 ghost use Rattle.iolb_check.specs.Claims.{claim_of_certificate};
 ghost use Rattle.iolb_check.specs.Conditions.{MeetsConditions, conditions};
+ghost use Rattle.iolb_check.specs.Sound.{IsSoundBranch};
 
 use crate::bound::Bound;
 use crate::branches::check_branches;
@@ -21,7 +23,7 @@ use std::alloc::Global;
 /// Checks a certificate for a program. The answer is the bound that it gives, and the bound holds: at all parameter values
 /// that meet the program's assumptions, of any size, and every number of red pebbles, every complete pebbling of the
 /// program's computation graph (Hong and Kung 1981, without recomputation) makes at least as many loads as the bound's
-/// value.
+/// value. Each term of the certificate is sound (`IsSound`).
 ///
 /// # Errors
 ///
@@ -32,6 +34,7 @@ pub fn check(alloc: Global, program: &Program, certificate: &Certificate) -> Res
     ensures assumed { IfOk result (λ bound. bound.assumed ≡ program.now.assumed) }
     ensures meets { IfOk result (λ bound. MeetsConditions (meaning program.now) (claim_of_certificate certificate.now) bound.branches) }
     ensures holds { IfOk result (λ bound. BoundHolds (meaning program.now) (bound_of bound)) }
+    ensures sound { OnOk result (AllByRecursion (IsSoundBranch program.now) certificate.now.branches) }
     ensures refused { IfErr result (IsRefusal (conditions (meaning program.now) (claim_of_certificate certificate.now))) }
 {
     match first_misfit(alloc, program, certificate) {

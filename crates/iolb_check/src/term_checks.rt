@@ -19,6 +19,7 @@ ghost use Rattle.wavefront.specs.FrontTerm.{outer_nest};
 ghost use Rattle.wavefront.specs.View.{front_of, term_of};
 ghost use Rattle.iolb_check.specs.Claims.{claim_of_term};
 ghost use Rattle.iolb_check.specs.Fit.{ColdTermFits, FrontTermFits, HasPieces, PartitionTermFits, TermFits};
+ghost use Rattle.iolb_check.specs.Sound.{IsSound};
 ghost use Rattle.iolb_check.specs.Conditions.{IsPartitionValue, IsValueOf, TermHolds, term_claims_at, term_pieces};
 
 use crate::bound::Value;
@@ -52,6 +53,7 @@ pub(crate) fn check_term(
     ensures value { IfOk result (λ value. IsValueOf (meaning program.now) (claim_of_term term.now) value) }
     ensures holds { IfOk result (λ value. TermHolds program.now (term_pieces (meaning program.now) (trees_of quasts.now) (claim_of_term term.now)) value) }
     ensures pieces { OnOk result (HasPieces program.now (trees_of quasts.now) term.now) }
+    ensures sound { OnOk result (IsSound program.now term.now) }
     ensures refused { IfErr result (IsRefusal (term_claims_at (meaning program.now) (trees_of quasts.now) place.now index (claim_of_term term.now))) }
 {
     match term {
@@ -93,6 +95,7 @@ fn check_cold_term(
     ensures value { IfOk result (λ count. IsCount (meaning program.now) cold.now.nest cold.now.sums count) }
     ensures holds { IfOk result (λ count. TermHolds program.now (cold_pieces (meaning program.now) (tree_for (trees_of quasts.now) (term_of cold.now).reader) (term_of cold.now)) (Value.Cold count)) }
     ensures pieces { OnOk result (HasPieces program.now (trees_of quasts.now) (Term.Cold cold.now)) }
+    ensures sound { OnOk result (IsSound program.now (Term.Cold cold.now)) }
     ensures refused { IfErr result (IsRefusal (cold_claims (meaning program.now) ((place.now ++ Index index ∷ []) ++ Key COLD ∷ []) (tree_for (trees_of quasts.now) (term_of cold.now).reader) (term_of cold.now))) }
 {
     let _params = program.params();
@@ -119,6 +122,7 @@ fn check_partition_term(
     ensures value { IfOk result (λ bound. IsPartitionValue (meaning program.now) (partition_of partition.now) bound) }
     ensures holds { IfOk result (λ bound. TermHolds program.now (partition_pieces (meaning program.now) (trees_of quasts.now) (partition_of partition.now)) (Value.Partition bound)) }
     ensures pieces { OnOk result (HasPieces program.now (trees_of quasts.now) (Term.Partition partition.now)) }
+    ensures sound { OnOk result (IsSound program.now (Term.Partition partition.now)) }
     ensures refused { IfErr result (IsRefusal (partition_claims (meaning program.now) (trees_of quasts.now) ((place.now ++ Index index ∷ []) ++ Key PARTITION ∷ []) (partition_of partition.now))) }
 {
     let _params = program.params();
@@ -146,6 +150,7 @@ fn check_front_term(
     ensures value { IfOk result (λ counts. IsCount (meaning program.now) front.now.nest front.now.sums counts.0) }
     ensures outer { IfOk result (λ counts. IsSumFrom (length program.now.params) (outer_nest (front_of front.now)) front.now.outer_sums.items counts.1) }
     ensures holds { IfOk result (λ counts. TermHolds program.now (front_pieces (meaning program.now) (front_of front.now)) (Value.Wavefront counts.0 counts.1)) }
+    ensures sound { OnOk result (IsSound program.now (Term.Wavefront front.now)) }
     ensures refused { IfErr result (IsRefusal (front_claims (meaning program.now) ((place.now ++ Index index ∷ []) ++ Key WAVEFRONT ∷ []) (trees_of quasts.now) (front_of front.now))) }
 {
     let _params = program.params();

@@ -41,6 +41,10 @@ abbrev pub AreApartFor : Shape → AffineProgram → PartitionTerm → List ℤ 
 AreApartFor Each program term parameters = Unit {0}
 AreApartFor Sum program term parameters = ArePairwiseDisjoint (map (footprint_in program term parameters) term.families)
 
+-- at all admitted parameter values, of any size
+abbrev pub AreApartWhere : AffineProgram → PartitionTerm → Type 0
+AreApartWhere program term = (parameters : List ℤ) → IsAdmitted program parameters → AreApartFor term.shape program term parameters
+
 -- how many points the credited nests have
 abbrev pub credited_count : PartitionTerm → List ℤ → ℕ
 credited_count term parameters = sum_by (λ (credit : CreditedNest). count credit.nest parameters) (credited_nests term)

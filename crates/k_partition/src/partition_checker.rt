@@ -10,7 +10,8 @@ ghost use Rattle.iolb_model.specs.Footprint.{IsFootprintOf};
 ghost use Rattle.k_partition.specs.Numbers.{numbers_of, HasNumbers};
 ghost use Rattle.k_partition.specs.PartitionClaims.{apart_claims, no_points, partition_claims, pieces_of_families as pieces_by_family, IsCreditsTotal};
 ghost use Rattle.k_partition.specs.PartitionPieces.{partition_pieces, CountsCredits, HasPartitionPieces};
-ghost use Rattle.k_partition.specs.TermLoads.{term_footprint};
+ghost use Rattle.k_partition.specs.ReusedWords.{IsSoundTerm};
+ghost use Rattle.k_partition.specs.TermLoads.{term_footprint, AreApartWhere};
 ghost use Rattle.k_partition.specs.View.{partition_of, FitsPartition};
 ghost use Rattle.poly_tree.specs.Expansion.{IsCanonical};
 ghost use Rattle.poly_tree.specs.Printed.{polynomial_of};
@@ -150,7 +151,8 @@ fn families_apart(
 /// the trees are true. The answer has the count of its nest's points, the sum of those of its credited nests, and the numbers
 /// of its bound.
 ///
-/// After `Ok` the term's value is loaded: at all parameter values that meet the program's assumptions, of any size, and for
+/// After `Ok` the term is sound, no two of its families have a word in common where its shape asks for it, and its value is
+/// loaded: at all parameter values that meet the program's assumptions, of any size, and for
 /// every number of red pebbles, every complete pebbling (Hong and Kung 1981, without recomputation) makes at least as many
 /// loads of the term's footprint as the value says.
 ///
@@ -173,6 +175,8 @@ pub fn check_partition(
     ensures parameters { IfOk result (λ bound. IsCanonical (length program.now.params) bound.count.tree × IsCanonical (length program.now.params) bound.credits.tree) }
     ensures numbers { IfOk result (λ bound. HasNumbers (partition_of term.now) bound) }
     ensures holds { OnOk result (AllHold (partition_claims (meaning program.now) (trees_of quasts.now) place.now (partition_of term.now))) }
+    ensures sound { OnOk result (IsSoundTerm (meaning program.now) (partition_of term.now)) }
+    ensures apart { OnOk result (AreApartWhere (meaning program.now) (partition_of term.now)) }
     ensures few { OnOk result (HasPartitionPieces (meaning program.now) (trees_of quasts.now) (partition_of term.now)) }
     ensures covered { OnOk result (AreCovered (meaning program.now) (term_footprint (meaning program.now) (partition_of term.now)) (partition_pieces (meaning program.now) (trees_of quasts.now) (partition_of term.now))) }
     ensures footprint { IfOk result (λ bound. IsFootprintOf (meaning program.now) (partition (polynomial_of bound.count) (polynomial_of bound.credits) (numbers_of bound)) (term_footprint (meaning program.now) (partition_of term.now))) }

@@ -13,6 +13,7 @@ use Rattle.iolb_check.specs.Bounds.{lists}
 use Rattle.iolb_check.specs.Claims.{BranchClaim, claim_of_branch, claim_of_term}
 use Rattle.iolb_check.specs.Fit.{BranchesFit}
 use Rattle.iolb_check.specs.Conditions.{AreBranchValues, AreValuesOf, BranchHolds, branch_claims}
+use Rattle.iolb_check.specs.Sound.{IsSoundBranch}
 use Rattle.iolb_check.proofs.branches.check_branches.Goals as goal
 
 next : (n : ℕ) → suc n ≡ n + 1
@@ -50,6 +51,7 @@ loop-number-preserved c =
       hold = subst (AllByRecursion (BranchHolds program)) (sym items)
           (All-append (BranchHolds program) (lists old) (value.items ∷ []) c.loop-number.invariant.hold
           (c.in_ok-terms.ensures.holds, tt));
+      sound = λ h. c.loop-number.invariant.sound (subst (AllByRecursion (IsSoundBranch program)) (sym split) (c.in_ok-terms.ensures.sound, subst (AllByRecursion (IsSoundBranch program)) (sym more) h));
       refused = λ r h. c.loop-number.invariant.refused r (subst (λ (l : List Branch). IsRefusal (numbered each i (map claim_of_branch l)) r) (sym split)
           (refused-later here rest r accepted (subst (λ (n : ℕ). IsRefusal (numbered each n (map claim_of_branch (drop n branches))) r) (sym (next i)) h)));
     }

@@ -9,6 +9,7 @@ use Rattle.iolb_check.specs.Bounds.{lists}
 use Rattle.iolb_check.specs.Claims.{claim_of_branch}
 use Rattle.iolb_check.specs.Fit.{BranchesFit}
 use Rattle.iolb_check.specs.Conditions.{AreBranchValues, BranchHolds, branch_claims}
+use Rattle.iolb_check.specs.Sound.{IsSoundBranch}
 use Rattle.iolb_check.proofs.branches.check_branches.Given as goal
 
 abbrev pub invariant-loop-number : goal.invariant-loop-number
@@ -17,5 +18,6 @@ invariant-loop-number l = record {
   accepted : AllHold (numbered (branch_claims (meaning l.program) (trees_of l.quasts)) l.number (map claim_of_branch (drop l.number l.branches))) → AllHold (numbered (branch_claims (meaning l.program) (trees_of l.quasts)) 0 (map claim_of_branch l.branches));
   values : (rest : List (List Value)) → AreBranchValues (meaning l.program) (map claim_of_branch (drop l.number l.branches)) rest → AreBranchValues (meaning l.program) (map claim_of_branch l.branches) (lists l.values.items ++ rest);
   hold : AllByRecursion (BranchHolds l.program) (lists l.values.items);
+  sound : AllByRecursion (IsSoundBranch l.program) (drop l.number l.branches) → AllByRecursion (IsSoundBranch l.program) l.branches;
   refused : (r : Refused) → IsRefusal (numbered (branch_claims (meaning l.program) (trees_of l.quasts)) l.number (map claim_of_branch (drop l.number l.branches))) r → IsRefusal (numbered (branch_claims (meaning l.program) (trees_of l.quasts)) 0 (map claim_of_branch l.branches)) r;
 }

@@ -13,6 +13,7 @@ use Rattle.iolb_check.specs.declared.bound.Value.{Value}
 use Rattle.iolb_check.specs.Claims.{TermClaim, claim_of_term}
 use Rattle.iolb_check.specs.Fit.{HasPieces, TermFits}
 use Rattle.iolb_check.specs.Conditions.{AreValuesOf, TermsHold, branch_pieces, term_claims_at, terms_claims}
+use Rattle.iolb_check.specs.Sound.{IsSound}
 use Rattle.iolb_check.proofs.branches.check_terms.Goals as goal
 
 next : (n : ℕ) → suc n ≡ n + 1
@@ -47,6 +48,7 @@ loop-index-preserved c =
           (c.in_ok-value.ensures.holds, subst (λ (n : ℕ). TermsHold program (branch_pieces (meaning program) trees (map claim_of_term (drop n terms))) others) (sym (next i)) h))));
       pieces = λ h. c.loop-index.invariant.pieces (subst (AllByRecursion (HasPieces program trees)) (sym split)
           (c.in_ok-value.ensures.pieces, subst (AllByRecursion (HasPieces program trees)) (sym more) h));
+      sound = λ h. c.loop-index.invariant.sound (subst (AllByRecursion (IsSound program)) (sym split) (c.in_ok-value.ensures.sound, subst (AllByRecursion (IsSound program)) (sym more) h));
       refused = λ r h. c.loop-index.invariant.refused r (subst (λ (l : List Term). IsRefusal (numbered each i (map claim_of_term l)) r) (sym split)
           (refused-later here rest r c.in_ok-value.ensures.accepted (subst (λ (n : ℕ). IsRefusal (numbered each n (map claim_of_term (drop n terms))) r) (sym (next i)) h)));
     }

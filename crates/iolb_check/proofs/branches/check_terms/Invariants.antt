@@ -8,6 +8,7 @@ use Rattle.iolb_check.specs.declared.bound.Value.{Value}
 use Rattle.iolb_check.specs.Claims.{claim_of_term}
 use Rattle.iolb_check.specs.Fit.{HasPieces, TermFits}
 use Rattle.iolb_check.specs.Conditions.{AreValuesOf, TermsHold, branch_pieces, term_claims_at, terms_claims}
+use Rattle.iolb_check.specs.Sound.{IsSound}
 use Rattle.iolb_check.proofs.branches.check_terms.Given as goal
 
 abbrev pub invariant-loop-index : goal.invariant-loop-index
@@ -18,5 +19,6 @@ invariant-loop-index l = record {
   hold : (rest : List Value) → TermsHold l.program (branch_pieces (meaning l.program) (trees_of l.quasts) (map claim_of_term (drop l.index l.terms))) rest
       → TermsHold l.program (branch_pieces (meaning l.program) (trees_of l.quasts) (map claim_of_term l.terms)) (l.values.items ++ rest);
   pieces : AllByRecursion (HasPieces l.program (trees_of l.quasts)) (drop l.index l.terms) → AllByRecursion (HasPieces l.program (trees_of l.quasts)) l.terms;
+  sound : AllByRecursion (IsSound l.program) (drop l.index l.terms) → AllByRecursion (IsSound l.program) l.terms;
   refused : (r : Refused) → IsRefusal (numbered (term_claims_at (meaning l.program) (trees_of l.quasts) l.place) l.index (map claim_of_term (drop l.index l.terms))) r → IsRefusal (terms_claims (meaning l.program) (trees_of l.quasts) l.place (map claim_of_term l.terms)) r;
 }

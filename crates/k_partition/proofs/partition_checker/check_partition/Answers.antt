@@ -83,6 +83,16 @@ returns-clause-covered c =
     (families-covered c.family_pieces_cover.ensures program trees term c.args.place.now c.params-params.ensures.kept.well_formed c.requires.trees_fit c.requires.trees_true c.requires.fits c.in_ok-bound.ensures.holds)
     values vertex admitted stands
 
+pub returns-clause-apart : goal.returns-clause-apart
+returns-clause-apart c = λ values admitted.
+    let program = meaning c.args.program.now in
+    let trees = trees_of c.args.quasts.now in
+    let term = partition_of c.args.term.now in
+    let apart : List Claim = apart_claims term.shape program trees c.args.place.now term in
+    let holds : AllHold (partition_claims program trees c.args.place.now term) =
+    AllHold-append (sound_claims program trees c.args.place.now term) apart c.in_ok-bound.ensures.holds (subst (λ (found : Option No). Finds apart found) c.in_default.is c.in_ok-no.ensures.found) in
+    c.partitions_are_sound.ensures.apart program trees term c.args.place.now values c.params-params.ensures.kept.well_formed c.requires.trees_fit c.requires.trees_true c.requires.fits c.in_ok-no.ensures.fit holds admitted
+
 pub returns-clause-footprint : goal.returns-clause-footprint
 returns-clause-footprint c =
     let program = meaning c.args.program.now in
