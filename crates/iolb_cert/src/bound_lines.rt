@@ -6,7 +6,8 @@ ghost use Rattle.iolb_model.specs.Bound.{partition, wavefront};
 ghost use Rattle.iolb_model.specs.Program.{IsOver};
 ghost use Rattle.poly_tree.specs.Printed.{polynomial_of};
 ghost use Rattle.iolb_model.specs.Printed.{assumption_text, bound_term_text, stretch_text, branches_text, bound_text as text_of_bound};
-ghost use Rattle.iolb_check.specs.Bounds.{bound_of, numbers_of, term_of};
+ghost use Rattle.iolb_check.specs.Bounds.{bound_of, term_of};
+ghost use Rattle.k_partition.specs.Numbers.{numbers_of};
 
 use affine_form::{Form, Memory, Name};
 use affine_program::Program;
