@@ -38,7 +38,7 @@ none-is q is legal =
 
 -- ---- sums
 
-product : (m n : ℕ) → 1 ≤ m → 1 ≤ n → 1 ≤ m * n
+pub product : (m n : ℕ) → 1 ≤ m → 1 ≤ n → 1 ≤ m * n
 product m n x y = grind arith
 
 -- two polynomials have one sum

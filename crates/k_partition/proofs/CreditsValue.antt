@@ -28,13 +28,11 @@ use Rattle.reuse_paths.specs.declared.family.Credit.{Credit}
 use Rattle.reuse_paths.specs.Families.{CreditedNest}
 use Rattle.k_partition.specs.PartitionClaims.{credit_claims, credit_place, no_points, IsAdded, IsCreditsTotal}
 use Rattle.k_partition.specs.Term.{CreditTerm}
+use Rattle.k_partition.proofs.CreditSums.{product}
 use Rattle.k_partition.specs.View.{credit_term_of, FitsCredit}
 use Rattle.iolb_model.specs.declared.limits.TheConstants.{NEST_VARIABLES}
 
 -- ---- the sum of two
-
-product : (m n : ℕ) → 1 ≤ m → 1 ≤ n → 1 ≤ m * n
-product m n x y = grind arith
 
 -- two whole numbers over denominators, added
 over-both : (x y b c : ℕ) → pos (x + y) *ℤ pos (b * c) ≡ (((pos x *ℤ pos b) *ℤ pos c) +ℤ ((pos y *ℤ pos c) *ℤ pos b)) *ℤ pos 1

@@ -1,7 +1,6 @@
 -- The pieces of a partition term's families, family by family.
-use Rattle.std.proofs.Common.{◌≡◌, refl, sym, ◌∙◌, ap, subst, ℕ, ◌+◌, ◌<◌, ◌≤◌, List, [], ◌∷◌, ◌++◌, get_or, length, map, drop, append_assoc, arith}
+use Rattle.std.proofs.Common.{◌≡◌, refl, sym, ◌∙◌, ap, subst, ℕ, ◌+◌, ◌<◌, List, [], ◌∷◌, ◌++◌, get_or, length, map, drop, append_assoc}
 use Rattle.std.specs.Prelude.{flat_map}
-use Rattle.std.proofs.lemmas.List.{drop_all, length-map}
 use Rattle.base_laws.proofs.Lists.{All-at, rest_at}
 use Rattle.iolb_model.specs.Program.{AffineProgram}
 use Rattle.claims.specs.Claims.{AllHold}
@@ -58,7 +57,3 @@ module _ (program : AffineProgram) (trees : List (List SelectionTree)) (term : P
       ap (λ (ps : List FootprintPiece). ps ++ flat_map pieces_at (drop (i + 1) term.families)) (more ∙ ap (λ (ps : List FootprintPiece). before ++ ps) e)
       ∙ append_assoc before (pieces_at (family_of family)) (flat_map pieces_at (drop (i + 1) term.families))
       ∙ ap (λ (fs : List FamilyForms). before ++ flat_map pieces_at fs) (sym rest) ∙ whole
-
--- no family is left
-pub none-left : (held : List Family) (families : List FamilyForms) (i : ℕ) → map family_of held ≡ families → length held ≤ i → drop i families ≡ []
-none-left held families i same past = drop_all i families (subst (λ (fs : List FamilyForms). length fs ≤ i) same (omega (arith, past, length-map held family_of)))

@@ -97,11 +97,6 @@ module _ {X Y : Type 0} (f : X → Y) (each : ℕ → Y → List Claim) (xs : Li
   mapped-place place r Q all m h =
       IfOk-then r (λ found. found ≡ Some place) Q h (λ found e. all found (subst (FindsMisfit (numbered each i (map f (drop i xs)))) (sym e) (mapped-stop place m)))
 
--- the claims about what it gives of members are claims about the members
-pub numbered-map : {X Y : Type 0} (f : X → Y) (each : ℕ → Y → List Claim) (i : ℕ) (xs : List X) → numbered each i (map f xs) ≡ numbered (λ (j : ℕ) (x : X). each j (f x)) i xs
-numbered-map f each i [] = refl
-numbered-map f each i (x ∷ xs) = ap (λ (claims : List Claim). each i (f x) ++ claims) (numbered-map f each (suc i) xs)
-
 -- no member is left
 pub mapped-ended : {X Y : Type 0} (f : X → Y) (each : ℕ → Y → List Claim) (xs : List X) (i : ℕ) → drop i xs ≡ [] → AllHold (numbered each i (map f (drop i xs)))
 mapped-ended {X = X} f each xs i e = subst (λ (rest : List X). AllHold (numbered each i (map f rest))) (sym e) tt

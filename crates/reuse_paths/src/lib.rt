@@ -12,6 +12,7 @@ mod family_shown;
 mod kept_shown;
 pub mod law;
 mod leaf;
+mod leaf_pieces;
 pub mod open_leaves;
 mod piece;
 mod quasts;

@@ -8,7 +8,7 @@ use Rattle.reuse_paths.specs.LeafClaims.{claim_of}
 use Rattle.reuse_paths.specs.Pieces.{pieces_of}
 use Rattle.reuse_paths.specs.WalkPieces.{leaves_pieces}
 use Rattle.reuse_paths.specs.WalkViews.{walk_of}
-use Rattle.reuse_paths.proofs.family_footprint.push_leaves.Given as goal
+use Rattle.reuse_paths.proofs.leaf_pieces.push_leaves.Given as goal
 
 abbrev pub invariant-loop-i : goal.invariant-loop-i
 invariant-loop-i l = record {

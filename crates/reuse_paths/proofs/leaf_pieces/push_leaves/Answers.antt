@@ -9,7 +9,7 @@ use Rattle.reuse_paths.specs.WalkPieces.{leaves_pieces}
 use Rattle.reuse_paths.specs.WalkViews.{walk_of}
 use Rattle.reuse_paths.proofs.FoundLeaves.{refused-there}
 use Rattle.reuse_paths.proofs.ToldLeaves.{few-ended, few-next, few-stops, told-ended, told-next}
-use Rattle.reuse_paths.proofs.family_footprint.push_leaves.Goals as goal
+use Rattle.reuse_paths.proofs.leaf_pieces.push_leaves.Goals as goal
 
 pub loop-i-init : goal.loop-i-init
 loop-i-init c = record { so_far = refl; found = λ found h. h }

@@ -7,7 +7,7 @@ use Rattle.dep_quast.specs.Context.{reference_of}
 use Rattle.dep_quast.specs.Views.{read_of}
 use Rattle.dep_quast.proofs.Fits.{read-over}
 use Rattle.reuse_paths.specs.WalkViews.{walk_of}
-use Rattle.reuse_paths.proofs.family_footprint.push_word.Goals as goal
+use Rattle.reuse_paths.proofs.leaf_pieces.push_word.Goals as goal
 
 pub push_piece-requires-in-Input-clause-over : goal.push_piece-requires-in-Input-clause-over
 push_piece-requires-in-Input-clause-over c =
