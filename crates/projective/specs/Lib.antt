@@ -1,0 +1,3 @@
+pub mod Projective
+pub mod Shape
+pub mod Exponent
