@@ -12,3 +12,4 @@ mod standing;
 
 pub use law::least_covers_have_least_exponents;
 pub use projective::Projective;
+pub use recognising::as_projective;

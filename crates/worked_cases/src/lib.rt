@@ -1,5 +1,5 @@
 //! Worked cases of crates that the program's calls don't show: tokens, forms and matrices, polynomials, covers,
-//! computation graphs, replays.
+//! projective programs, computation graphs, replays.
 #![tactic(auto)]
 
 #[cfg(test)]
@@ -10,6 +10,8 @@ mod form_tests;
 mod graph_tests;
 #[cfg(test)]
 mod polynomial_tests;
+#[cfg(test)]
+mod projective_tests;
 #[cfg(test)]
 mod replay_tests;
 #[cfg(test)]
