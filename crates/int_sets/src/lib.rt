@@ -1,6 +1,6 @@
 //! A search for Farkas multipliers that show a goal from the rows of a system.
 #![tactic(auto)]
 
-mod proving;
-
-pub use proving::prove;
+mod chains;
+mod fingerprint;
+mod half;

@@ -1,0 +1,18 @@
+use Rattle.std.proofs.Common.{rules, FitsSigned, subst, sym, ◌<◌, ap, ◌∙◌, ℤ, pos, ◌*ℤ◌}
+use Rattle.std.specs.Prelude.{unsigned_abs}
+use mir.Syntax.{w128}
+use Rattle.std.proofs.lemmas.Int.{to_z-of_z}
+use Rattle.int_sets.proofs.Sums.{one-half}
+use Rattle.int_sets.proofs.half.one_row.Goals as goal
+use Rattle.iolb_model.specs.declared.limits.TheConstants.{COEFFICIENT_SIZE}
+
+pub returns-clause-half : goal.returns-clause-half
+returns-clause-half c =
+    let fits : FitsSigned w128 c.multiple.result = search rules in
+    let fits_second : FitsSigned w128 c.multiple-2.result = search rules in
+    let fits_constant : FitsSigned w128 c.constant.result = search rules in
+    rw (to_z-of_z w128 c.multiple.result fits, to_z-of_z w128 c.multiple-2.result fits_second)
+    (one-half c.args.system.now.rows c.args.number c.args.times c.args.row.now c.args.value c.multiple.result c.multiple-2.result
+    c.requires.row c.requires.value c.requires.small c.constant.ensures.legal.1.1 c.requires.times
+    (simp (to_z-of_z w128 c.args.value c.ranges.value) at c.multiple.ensures)
+    (simp (to_z-of_z w128 c.constant.result fits_constant) at c.multiple-2.ensures ∙ ap (λ (z : ℤ). pos c.args.times *ℤ z) c.constant.ensures.constant))
