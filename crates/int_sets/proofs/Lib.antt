@@ -1,3 +1,6 @@
 pub mod Held
 pub mod Linked
+pub mod Joined
+pub mod Sorting
 pub mod Sums
+pub mod Walk

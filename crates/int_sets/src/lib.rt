@@ -4,3 +4,7 @@
 mod chains;
 mod fingerprint;
 mod half;
+mod proving;
+mod short;
+
+pub use proving::prove;
