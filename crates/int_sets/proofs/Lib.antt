@@ -1,5 +1,6 @@
 pub mod Held
 pub mod Linked
+pub mod Follows
 pub mod Joined
 pub mod Sorting
 pub mod Sums
