@@ -1,6 +1,5 @@
--- What multipliers that were found show.
-use Rattle.std.specs.Prelude.{Option, Some, None, Result, Ok, Err, IfOk, IfSome}
-use Rattle.std.proofs.Common.{ℕ, ◌≤◌, subst, sym, lit≤, ◌≡◌}
+-- What short lists show.
+use Rattle.std.proofs.Common.{ℕ, ◌≤◌, subst, sym, lit≤}
 use Rattle.iolb_model.specs.Form.{AffineForm}
 use Rattle.affine_form.specs.Multipliers.{FarkasMultipliers}
 use Rattle.affine_form.specs.Shown.{Follows, Shows}
@@ -11,9 +10,3 @@ use Rattle.int_sets.specs.ShortList.{IsShort}
 -- a short list has scale 1, so the goal follows
 pub short-follows : (system : AffineSystem) (goal : AffineForm) (shown : FarkasMultipliers) → IsShort shown → Shows system goal shown → Follows system goal
 short-follows system goal shown short shows = Shows-follows system goal shown (subst (λ (n : ℕ). 1 ≤ n) (sym short.scale) (lit≤ tt)) shows
-
-pub each-follows : {E : Type 0} (system : AffineSystem) (goal : AffineForm) (r : Result (Option FarkasMultipliers) E)
-    → IfOk r (λ found. IfSome found (λ shown. IsShort shown × Shows system goal shown)) → IfOk r (λ found. IfSome found (λ shown. Follows system goal))
-each-follows system goal (Ok None) h = tt
-each-follows system goal (Ok (Some shown)) h = short-follows system goal shown h.0 h.1
-each-follows system goal (Err e) h = tt

@@ -3,8 +3,8 @@ use Rattle.std.proofs.Common.{◌≡◌, refl, sym, subst, ◌∙◌, ap, ℕ, z
 use Rattle.std.specs.List.{AllByRecursion}
 use Rattle.std.proofs.lemmas.List.{take_more}
 use Rattle.iolb_model.specs.Form.{AffineForm}
-use Rattle.base_laws.proofs.Lists.{All-at, All-push, All-weaken}
-use Rattle.int_sets.specs.Halves.{Holds, HoldUpTo, IsHalf, PairsWith, weights_of}
+use Rattle.base_laws.proofs.Lists.{All-push, All-weaken}
+use Rattle.int_sets.specs.Halves.{Holds, HoldUpTo, PairsWith, weights_of}
 use Rattle.int_sets.specs.ShortList.{IsOnceOrTwice}
 use Rattle.int_sets.specs.declared.half.Half.{Half}
 
@@ -63,8 +63,8 @@ pub pairs-push : (first : Half) (small halves : List Half) (k : ℕ) (d pair : H
     → weights_of pair ≡ weights_of first ++ weights_of (get_or small k d) → PairsWith first (take k small) halves → PairsWith first (take (k + 1) small) (halves ++ pair ∷ [])
 pairs-push first small halves k d pair below whole pairs v w e less held =
     elim (Holds-more small k d (w ∷ []) below held) [
-    | inl before ↦ Holds-append halves (pair ∷ []) (v ∷ w ∷ []) (pairs v w e less before)
-    | inr alone ↦ Holds-push halves pair (v ∷ w ∷ []) (whole ∙ ap (λ (us : List (ℕ × ℕ)). us ++ weights_of (get_or small k d)) e ∙ ap (λ (us : List (ℕ × ℕ)). (v ∷ []) ++ us) alone)
+      | inl before ↦ Holds-append halves (pair ∷ []) (v ∷ w ∷ []) (pairs v w e less before)
+      | inr alone ↦ Holds-push halves pair (v ∷ w ∷ []) (whole ∙ ap (λ (us : List (ℕ × ℕ)). us ++ weights_of (get_or small k d)) e ∙ ap (λ (us : List (ℕ × ℕ)). (v ∷ []) ++ us) alone)
     ]
 
 -- one more that doesn't
@@ -74,11 +74,11 @@ pub pairs-skip : (first : Half) (small halves : List Half) (k : ℕ) (d : Half) 
     → PairsWith first (take k small) halves → PairsWith first (take (k + 1) small) halves
 pairs-skip first small halves k d below two other apart pairs v w e less held =
     elim (Holds-more small k d (w ∷ []) below held) [
-    | inl before ↦ pairs v w e less before
-    | inr alone ↦
-        let one = one-counted first v two e in
-        let single = one-counted (get_or small k d) w other alone in
-        absurd (apart single.0 (subst (λ (x : ℕ × ℕ). x.0 < (get_or (get_or small k d).rows 0 (0, 0)).0) (sym one.1) (subst (λ (x : ℕ × ℕ). v.0 < x.0) (sym single.1) less)))
+      | inl before ↦ pairs v w e less before
+      | inr alone ↦
+          let one = one-counted first v two e in
+          let single = one-counted (get_or small k d) w other alone in
+          absurd (apart single.0 (subst (λ (x : ℕ × ℕ). x.0 < (get_or (get_or small k d).rows 0 (0, 0)).0) (sym one.1) (subst (λ (x : ℕ × ℕ). v.0 < x.0) (sym single.1) less)))
     ]
 
 -- one half more whose pairs are held
@@ -88,9 +88,9 @@ pub pairs-more : (small old new : List Half) (k : ℕ) (d : Half) → k < length
 pairs-more small old new k d below kept pairs all =
     subst (AllByRecursion (λ (first : Half). PairsWith first small new)) (sym (take_more small k d below))
     (All-push (λ (first : Half). PairsWith first small new) (take k small) (get_or small k d)
-        (All-weaken (λ (first : Half). PairsWith first small old) (λ (first : Half). PairsWith first small new) (take k small)
-            (λ first old_pairs v w e less held. kept (v ∷ w ∷ []) (old_pairs v w e less held)) all)
-        pairs)
+    (All-weaken (λ (first : Half). PairsWith first small old) (λ (first : Half). PairsWith first small new) (take k small)
+    (λ first old_pairs v w e less held. kept (v ∷ w ∷ []) (old_pairs v w e less held)) all)
+    pairs)
 
 -- where the pairs of all are held, all lists of two are
 pub two-held : (rows : List AffineForm) (small halves : List Half) (k : ℕ) → HoldUpTo 1 rows small → ((ws : List (ℕ × ℕ)) → Holds small ws → Holds halves ws)

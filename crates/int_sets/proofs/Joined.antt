@@ -1,19 +1,18 @@
 -- What halves that make a short list have in common with the goal.
-use Rattle.std.proofs.Common.{◌≡◌, refl, sym, subst, ◌∙◌, ap, ℕ, zero, suc, ◌+◌, ◌-◌, ◌<◌, ◌≤◌, List, [], ◌∷◌, ◌++◌, length, take, drop, get_or, arith, ◌⊎◌, inl, inr, take-append-drop}
+use Rattle.std.proofs.Common.{◌≡◌, sym, subst, ◌∙◌, ap, ℕ, zero, suc, ◌<◌, ◌≤◌, List, [], ◌∷◌, ◌++◌, length, take, drop, arith, inl, inr, take-append-drop}
 use Rattle.std.specs.List.{AllByRecursion}
-use Rattle.std.proofs.Math.IntN.{ℤ, pos, ◌+ℤ◌, ◌-ℤ◌, ◌*ℤ◌}
-use lib.Signed.{◌≤ℤ◌}
+use Rattle.std.proofs.Math.IntN.{ℤ, pos, ◌+ℤ◌, ◌-ℤ◌}
 use Rattle.std.proofs.lemmas.Int.{ints}
 use Rattle.std.proofs.lemmas.List.{length-append}
 use Rattle.base_laws.proofs.Ring.{one-mul}
 use Rattle.base_laws.proofs.Lists.{All-append, All-weaken}
 use Rattle.iolb_model.specs.Form.{AffineForm, dot}
 use Rattle.affine_form.specs.Combination.{scale_form, constant_form, combination}
-use Rattle.affine_form.specs.Multipliers.{FarkasMultipliers, IsWeight, RowsRise}
+use Rattle.affine_form.specs.Multipliers.{IsWeight, RowsRise}
 use Rattle.affine_form.specs.Shown.{NamesRows, Shows, weighted_rows}
 use Rattle.affine_form.specs.System.{AffineSystem}
 use Rattle.affine_form.proofs.Combination.{dot-scale}
-use Rattle.int_sets.specs.ShortList.{HasShortList, IsOnceOrTwice, IsShort, RowsDiffer}
+use Rattle.int_sets.specs.ShortList.{HasShortList, IsOnceOrTwice, RowsDiffer}
 use Rattle.int_sets.specs.Fingerprint.{value_at_point}
 use Rattle.int_sets.specs.Halves.{Holds, HoldUpTo, IsHalf, Joins, NeverJoins, sum_of, weights_of}
 use Rattle.int_sets.specs.Chains.{half_at}
@@ -21,7 +20,6 @@ use Rattle.int_sets.specs.declared.half.Half.{Half}
 use Rattle.int_sets.specs.declared.fingerprint.TheConstants.{POINT}
 use Rattle.int_sets.proofs.Sums.{value-append, value-rest, constant-append, constant-rest}
 use Rattle.int_sets.proofs.Sorting.{ordered}
-use Rattle.iolb_model.specs.declared.limits.TheConstants.{MULTIPLIER_SIZE}
 
 -- the goal's value is the sum of the halves' values
 pub joins-value : (system : AffineSystem) (goal : AffineForm) (first second : Half) (rest : ℕ) → IsHalf system.rows first → IsHalf system.rows second
@@ -41,7 +39,7 @@ joins-constant system goal first second rest f s joins =
     let vs = weights_of second in
     sym (one-mul goal.constant) ∙ ap (λ (form : AffineForm). form.constant) joins.shows.identity ∙ constant-rest system.rows (ws ++ vs) system.vars (pos rest)
     ∙ ap (λ (z : ℤ). z +ℤ pos rest)
-        (constant-append system.rows ws vs ∙ ap (λ (z : ℤ). z +ℤ (sum_of system.rows vs).constant) (sym f.constant) ∙ ap (λ (z : ℤ). first.constant +ℤ z) (sym s.constant))
+    (constant-append system.rows ws vs ∙ ap (λ (z : ℤ). z +ℤ (sum_of system.rows vs).constant) (sym f.constant) ∙ ap (λ (z : ℤ). first.constant +ℤ z) (sym s.constant))
 
 -- rows taken once or twice have small multipliers
 pub small-weights : (ws : List (ℕ × ℕ)) → AllByRecursion IsOnceOrTwice ws → AllByRecursion IsWeight ws

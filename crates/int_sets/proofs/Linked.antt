@@ -1,5 +1,5 @@
 -- Chains with one half more.
-use Rattle.std.proofs.Common.{◌≡◌, refl, sym, subst, ◌∙◌, ap, ℕ, zero, suc, ◌+◌, ◌<◌, ◌≤◌, ◌≢◌, List, [], ◌∷◌, ◌++◌, length, get_or, arith, ◌⊎◌, inl, inr, below_more}
+use Rattle.std.proofs.Common.{◌≡◌, refl, sym, subst, ◌∙◌, ap, ℕ, suc, ◌+◌, ◌<◌, ◌≤◌, ◌≢◌, List, [], ◌∷◌, ◌++◌, length, get_or, arith, inl, inr, below_more}
 use Rattle.std.specs.Prelude.{slice_set}
 use Rattle.std.proofs.Math.IntN.{ℤ, pos}
 use lib.Signed.{◌≤ℤ◌}
@@ -26,7 +26,7 @@ Leads-append links link constant _ _ falls within (here k small) =
 Leads-append links link constant _ _ falls within (later n k small onward) =
     later n k (subst (λ (one : Link). one.least ≤ℤ constant) (sym (link-kept links link n (omega arith))) small)
     (subst (λ (one : Link). Leads (links ++ link ∷ []) constant one.next k) (sym (link-kept links link n (omega arith)))
-        (Leads-append links link constant (link_at links n).next k falls (omega (arith, falls n (omega arith))) onward))
+    (Leads-append links link constant (link_at links n).next k falls (omega (arith, falls n (omega arith))) onward))
 
 -- where a chain leads somewhere, its first link says so of the constant
 Leads-least : (links : List Link) (constant : ℤ) (n k : ℕ) → Leads links constant n k → (m : ℕ) × (n ≡ suc m) × ((link_at links m).least ≤ℤ constant)
@@ -48,8 +48,8 @@ chains-more i halves starts links chain link old is below next least behind = re
       (λ n less. subst (λ (one : Link). one.next ≤ n) (sym (kept n less)) (old.falls n less))
       (subst (λ (one : Link). one.next ≤ i) (sym new) (omega (arith, next, old.within chain)));
   within = λ other. elim (cases_eq other chain) [
-  | inl e ↦ omega (arith, started other e)
-  | inr apart ↦ omega (arith, left other apart, old.within other)
+    | inl e ↦ omega (arith, started other e)
+    | inr apart ↦ omega (arith, left other apart, old.within other)
   ];
   leads = below_more (λ (k : ℕ). Leads (links ++ link ∷ []) (half_at halves k).constant (get_or (slice_set starts chain (i + 1)) (chain_of (half_at halves k).value) 0) k) i
       before at;
@@ -85,7 +85,7 @@ chains-more i halves starts links chain link old is below next least behind = re
         subst (λ (n : ℕ). Leads (links ++ link ∷ []) (half_at halves k).constant n k) (sym (started (chain_of (half_at halves k).value) e ∙ next_number))
         (later i k (subst (λ (one : Link). one.least ≤ℤ (half_at halves k).constant) (sym new) small)
         (subst (λ (one : Link). Leads (links ++ link ∷ []) (half_at halves k).constant one.next k) (sym new) onward))
-    ]
+  ]
 
   at : Leads (links ++ link ∷ []) (half_at halves i).constant (get_or (slice_set starts chain (i + 1)) (chain_of (half_at halves i).value) 0) i
   at = subst (λ (n : ℕ). Leads (links ++ link ∷ []) (half_at halves i).constant n i) (sym (started (chain_of (half_at halves i).value) (sym is) ∙ next_number))

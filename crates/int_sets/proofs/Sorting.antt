@@ -1,5 +1,5 @@
 -- Weights on different rows, put into the order of their rows.
-use Rattle.std.proofs.Common.{◌≡◌, refl, sym, ◌∙◌, ap, ℕ, suc, ◌<◌, ◌≢◌, List, [], ◌∷◌, ◌⊎◌, inl, inr, length, arith}
+use Rattle.std.proofs.Common.{◌≡◌, refl, ◌∙◌, ap, ℕ, suc, ◌<◌, ◌≢◌, List, [], ◌∷◌, inl, inr, length, arith}
 use Rattle.std.specs.List.{AllByRecursion}
 use Rattle.std.proofs.Math.IntN.{ℤ, pos, ◌+ℤ◌}
 use Rattle.std.proofs.lemmas.Int.{ints}
@@ -47,30 +47,39 @@ inserted : (rows : List AffineForm) (w : ℕ × ℕ) (vs : List (ℕ × ℕ)) �
 inserted rows w [] rise apart = (w ∷ [], record { rising = (tt, tt); as_many = refl; members = λ P h. h; sum = λ start. refl })
 inserted rows w (v ∷ vs) rise apart = elim (cases_order w.0 v.0) [
   | inl same ↦ absurd (apart.0 same)
-  | inr (inl less) ↦ (w ∷ v ∷ vs, record {
+  | inr (inl less) ↦ (
+    w ∷ v ∷ vs,
+    record {
       rising = ((less, All-weaken (λ (u : ℕ × ℕ). v.0 < u.0) (λ (u : ℕ × ℕ). w.0 < u.0) vs (λ u h. omega arith) rise.0), rise);
       as_many = refl;
       members = λ P h. h;
       sum = λ start. refl;
-    })
+    },
+  )
   | inr (inr more) ↦
-      let rest = inserted rows w vs rise.1 apart.1 in (v ∷ rest.0, record {
-        rising = (rest.1.members (λ (u : ℕ × ℕ). v.0 < u.0) (more, rise.0), rest.1.rising);
-        as_many = ap suc rest.1.as_many;
-        members = λ P h. (h.1.0, rest.1.members P (h.0, h.1.1));
-        sum = λ start. ap (add_forms (scale_form (pos v.1) (row_at rows v.0))) (rest.1.sum start)
-            ∙ add_forms-exchanged (scale_form (pos v.1) (row_at rows v.0)) (scale_form (pos w.1) (row_at rows w.0)) (combination (weighted_rows rows vs) start);
-      })
-  ]
+      let rest = inserted rows w vs rise.1 apart.1 in (
+        v ∷ rest.0,
+        record {
+          rising = (rest.1.members (λ (u : ℕ × ℕ). v.0 < u.0) (more, rise.0), rest.1.rising);
+          as_many = ap suc rest.1.as_many;
+          members = λ P h. (h.1.0, rest.1.members P (h.0, h.1.1));
+          sum = λ start. ap (add_forms (scale_form (pos v.1) (row_at rows v.0))) (rest.1.sum start)
+              ∙ add_forms-exchanged (scale_form (pos v.1) (row_at rows v.0)) (scale_form (pos w.1) (row_at rows w.0)) (combination (weighted_rows rows vs) start);
+        },
+      )
+]
 
 -- weights on different rows can be ordered
 pub ordered : (rows : List AffineForm) (ws : List (ℕ × ℕ)) → RowsDiffer ws → (us : List (ℕ × ℕ)) × IsOrdered rows ws us
 ordered rows [] different = ([], record { rising = tt; as_many = refl; members = λ P h. h; sum = λ start. refl })
 ordered rows (w ∷ ws) different =
     let rest = ordered rows ws different.1 in
-    let placed = inserted rows w rest.0 rest.1.rising (rest.1.members (λ (v : ℕ × ℕ). w.0 ≢ v.0) different.0) in (placed.0, record {
-      rising = placed.1.rising;
-      as_many = placed.1.as_many ∙ ap suc rest.1.as_many;
-      members = λ P h. placed.1.members P (h.0, rest.1.members P h.1);
-      sum = λ start. placed.1.sum start ∙ ap (add_forms (scale_form (pos w.1) (row_at rows w.0))) (rest.1.sum start);
-    })
+    let placed = inserted rows w rest.0 rest.1.rising (rest.1.members (λ (v : ℕ × ℕ). w.0 ≢ v.0) different.0) in (
+      placed.0,
+      record {
+        rising = placed.1.rising;
+        as_many = placed.1.as_many ∙ ap suc rest.1.as_many;
+        members = λ P h. placed.1.members P (h.0, rest.1.members P h.1);
+        sum = λ start. placed.1.sum start ∙ ap (add_forms (scale_form (pos w.1) (row_at rows w.0))) (rest.1.sum start);
+      },
+    )

@@ -1,20 +1,19 @@
 -- Values and constants of sums of rows.
-use Rattle.std.proofs.Common.{◌≡◌, refl, sym, subst, ◌∙◌, ap, ℕ, ◌+◌, ◌*◌, ◌<◌, ◌≤◌, List, [], ◌∷◌, ◌++◌, map, replicate, length, take, get_or, arith, lit≤, lit<, mul-le-mul}
+use Rattle.std.proofs.Common.{◌≡◌, refl, sym, subst, ◌∙◌, ap, ℕ, ◌*◌, ◌<◌, ◌≤◌, List, [], ◌∷◌, ◌++◌, map, replicate, length, take, get_or, arith, lit≤, lit<, mul-le-mul}
 use Rattle.std.specs.Prelude.{unsigned_abs}
 use Rattle.std.specs.List.{AllByRecursion}
 use Rattle.std.proofs.Math.IntN.{ℤ, pos, ◌+ℤ◌, ◌*ℤ◌}
 use Rattle.std.proofs.lemmas.Int.{ints, unsigned_abs-mul}
 use Rattle.std.proofs.lemmas.List.{map-append}
 use Rattle.iolb_model.specs.Form.{AffineForm, dot}
-use Rattle.affine_form.specs.Combination.{scale_form, constant_form, combination}
+use Rattle.affine_form.specs.Combination.{constant_form, combination}
 use Rattle.affine_form.specs.Form.{IsSmall}
 use Rattle.affine_form.specs.Shown.{row_at, weighted_rows}
 use Rattle.affine_form.proofs.Combination.{dot-add_lists, dot-scale, dot-zeros}
 use Rattle.affine_form.proofs.Sizes.{size-add}
-use Rattle.base_laws.proofs.Lists.{All-append}
 use Rattle.int_sets.specs.ShortList.{IsOnceOrTwice}
 use Rattle.int_sets.specs.Fingerprint.{value_at_point, VALUE_LIMIT}
-use Rattle.int_sets.specs.Halves.{Holds, IsHalf, sum_of, weights_of}
+use Rattle.int_sets.specs.Halves.{IsHalf, sum_of, weights_of}
 use Rattle.int_sets.specs.declared.half.Half.{Half}
 use Rattle.int_sets.specs.declared.fingerprint.TheConstants.{POINT}
 use Rattle.iolb_model.specs.declared.limits.TheConstants.{COEFFICIENT_SIZE, VALUE_SIZE}

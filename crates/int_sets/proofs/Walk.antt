@@ -1,5 +1,5 @@
 -- Along a chain to the halves that make a short list with another.
-use Rattle.std.proofs.Common.{◌≡◌, refl, sym, subst, ◌∙◌, ap, ℕ, zero, suc, ◌+◌, ◌-◌, ◌<◌, ◌≤◌, List, length, get_or, arith, ◌⊎◌, inl, inr, true}
+use Rattle.std.proofs.Common.{◌≡◌, refl, sym, subst, ◌∙◌, ap, ℕ, suc, ◌-◌, ◌<◌, ◌≤◌, List, length, get_or, arith, ◌⊎◌, inl, inr, true}
 use Rattle.std.specs.List.{AllByRecursion}
 use Rattle.std.proofs.Math.IntN.{ℤ, pos, ◌+ℤ◌, ◌-ℤ◌}
 use lib.Signed.{◌≤ℤ◌, lt_z}
@@ -58,8 +58,8 @@ walk-on links constant number k link is other leads =
     let ahead = Leads-cases links constant number k leads in
     let same : ahead.0 ≡ number - 1 = before number ahead.0 ahead.1 in
     elim ahead.3 [
-    | inl e ↦ absurd (other (e ∙ same))
-    | inr onward ↦ subst (λ (one : Link). Leads links constant one.next k) (ap (link_at links) same ∙ sym is) onward
+      | inl e ↦ absurd (other (e ∙ same))
+      | inr onward ↦ subst (λ (one : Link). Leads links constant one.next k) (ap (link_at links) same ∙ sym is) onward
     ]
 
 -- no chain leads from its end

@@ -1,5 +1,5 @@
 -- Halves of short lists: at most two rows, each once or twice.
-use Rattle.std.specs.Prelude.{◌≡◌, ℕ, ◌*◌, ◌≤◌, ◌<◌, ℤ, pos, unsigned_abs, List, [], ◌∷◌, ◌++◌, ◌⊎◌, length, take}
+use Rattle.std.specs.Prelude.{◌≡◌, ℕ, ◌*◌, ◌≤◌, ◌<◌, pos, unsigned_abs, List, [], ◌∷◌, ◌++◌, ◌⊎◌, length, take}
 use Rattle.std.specs.List.{AllByRecursion}
 use Rattle.iolb_model.specs.Form.{AffineForm}
 use Rattle.affine_form.specs.Combination.{combination, constant_form}

@@ -1,4 +1,3 @@
-use Rattle.std.proofs.Common.{rules}
 use Rattle.int_sets.proofs.Held.{pairs-more, two-held}
 use Rattle.int_sets.proofs.half.all_halves.Goals as goal
 

@@ -1,10 +1,8 @@
-use Rattle.std.proofs.Common.{rules, FitsSigned, subst, sym, ◌<◌, ap, ◌∙◌, ℤ, pos, ◌*ℤ◌}
-use Rattle.std.specs.Prelude.{unsigned_abs}
+use Rattle.std.proofs.Common.{rules, FitsSigned, ap, ◌∙◌, ℤ, pos, ◌*ℤ◌}
 use mir.Syntax.{w128}
 use Rattle.std.proofs.lemmas.Int.{to_z-of_z}
 use Rattle.int_sets.proofs.Sums.{one-half}
 use Rattle.int_sets.proofs.half.one_row.Goals as goal
-use Rattle.iolb_model.specs.declared.limits.TheConstants.{COEFFICIENT_SIZE}
 
 pub returns-clause-half : goal.returns-clause-half
 returns-clause-half c =

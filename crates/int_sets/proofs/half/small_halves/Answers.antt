@@ -1,4 +1,4 @@
-use Rattle.std.proofs.Common.{rules, ◌++◌, ◌∷◌, [], ◌≤◌, length, List, subst}
+use Rattle.std.proofs.Common.{◌++◌, ◌∷◌, [], ◌≤◌, length, List, subst}
 use Rattle.iolb_model.specs.Form.{AffineForm}
 use Rattle.base_laws.proofs.Lists.{All-push}
 use Rattle.int_sets.specs.Halves.{IsHalf}

@@ -1,7 +1,7 @@
-use Rattle.std.proofs.Common.{◌≡◌, rules, FitsSigned, to_z, of_z, get_or, take, length, ◌∷◌, [], List, ℕ, ◌<◌, arith, ◌∙◌}
+use Rattle.std.proofs.Common.{◌≡◌, rules, FitsSigned, get_or, ◌∷◌, []}
 use mir.Syntax.{w128}
 use Rattle.std.proofs.lemmas.Int.{to_z-of_z}
-use Rattle.int_sets.specs.Halves.{weights_of, IsHalf}
+use Rattle.int_sets.specs.Halves.{weights_of}
 use Rattle.int_sets.proofs.Sums.{two-half, one-taken}
 use Rattle.int_sets.proofs.half.two_rows.Goals as goal
 

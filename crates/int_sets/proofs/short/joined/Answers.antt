@@ -1,4 +1,4 @@
-use Rattle.std.proofs.Common.{◌≡◌, ◌<◌, ◌≤◌, ◌-◌, ℕ, ℤ, pos, ◌-ℤ◌, rules, arith, sym, ◌∙◌, ap, subst, FitsSigned, to_z, of_z, length, get_or, true}
+use Rattle.std.proofs.Common.{◌≡◌, ◌≤◌, ◌-◌, ℕ, ◌-ℤ◌, rules, arith, ◌∙◌, ap, subst, FitsSigned, get_or, true}
 use mir.Syntax.{w128}
 use lib.Signed.{lt_z}
 use Rattle.std.specs.Prelude.{Option, IfNone}

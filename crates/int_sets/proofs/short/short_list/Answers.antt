@@ -13,4 +13,4 @@ none-so P Q f (Err e) h = tt
 pub returns-clause-none : goal.returns-clause-none
 returns-clause-none c =
     none-so _ _ (no-short-list c.args.system.now c.args.goal.now c.as_slice-3.result.now
-        (subst (HoldUpTo 2 c.args.system.now.rows) (sym c.as_slice-3.ensures.value) c.in_ok-halves.ensures.all)) c.first_joined-2.result c.first_joined-2.ensures.none
+    (subst (HoldUpTo 2 c.args.system.now.rows) (sym c.as_slice-3.ensures.value) c.in_ok-halves.ensures.all)) c.first_joined-2.result c.first_joined-2.ensures.none

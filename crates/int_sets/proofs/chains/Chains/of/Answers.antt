@@ -1,4 +1,4 @@
-use Rattle.std.proofs.Common.{◌≡◌, ◌<◌, rules, arith, sym, ◌∙◌, ap, subst, FitsSigned, ℤ, pos, get_or, to_z, of_z, ℕ, List}
+use Rattle.std.proofs.Common.{◌≡◌, rules, arith, ◌∙◌, ap, subst, FitsSigned, ℤ, get_or, ℕ, List}
 use mir.Syntax.{w128}
 use lib.Signed.{◌≤ℤ◌}
 use Rattle.std.proofs.lemmas.Int.{to_z-of_z}
