@@ -12,5 +12,7 @@ mod line;
 mod longer;
 mod proving;
 mod short;
+#[cfg(test)]
+mod tests;
 
 pub use proving::prove;
