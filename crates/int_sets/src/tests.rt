@@ -1,4 +1,4 @@
-ghost use Rattle.std.specs.Prelude.{◌≡◌, ◌≤◌, IfOk};
+ghost use Rattle.std.specs.Prelude.{◌≡◌, ◌≤◌, unsigned_abs, IfOk};
 ghost use Rattle.affine_form.specs.Form.{variables};
 
 use crate::prove;
@@ -16,7 +16,9 @@ fn next(seed: u64) -> u64 {
 }
 
 /// A number from -2 to 2.
-fn drawn(seed: u64) -> i128 {
+fn drawn(seed: u64) -> i128
+    ensures { unsigned_abs result ≤ 2 }
+{
     i128::from((seed >> 33) % 5) - 2
 }
 
@@ -31,6 +33,18 @@ fn form(alloc: Global, seed: u64) -> Result<Form, Fail>
     Ok(Form::new(coef, drawn(next(third))))
 }
 
+/// The system with a row more, while there is room.
+fn with_row(system: System, row: Form) -> System
+    requires { variables row ≡ system.vars }
+    ensures { result.vars ≡ system.vars }
+{
+    let mut system = system;
+    if system.rows().len() < 128 {
+        let _ = system.push(row);
+    }
+    system
+}
+
 /// A system of so many drawn rows.
 fn system(alloc: Global, rows: u64, seed: u64) -> Result<System, Fail>
     ensures { IfOk result (λ system. system.vars ≡ 3) }
@@ -39,10 +53,7 @@ fn system(alloc: Global, rows: u64, seed: u64) -> Result<System, Fail>
     let mut seed = seed;
     for _ in 0..rows {
         seed = next(next(next(next(next(seed)))));
-        let row = form(alloc, seed)?;
-        if system.rows().len() < 128 {
-            let _ = system.push(row);
-        }
+        system = with_row(system, form(alloc, seed)?);
     }
     Ok(system)
 }
@@ -102,10 +113,9 @@ fn is_short(shown: &Multipliers) -> bool {
 #[test]
 fn rows_show_goals(rt: HostRuntime) -> Result<(), Fail> {
     let alloc = rt.alloc();
-    let mut system = System::new(alloc, 1);
     let goal = Form::new(vec![in alloc; 1]?, 0);
-    assert!(rt; matches!(prove(alloc, &system, &goal), Ok(None)));
-    let _ = system.push(Form::new(vec![in alloc; 1]?, -1));
+    assert!(rt; matches!(prove(alloc, &System::new(alloc, 1), &goal), Ok(None)));
+    let system = with_row(System::new(alloc, 1), Form::new(vec![in alloc; 1]?, -1));
     let shown = prove(alloc, &system, &goal)?.expect(&rt, "the row shows the goal");
     assert_eq!(rt; shown.c(), 1);
     assert_eq!(rt; shown.m0(), 1);
@@ -116,8 +126,7 @@ fn rows_show_goals(rt: HostRuntime) -> Result<(), Fail> {
 #[test]
 fn longer_lists_are_found(rt: HostRuntime) -> Result<(), Fail> {
     let alloc = rt.alloc();
-    let mut system = System::new(alloc, 1);
-    let _ = system.push(Form::new(vec![in alloc; 2]?, -1));
+    let system = with_row(System::new(alloc, 1), Form::new(vec![in alloc; 2]?, -1));
     let half = Form::new(vec![in alloc; 1]?, 0);
     let shown = prove(alloc, &system, &half)?.expect(&rt, "twice the goal is the row and 1");
     assert_eq!(rt; shown.c(), 2);
@@ -125,12 +134,18 @@ fn longer_lists_are_found(rt: HostRuntime) -> Result<(), Fail> {
     let fivefold = Form::new(vec![in alloc; 10]?, -5);
     let shown = prove(alloc, &system, &fivefold)?.expect(&rt, "the goal is the row five times");
     assert_eq!(rt; shown.m(), [(0u8, 5u64)].as_slice());
-    let mut ring = System::new(alloc, 5);
-    let _ = ring.push(Form::new(vec![in alloc; 1, -1, 0, 0, 0]?, -1));
-    let _ = ring.push(Form::new(vec![in alloc; 0, 1, -1, 0, 0]?, 0));
-    let _ = ring.push(Form::new(vec![in alloc; 0, 0, 1, -1, 0]?, 0));
-    let _ = ring.push(Form::new(vec![in alloc; 0, 0, 0, 1, -1]?, 0));
-    let _ = ring.push(Form::new(vec![in alloc; -1, 0, 0, 0, 1]?, 0));
+    Ok(())
+}
+
+#[test]
+fn contradictions_are_found(rt: HostRuntime) -> Result<(), Fail> {
+    let alloc = rt.alloc();
+    let ring = System::new(alloc, 5);
+    let ring = with_row(ring, Form::new(vec![in alloc; 1, -1, 0, 0, 0]?, -1));
+    let ring = with_row(ring, Form::new(vec![in alloc; 0, 1, -1, 0, 0]?, 0));
+    let ring = with_row(ring, Form::new(vec![in alloc; 0, 0, 1, -1, 0]?, 0));
+    let ring = with_row(ring, Form::new(vec![in alloc; 0, 0, 0, 1, -1]?, 0));
+    let ring = with_row(ring, Form::new(vec![in alloc; -1, 0, 0, 0, 1]?, 0));
     let contradiction = Form::new(vec![in alloc; 0, 0, 0, 0, 0]?, -1);
     let shown = prove(alloc, &ring, &contradiction)?.expect(&rt, "the rows add up to -1");
     assert_eq!(rt; shown.m().len(), 5);
