@@ -1,7 +1,9 @@
-//! Worked cases of crates that the program's calls don't show: tokens, forms and matrices, polynomials, covers,
+//! Worked cases of crates that the program's calls don't show: tokens, forms and matrices, polynomials, counts, covers,
 //! projective programs, computation graphs, replays.
 #![tactic(auto)]
 
+#[cfg(test)]
+mod count_tests;
 #[cfg(test)]
 mod cover_tests;
 #[cfg(test)]

@@ -1,0 +1,3 @@
+pub mod Adding
+pub mod RangeLemmas
+pub mod TermLemmas

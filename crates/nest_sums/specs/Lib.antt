@@ -1,0 +1,4 @@
+pub mod Ranges
+pub mod Coefficients
+pub mod Summing
+pub mod Made
