@@ -1,0 +1,5 @@
+pub mod AnswerLaws
+pub mod ShortLaws
+pub mod PointLaws
+pub mod CandidateLaws
+pub mod ShownLeaves

@@ -1,0 +1,4 @@
+pub mod Answers
+pub mod Candidates
+pub mod Plain
+pub mod Limits
