@@ -2,4 +2,6 @@ pub mod AnswerLaws
 pub mod ShortLaws
 pub mod PointLaws
 pub mod CandidateLaws
+pub mod Moved
 pub mod ShownLeaves
+pub mod ShownTrees

@@ -1,6 +1,7 @@
 -- Points of writers, and forms of candidates.
 use Rattle.std.proofs.Common.{◌≡◌, refl, sym, ◌∙◌, ap, subst, ℕ, zero, suc, ◌+◌, ◌-◌, ◌<◌, ◌≤◌, Bool, true, false, List, [], ◌∷◌, ◌++◌, length, map, drop, replicate, get_or, arith, lit<}
-use Rattle.std.specs.Prelude.{if◌then◌else◌, Option, Some, slice_set}
+use Rattle.std.specs.Prelude.{if◌then◌else◌, Option, Some, None, Vec, slice_set}
+use Rattle.std.specs.Global.{Global}
 use Rattle.std.specs.List.{AllByRecursion}
 use Rattle.std.proofs.Math.IntN.{ℤ, pos, negsuc, ◌-ℤ◌, ◌+ℤ◌}
 use Rattle.std.proofs.lemmas.Int.{ints}
@@ -15,9 +16,10 @@ use Rattle.affine_form.specs.Form.{variables, IsSmall, IsSmallForm}
 use Rattle.affine_form.specs.Rows.{IsSmallOver, BoundsFit, variable, variables_from, difference, widened, step_of}
 use Rattle.affine_form.proofs.RowLemmas.{variables-over, length-difference, small-wider}
 use Rattle.affine_form.proofs.Sizes.{size-add}
-use Rattle.dep_quast.specs.Context.{ReadOf}
+use Rattle.affine_form.specs.declared.form.Form.{Form}
+use Rattle.dep_quast.specs.Context.{ReadOf, variables_at}
 use Rattle.flow_deps.proofs.AnswerLaws.{All-left, All-right}
-use Rattle.flow_deps.specs.Candidates.{subscript_for, is_name, loop_value, values_along}
+use Rattle.flow_deps.specs.Candidates.{subscript_for, is_name, loop_value, values_along, point_from, FindsPoint}
 
 -- ---- subscripts
 
@@ -125,3 +127,12 @@ module _ (program : AffineProgram) (reader : ReadOf) (writer : ℕ) where
 pub not-both : (b : Bool) → b ≡ false → b ≡ true → ⊥
 not-both true e t = cc
 not-both false e t = cc
+
+-- what a search for a point found
+pub point-none : (program : AffineProgram) (reader : ReadOf) (writer : ℕ) (given : List AffineForm) (found : Option (Vec Form Global)) → found ≡ None → FindsPoint program reader writer given found
+    → ¬ AllByRecursion (IsSmallOver (variables_at program reader)) (point_from program reader writer given)
+point-none program reader writer given found e h = subst (FindsPoint program reader writer given) e h
+
+pub point-some : (program : AffineProgram) (reader : ReadOf) (writer : ℕ) (given : List AffineForm) (found : Option (Vec Form Global)) (values : Vec Form Global) → found ≡ Some values
+    → FindsPoint program reader writer given found → values.items ≡ point_from program reader writer given
+point-some program reader writer given found values e h = (subst (FindsPoint program reader writer given) e h).0

@@ -1,14 +1,16 @@
 -- The trees that may be plain, in their order. (The last writers by level that are met most often: Feautrier 1991, the
 -- levels of Allen and Kennedy 1987.)
-use Rattle.std.specs.Prelude.{ℕ, zero, suc, ◌+◌, ◌<◌, nat_lt, Bool, true, false, ◌&&◌, if◌then◌else◌, ℤ, pos, negsuc, List, [], ◌∷◌, ◌++◌, length, map, drop, flat_map, Option, Some, None, slice_index_or, ⊤}
-use Rattle.std.specs.List.{range_with_len}
+use Rattle.std.specs.Prelude.{◌≡◌, ℕ, zero, suc, ◌+◌, ◌<◌, nat_lt, Bool, true, false, ◌&&◌, if◌then◌else◌, ℤ, pos, negsuc, List, [], ◌∷◌, ◌++◌, length, map, drop, flat_map, Option, Some, None, slice_index_or, ⊤, Vec}
+use Rattle.std.specs.Global.{Global}
+use Rattle.std.specs.List.{AllByRecursion, range_with_len}
 use Rattle.std.specs.Option.{unwrap_or}
 use Rattle.std.specs.Ordering.{int_eq}
 use Rattle.iolb_model.specs.Form.{AffineForm}
 use Rattle.iolb_model.specs.Path.{PathStep, rises}
 use Rattle.iolb_model.specs.Program.{AffineProgram, statement_at}
 use Rattle.iolb_model.specs.Order.{common_loops}
-use Rattle.affine_form.specs.Rows.{widened, variable, variables_from, difference}
+use Rattle.affine_form.specs.Rows.{widened, variable, variables_from, difference, IsSmallOver}
+use Rattle.affine_form.specs.declared.form.Form.{Form}
 use Rattle.affine_form.specs.Substitution.{substitution}
 use Rattle.affine_program.specs.Domain.{path_of, depth_of}
 use Rattle.dep_quast.specs.Context.{ReadOf, reference_of, variables_at, parameter_point}
@@ -73,6 +75,13 @@ values_along program reader writer (rises lower upper ∷ path) before =
 -- the point of a writer whose first loops have the values that are given
 abbrev pub point_from : AffineProgram → ReadOf → ℕ → List AffineForm → List AffineForm
 point_from program reader writer given = values_along program reader writer (drop (length given) (path_of program writer)) given
+
+-- what a search for the point of a writer finds: its values, all small forms over the reader's variables; or nothing, and
+-- then some isn't
+abbrev pub FindsPoint : AffineProgram → ReadOf → ℕ → List AffineForm → Option (Vec Form Global) → Type 0
+FindsPoint program reader writer given None = ¬ AllByRecursion (IsSmallOver (variables_at program reader)) (point_from program reader writer given)
+FindsPoint program reader writer given (Some values) = (values.items ≡ point_from program reader writer given)
+    × (length values.items ≡ depth_of program writer) × AllByRecursion (IsSmallOver (variables_at program reader)) values.items
 
 -- ---- candidates
 

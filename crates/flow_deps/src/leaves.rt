@@ -176,10 +176,11 @@ pub(crate) fn source_leaf(
     else {
         return Ok(None);
     };
+    let point = followed_by(alloc, Vec::new(alloc), claimed.point)?;
     Ok(Some(Quast::Source {
         statement: claimed.statement,
         level: claimed.level,
-        point: followed_by(alloc, Vec::new(alloc), claimed.point)?,
+        point,
         domain,
         cell,
         before,

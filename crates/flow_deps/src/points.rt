@@ -1,6 +1,6 @@
 //! Points of writers, which follow from the cell that is read.
 
-ghost use Rattle.std.specs.Prelude.{◌≡◌, ◌≤◌, ◌<◌, ◌+◌, length, slice_index_or, IfOk, MatchOption};
+ghost use Rattle.std.specs.Prelude.{◌≡◌, ◌≤◌, ◌<◌, ◌+◌, length, slice_index_or, IfOk};
 ghost use Rattle.std.specs.List.{AllByRecursion};
 ghost use Rattle.affine_form.specs.Form.{variables};
 ghost use Rattle.iolb_model.specs.Path.{PathStep};
@@ -10,7 +10,7 @@ ghost use Rattle.affine_program.specs.Parts.{meaning};
 ghost use Rattle.dep_quast.specs.Context.{variables_at};
 ghost use Rattle.dep_quast.specs.Truth.{ReadFits};
 ghost use Rattle.dep_quast.specs.Views.{read_of};
-ghost use Rattle.flow_deps.specs.Candidates.{are_zero, is_unit, is_name, subscript_for, loop_value, point_from};
+ghost use Rattle.flow_deps.specs.Candidates.{are_zero, is_unit, is_name, subscript_for, loop_value, FindsPoint};
 
 use affine_form::{Form, Memory, put, variables_from, widened};
 use affine_program::{Program, is_small_form};
@@ -128,9 +128,7 @@ pub(crate) fn point_from(
     requires writer { writer < length program.now.statements }
     requires few { length given.items ≤ depth_of (meaning program.now) writer }
     requires given { AllByRecursion (IsSmallOver (variables_at (meaning program.now) (read_of reader))) given.items }
-    ensures { IfOk result (λ found. let point = point_from (meaning program.now) (read_of reader) writer given.items in
-        MatchOption found (¬ AllByRecursion (IsSmallOver (variables_at (meaning program.now) (read_of reader))) point)
-        (λ values. (values.items ≡ point) × (length point ≡ depth_of (meaning program.now) writer) × AllByRecursion (IsSmallOver (variables_at (meaning program.now) (read_of reader))) point)) }
+    ensures { IfOk result (λ found. FindsPoint (meaning program.now) (read_of reader) writer given.items found) }
 {
     let mut values = given;
     for level in values.len()..depth(program, writer) {

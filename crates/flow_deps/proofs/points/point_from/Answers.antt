@@ -52,10 +52,12 @@ returns c =
     let reader = read_of c.args.reader in
     let path : List PathStep = path_of program c.args.writer in
     let values : List AffineForm = c.loop-level.values.items in
+    let ended_at : c.loop-level.level ≡ length path =
+    omega (arith, c.loop-level-test.false, c.depth-level-end.ensures.depth, c.len-level.ensures, c.requires.few, c.loop-level.auto.level-end) in
     let ended = drop_all c.loop-level.level path (omega (arith, c.loop-level-test.false, c.depth-level-end.ensures.depth)) in
     let is : values ≡ point_from program reader c.args.writer c.args.given.items =
     ap (λ (p : List PathStep). values_along program reader c.args.writer p values) (sym ended) ∙ c.loop-level.invariant.along in (
       is,
-      ?,
-      subst (AllByRecursion (IsSmallOver (variables_at program reader))) is c.loop-level.invariant.over,
+      c.loop-level.invariant.count ∙ ended_at,
+      c.loop-level.invariant.over,
     )
