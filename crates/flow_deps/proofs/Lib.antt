@@ -5,3 +5,4 @@ pub mod CandidateLaws
 pub mod Moved
 pub mod ShownLeaves
 pub mod ShownTrees
+pub mod FirstShown

@@ -1,11 +1,15 @@
 //! Plain source trees.
 
-ghost use Rattle.std.specs.Prelude.{IfOk, MatchOption};
+ghost use Rattle.std.specs.Prelude.{map, IfOk, MatchOption};
+ghost use Rattle.std.specs.List.{AllByRecursion};
 ghost use Rattle.affine_program.specs.Parts.{meaning};
 ghost use Rattle.dep_quast.specs.Tree.{SelectionTree, tree_of};
 ghost use Rattle.dep_quast.specs.Truth.{ReadFits};
-ghost use Rattle.flow_deps.specs.Plain.{IsPlain};
+ghost use Rattle.dep_quast.specs.Views.{read_of};
+ghost use Rattle.flow_deps.specs.Candidates.{candidate_shape, CandidateFits};
+ghost use Rattle.flow_deps.specs.Plain.{IsFirstShown, IsPlain};
 
+use crate::candidate::Candidate;
 use crate::candidates::candidates;
 use crate::planted::planted;
 use affine_form::Memory;
@@ -29,10 +33,25 @@ pub fn plain(
 {
     let reader = Reader { statement, read };
     let all = candidates(alloc, program, reader)?;
-    for candidate in all.as_slice() {
-        let found = planted(alloc, program, reader, *candidate)?;
-        if found.is_some() {
-            return Ok(found);
+    first_planted(alloc, program, reader, all.as_slice())
+}
+
+/// The tree of the first candidate that short lists show. None only where they show none.
+fn first_planted(
+    alloc: Global,
+    program: &Program,
+    reader: Reader,
+    all: &[Candidate],
+) -> Result<Option<Quast>, Memory>
+    requires read { ReadFits (meaning program.now) (read_of reader) }
+    requires fit { AllByRecursion (CandidateFits (meaning program.now) (read_of reader)) all.now }
+    ensures { IfOk result (λ found. let shapes = map (candidate_shape (meaning program.now) (read_of reader)) all.now in
+        MatchOption found ((tree : SelectionTree) → ¬ IsFirstShown (meaning program.now) (read_of reader) shapes tree)
+        (λ quast. IsFirstShown (meaning program.now) (read_of reader) shapes (tree_of quast))) }
+{
+    for candidate in all {
+        if let Some(quast) = planted(alloc, program, reader, *candidate)? {
+            return Ok(Some(quast));
         }
     }
     Ok(None)

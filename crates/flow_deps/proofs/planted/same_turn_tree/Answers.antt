@@ -2,7 +2,8 @@ use Rattle.std.proofs.Common.{◌≡◌, ◌∙◌, subst, ℕ, List, [], length
 use Rattle.iolb_model.specs.Form.{AffineForm}
 use Rattle.iolb_model.specs.Order.{common_loops}
 use Rattle.iolb_model.specs.declared.limits.TheConstants.{TREE_TESTS}
-use Rattle.affine_program.specs.Parts.{meaning}
+use Rattle.std.proofs.lemmas.List.{length-map}
+use Rattle.affine_program.specs.Parts.{meaning, statement_of}
 use Rattle.claims.proofs.Found.{IfOk-then}
 use Rattle.dep_quast.specs.Views.{read_of}
 use Rattle.dep_quast.proofs.Fits.{common-few}
@@ -25,7 +26,8 @@ returns-in_default c =
 
 pub overflow_cast-level : goal.overflow_cast-level
 overflow_cast-level c =
-    let few = common-few c.args.program.now c.params-params.ensures.kept c.args.writer c.args.reader.statement ? in
+    let few = common-few c.args.program.now c.params-params.ensures.kept c.args.writer c.args.reader.statement
+    (omega (arith, c.requires.fits.0.0, length-map c.args.program.now.statements statement_of)) in
     omega (arith, few, c.common-level.ensures)
 
 pub returns : goal.returns
