@@ -1,1 +1,4 @@
 pub mod ShortList
+pub mod Fingerprint
+pub mod Halves
+pub mod Chains

@@ -5,6 +5,8 @@ ghost use Rattle.affine_form.specs.Form.{variables};
 ghost use Rattle.affine_form.specs.Shown.{Shows, Follows};
 ghost use Rattle.int_sets.specs.ShortList.{IsShort, HasShortList};
 
+use crate::longer::longer_list;
+use crate::short::short_list;
 use affine_form::{Form, Memory, Multipliers, System};
 use std::alloc::Global;
 
@@ -19,5 +21,8 @@ pub fn prove(alloc: Global, system: &System, goal: &Form) -> Result<Option<Multi
     ensures short { IfOk result (λ found. IfSome found (λ shown. HasShortList system.now goal.now → IsShort shown)) }
     ensures none { IfOk result (λ found. IfNone found (¬ HasShortList system.now goal.now)) }
 {
-    Err(Memory)
+    if let Some(shown) = short_list(alloc, system, goal)? {
+        return Ok(Some(shown));
+    }
+    longer_list(alloc, system, goal)
 }
