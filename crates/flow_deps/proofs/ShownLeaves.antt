@@ -82,7 +82,7 @@ abbrev aim : SourceClaim → SourceClaim
 aim claim = bare claim.statement claim.level claim.point
 
 -- two rows for each loop on a way
-within_rows-length : (vars : ℕ) (path : List PathStep) (before values : List AffineForm) → length values ≡ length path → length (within_rows vars path before values) ≡ 2 * length path
+pub within_rows-length : (vars : ℕ) (path : List PathStep) (before values : List AffineForm) → length values ≡ length path → length (within_rows vars path before values) ≡ 2 * length path
 within_rows-length vars [] before values e = refl
 within_rows-length vars (rises lower upper ∷ path) before [] e = absurd (omega arith)
 within_rows-length vars (rises lower upper ∷ path) before (v ∷ values) e = omega (arith, within_rows-length vars path (before ++ v ∷ []) values (omega arith))

@@ -1,22 +1,22 @@
 -- Trees with a test that are shown, and why none is.
-use Rattle.std.proofs.Common.{◌≡◌, ap, subst, ℕ, suc, List, [], ◌∷◌, ◌++◌}
-use Rattle.std.specs.Prelude.{Option, Some, None}
+use Rattle.std.proofs.Common.{◌≡◌, refl, ◌∙◌, ap, subst, ℕ, suc, ◌+◌, List, [], ◌∷◌, ◌++◌, arith}
+use Rattle.std.specs.Prelude.{Option, Some, None, IfSome}
 use Rattle.iolb_model.specs.Form.{AffineForm}
 use Rattle.iolb_model.specs.Program.{AffineProgram}
 use Rattle.affine_form.specs.Rows.{IsSmallOver}
-use Rattle.claims.specs.Claims.{AllHold}
-use Rattle.claims.proofs.Laws.{AllHold-append, AllHold-left, AllHold-right}
+use Rattle.claims.proofs.Laws.{AllHold-left, AllHold-right}
 use Rattle.claims.specs.declared.place.Step.TheVariants.{Key}
 use Rattle.claims.specs.declared.key.TheConstants.{NO, YES}
 use Rattle.dep_quast.specs.Context.{ReadOf, variables_at, no_row}
 use Rattle.dep_quast.specs.Claims.{claims}
-use Rattle.dep_quast.specs.Tree.{source, input, empty, blank, SelectionTree, leaf, test, tree_of}
+use Rattle.dep_quast.specs.Tree.{source, input, empty, blank, SelectionTree, leaf, test, tree_of, leaf_count}
 use Rattle.dep_quast.specs.declared.quast.Quast.{Quast}
-use Rattle.dep_quast.specs.Truth.{FitsUnder}
 use Rattle.flow_deps.specs.declared.wanted.Wanted.{Wanted}
 use Rattle.flow_deps.specs.declared.wanted.Wanted.TheVariants.{Short}
 use Rattle.flow_deps.specs.Candidates.{Shape, shape_of, no_write, last_write, other, split}
+use Rattle.flow_deps.specs.Growth.{IsLeafUnder}
 use Rattle.flow_deps.specs.Plain.{IsShown, IsNotShown, Stands, FindsTree}
+use Rattle.flow_deps.proofs.GrownLaws.{test-stands}
 use Rattle.flow_deps.proofs.Moved.{tree-moved}
 
 -- the parts of a shape with a test
@@ -49,12 +49,7 @@ module _ (program : AffineProgram) (reader : ReadOf) (tests : List AffineForm) (
       → IsShown wanted program reader no_tests nested b below → IsShown wanted program reader tests (suc nested) (split form a b) (test form above below)
   split-shown wanted above below small shown hidden = record {
     has_shape = λ i. split form (shown.has_shape i) (hidden.has_shape i);
-    stands = record {
-      fits = (small, shown.stands.fits, hidden.stands.fits);
-      valid = λ place. AllHold-append (claims program reader yes_tests (place ++ Key YES ∷ []) above) (claims program reader no_tests (place ++ Key NO ∷ []) below) (shown.stands.valid (place ++ Key YES ∷ []))
-          (hidden.stands.valid (place ++ Key NO ∷ []));
-      small = (small.small, shown.stands.small, hidden.stands.small);
-    };
+    stands = test-stands program reader tests nested form above below small shown.stands hidden.stands;
     as_short = (shown.as_short, hidden.as_short);
   }
 
@@ -106,3 +101,26 @@ finds-none wanted program reader tests nested shape found e h = subst (FindsTree
 pub finds-some : (wanted : Wanted) (program : AffineProgram) (reader : ReadOf) (tests : List AffineForm) (nested : ℕ) (shape : Shape) (found : Option Quast) (quast : Quast) → found ≡ Some quast
     → FindsTree wanted program reader tests nested shape found → IsShown wanted program reader tests nested shape (tree_of quast)
 finds-some wanted program reader tests nested shape found quast e h = subst (FindsTree wanted program reader tests nested shape) e h
+
+-- how many leaves a tree of a shape has
+abbrev pub shape_leaves : Shape → ℕ
+shape_leaves no_write = 1
+shape_leaves (last_write statement level point) = 1
+shape_leaves other = 1
+shape_leaves (split form above below) = shape_leaves above + shape_leaves below
+
+pub leaves-of_shape : (tree : SelectionTree) → leaf_count tree ≡ shape_leaves (shape_of tree)
+leaves-of_shape (leaf (source claim)) = refl
+leaves-of_shape (leaf (input ms)) = refl
+leaves-of_shape (leaf (empty m)) = refl
+leaves-of_shape (leaf blank) = refl
+leaves-of_shape (test form above below) = omega (arith, leaves-of_shape above, leaves-of_shape below)
+
+-- a leaf that a search found stands
+pub leaf-stands : (wanted : Wanted) (program : AffineProgram) (reader : ReadOf) (tests : List AffineForm) (shape : Shape) (found : Option Quast) → shape_leaves shape ≡ 1
+    → ((nested : ℕ) → FindsTree wanted program reader tests nested shape found) → IfSome found (λ quast. IsLeafUnder program reader tests (tree_of quast))
+leaf-stands wanted program reader tests shape None one h = tt
+leaf-stands wanted program reader tests shape (Some quast) one h = record {
+  stands = λ nested. (h nested).stands;
+  one = leaves-of_shape (tree_of quast) ∙ ap shape_leaves (h 0).has_shape ∙ one;
+}

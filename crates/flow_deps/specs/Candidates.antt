@@ -58,13 +58,17 @@ subscript_for place [] read = None
 subscript_for place (w ∷ written) [] = None
 subscript_for place (w ∷ written) (r ∷ read) = if is_name place w then Some r else subscript_for place written read
 
+-- the last value of a loop of a writer: its upper bound at the values before it
+abbrev pub last_value : AffineProgram → ReadOf → AffineForm → List AffineForm → AffineForm
+last_value program reader upper before =
+    let vars = variables_at program reader in widened vars (substitution upper (parameter_point program vars ++ before))
+
 -- The value of a loop of a writer: the read subscript at the first place at which the written one is that loop's name
--- alone; and where there is none its last value, which is its upper bound at the values before it.
+-- alone; and where there is none its last value.
 abbrev pub loop_value : AffineProgram → ReadOf → ℕ → AffineForm → List AffineForm → AffineForm
 loop_value program reader writer upper before =
-    let vars = variables_at program reader in
     unwrap_or (subscript_for (length program.parameters + length before) (statement_at program writer).writes.subscripts (reference_of program reader).subscripts)
-    (widened vars (substitution upper (parameter_point program vars ++ before)))
+    (last_value program reader upper before)
 
 -- the values of a writer's loops, from those that are given on along the rest of the way
 abbrev pub values_along : AffineProgram → ReadOf → ℕ → List PathStep → List AffineForm → List AffineForm

@@ -1,4 +1,5 @@
 pub mod Answers
 pub mod Candidates
 pub mod Plain
-pub mod Limits
+pub mod Origins
+pub mod Growth

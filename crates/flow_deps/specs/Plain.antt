@@ -11,7 +11,7 @@ use Rattle.dep_quast.specs.Context.{ReadOf}
 use Rattle.dep_quast.specs.Tree.{SelectionTree, leaf, test, source, input, empty, blank, Leaf, tree_of}
 use Rattle.dep_quast.specs.declared.quast.Quast.{Quast}
 use Rattle.dep_quast.specs.Truth.{FitsUnder}
-use Rattle.flow_deps.specs.Limits.{IsNestedTree}
+use Rattle.part_fit.specs.Limits.{IsNestedTree}
 use Rattle.iolb_model.specs.declared.limits.TheConstants.{TREE_TESTS}
 use Rattle.flow_deps.specs.declared.wanted.Wanted.{Wanted}
 use Rattle.flow_deps.specs.declared.wanted.Wanted.TheVariants.{Short}

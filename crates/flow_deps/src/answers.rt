@@ -1,49 +1,17 @@
 //! Answers to questions about systems.
 
-ghost use Rattle.std.specs.Prelude.{◌≡◌, ℕ, ◌≤◌, ◌↔◌, ◌++◌, IfOk, IsTrue, MatchOption};
-ghost use Rattle.std.specs.List.{AllByRecursion};
+ghost use Rattle.std.specs.Prelude.{◌≡◌, ◌≤◌, ◌++◌, IfOk, MatchOption};
 ghost use Rattle.affine_form.specs.Form.{variables};
 ghost use Rattle.affine_form.specs.Shown.{minus_one};
 ghost use Rattle.affine_form.specs.System.{AllOver};
-ghost use Rattle.int_sets.specs.ShortList.{IsShort};
 ghost use Rattle.flow_deps.specs.Answers.{IsAnswered, HasShortAnswer, HasNoShort, IsAsShort, Answers, following, pointless};
 ghost use Rattle.iolb_model.specs.declared.limits.TheConstants.{VARIABLES};
 
 use crate::wanted::Wanted;
 use affine_form::{Form, Memory, Multipliers, System, system_of};
-use int_sets::prove;
+use int_sets::{prove, short_list};
 use iolb_model::limits;
 use std::alloc::Global;
-
-/// Whether each row is taken at most twice.
-fn are_rare(weights: &[(u8, u64)]) -> bool
-    ensures { IsTrue result ↔ AllByRecursion (λ (weight : ℕ × ℕ). weight.1 ≤ 2) weights.now }
-{
-    for (_, weight) in weights {
-        if *weight > 2 {
-            return false;
-        }
-    }
-    true
-}
-
-/// Whether multipliers are a short list.
-fn is_short(shown: &Multipliers) -> bool
-    ensures { IsTrue result ↔ IsShort shown.now }
-{
-    let _rest = shown.m0();
-    shown.c() == 1 && shown.m().len() <= 4 && are_rare(shown.m())
-}
-
-/// Whether multipliers are as short as is wanted.
-fn is_as_short(wanted: Wanted, shown: &Multipliers) -> bool
-    ensures { IsTrue result ↔ IsAsShort wanted shown.now }
-{
-    match wanted {
-        Wanted::Short => is_short(shown),
-        Wanted::Any => true,
-    }
-}
 
 /// Multipliers that show the goal from the rows of the system, as short as is wanted. None only where no short list does.
 fn answered(
@@ -57,13 +25,18 @@ fn answered(
         (λ shown. IsAnswered (record { system = system.now; goal = goal.now }) shown × IsAsShort wanted shown)) }
 {
     let _rows = system.rows();
-    let Some(shown) = prove(alloc, system, goal)? else {
-        return Ok(None);
-    };
-    if !is_as_short(wanted, &shown) {
-        return Ok(None);
+    match wanted {
+        Wanted::Short => short_list(alloc, system, goal),
+        Wanted::Any => prove(alloc, system, goal),
     }
-    Ok(Some(shown))
+}
+
+/// Whether a goal is found to follow from the rows of the system.
+pub(crate) fn is_answered(alloc: Global, system: &System, goal: &Form) -> Result<bool, Memory>
+    requires { variables goal.now ≡ system.now.vars }
+{
+    let found = prove(alloc, system, goal)?;
+    Ok(found.is_some())
 }
 
 /// Multipliers that show each goal from the rows of the system. None only where some goal has no short list.

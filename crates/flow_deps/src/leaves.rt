@@ -1,18 +1,20 @@
 //! Leaves of source trees, with the multipliers that show them.
 
-ghost use Rattle.std.specs.Prelude.{◌≡◌, ℕ, IfOk, MatchOption};
+ghost use Rattle.std.specs.Prelude.{◌≡◌, ℕ, IfOk, IfSome, MatchOption};
 ghost use Rattle.affine_form.specs.System.{AllOver};
 ghost use Rattle.affine_program.specs.Parts.{meaning};
 ghost use Rattle.dep_quast.specs.Context.{reference_of, variables_at};
 ghost use Rattle.dep_quast.specs.Levels.{IsWriter};
+ghost use Rattle.dep_quast.specs.Tree.{tree_of};
 ghost use Rattle.dep_quast.specs.Truth.{ReadFits, IsThere};
 ghost use Rattle.dep_quast.specs.Views.{read_of, claim_of};
 ghost use Rattle.dep_quast.specs.Claims.{inside_goals, cell_goals, before_goals};
 ghost use Rattle.flow_deps.specs.Answers.{HasNoShort, Answers, following};
 ghost use Rattle.flow_deps.specs.Candidates.{last_write, no_write};
+ghost use Rattle.flow_deps.specs.Growth.{IsLeafUnder};
 ghost use Rattle.flow_deps.specs.Plain.{FindsTree};
 
-use crate::answers::goals_answered;
+use crate::answers::{goals_answered, system_answered};
 use crate::no_writes::{between_answered, earlier_answered};
 use crate::rows::{context_rows, precedence_rows, values_of_reader, written_rows};
 use crate::wanted::Wanted;
@@ -46,6 +48,42 @@ pub(crate) fn input_leaf(
         return Ok(None);
     };
     Ok(Some(Quast::Input { earlier }))
+}
+
+/// A leaf that says no point comes to it under these tests. None where that isn't found to be shown.
+pub(crate) fn empty_leaf(
+    alloc: Global,
+    program: &Program,
+    reader: Reader,
+    tests: &[Form],
+) -> Result<Option<Quast>, Memory>
+    requires read { ReadFits (meaning program.now) (read_of reader) }
+    requires tests_over { AllOver (variables_at (meaning program.now) (read_of reader)) tests.now }
+    ensures { IfOk result (λ found. IfSome found (λ quast. IsLeafUnder (meaning program.now) (read_of reader) tests.now (tree_of quast))) }
+{
+    let rows = context_rows(alloc, program, reader, tests)?;
+    let vars = variables(program, reader);
+    let Some(shown) = system_answered(alloc, Wanted::Any, vars, rows.as_slice())? else {
+        return Ok(None);
+    };
+    Ok(Some(Quast::Empty { shown }))
+}
+
+/// A leaf that names no source: no point comes to it, or no write is earlier. None where neither is found to be shown.
+pub(crate) fn sure_leaf(
+    alloc: Global,
+    program: &Program,
+    reader: Reader,
+    tests: &[Form],
+) -> Result<Option<Quast>, Memory>
+    requires read { ReadFits (meaning program.now) (read_of reader) }
+    requires tests_over { AllOver (variables_at (meaning program.now) (read_of reader)) tests.now }
+    ensures { IfOk result (λ found. IfSome found (λ quast. IsLeafUnder (meaning program.now) (read_of reader) tests.now (tree_of quast))) }
+{
+    if let Some(leaf) = empty_leaf(alloc, program, reader, tests)? {
+        return Ok(Some(leaf));
+    }
+    input_leaf(alloc, Wanted::Any, program, reader, tests)
 }
 
 /// Multipliers which show that a source is in its statement's domain.

@@ -5,13 +5,18 @@
 mod answers;
 pub mod candidate;
 mod candidates;
+mod growth;
 mod leaves;
 mod no_writes;
+mod origins;
 mod plain_trees;
 mod planted;
 mod points;
 mod rows;
+mod solved;
+mod source_trees;
 pub mod wanted;
 mod writes;
 
 pub use plain_trees::plain;
+pub use source_trees::quast;

@@ -29,7 +29,7 @@ use dep_quast::reader::{Reader, variables};
 use std::alloc::Global;
 
 /// The reader's values of its first loops.
-fn first_values(
+pub(crate) fn first_values(
     alloc: Global,
     program: &Program,
     reader: Reader,
@@ -46,7 +46,7 @@ fn first_values(
 }
 
 /// The value of a loop of the reader one turn before.
-fn turn_before(
+pub(crate) fn turn_before(
     alloc: Global,
     program: &Program,
     reader: Reader,

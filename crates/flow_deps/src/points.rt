@@ -10,7 +10,8 @@ ghost use Rattle.affine_program.specs.Parts.{meaning};
 ghost use Rattle.dep_quast.specs.Context.{variables_at};
 ghost use Rattle.dep_quast.specs.Truth.{ReadFits};
 ghost use Rattle.dep_quast.specs.Views.{read_of};
-ghost use Rattle.flow_deps.specs.Candidates.{are_zero, is_unit, is_name, subscript_for, loop_value, FindsPoint};
+ghost use Rattle.flow_deps.specs.Candidates.{are_zero, is_unit, is_name, subscript_for, last_value, loop_value, FindsPoint};
+ghost use Rattle.iolb_model.specs.declared.limits.TheConstants.{LOOPS};
 
 use affine_form::{Form, Memory, put, variables_from, widened};
 use affine_program::{Program, is_small_form};
@@ -109,8 +110,26 @@ fn loop_value(
     if let Some(value) = subscript_for(alloc, params + before.len(), writes, reads)? {
         return Ok(value);
     }
+    last_value(alloc, program, reader, upper, before)
+}
+
+/// The last value of a writer's next loop: its upper bound at the values before it.
+pub(crate) fn last_value(
+    alloc: Global,
+    program: &Program,
+    reader: Reader,
+    upper: &Form,
+    before: &[Form],
+) -> Result<Form, Memory>
+    requires read { ReadFits (meaning program.now) (read_of reader) }
+    requires few { length before.now ≤ LOOPS }
+    requires upper { IsSmallOver (length program.now.params + length before.now) upper.now }
+    requires before { AllByRecursion (IsSmallOver (variables_at (meaning program.now) (read_of reader))) before.now }
+    ensures value { IfOk result (λ value. value ≡ last_value (meaning program.now) (read_of reader) upper.now before.now) }
+    ensures over { IfOk result (λ value. variables value ≡ variables_at (meaning program.now) (read_of reader)) }
+{
     let vars = variables(program, reader);
-    let known = variables_from(alloc, vars, 0, params)?;
+    let known = variables_from(alloc, vars, 0, program.params().len())?;
     let point = followed_by(alloc, known, before)?;
     let last = put(alloc, vars, upper, point.as_slice())?;
     widened(alloc, vars, &last)

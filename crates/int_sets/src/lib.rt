@@ -14,3 +14,4 @@ mod proving;
 mod short;
 
 pub use proving::prove;
+pub use short::short_list;
