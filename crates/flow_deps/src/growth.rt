@@ -17,7 +17,7 @@ ghost use Rattle.flow_deps.specs.Plain.{Stands};
 ghost use Rattle.iolb_model.specs.declared.limits.TheConstants.{TREE_TESTS, TREE_LEAVES};
 
 use crate::answers::is_answered;
-use crate::leaves::{empty_leaf, source_leaf, sure_leaf, unshown};
+use crate::leaves::{has_no_point, source_leaf, sure_leaf, unshown};
 use crate::origins::Origin;
 use crate::rows::{context_rows, precedence_rows, tests_of_no, tests_of_yes, values_of_reader, written_rows};
 use crate::solved::solved_point;
@@ -94,12 +94,21 @@ fn is_shown(
     is_answered(alloc, &system, goal)
 }
 
-/// Forms, and then others.
-fn together(alloc: Global, forms: &[Form], others: &[Form]) -> Result<Vec<Form>, Memory>
-    ensures { IfOk result (λ all. all.items ≡ forms.now ++ others.now) }
+/// Tests, and then guards.
+fn tests_with(
+    alloc: Global,
+    program: &Program,
+    reader: Reader,
+    tests: &[Form],
+    guards: &[Form],
+) -> Result<Vec<Form>, Memory>
+    requires tests_over { AllOver (variables_at (meaning program.now) (read_of reader)) tests.now }
+    requires guards { AllByRecursion (IsSmallOver (variables_at (meaning program.now) (read_of reader))) guards.now }
+    ensures all { IfOk result (λ all. all.items ≡ tests.now ++ guards.now) }
+    ensures over { IfOk result (λ all. AllOver (variables_at (meaning program.now) (read_of reader)) all.items) }
 {
-    let first = followed_by(alloc, Vec::new(alloc), forms)?;
-    followed_by(alloc, first, others)
+    let first = followed_by(alloc, Vec::new(alloc), tests)?;
+    followed_by(alloc, first, guards)
 }
 
 /// What a source claims of its point and isn't found to follow under the tests and the guards before: at most so many
@@ -125,7 +134,7 @@ fn guards_of(
         if is_never(goal) {
             return Ok(None);
         }
-        let under = together(alloc, tests, guards.as_slice())?;
+        let under = tests_with(alloc, program, reader, tests, guards.as_slice())?;
         if is_shown(alloc, program, reader, under.as_slice(), goal)? {
             continue;
         }
@@ -165,8 +174,8 @@ fn guarded_leaf(
     let Some(guards) = guards_of(alloc, program, reader, tests, &claimed, room)? else {
         return Ok(None);
     };
-    let under = together(alloc, tests, guards.as_slice())?;
-    if empty_leaf(alloc, program, reader, under.as_slice())?.is_some() {
+    let under = tests_with(alloc, program, reader, tests, guards.as_slice())?;
+    if has_no_point(alloc, program, reader, under.as_slice())? {
         return Ok(None);
     }
     let Some(leaf) =

@@ -51,7 +51,7 @@ pub(crate) fn input_leaf(
 }
 
 /// A leaf that says no point comes to it under these tests. None where that isn't found to be shown.
-pub(crate) fn empty_leaf(
+fn empty_leaf(
     alloc: Global,
     program: &Program,
     reader: Reader,
@@ -67,6 +67,22 @@ pub(crate) fn empty_leaf(
         return Ok(None);
     };
     Ok(Some(Quast::Empty { shown }))
+}
+
+/// Whether it is found that no point comes to a leaf under these tests.
+pub(crate) fn has_no_point(
+    alloc: Global,
+    program: &Program,
+    reader: Reader,
+    tests: &[Form],
+) -> Result<bool, Memory>
+    requires read { ReadFits (meaning program.now) (read_of reader) }
+    requires tests_over { AllOver (variables_at (meaning program.now) (read_of reader)) tests.now }
+{
+    let rows = context_rows(alloc, program, reader, tests)?;
+    let vars = variables(program, reader);
+    let found = system_answered(alloc, Wanted::Any, vars, rows.as_slice())?;
+    Ok(found.is_some())
 }
 
 /// A leaf that names no source: no point comes to it, or no write is earlier. None where neither is found to be shown.

@@ -1,41 +1,52 @@
 //! Points of origins, solved from the cell that is read.
 
-ghost use Rattle.std.specs.Prelude.{◌≡◌, ◌≤◌, ◌<◌, ◌+◌, length, IfOk, IfSome};
+ghost use Rattle.std.specs.Prelude.{◌≡◌, ◌≤◌, ◌<◌, length, IfOk, IfSome};
 ghost use Rattle.std.specs.List.{AllByRecursion};
-ghost use Rattle.iolb_model.specs.Program.{statement_at};
 ghost use Rattle.affine_form.specs.Form.{variables};
 ghost use Rattle.affine_form.specs.Rows.{IsSmallOver};
 ghost use Rattle.affine_program.specs.Domain.{depth_of};
 ghost use Rattle.affine_program.specs.Parts.{meaning};
 ghost use Rattle.dep_quast.specs.Context.{reference_of, variables_at};
+ghost use Rattle.dep_quast.specs.Levels.{IsWriter};
 ghost use Rattle.dep_quast.specs.Truth.{ReadFits};
 ghost use Rattle.dep_quast.specs.Views.{read_of};
 ghost use Rattle.flow_deps.specs.Origins.{OriginFits};
+ghost use Rattle.iolb_model.specs.declared.limits.TheConstants.{VARIABLES};
 
 use crate::origins::Origin;
 use crate::planted::{first_values, turn_before};
 use crate::points::{bounds_at, last_value};
-use affine_form::{Form, Memory, difference, put, variables_from};
+use crate::rows::written_rows;
+use affine_form::{Form, Memory};
 use affine_program::{Program, is_small_form};
 use dep_quast::lists::followed_by;
-use dep_quast::reader::{Reader, depth, reference, variables, written};
+use dep_quast::reader::{Reader, depth, variables, written};
 use std::alloc::Global;
 
-/// Whether a form has 1 or -1 at a variable and 0 at every later one.
-fn is_solvable(form: &Form, place: usize) -> bool {
-    let mut solvable = false;
+/// 1 or -1 where that is a form's coefficient at a variable and all later ones are 0; else 0.
+fn sign_at(form: &Form, place: usize) -> i128 {
+    let mut sign = 0;
     for (variable, coefficient) in form.coef().iter().enumerate() {
-        if variable == place {
-            solvable = *coefficient == 1 || *coefficient == -1;
-        } else if variable > place && *coefficient != 0 {
-            return false;
+        if variable == place && (*coefficient == 1 || *coefficient == -1) {
+            sign = *coefficient;
+        } else if variable >= place && *coefficient != 0 {
+            return 0;
         }
     }
-    solvable
+    sign
 }
 
-/// The parameters, these values, and 0 for each later loop of a writer.
-fn known_point(
+/// The form over so many variables that is 0 everywhere.
+fn zero(alloc: Global, vars: usize) -> Result<Form, Memory>
+    requires { vars ≤ VARIABLES }
+    ensures { IfOk result (λ form. IsSmallOver vars form) }
+{
+    let coef = vec![in alloc; 0; vars]?;
+    Ok(Form::new(coef, 0))
+}
+
+/// These values, and 0 for each later loop of a writer.
+fn padded(
     alloc: Global,
     program: &Program,
     reader: Reader,
@@ -46,48 +57,19 @@ fn known_point(
     requires writer { writer < length program.now.statements }
     requires few { length before.now ≤ depth_of (meaning program.now) writer }
     requires before { AllByRecursion (IsSmallOver (variables_at (meaning program.now) (read_of reader))) before.now }
-    ensures over { IfOk result (λ point. AllByRecursion (IsSmallOver (variables_at (meaning program.now) (read_of reader))) point.items) }
-    ensures many { IfOk result (λ point. length point.items ≡ length program.now.params + depth_of (meaning program.now) writer) }
+    ensures over { IfOk result (λ values. AllByRecursion (IsSmallOver (variables_at (meaning program.now) (read_of reader))) values.items) }
+    ensures many { IfOk result (λ values. length values.items ≡ depth_of (meaning program.now) writer) }
 {
     let vars = variables(program, reader);
-    let params = variables_from(alloc, vars, 0, program.params().len())?;
-    let mut point = followed_by(alloc, params, before)?;
+    let mut values = followed_by(alloc, Vec::new(alloc), before)?;
     for _later in before.len()..depth(program, writer) {
-        point.push(Form::new(vec![in alloc; 0; vars]?, 0))?;
+        values.push(zero(alloc, vars)?)?;
     }
-    Ok(point)
+    Ok(values)
 }
 
-/// The value of a writer's next loop that makes this subscript the one that is read.
-fn solved_by(
-    alloc: Global,
-    program: &Program,
-    reader: Reader,
-    writer: u16,
-    subscript: usize,
-    before: &[Form],
-) -> Result<Form, Memory>
-    requires read { ReadFits (meaning program.now) (read_of reader) }
-    requires writer { writer < length program.now.statements }
-    requires written { subscript < length (statement_at (meaning program.now) writer).writes.subscripts }
-    requires reads { subscript < length (reference_of (meaning program.now) (read_of reader)).subscripts }
-    requires few { length before.now < depth_of (meaning program.now) writer }
-    requires before { AllByRecursion (IsSmallOver (variables_at (meaning program.now) (read_of reader))) before.now }
-    ensures { IfOk result (λ value. variables value ≡ variables_at (meaning program.now) (read_of reader)) }
-{
-    let vars = variables(program, reader);
-    let point = known_point(alloc, program, reader, writer, before)?;
-    let write = &written(program, writer).subs.as_slice()[subscript];
-    let read = &reference(program, reader).subs.as_slice()[subscript];
-    let rest = put(alloc, vars, write, point.as_slice())?;
-    if write.coef()[program.params().len() + before.len()] > 0 {
-        difference(alloc, vars, read, &rest, 0)
-    } else {
-        difference(alloc, vars, &rest, read, 0)
-    }
-}
-
-/// The value of a writer's next loop, solved from a subscript in which it stands alone among the loops that aren't known.
+/// The value of a writer's next loop, solved from a subscript in which it stands alone among the loops that aren't known:
+/// with 0 for all of these the written subscript less the read one, or the read one less the written one.
 fn solved_loop(
     alloc: Global,
     program: &Program,
@@ -96,16 +78,24 @@ fn solved_loop(
     before: &[Form],
 ) -> Result<Option<Form>, Memory>
     requires read { ReadFits (meaning program.now) (read_of reader) }
-    requires writer { writer < length program.now.statements }
+    requires writes { IsWriter (meaning program.now) (reference_of (meaning program.now) (read_of reader)).array writer }
     requires few { length before.now < depth_of (meaning program.now) writer }
     requires before { AllByRecursion (IsSmallOver (variables_at (meaning program.now) (read_of reader))) before.now }
     ensures { IfOk result (λ found. IfSome found (λ value. variables value ≡ variables_at (meaning program.now) (read_of reader))) }
 {
+    let vars = variables(program, reader);
     let place = program.params().len() + before.len();
-    let reads = reference(program, reader).subs.as_slice().len();
-    for (i, write) in written(program, writer).subs.as_slice().iter().enumerate() {
-        if i < reads && is_solvable(write, place) {
-            return Ok(Some(solved_by(alloc, program, reader, writer, i, before)?));
+    let values = padded(alloc, program, reader, writer, before)?;
+    let rows = written_rows(alloc, program, reader, vars, writer, values.as_slice())?;
+    let subscripts = written(program, writer).subs.as_slice();
+    for row in 0..rows.len() {
+        let sign = match subscripts.get(row / 2) {
+            Some(subscript) => sign_at(subscript, place),
+            None => 0,
+        };
+        let solves = if row % 2 == 0 { sign < 0 } else { sign > 0 };
+        if solves {
+            return Ok(Some(rows.as_slice()[row].try_clone(alloc)?));
         }
     }
     Ok(None)
@@ -126,11 +116,13 @@ fn next_value(
     requires before { AllByRecursion (IsSmallOver (variables_at (meaning program.now) (read_of reader))) before.now }
     ensures { IfOk result (λ value. variables value ≡ variables_at (meaning program.now) (read_of reader)) }
 {
+    let _params = program.params();
     if let Some(value) = solved_loop(alloc, program, reader, origin.writer, before)? {
         return Ok(value);
     }
     let level = usize::from(origin.level);
-    if before.len() == level && level < program.common(origin.writer, reader.statement) {
+    let common = program.common(origin.writer, reader.statement);
+    if level < common && before.len() == level {
         return turn_before(alloc, program, reader, level);
     }
     let upper = &bounds_at(program, origin.writer, before.len()).1;
