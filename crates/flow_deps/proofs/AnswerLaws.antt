@@ -1,6 +1,6 @@
 -- What answers say of claims, and what claims say of answers.
 use Rattle.std.proofs.Common.{◌≡◌, refl, sym, ap, subst, ℕ, zero, suc, ◌+◌, ◌<◌, ◌≤◌, List, [], ◌∷◌, ◌++◌, ◌∙◌, length, map, take, get_or, arith}
-use Rattle.std.specs.Prelude.{flat_map, Option, Some, None, MatchOption}
+use Rattle.std.specs.Prelude.{flat_map, Option, Some, None, IfSome, MatchOption}
 use Rattle.std.specs.List.{AllByRecursion, range_with_len}
 use Rattle.std.proofs.lemmas.List.{length-map, map-append, take_more, append-nil}
 use Rattle.std.proofs.lemmas.Grind.{flat_map-append}
@@ -127,6 +127,9 @@ found-none {X = X} o P Q e h = let M : Option X → Type 0 = λ x. MatchOption x
 
 pub found-some : {X : Type 0} (o : Option X) (x : X) (P : Type 0) (Q : X → Type 0) → o ≡ Some x → MatchOption o P Q → Q x
 found-some {X = X} o x P Q e h = let M : Option X → Type 0 = λ y. MatchOption y P Q in subst M e h
+
+pub some-has : {X : Type 0} (o : Option X) (x : X) (Q : X → Type 0) → o ≡ Some x → IfSome o Q → Q x
+some-has {X = X} o x Q e h = let M : Option X → Type 0 = λ y. IfSome y Q in subst M e h
 
 -- ---- what isn't answered
 

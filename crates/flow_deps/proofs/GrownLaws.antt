@@ -1,6 +1,5 @@
 -- Trees that stand while they grow.
 use Rattle.std.proofs.Common.{◌≡◌, refl, subst, inl, inr, ℕ, suc, ◌+◌, ◌<◌, ◌≤◌, List, [], ◌∷◌, ◌++◌, length, map, arith}
-use Rattle.std.specs.Prelude.{Option, Some, IfSome}
 use Rattle.std.proofs.lemmas.List.{length-append, length-map}
 use Rattle.iolb_model.specs.Form.{AffineForm}
 use Rattle.iolb_model.specs.Program.{AffineProgram, IsWellFormed}
@@ -15,8 +14,7 @@ use Rattle.claims.specs.declared.place.Step.TheVariants.{Key}
 use Rattle.claims.specs.declared.key.TheConstants.{NO, YES}
 use Rattle.dep_quast.specs.Context.{ReadOf, variables_at, no_row, context}
 use Rattle.dep_quast.specs.Claims.{IsFew, context_system, claims}
-use Rattle.dep_quast.specs.Tree.{SelectionTree, leaf, test, empty, blank, tree_of}
-use Rattle.dep_quast.specs.declared.quast.Quast.{Quast}
+use Rattle.dep_quast.specs.Tree.{SelectionTree, leaf, test, empty, blank}
 use Rattle.dep_quast.specs.Truth.{IsLevel}
 use Rattle.dep_quast.proofs.Fits.{common-first, common-second, depth-few}
 use Rattle.flow_deps.specs.Answers.{IsAnswered, pointless}
@@ -67,12 +65,6 @@ test-stands program reader tests nested form above below small p q = record {
       (claims program reader (tests ++ no_row (variables_at program reader) form ∷ []) (place ++ Key NO ∷ []) below) (p.valid (place ++ Key YES ∷ [])) (q.valid (place ++ Key NO ∷ []));
   small = (small.small, p.small, q.small);
 }
-
--- a leaf that a search found stands
-pub found-stands : (program : AffineProgram) (reader : ReadOf) (tests : List AffineForm) (found : Option Quast) (quast : Quast) → found ≡ Some quast
-    → IfSome found (λ leaf. IsLeafUnder program reader tests (tree_of leaf)) → IsLeafUnder program reader tests (tree_of quast)
-found-stands program reader tests found quast e h =
-    let P : Option Quast → Type 0 = λ o. IfSome o (λ leaf. IsLeafUnder program reader tests (tree_of leaf)) in subst P e h
 
 -- a list of no members is empty
 pub none-there : {X : Type 0} (xs : List X) → length xs ≡ 0 → xs ≡ []

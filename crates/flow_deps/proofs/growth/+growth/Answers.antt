@@ -10,12 +10,14 @@ use Rattle.dep_quast.specs.Tree.{test, tree_of}
 use Rattle.dep_quast.specs.Views.{read_of}
 use Rattle.dep_quast.specs.declared.quast.Quast.{Quast}
 use Rattle.flow_deps.specs.Plain.{Stands}
-use Rattle.flow_deps.proofs.GrownLaws.{context-few, blank-stands, test-stands, found-stands, none-there}
+use Rattle.flow_deps.specs.Growth.{IsLeafUnder}
+use Rattle.flow_deps.proofs.AnswerLaws.{some-has}
+use Rattle.flow_deps.proofs.GrownLaws.{context-few, blank-stands, test-stands, none-there}
 use Rattle.flow_deps.proofs.growth.+growth.Goals as goal
 
 pub grown-returns-in-Some-clause-stands : goal.grown-returns-in-Some-clause-stands
 grown-returns-in-Some-clause-stands t c =
-    (found-stands (meaning c.args.program.now) (read_of c.args.reader) c.args.tests.now c.in_ok-leaf.field-0 c.in-Some.leaf c.in-Some.is c.in_ok-leaf.ensures).stands c.args.nested
+    (some-has c.in_ok-leaf.field-0 c.in-Some.leaf (λ leaf. IsLeafUnder (meaning c.args.program.now) (read_of c.args.reader) c.args.tests.now (tree_of leaf)) c.in-Some.is c.in_ok-leaf.ensures).stands c.args.nested
 
 pub grown-returns-clause-stands : goal.grown-returns-clause-stands
 grown-returns-clause-stands t c =
