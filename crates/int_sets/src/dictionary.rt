@@ -8,8 +8,8 @@ use crate::line::Line;
 use affine_form::{Form, Memory, System};
 use std::alloc::Global;
 
-/// How often a line and a column change places before the search gives up.
-const EXCHANGES: usize = 400;
+/// How many numbers are made anew, at most, before the search gives up.
+const WORK: usize = 300_000;
 
 /// The rows that are sums, the goal as a sum, the labels of the columns, and the denominator of all numbers. Labels below the
 /// number of rows are rows; those from there on are variables.
@@ -52,7 +52,7 @@ pub(crate) fn find(alloc: Global, system: &System, goal: &Form) -> Result<Option
     if !dictionary.leave_variables(alloc)? {
         return Ok(None);
     }
-    for _ in 0..EXCHANGES {
+    for _ in 0..dictionary.exchanges() {
         match dictionary.step() {
             Step::Shown => return Ok(Some(dictionary.shown(alloc)?)),
             Step::Contradiction(line) => return dictionary.contradiction(alloc, line),
@@ -92,6 +92,12 @@ impl Dictionary {
             rows,
             den: 1,
         }))
+    }
+
+    /// How often a line and a column may change places.
+    fn exchanges(&self) -> usize {
+        let cells = self.lines.len().saturating_mul(self.columns.len());
+        WORK / cells.saturating_add(1)
     }
 
     /// Puts rows in the place of the variables, as far as there are any; such a row is no sum any more. False where a number

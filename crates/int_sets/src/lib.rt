@@ -12,6 +12,8 @@ mod line;
 mod longer;
 mod proving;
 mod short;
+#[cfg(test)]
+mod tests;
 
 pub use proving::prove;
 pub use short::short_list;

@@ -50,10 +50,12 @@ fn multipliers_of(
     } else {
         i64::try_from(goal.constant().saturating_neg()).unwrap_or(0)
     };
-    let Some(weights) = weights_of(alloc, rows, found.terms.as_slice(), factor)? else {
+    let divisor = common_factor(found);
+    let Some(weights) = weights_of(alloc, rows, found.terms.as_slice(), factor, divisor)? else {
         return Ok(None);
     };
-    let (Some(scale), Some(rest)) = (weight(found.scale), weight(found.rest)) else {
+    let (Some(scale), Some(rest)) = (weight(found.scale, divisor), weight(found.rest, divisor))
+    else {
         return Ok(None);
     };
     if scale == 0 {
@@ -62,22 +64,42 @@ fn multipliers_of(
     Ok(Some(Multipliers::new(scale, rest, weights)))
 }
 
-/// A number as a multiplier, where it is from 0 below 2^48.
-fn weight(number: i64) -> Option<u64>
+/// The greatest number that divides all numbers of a sum, 1 where all are 0.
+fn common_factor(found: &Found) -> u64 {
+    let mut factor = divisor_of(found.scale.unsigned_abs(), found.rest.unsigned_abs());
+    for (_, number) in &found.terms {
+        factor = divisor_of(factor, number.unsigned_abs());
+    }
+    factor.max(1)
+}
+
+/// The greatest number that divides two, by Euclid's algorithm.
+fn divisor_of(first: u64, second: u64) -> u64 {
+    let (mut greater, mut lesser) = (first, second);
+    while lesser != 0 {
+        (greater, lesser) = (lesser, greater % lesser);
+    }
+    greater
+}
+
+/// A number over one that divides it as a multiplier, where that is from 0 below 2^48.
+fn weight(number: i64, divisor: u64) -> Option<u64>
     ensures { IfSome result (λ weight. weight < MULTIPLIER_SIZE) }
 {
-    match u64::try_from(number) {
-        Ok(weight) if weight < MULTIPLIER_SIZE => Some(weight),
+    match u64::try_from(number).ok()?.checked_div(divisor) {
+        Some(weight) if weight < MULTIPLIER_SIZE => Some(weight),
         _ => None,
     }
 }
 
-/// The rows of terms in their order, each with its number times a factor, or None where one is no multiplier.
+/// The rows of terms in their order, each with its number times a factor and over a divisor, or None where one is no
+/// multiplier.
 fn weights_of(
     alloc: Global,
     rows: usize,
     terms: &[(usize, i64)],
     factor: i64,
+    divisor: u64,
 ) -> Result<Option<Vec<(u8, u64)>>, Memory>
     requires { rows ≤ 128 }
     ensures small { IfOk result (λ found. IfSome found (λ weights. AllByRecursion IsWeight weights.items)) }
@@ -85,7 +107,7 @@ fn weights_of(
 {
     let mut weights = Vec::new(alloc);
     for row in 0..rows {
-        let Some(weight) = weight_of(terms, row, factor) else {
+        let Some(weight) = weight_of(terms, row, factor, divisor) else {
             return Ok(None);
         };
         if weight > 0 {
@@ -95,13 +117,13 @@ fn weights_of(
     Ok(Some(weights))
 }
 
-/// The number of a row among terms, times a factor, where that is from 0 below 2^48.
-fn weight_of(terms: &[(usize, i64)], row: usize, factor: i64) -> Option<u64>
+/// The number of a row among terms, times a factor and over one that divides it, where that is from 0 below 2^48.
+fn weight_of(terms: &[(usize, i64)], row: usize, factor: i64, divisor: u64) -> Option<u64>
     ensures { IfSome result (λ weight. weight < MULTIPLIER_SIZE) }
 {
     for (label, number) in terms {
         if *label == row {
-            return weight(number.checked_mul(factor)?);
+            return weight(number.checked_mul(factor)?, divisor);
         }
     }
     Some(0)
