@@ -16,3 +16,4 @@ mod short;
 mod tests;
 
 pub use proving::prove;
+pub use short::short_list;

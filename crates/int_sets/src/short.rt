@@ -19,7 +19,7 @@ use iolb_model::limits::MULTIPLIER_SIZE;
 use std::alloc::Global;
 
 /// A short list that shows the goal, or None where there is none.
-pub(crate) fn short_list(
+pub fn short_list(
     alloc: Global,
     system: &System,
     goal: &Form,

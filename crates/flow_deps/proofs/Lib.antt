@@ -1,0 +1,8 @@
+pub mod AnswerLaws
+pub mod PointLaws
+pub mod CandidateLaws
+pub mod Moved
+pub mod ShownLeaves
+pub mod GrownLaws
+pub mod ShownTrees
+pub mod FirstShown

@@ -1,0 +1,138 @@
+-- Points of writers, and forms of candidates.
+use Rattle.std.proofs.Common.{◌≡◌, refl, sym, ◌∙◌, ap, subst, ℕ, zero, suc, ◌+◌, ◌-◌, ◌<◌, ◌≤◌, Bool, true, false, List, [], ◌∷◌, ◌++◌, length, map, drop, replicate, get_or, arith, lit<}
+use Rattle.std.specs.Prelude.{if◌then◌else◌, Option, Some, None, Vec, slice_set}
+use Rattle.std.specs.Global.{Global}
+use Rattle.std.specs.List.{AllByRecursion}
+use Rattle.std.proofs.Math.IntN.{ℤ, pos, negsuc, ◌-ℤ◌, ◌+ℤ◌}
+use Rattle.std.proofs.lemmas.Int.{ints}
+use Rattle.std.proofs.lemmas.List.{get_or-map}
+use Rattle.base_laws.proofs.Lists.{All-append, All-replicate, All-weaken, there, rest_at}
+use Rattle.iolb_model.specs.Form.{AffineForm}
+use Rattle.iolb_model.specs.Path.{PathStep, rises}
+use Rattle.iolb_model.specs.Program.{AffineProgram}
+use Rattle.iolb_model.specs.declared.limits.TheConstants.{NUMBER_SIZE, PUT_SIZE}
+use Rattle.affine_form.specs.Combination.{add_lists}
+use Rattle.affine_form.specs.Form.{variables, IsSmall, IsSmallForm}
+use Rattle.affine_form.specs.Rows.{IsSmallOver, BoundsFit, variable, variables_from, difference, widened, step_of}
+use Rattle.affine_form.proofs.RowLemmas.{variables-over, length-difference, small-wider}
+use Rattle.affine_form.proofs.Sizes.{size-add}
+use Rattle.affine_form.specs.declared.form.Form.{Form}
+use Rattle.dep_quast.specs.Context.{ReadOf, variables_at}
+use Rattle.flow_deps.proofs.AnswerLaws.{All-left, All-right}
+use Rattle.flow_deps.specs.Candidates.{subscript_for, is_name, loop_value, values_along, point_from, FindsPoint}
+
+-- ---- subscripts
+
+pub subscript-next : (place i : ℕ) (written read : List AffineForm) (w : AffineForm) → i < length written → i < length read → w ≡ get_or written i w → is_name place w ≡ false
+    → subscript_for place (drop i written) (drop i read) ≡ subscript_for place (drop (i + 1) written) (drop (i + 1) read)
+subscript-next place i written read w below inside is other =
+    let r = there read i inside in
+    ap (λ (ws : List AffineForm). subscript_for place ws (drop i read)) (rest_at written i w below is)
+    ∙ ap (λ (rs : List AffineForm). subscript_for place (w ∷ drop (i + 1) written) rs) (rest_at read i r.0 inside r.1)
+    ∙ ap (λ (b : Bool). if b then Some r.0 else subscript_for place (drop (i + 1) written) (drop (i + 1) read)) other
+
+-- what holds of all subscripts holds of the one that is found
+chosen-has : (P : AffineForm → Type 0) (b : Bool) (r value : AffineForm) (others : Option AffineForm) → (if b then Some r else others) ≡ Some value → P r → (others ≡ Some value → P value) → P value
+chosen-has P true r value others e h g = let same : r ≡ value = cc in subst P same h
+chosen-has P false r value others e h g = g e
+
+pub subscript-has : (P : AffineForm → Type 0) (place : ℕ) (written read : List AffineForm) (value : AffineForm) → subscript_for place written read ≡ Some value → AllByRecursion P read → P value
+subscript-has P place [] read value e h = absurd cc
+subscript-has P place (w ∷ written) [] value e h = absurd cc
+subscript-has P place (w ∷ written) (r ∷ read) value e h =
+    chosen-has P (is_name place w) r value (subscript_for place written read) e h.0 (λ later. subscript-has P place written read value later h.1)
+
+-- ---- forms of candidates
+
+-- a variable is a small form
+pub variable-small : (vars k : ℕ) → IsSmallOver vars (variable vars k)
+variable-small vars k = (variables-over vars k 1).0
+
+add-small : (m n : ℕ) (xs ys : List ℤ) → 0 < m → 0 < n → AllByRecursion (IsSmall m) xs → AllByRecursion (IsSmall n) ys → AllByRecursion (IsSmall (m + n)) (add_lists xs ys)
+add-small m n [] ys a b p q = All-weaken (IsSmall n) (IsSmall (m + n)) ys (λ y h. omega (arith, h)) q
+add-small m n (x ∷ xs) [] a b p q = All-weaken (IsSmall m) (IsSmall (m + n)) (x ∷ xs) (λ y h. omega (arith, h)) p
+add-small m n (x ∷ xs) (y ∷ ys) a b p q = (omega (arith, size-add x y, p.0, q.0), add-small m n xs ys a b p.1 q.1)
+
+set-below : (limit : ℕ) (n k : ℕ) → 1 < limit → AllByRecursion (IsSmall limit) (variable n k).coefficients
+set-below limit n k h = set-all (replicate n (pos 0)) k (All-replicate (IsSmall limit) n (pos 0) (omega arith)) where
+  set-all : (xs : List ℤ) (k : ℕ) → AllByRecursion (IsSmall limit) xs → AllByRecursion (IsSmall limit) (slice_set xs k (pos 1))
+  set-all [] k p = tt
+  set-all (x ∷ xs) zero p = (h, p.1)
+  set-all (x ∷ xs) (suc k) p = (p.0, set-all xs k p.1)
+
+negated-zeros : (n : ℕ) → AllByRecursion (IsSmall 1) (map (λ (x : ℤ). pos 0 -ℤ x) (replicate n (pos 0)))
+negated-zeros zero = tt
+negated-zeros (suc n) = (lit< tt, negated-zeros n)
+
+-- a variable less 1 is a small form
+pub turn-small : (vars k : ℕ) → IsSmallOver vars (difference vars (variable vars k) (record { coefficients = []; constant = pos 0 }) (negsuc 0))
+turn-small vars k =
+    let one : variables (variable vars k) ≡ vars = (variable-small vars k).over in
+    let wide : AllByRecursion (IsSmall 2) (widened vars (variable vars k)).coefficients =
+    All-append (IsSmall 2) (variable vars k).coefficients (replicate (vars - length (variable vars k).coefficients) (pos 0)) (set-below 2 vars k (lit< tt))
+    (All-replicate (IsSmall 2) (vars - length (variable vars k).coefficients) (pos 0) (lit< tt)) in
+    record {
+      over = length-difference vars (variable vars k) (record { coefficients = []; constant = pos 0 }) (negsuc 0) (omega (arith, one)) (omega arith);
+      small = (
+        All-weaken (IsSmall (2 + 1)) (IsSmall NUMBER_SIZE) (difference vars (variable vars k) (record { coefficients = []; constant = pos 0 }) (negsuc 0)).coefficients (λ x h. omega (arith, h))
+            (add-small 2 1 (widened vars (variable vars k)).coefficients (map (λ (x : ℤ). pos 0 -ℤ x) (widened vars (record { coefficients = []; constant = pos 0 })).coefficients) (lit< tt) (lit< tt)
+            wide (negated-zeros (vars - 0))),
+        lit< tt,
+      );
+    }
+
+-- the bounds of a loop fit
+pub bound-fits : (many : ℕ) (bounds : List (AffineForm × AffineForm)) (k : ℕ) (pair : AffineForm × AffineForm) → BoundsFit many bounds → k < length bounds → pair ≡ get_or bounds k pair
+    → IsSmallOver (many + k) pair.0 × IsSmallOver (many + k) pair.1
+bound-fits many [] k pair fit below is = absurd (omega arith)
+bound-fits many (b ∷ bounds) zero pair fit below is =
+    let P : AffineForm × AffineForm → Type 0 = λ p. IsSmallOver (many + 0) p.0 × IsSmallOver (many + 0) p.1 in
+    subst P (sym is) (subst (λ (n : ℕ). IsSmallOver n b.0 × IsSmallOver n b.1) none fit.0) where
+      none : many ≡ many + 0
+      none = omega arith
+bound-fits many (b ∷ bounds) (suc k) pair fit below is =
+    subst (λ (n : ℕ). IsSmallOver n pair.0 × IsSmallOver n pair.1) moved (bound-fits (suc many) bounds k pair fit.1 (omega arith) is) where
+      moved : suc many + k ≡ many + suc k
+      moved = omega arith
+
+-- a step of a way that is the way of bounds
+pub step-is : (bounds : List (AffineForm × AffineForm)) (path : List PathStep) (k : ℕ) (pair : AffineForm × AffineForm) (none : PathStep) → path ≡ map step_of bounds → k < length bounds
+    → pair ≡ get_or bounds k pair → get_or path k none ≡ step_of pair
+step-is bounds path k pair none e below is =
+    ap (λ (p : List PathStep). get_or p k none) e ∙ get_or-map step_of bounds k pair none below ∙ ap step_of (sym is)
+
+-- ---- points
+
+module _ (program : AffineProgram) (reader : ReadOf) (writer : ℕ) where
+  -- the value of the next loop, and the rest of the way
+  pub along-next : (path : List PathStep) (k : ℕ) (pair : AffineForm × AffineForm) (values more : List AffineForm) (value : AffineForm)
+      → k < length path → ((none : PathStep) → get_or path k none ≡ step_of pair) → value ≡ loop_value program reader writer pair.1 values → more ≡ values ++ value ∷ []
+      → values_along program reader writer (drop k path) values ≡ values_along program reader writer (drop (k + 1) path) more
+  along-next path k pair values more value below is is_value pushed =
+      ap (λ (p : List PathStep). values_along program reader writer p values) (rest_at path k (step_of pair) below (sym (is (step_of pair))))
+      ∙ ap (λ (v : AffineForm). values_along program reader writer (drop (k + 1) path) (values ++ v ∷ [])) (sym is_value)
+      ∙ ap (λ (vs : List AffineForm). values_along program reader writer (drop (k + 1) path) vs) (sym pushed)
+
+  -- what holds of all values along a way holds of the first ones
+  pub along-first : (P : AffineForm → Type 0) (path : List PathStep) (values : List AffineForm) → AllByRecursion P (values_along program reader writer path values) → AllByRecursion P values
+  along-first P [] values h = h
+  along-first P (rises lower upper ∷ path) values h =
+      All-left P values (loop_value program reader writer upper values ∷ []) (along-first P path (values ++ loop_value program reader writer upper values ∷ []) h)
+
+  pub along-last : (P : AffineForm → Type 0) (path : List PathStep) (values : List AffineForm) (value : AffineForm)
+      → AllByRecursion P (values_along program reader writer path (values ++ value ∷ [])) → P value
+  along-last P path values value h = (All-right P values (value ∷ []) (along-first P path (values ++ value ∷ []) h)).0
+
+-- a test isn't both
+pub not-both : (b : Bool) → b ≡ false → b ≡ true → ⊥
+not-both true e t = cc
+not-both false e t = cc
+
+-- what a search for a point found
+pub point-none : (program : AffineProgram) (reader : ReadOf) (writer : ℕ) (given : List AffineForm) (found : Option (Vec Form Global)) → found ≡ None → FindsPoint program reader writer given found
+    → ¬ AllByRecursion (IsSmallOver (variables_at program reader)) (point_from program reader writer given)
+point-none program reader writer given found e h = subst (FindsPoint program reader writer given) e h
+
+pub point-some : (program : AffineProgram) (reader : ReadOf) (writer : ℕ) (given : List AffineForm) (found : Option (Vec Form Global)) (values : Vec Form Global) → found ≡ Some values
+    → FindsPoint program reader writer given found → values.items ≡ point_from program reader writer given
+point-some program reader writer given found values e h = (subst (FindsPoint program reader writer given) e h).0

@@ -1,0 +1,5 @@
+pub mod Answers
+pub mod Candidates
+pub mod Plain
+pub mod Origins
+pub mod Growth

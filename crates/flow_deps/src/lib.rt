@@ -1,0 +1,22 @@
+//! Source trees of reads, found: the plain ones first, in their order, and past them trees that split on candidate last
+//! writers (Feautrier 1991), with the multipliers that show them.
+#![tactic(auto)]
+
+mod answers;
+pub mod candidate;
+mod candidates;
+mod growth;
+mod leaves;
+mod no_writes;
+mod origins;
+mod plain_trees;
+mod planted;
+mod points;
+mod rows;
+mod solved;
+mod source_trees;
+pub mod wanted;
+mod writes;
+
+pub use plain_trees::plain;
+pub use source_trees::quast;
