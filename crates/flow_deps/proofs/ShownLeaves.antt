@@ -1,33 +1,32 @@
 -- Leaves that are shown, and why none is.
-use Rattle.std.proofs.Common.{◌≡◌, refl, sym, ◌∙◌, ap, subst, ℕ, ◌*◌, ◌≤◌, List, [], ◌∷◌, ◌++◌, length, map, arith}
+use Rattle.std.proofs.Common.{◌≡◌, refl, sym, ◌∙◌, ap, subst, ℕ, ◌*◌, List, [], ◌∷◌, ◌++◌, length, map, arith}
 use Rattle.std.specs.List.{AllByRecursion}
 use Rattle.std.proofs.lemmas.List.{length-map}
 use Rattle.base_laws.proofs.Lists.{All-weaken}
 use Rattle.iolb_model.specs.Form.{AffineForm}
 use Rattle.iolb_model.specs.Path.{PathStep, rises}
 use Rattle.iolb_model.specs.Program.{AffineProgram, IsWellFormed, statement_at}
-use Rattle.iolb_model.specs.declared.limits.TheConstants.{NUMBER_SIZE, ROWS}
+use Rattle.iolb_model.specs.declared.limits.TheConstants.{NUMBER_SIZE}
 use Rattle.affine_form.specs.Form.{IsSmallForm}
 use Rattle.affine_form.specs.Multipliers.{FarkasMultipliers}
 use Rattle.affine_form.specs.Rows.{IsSmallOver, within_rows}
 use Rattle.affine_form.specs.System.{AffineSystem}
 use Rattle.affine_program.specs.Domain.{depth_of, path_of}
-use Rattle.claims.specs.Claims.{Claim, AllHold}
+use Rattle.claims.specs.Claims.{Claim}
 use Rattle.claims.proofs.Laws.{AllHold-append, AllHold-left, AllHold-right}
 use Rattle.claims.specs.declared.place.Step.{Step}
 use Rattle.claims.specs.declared.place.Step.TheVariants.{Key}
 use Rattle.claims.specs.declared.key.TheConstants.{BEFORE, BETWEEN, CELL, DOMAIN, INPUT, STATEMENT}
-use Rattle.int_sets.specs.ShortList.{IsShort}
 use Rattle.dep_quast.specs.Context.{ReadOf, reference_of, variables_at, context, parameter_point, reader_point, earlier_writes, writes_between}
-use Rattle.dep_quast.specs.Claims.{IsFew, follow_claims, pointless_claims, context_system, inside_goals, cell_goals, before_goals, point_claims, first_shown}
-use Rattle.dep_quast.specs.Tree.{SourceClaim, Leaf, source, input, empty, blank, SelectionTree, leaf, test}
+use Rattle.dep_quast.specs.Claims.{IsFew, follow_claims, pointless_claims, context_system, inside_goals, cell_goals, before_goals, point_claims}
+use Rattle.dep_quast.specs.Tree.{SourceClaim, source, input, empty, blank, leaf, test}
 use Rattle.dep_quast.specs.Truth.{IsThere, ReadFits}
 use Rattle.dep_quast.proofs.Fits.{cells-many, ranks-same}
 use Rattle.flow_deps.specs.declared.wanted.Wanted.{Wanted}
 use Rattle.flow_deps.specs.declared.wanted.Wanted.TheVariants.{Short}
-use Rattle.flow_deps.specs.Answers.{Question, Answers, HasNoShort, HasShortAnswer, IsAsShort, AreAnswered, following, pointless}
+use Rattle.flow_deps.specs.Answers.{Question, Answers, HasNoShort, HasShortAnswer, following, pointless}
 use Rattle.flow_deps.specs.Candidates.{Shape, shape_of, no_write, last_write, other, split}
-use Rattle.flow_deps.specs.Plain.{IsShown, IsNotShown, Stands}
+use Rattle.flow_deps.specs.Plain.{IsShown, IsNotShown}
 use Rattle.flow_deps.proofs.AnswerLaws.{AreAnswered-length, answers-name, follow-hold, follow-short, pointless-hold, pointless-short}
 
 -- ---- no write is earlier
@@ -176,7 +175,7 @@ module _ (program : AffineProgram) (reader : ReadOf) (tests : List AffineForm) (
               let array : Claim = record { condition = 4; place = place ++ Key STATEMENT ∷ []; statement = (statement_at program claim.statement).writes.array ≡ (reference_of program reader).array } in
               let last : List Claim = pointless_claims 6 (place ++ Key BETWEEN ∷ []) 0 (writes_between program reader rows claim) claim.between in
               let most = AllHold-append inside_claims (array ∷ cell_claims) (follow-hold 3 (place ++ Key DOMAIN ∷ []) system 0 (inside_goals program reader claim) claim.inside inside.each)
-                  (arrays, follow-hold 4 (place ++ Key CELL ∷ []) system 0 (cell_goals program reader claim) claim.cell cell.each) in
+              (arrays, follow-hold 4 (place ++ Key CELL ∷ []) system 0 (cell_goals program reader claim) claim.cell cell.each) in
               let point = AllHold-append (inside_claims ++ array ∷ cell_claims) before_claims most (follow-hold 5 (place ++ Key BEFORE ∷ []) system 0 (before_goals program reader claim) claim.before before.each) in
               (few, AllHold-append (point_claims program reader system place claim) last point (pointless-hold 6 (place ++ Key BETWEEN ∷ []) 0 (writes_between program reader rows claim) claim.between between.each));
           small = record {

@@ -15,7 +15,7 @@ use Rattle.flow_deps.specs.declared.wanted.Wanted.{Wanted}
 use Rattle.flow_deps.specs.declared.wanted.Wanted.TheVariants.{Short}
 use Rattle.flow_deps.specs.Candidates.{Shape, shape_of, no_write, last_write, other, split}
 use Rattle.flow_deps.specs.Growth.{IsLeafUnder}
-use Rattle.flow_deps.specs.Plain.{IsShown, IsNotShown, Stands, FindsTree}
+use Rattle.flow_deps.specs.Plain.{IsShown, IsNotShown, FindsTree}
 use Rattle.flow_deps.proofs.GrownLaws.{test-stands}
 use Rattle.flow_deps.proofs.Moved.{tree-moved}
 

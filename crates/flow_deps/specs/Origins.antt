@@ -1,5 +1,4 @@
 -- Where the last write may come from.
-use Rattle.std.specs.Prelude.{ℕ}
 use Rattle.iolb_model.specs.Program.{AffineProgram}
 use Rattle.dep_quast.specs.Context.{ReadOf, reference_of}
 use Rattle.dep_quast.specs.Levels.{IsWriter}

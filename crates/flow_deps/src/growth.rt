@@ -19,7 +19,9 @@ ghost use Rattle.iolb_model.specs.declared.limits.TheConstants.{TREE_TESTS, TREE
 use crate::answers::is_answered;
 use crate::leaves::{has_no_point, source_leaf, sure_leaf, unshown};
 use crate::origins::Origin;
-use crate::rows::{context_rows, precedence_rows, tests_of_no, tests_of_yes, values_of_reader, written_rows};
+use crate::rows::{
+    context_rows, precedence_rows, tests_of_no, tests_of_yes, values_of_reader, written_rows,
+};
 use crate::solved::solved_point;
 use crate::wanted::Wanted;
 use affine_form::{Form, Memory, system_of};
@@ -178,8 +180,14 @@ fn guarded_leaf(
     if has_no_point(alloc, program, reader, under.as_slice())? {
         return Ok(None);
     }
-    let Some(leaf) =
-        source_leaf(alloc, Wanted::Any, program, reader, under.as_slice(), &claimed)?
+    let Some(leaf) = source_leaf(
+        alloc,
+        Wanted::Any,
+        program,
+        reader,
+        under.as_slice(),
+        &claimed,
+    )?
     else {
         return Ok(None);
     };

@@ -14,7 +14,9 @@ ghost use Rattle.flow_deps.specs.Answers.{HasNoShort, Answers, pointless};
 
 use crate::answers::{system_answered, with_answers};
 use crate::wanted::Wanted;
-use crate::writes::{rows_after_source, rows_before_reader, rows_of_write, variables_beside, writers};
+use crate::writes::{
+    rows_after_source, rows_before_reader, rows_of_write, variables_beside, writers,
+};
 use affine_form::{Form, Memory, Multipliers};
 use affine_program::Program;
 use dep_quast::claimed::Claimed;
@@ -67,7 +69,7 @@ fn levels_between_answered(
     requires rows_over { AllOver (variables_with (meaning program.now) (read_of reader) writer) rows.now }
     ensures { IfOk result (λ found.
         let systems = flat_map (λ after. map (before_reader (meaning program.now) (read_of reader) writer (after_source (meaning program.now) (read_of reader) writer rows.now (claim_of claimed.now) after))
-            (levels (meaning program.now) writer reader.statement)) (levels (meaning program.now) claimed.now.statement writer) in
+        (levels (meaning program.now) writer reader.statement)) (levels (meaning program.now) claimed.now.statement writer) in
         MatchOption found (HasNoShort (map pointless systems)) (λ all. Answers wanted (map pointless systems) all.items)) }
 {
     let mut all = Vec::new(alloc);
@@ -100,8 +102,14 @@ pub(crate) fn earlier_answered(
     let mut all = Vec::new(alloc);
     for writer in found.as_slice() {
         let written = rows_of_write(alloc, program, reader, rows, *writer)?;
-        let Some(more) =
-            levels_answered(alloc, wanted, program, reader, *writer, written.as_slice())?
+        let Some(more) = levels_answered(
+            alloc,
+            wanted,
+            program,
+            reader,
+            *writer,
+            written.as_slice(),
+        )?
         else {
             return Ok(None);
         };

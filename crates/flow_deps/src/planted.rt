@@ -155,7 +155,14 @@ fn split_tree(
         (split form (last_write claimed.now.statement claimed.now.level claimed.now.point.now) no_write) found) }
 {
     let above = tests_of_yes(alloc, &[], &form)?;
-    let Some(yes) = source_leaf(alloc, Wanted::Short, program, reader, above.as_slice(), claimed)?
+    let Some(yes) = source_leaf(
+        alloc,
+        Wanted::Short,
+        program,
+        reader,
+        above.as_slice(),
+        claimed,
+    )?
     else {
         return Ok(None);
     };

@@ -20,12 +20,7 @@ use std::alloc::Global;
 /// A source tree of a read: its plain tree where it has one; else one that splits on the statements and levels from which
 /// the last write may come (Feautrier 1991), each with a point that is solved from the cell, as far as multipliers are
 /// found. Where they aren't, a leaf claims nothing.
-pub fn quast(
-    alloc: Global,
-    program: &Program,
-    statement: u16,
-    read: u16,
-) -> Result<Quast, Memory>
+pub fn quast(alloc: Global, program: &Program, statement: u16, read: u16) -> Result<Quast, Memory>
     requires { ReadFits (meaning program.now) (record { statement = statement; read = read }) }
     ensures stands { IfOk result (λ quast. Stands (meaning program.now) (record { statement = statement; read = read }) [] TREE_TESTS (tree_of quast)) }
     ensures few { IfOk result (λ quast. leaf_count (tree_of quast) ≤ TREE_LEAVES) }

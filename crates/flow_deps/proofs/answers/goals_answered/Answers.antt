@@ -1,7 +1,4 @@
-use Rattle.std.proofs.Common.{arith, subst, sym}
-use Rattle.std.specs.Prelude.{Option, Some, None}
 use Rattle.flow_deps.specs.Answers.{IsAnswered, HasShortAnswer, IsAsShort, Question}
-use Rattle.affine_form.specs.Multipliers.{FarkasMultipliers}
 use Rattle.flow_deps.proofs.AnswerLaws.{goals-more, none-goal, found-none, found-some}
 use Rattle.flow_deps.proofs.answers.goals_answered.Goals as goal
 

@@ -1,10 +1,9 @@
-use Rattle.std.proofs.Common.{◌≡◌, ◌∙◌, ◌++◌, ◌∷◌, ap, sym, subst, ℕ, ◌+◌, List}
+use Rattle.std.proofs.Common.{◌∙◌, ◌++◌, ◌∷◌, ap, sym, subst, ℕ, List}
 use Rattle.std.specs.Prelude.{flat_map}
 use Rattle.std.specs.List.{AllByRecursion, range_with_len}
 use Rattle.std.proofs.lemmas.List.{append_assoc}
 use Rattle.iolb_model.specs.Program.{Access}
 use Rattle.affine_program.specs.Parts.{meaning}
-use Rattle.dep_quast.specs.Context.{reference_of}
 use Rattle.dep_quast.specs.Levels.{IsWriter}
 use Rattle.dep_quast.specs.Views.{read_of}
 use Rattle.flow_deps.specs.declared.candidate.Candidate.{Candidate}

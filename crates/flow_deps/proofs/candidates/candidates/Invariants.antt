@@ -2,8 +2,6 @@ use Rattle.std.proofs.Common.{◌≡◌, ◌++◌, ◌∷◌}
 use Rattle.std.specs.Prelude.{flat_map}
 use Rattle.std.specs.List.{range_with_len}
 use Rattle.affine_program.specs.Parts.{meaning}
-use Rattle.dep_quast.specs.Context.{reference_of}
-use Rattle.dep_quast.specs.Levels.{writers}
 use Rattle.dep_quast.specs.Views.{read_of}
 use Rattle.flow_deps.specs.declared.candidate.Candidate.TheVariants.{NoWrite}
 use Rattle.flow_deps.specs.Candidates.{same_turn, turn_of}

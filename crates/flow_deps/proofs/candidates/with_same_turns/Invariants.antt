@@ -1,8 +1,7 @@
 use Rattle.std.proofs.Common.{◌≡◌, ◌++◌, take}
 use Rattle.std.specs.Prelude.{flat_map}
-use Rattle.affine_program.specs.Parts.{meaning}
 use Rattle.dep_quast.specs.Views.{read_of}
-use Rattle.flow_deps.specs.Candidates.{same_turn, turn_of}
+use Rattle.flow_deps.specs.Candidates.{same_turn}
 use Rattle.flow_deps.proofs.candidates.with_same_turns.Given as goal
 
 abbrev pub invariant-loop-writer : goal.invariant-loop-writer

@@ -2,7 +2,7 @@ use Rattle.std.proofs.Common.{◌≡◌, ◌++◌, take}
 use Rattle.std.specs.Prelude.{flat_map}
 use Rattle.affine_program.specs.Parts.{meaning}
 use Rattle.dep_quast.specs.Views.{read_of}
-use Rattle.flow_deps.specs.Candidates.{same_turn, turn_of}
+use Rattle.flow_deps.specs.Candidates.{turn_of}
 use Rattle.flow_deps.proofs.candidates.with_turns_of.Given as goal
 
 abbrev pub invariant-loop-writer : goal.invariant-loop-writer

@@ -4,7 +4,7 @@ use Rattle.iolb_model.specs.declared.limits.TheConstants.{ROWS}
 use Rattle.affine_form.specs.System.{AffineSystem}
 use Rattle.affine_program.specs.Parts.{meaning}
 use Rattle.dep_quast.specs.Claims.{context_system, inside_goals, cell_goals, before_goals}
-use Rattle.dep_quast.specs.Context.{variables_at, context, earlier_writes, writes_between}
+use Rattle.dep_quast.specs.Context.{context, writes_between}
 use Rattle.dep_quast.specs.Tree.{SourceClaim, leaf, source}
 use Rattle.dep_quast.specs.Truth.{IsThere}
 use Rattle.dep_quast.specs.Views.{read_of, claim_of}
@@ -87,7 +87,13 @@ returns c =
     let system : c.in_ok-system.system ≡ context_system program reader tests =
     c.in_ok-system.ensures ∙ system-is c.variables.result c.as_slice.result.now (context_system program reader tests) c.variables.ensures.variables (c.as_slice.ensures.value ∙ c.in_ok-rows.ensures.rows) in
     let claim : SourceClaim = record {
-      statement = aim.statement; level = aim.level; point = aim.point; inside = c.in-Some.domain.items; cell = c.in-Some-2.cell.items; before = c.in-Some-3.before.items; between = c.in-Some-4.between.items;
+      statement = aim.statement;
+      level = aim.level;
+      point = aim.point;
+      inside = c.in-Some.domain.items;
+      cell = c.in-Some-2.cell.items;
+      before = c.in-Some-3.before.items;
+      between = c.in-Some-4.between.items;
     } in
     let few : length (context program reader tests) ≤ ROWS = omega (arith, ap length c.in_ok-rows.ensures.rows, c.if-len-gt-ROWS.false, c.len.ensures) in
     let inside : Answers wanted (following (context_system program reader tests) (inside_goals program reader claim)) claim.inside =

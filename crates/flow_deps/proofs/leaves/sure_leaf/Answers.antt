@@ -1,10 +1,9 @@
-use Rattle.std.proofs.Common.{◌≡◌, refl, sym, ap, subst, ℕ}
-use Rattle.std.specs.Prelude.{Option, Some, None, IfSome}
+use Rattle.std.proofs.Common.{refl, ℕ}
+use Rattle.std.specs.Prelude.{IfSome}
 use Rattle.affine_program.specs.Parts.{meaning}
 use Rattle.claims.proofs.Found.{IfOk-then}
 use Rattle.dep_quast.specs.Tree.{tree_of}
 use Rattle.dep_quast.specs.Views.{read_of}
-use Rattle.dep_quast.specs.declared.quast.Quast.{Quast}
 use Rattle.flow_deps.specs.declared.wanted.Wanted.TheVariants.{Any}
 use Rattle.flow_deps.specs.Candidates.{no_write}
 use Rattle.flow_deps.specs.Growth.{IsLeafUnder}

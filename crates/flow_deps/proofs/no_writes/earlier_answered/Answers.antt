@@ -1,16 +1,14 @@
-use Rattle.std.proofs.Common.{◌≡◌, ◌∙◌, ap, subst, ℕ, List, map, take, get_or, ◌+◌, arith, refl}
-use Rattle.std.specs.Prelude.{flat_map, Option, MatchOption}
-use Rattle.std.specs.List.{range_with_len}
+use Rattle.std.proofs.Common.{◌≡◌, ◌∙◌, ap, subst, ℕ, List, map, take, get_or, ◌+◌, refl}
+use Rattle.std.specs.Prelude.{flat_map}
 use Rattle.iolb_model.specs.Form.{AffineForm}
 use Rattle.iolb_model.specs.Program.{Access}
 use Rattle.affine_form.specs.System.{AffineSystem}
-use Rattle.affine_form.specs.declared.multipliers.Multipliers.{Multipliers}
 use Rattle.affine_program.specs.Parts.{meaning}
-use Rattle.dep_quast.specs.Context.{before_reader, after_source, earlier_write, write_between, reference_of}
-use Rattle.dep_quast.specs.Levels.{levels, level_count, writers}
-use Rattle.dep_quast.specs.Views.{read_of, claim_of}
+use Rattle.dep_quast.specs.Context.{before_reader, earlier_write, reference_of}
+use Rattle.dep_quast.specs.Levels.{levels, writers}
+use Rattle.dep_quast.specs.Views.{read_of}
 use Rattle.flow_deps.specs.Answers.{Answers, HasNoShort, pointless}
-use Rattle.flow_deps.proofs.AnswerLaws.{found-none, found-some, systems-more, none-after, none-among, flat-range-more, flat-take-more}
+use Rattle.flow_deps.proofs.AnswerLaws.{found-none, found-some, systems-more, none-among, flat-take-more}
 use Rattle.flow_deps.proofs.no_writes.earlier_answered.Goals as goal
 
 pub returns-in_default : goal.returns-in_default

@@ -1,4 +1,4 @@
-use Rattle.std.proofs.Common.{◌≡◌, ◌∙◌, ap, subst, ℕ, List, length, arith}
+use Rattle.std.proofs.Common.{◌≡◌, ◌∙◌, ap, subst, List, length, arith}
 use Rattle.iolb_model.specs.Form.{AffineForm}
 use Rattle.iolb_model.specs.Order.{common_loops}
 use Rattle.affine_program.specs.Parts.{meaning}

@@ -1,5 +1,5 @@
-use Rattle.std.proofs.Common.{◌≡◌, ◌∙◌, ◌<◌, ap, sym, refl, ℕ, ◌+◌, ◌*◌, length, map, get_or, arith}
-use Rattle.affine_form.specs.Rows.{IsSmallOver, BoundsFit, step_of}
+use Rattle.std.proofs.Common.{◌∙◌, ◌<◌, ap, sym, refl, ◌+◌, ◌*◌, length, arith}
+use Rattle.affine_form.specs.Rows.{IsSmallOver, BoundsFit}
 use Rattle.affine_program.specs.declared.statement.Statement.{Statement}
 use Rattle.affine_program.specs.Domain.{path_of}
 use Rattle.affine_program.specs.Parts.{meaning}

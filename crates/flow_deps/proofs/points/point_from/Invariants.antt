@@ -13,5 +13,5 @@ invariant-loop-level l = record {
   along : values_along (meaning l.program) (read_of l.reader) l.writer (drop l.level (path_of (meaning l.program) l.writer)) l.values.items
       ≡ point_from (meaning l.program) (read_of l.reader) l.writer l.fn.given.items;
   count : length l.values.items ≡ l.level;
-  over : AllByRecursion (IsSmallOver (variables_at (meaning l.program) (read_of l.reader))) l.values.items
+  over : AllByRecursion (IsSmallOver (variables_at (meaning l.program) (read_of l.reader))) l.values.items;
 }
