@@ -14,24 +14,72 @@ const TENSOR: &[u8] =
 const CASES: [(&[u8], &[u8]); 20] = [
     (PRODUCT, b"3 01 02 12"),
     (TENSOR, b"4 03 012 13 23"),
-    (b"#pragma scop\nfor (i = 0; i < N; i++) s += x[i];\n#pragma endscop\n", b"1  0"),
-    (b"#pragma scop\nfor (i = 0; i < N; i++) for (j = 0; j < N; j++) A[j][i] += B[i];\n#pragma endscop\n", b"2 01 0"),
-    (b"#pragma iolb assume N >= 2 && N <= 9\n#pragma scop\nfor (i = 0; i < N; i++) { { A[i] += A[i] * 2; } }\n#pragma endscop\n", b"1 0"),
-    (b"#pragma scop\nfor (i = 0; i < N; i++) a[i] += b[i] * c[i] * d[i] * e[i] * f[i];\n#pragma endscop\n", b"1 0 0 0 0 0 0"),
-    (b"#pragma scop\nfor (i = 0; i < N; i++) a[i] += b[i] * c[i] * d[i] * e[i] * f[i] * g[i];\n#pragma endscop\n", b""),
+    (
+        b"#pragma scop\nfor (i = 0; i < N; i++) s += x[i];\n#pragma endscop\n",
+        b"1  0",
+    ),
+    (
+        b"#pragma scop\nfor (i = 0; i < N; i++) for (j = 0; j < N; j++) A[j][i] += B[i];\n#pragma endscop\n",
+        b"2 01 0",
+    ),
+    (
+        b"#pragma iolb assume N >= 2 && N <= 9\n#pragma scop\nfor (i = 0; i < N; i++) { { A[i] += A[i] * 2; } }\n#pragma endscop\n",
+        b"1 0",
+    ),
+    (
+        b"#pragma scop\nfor (i = 0; i < N; i++) a[i] += b[i] * c[i] * d[i] * e[i] * f[i];\n#pragma endscop\n",
+        b"1 0 0 0 0 0 0",
+    ),
+    (
+        b"#pragma scop\nfor (i = 0; i < N; i++) a[i] += b[i] * c[i] * d[i] * e[i] * f[i] * g[i];\n#pragma endscop\n",
+        b"",
+    ),
     (b"#pragma scop\n#pragma endscop\n", b""),
     (b"#pragma scop\ns += x;\n#pragma endscop\n", b""),
-    (b"#pragma scop\nfor (i = 0; i < N; i++) { s += x[i]; s += y[i]; }\n#pragma endscop\n", b""),
-    (b"#pragma scop\nfor (i = 0; i < N; i++) ; for (i = 0; i < N; i++) s += x[i];\n#pragma endscop\n", b""),
-    (b"#pragma scop\nfor (i = 0; i <= N; i++) s += x[i];\n#pragma endscop\n", b""),
-    (b"#pragma scop\nfor (i = 1; i < N; i++) s += x[i];\n#pragma endscop\n", b""),
-    (b"#pragma scop\nfor (i = 0; i < 4; i++) s += x[i];\n#pragma endscop\n", b""),
-    (b"#pragma iolb assume N >= 0\n#pragma scop\nfor (i = 0; i < N; i++) s += x[i];\n#pragma endscop\n", b""),
-    (b"#pragma scop\nfor (i = 0; i < N; i++) s = x[i];\n#pragma endscop\n", b""),
-    (b"#pragma scop\nfor (i = 0; i < N; i++) for (j = 0; j < N; j++) s += x[i] * x[j];\n#pragma endscop\n", b""),
-    (b"#pragma scop\nfor (i = 0; i < N; i++) s += x[i][i];\n#pragma endscop\n", b""),
-    (b"#pragma scop\nfor (i = 0; i < N; i++) s += x[i + 1];\n#pragma endscop\n", b""),
-    (b"#pragma scop\nfor (i = 0; i < N; i++) for (j = 0; j < N; j++) s += x[i];\n#pragma endscop\n", b""),
+    (
+        b"#pragma scop\nfor (i = 0; i < N; i++) { s += x[i]; s += y[i]; }\n#pragma endscop\n",
+        b"",
+    ),
+    (
+        b"#pragma scop\nfor (i = 0; i < N; i++) ; for (i = 0; i < N; i++) s += x[i];\n#pragma endscop\n",
+        b"",
+    ),
+    (
+        b"#pragma scop\nfor (i = 0; i <= N; i++) s += x[i];\n#pragma endscop\n",
+        b"",
+    ),
+    (
+        b"#pragma scop\nfor (i = 1; i < N; i++) s += x[i];\n#pragma endscop\n",
+        b"",
+    ),
+    (
+        b"#pragma scop\nfor (i = 0; i < 4; i++) s += x[i];\n#pragma endscop\n",
+        b"",
+    ),
+    (
+        b"#pragma iolb assume N >= 0\n#pragma scop\nfor (i = 0; i < N; i++) s += x[i];\n#pragma endscop\n",
+        b"",
+    ),
+    (
+        b"#pragma scop\nfor (i = 0; i < N; i++) s = x[i];\n#pragma endscop\n",
+        b"",
+    ),
+    (
+        b"#pragma scop\nfor (i = 0; i < N; i++) for (j = 0; j < N; j++) s += x[i] * x[j];\n#pragma endscop\n",
+        b"",
+    ),
+    (
+        b"#pragma scop\nfor (i = 0; i < N; i++) s += x[i][i];\n#pragma endscop\n",
+        b"",
+    ),
+    (
+        b"#pragma scop\nfor (i = 0; i < N; i++) s += x[i + 1];\n#pragma endscop\n",
+        b"",
+    ),
+    (
+        b"#pragma scop\nfor (i = 0; i < N; i++) for (j = 0; j < N; j++) s += x[i];\n#pragma endscop\n",
+        b"",
+    ),
 ];
 
 /// The places of loops, behind a blank.
