@@ -1,6 +1,5 @@
 -- The parts of a turn, one after the other.
-use Rattle.std.proofs.Common.{◌≡◌, sym, ◌∙◌, ap, subst, ℕ, ◌<◌, List, ◌++◌, length}
-use Rattle.std.specs.Borrow.{Bor}
+use Rattle.std.proofs.Common.{◌≡◌, sym, ◌∙◌, ap, List, ◌++◌}
 use Rattle.std.proofs.lemmas.List.{append_assoc}
 use Rattle.iolb_model.specs.declared.game.Move.{Move}
 use Rattle.iolb_model.specs.Game.{Board, predecessors_at, final_board}
@@ -11,15 +10,6 @@ use Rattle.pebble_replay.specs.declared.turn.Turn.{Turn}
 use Rattle.pebble_replay.proofs.Moves.{final-append}
 use Rattle.pebble_replay.proofs.Loading.{same-turn}
 use Rattle.pebble_replay.proofs.Holding.{same-instance}
-
--- a turn that stays the same, or gains moves, is at the same place of an order as long
-pub same-place : (old new : Turn) → IsSameTurn old new → old.place < length old.order.now → new.place < length new.order.now
-same-place old new g h =
-    subst (λ (n : ℕ). n < length new.order.now) (sym g.place) (subst (λ (o : Bor (List ℕ)). old.place < length o.now) (sym g.order) h)
-
-pub gains-place : (old new : Turn) (moves : List Move) → Gains old new moves → old.place < length old.order.now → new.place < length new.order.now
-gains-place old new moves g h =
-    subst (λ (n : ℕ). n < length new.order.now) (sym g.place) (subst (λ (o : Bor (List ℕ)). old.place < length o.now) (sym g.order) h)
 
 -- the loads of a turn's predecessors, and the moves that compute its instance
 abbrev pub loads_of_turn : Turn → List Move

@@ -4,7 +4,7 @@ use Rattle.std.specs.Prelude.{◌⊎◌, ◌&&◌, ◌||◌, nat_eq, slice_index
 use Rattle.std.specs.Borrow.{Bor}
 use Rattle.std.specs.List.{list_any, AllByRecursion}
 use Rattle.std.specs.BTreeMap.{is_at}
-use Rattle.std.proofs.lemmas.Bool.{cases_eq, cases_Bool, and_parts, and_from, or_from, eq-eqb, ne_eqb, eqb-true, not-true}
+use Rattle.std.proofs.lemmas.Bool.{cases_eq, cases_Bool, and_parts, and_from, or_from, eq-eqb, ne_eqb, eqb-true}
 use Rattle.std.proofs.lemmas.Map.Keys.{IsDistinct-head, IsDistinct-tail}
 use Rattle.std.proofs.lemmas.List.{length-set, get_or-set_same, get_or-set_other}
 use Rattle.iolb_model.specs.Graph.{ComputationGraph}
@@ -12,14 +12,14 @@ use Rattle.iolb_model.specs.Game.{marked, vertices, predecessors_at, stands_in}
 use Rattle.execution_laws.proofs.Ordered.{All-from}
 use Rattle.pebble_game.specs.Graphs.{IsWellFormedGraph}
 use Rattle.pebble_game.proofs.Marks.{member-stands}
-use Rattle.pebble_replay.specs.Played.{reads, may_go}
+use Rattle.pebble_replay.specs.Played.{reads}
 use Rattle.pebble_replay.specs.Uses.{uses_of, first_or_zero, left_from}
-use Rattle.pebble_replay.specs.Turns.{pair_cmp, IsQueue, current, later, IsBetween, IsHolding, IsInTurn, IsReleasing, IsSameTurn}
+use Rattle.pebble_replay.specs.Turns.{pair_cmp, IsQueue, current, later, IsBetween, IsHolding, IsReleasing, IsSameTurn}
 use Rattle.pebble_replay.specs.declared.hand.Hand.{Hand}
 use Rattle.pebble_replay.specs.declared.turn.Turn.{Turn}
 use Rattle.pebble_replay.proofs.Marks.{apart-stands}
-use Rattle.pebble_replay.proofs.Queue.{at-pair, left-cons, left-first}
-use Rattle.pebble_replay.proofs.Steps.{IsSwitched, switched-queue, same-queue, requeued}
+use Rattle.pebble_replay.proofs.Queue.{at-pair, left-first}
+use Rattle.pebble_replay.proofs.Steps.{IsSwitched, switched-queue, same-queue}
 
 pub hold-step : (graph : ComputationGraph) (v : ℕ) (later : List ℕ) (u : ℕ) (left : List ℕ) (hand new : Hand) → IsHolding graph v later (u ∷ left) hand
     → new.board ≡ hand.board → new.uses ≡ set hand.uses u (drop 1 (slice_index_or hand.uses u []))
@@ -100,18 +100,6 @@ hold-first graph v later hand well here between = record {
   either true false = refl
   either false r = refl
 
--- and at last none
-pub hold-last : (graph : ComputationGraph) (v : ℕ) (later : List ℕ) (hand : Hand) → IsHolding graph v later [] hand → IsInTurn graph v later hand
-hold-last graph v later hand h = record {
-  fits = h.fits;
-  uses = record { lists = h.lists; each = h.uses };
-  queue = requeued hand.queue.keys (may_go graph v hand.board.board) (left_from graph (v ∷ later)) (left_from graph later) h.queue (λ w waits. unread w waits);
-} where
-  unread : (w : ℕ) → may_go graph v hand.board.board w ≡ true → left_from graph later w ≡ left_from graph (v ∷ later) w
-  unread w waits =
-      let off : reads graph w v ≡ false = not-true (reads graph w v) (and_parts (marked hand.board.board.red w) (not (reads graph w v)) waits).1 in
-      sym (left-cons graph v later w ∙ ap (λ (b : Bool). cond b (suc (length later)) (left_from graph later w)) off)
-
 -- a red vertex waits again
 pub release-step : (graph : ComputationGraph) (later : List ℕ) (u : ℕ) (left : List ℕ) (hand new : Hand) → IsReleasing graph later (u ∷ left) hand → u < vertices graph
     → marked hand.board.board.red u ≡ true → new.board ≡ hand.board → new.uses ≡ hand.uses
@@ -152,23 +140,12 @@ release-step graph later u left hand new h there red board uses switched = recor
         ∙ and_from (nat_eq (first_or_zero (slice_index_or hand.uses u [])) q.0) (nat_eq u q.1) (eq-eqb (first_or_zero (slice_index_or hand.uses u [])) q.0 (own ∙ ap (left_from graph later) (sym e) ∙ sym key)) (eq-eqb u q.1 (sym e)) in
         cc
 
--- when all are released, the red vertices wait
-pub release-last : (graph : ComputationGraph) (later : List ℕ) (hand : Hand) → IsReleasing graph later [] hand → IsBetween graph later hand
-release-last graph later hand h = record { fits = h.fits; uses = h.uses; queue = λ q. both (list_any (is_at (pair_cmp q)) hand.queue.keys) (marked hand.board.board.red q.1 && nat_eq q.0 (left_from graph later q.1)) (h.sound q) (h.full q refl) } where
-  both : (a b : Bool) → (a ≡ true → b ≡ true) → (b ≡ true → a ≡ true) → a ≡ b
-  both true b f g = sym (f refl)
-  both false true f g = g refl
-  both false false f g = refl
-
 -- a turn that stays the same is of the same instance
 pub same-instance : (old new : Turn) → IsSameTurn old new → (P : ComputationGraph → ℕ → List ℕ → Type 0) → P old.graph.now (current old) (later old) → P new.graph.now (current new) (later new)
 same-instance old new g P h =
     subst (λ (n : ℕ). P new.graph.now (slice_index_or new.order.now n 0) (drop (suc n) new.order.now)) (sym g.place)
     (subst (λ (o : Bor (List ℕ)). P new.graph.now (slice_index_or o.now old.place 0) (drop (suc old.place) o.now)) (sym g.order)
     (subst (λ (gr : Bor ComputationGraph). P gr.now (current old) (later old)) (sym g.graph) h))
-
-flip-same : (old new : Turn) → IsSameTurn old new → IsSameTurn new old
-flip-same old new g = record { graph = sym g.graph; order = sym g.order; place = sym g.place; board = sym g.board; moves = sym g.moves }
 
 join-same : (old mid new : Turn) → IsSameTurn old mid → IsSameTurn mid new → IsSameTurn old new
 join-same old mid new g h = record { graph = h.graph ∙ g.graph; order = h.order ∙ g.order; place = h.place ∙ g.place; board = h.board ∙ g.board; moves = h.moves ∙ g.moves }
@@ -185,18 +162,6 @@ held-first turn well here between = record {
   same = record { graph = refl; order = refl; place = refl; board = refl; moves = refl };
 }
 
-pub held-step : (initial mid new : Turn) (u : ℕ) (left : List ℕ) → IsHeld initial mid (u ∷ left)
-    → ((l : List ℕ) → IsHolding mid.graph.now (current mid) (later mid) (u ∷ l) mid.hand → IsHolding mid.graph.now (current mid) (later mid) l new.hand)
-    → IsSameTurn mid new → IsHeld initial new left
-held-step initial mid new u left h step same = record {
-  holding = same-instance mid new same (λ g v l. IsHolding g v l left new.hand) (step left h.holding);
-  same = join-same initial mid new h.same same;
-}
-
-pub held-last : (initial self : Turn) → IsHeld initial self [] → IsInTurn initial.graph.now (current initial) (later initial) self.hand
-held-last initial self h =
-    same-instance self initial (flip-same initial self h.same) (λ g v l. IsInTurn g v l self.hand) (hold-last self.graph.now (current self) (later self) self.hand h.holding)
-
 -- some vertices of a turn are left to be put among those that wait
 pub record IsReleased (initial self : Turn) (left : List ℕ) : Type 0 where
   pub releasing : IsReleasing self.graph.now (later self) left self.hand
@@ -210,10 +175,6 @@ released-step initial mid new u left h step same = record {
   there = same-instance mid new same (λ g v l. AllByRecursion (λ w. w < vertices g) left) h.there.1;
   same = join-same initial mid new h.same same;
 }
-
-pub released-last : (initial self : Turn) → IsReleased initial self [] → IsBetween initial.graph.now (later initial) self.hand
-released-last initial self h =
-    same-instance self initial (flip-same initial self h.same) (λ g v l. IsBetween g l self.hand) (release-last self.graph.now (later self) self.hand h.releasing)
 
 pub released-first : (turn new : Turn) (v : ℕ) → IsWellFormedGraph turn.graph.now → current turn < turn.graph.now.instances → v ≡ current turn
     → IsReleasing turn.graph.now (later turn) (current turn ∷ predecessors_at turn.graph.now (current turn)) turn.hand

@@ -31,10 +31,6 @@ pub record IsReady (graph : ComputationGraph) (s : ℕ) (done rest : List ℕ) (
   pub kept : (u : ℕ) → stands_in done u ≡ true → is_used graph rest u ≡ true → (marked board.red u ≡ true) ⊎ (marked board.blue u ≡ true)
   pub stored : (u : ℕ) → stands_in done u ≡ true → marked graph.last_writers u ≡ true → marked board.blue u ≡ true
 
--- a board whose blue pebbles are these
-abbrev pub with_blue : Board → List Bool → Board
-with_blue board blue = record board { blue = blue }
-
 -- a word that is no predecessor of the next instance goes, and is in the slow memory where it is used later
 pub gone-ready : (graph : ComputationGraph) (s : ℕ) (done : List ℕ) (v : ℕ) (later : List ℕ) (board : Board) (blue : List Bool) (x : ℕ)
     → IsReady graph s done (v ∷ later) board → reads graph x v ≡ false → length blue ≡ length board.blue

@@ -1,18 +1,18 @@
 -- Whether each source comes before its reader, found by marks of the instances that came.
-use Rattle.std.proofs.Common.{◌≡◌, refl, sym, ◌∙◌, ap, inl, inr, ℕ, ◌<◌, ◌≤◌, Bool, true, false, cond, not, List, [], ◌∷◌, length, set, replicate, find, Option, Some, None, arith}
+use Rattle.std.proofs.Common.{◌≡◌, refl, sym, ◌∙◌, ap, inl, inr, ℕ, ◌<◌, ◌≤◌, Bool, true, false, cond, not, List, [], ◌∷◌, length, set, find, Option, Some, None, arith}
 use Rattle.std.specs.Prelude.{◌⊎◌, ◌&&◌, ◌||◌, nat_eq, nat_lt}
 use Rattle.std.specs.List.{AllByRecursion, IsDistinct}
 use Rattle.std.proofs.lemmas.Bool.{cases_eq, cases_lt, lt-ltb, le-ltb, ne_eqb, false_from_ne_true}
 use Rattle.std.proofs.lemmas.Map.Keys.{IsDistinct-head, IsDistinct-tail}
-use Rattle.std.proofs.lemmas.List.{length-set, length-replicate}
+use Rattle.std.proofs.lemmas.List.{length-set}
 use Rattle.iolb_model.specs.Graph.{ComputationGraph}
 use Rattle.iolb_model.specs.Game.{marked, predecessors_at, stands_in}
 use Rattle.execution_laws.proofs.Members.{Member}
 use Rattle.execution_laws.proofs.Ordered.{All-member}
 use Rattle.pebble_game.specs.Graphs.{IsWellFormedGraph}
-use Rattle.pebble_game.proofs.Marks.{unmarked-at, standing-member}
+use Rattle.pebble_game.proofs.Marks.{standing-member}
 use Rattle.pebble_replay.specs.declared.fault.ReplayFault.TheVariants.{OutOfOrder}
-use Rattle.pebble_replay.specs.Order.{HoldsEachOnce, late_source, late_or, order_fault}
+use Rattle.pebble_replay.specs.Order.{late_source, late_or, order_fault}
 use Rattle.pebble_replay.proofs.Marks.{apart-stands, put-here, put-other}
 
 -- of an order no fault was found yet, and the marked instances are those that don't come any more
@@ -22,15 +22,6 @@ pub record IsOrdering (graph : ComputationGraph) (order : List ℕ) (done : List
   pub wide : length done ≡ graph.instances
   pub there : AllByRecursion (λ v. v < graph.instances) rest
   pub once : IsDistinct nat_eq rest
-
-pub ordering-first : (graph : ComputationGraph) (order : List ℕ) → HoldsEachOnce graph order → IsOrdering graph order (replicate graph.instances false) order
-ordering-first graph order holds = record {
-  fault = refl;
-  came = λ u h. unmarked-at graph.instances u ∙ sym (ap not (holds.each u h));
-  wide = length-replicate graph.instances false;
-  there = holds.there;
-  once = holds.once;
-}
 
 find-same : (p q : ℕ → Bool) (us : List ℕ) → ((u : ℕ) → Member u us → p u ≡ q u) → find p us ≡ find q us
 find-same p q [] h = refl

@@ -1,12 +1,12 @@
 -- The uses in an order, put together from its end.
-use Rattle.std.proofs.Common.{◌≡◌, refl, sym, ◌∙◌, ap, subst, inl, inr, ℕ, zero, suc, ◌+◌, ◌-◌, ◌<◌, ◌≤◌, Bool, true, false, cond, List, [], ◌∷◌, length, drop, set, replicate, get_or, arith}
+use Rattle.std.proofs.Common.{◌≡◌, refl, sym, ◌∙◌, ap, inl, inr, ℕ, zero, suc, ◌<◌, ◌≤◌, Bool, true, false, cond, List, [], ◌∷◌, length, drop, set, get_or, arith}
 use Rattle.std.specs.Prelude.{◌⊎◌, ◌||◌, nat_eq, slice_index_or}
 use Rattle.std.specs.List.{AllByRecursion, IsDistinct}
 use Rattle.std.proofs.lemmas.Bool.{cases_eq, eq-eqb, ne_eqb}
 use Rattle.std.proofs.lemmas.Map.Keys.{IsDistinct-head, IsDistinct-tail}
-use Rattle.std.proofs.lemmas.List.{length-set, length-replicate, length-drop, drop_all, drop_more, get_or-set_same, get_or-set_other}
+use Rattle.std.proofs.lemmas.List.{length-set, get_or-set_same, get_or-set_other}
 use Rattle.iolb_model.specs.Graph.{ComputationGraph}
-use Rattle.iolb_model.specs.Game.{vertices, predecessors_at, stands_in}
+use Rattle.iolb_model.specs.Game.{stands_in}
 use Rattle.std.proofs.lemmas.Map.Steps.{length-le_from_distinct_below}
 use Rattle.execution_laws.proofs.Ordered.{All-from, All-member}
 use Rattle.pebble_game.proofs.Marks.{member-stands, standing-member}
@@ -63,23 +63,6 @@ pushed-step next us old mid u left h = record {
       get_or-set_other mid u w (next ∷ slice_index_or mid u []) [] apart ∙ h.each w
       ∙ ap (λ (b : Bool). cond (b || stands_in left w) (slice_index_or old w []) (cond (stands_in us w) (next ∷ slice_index_or old w []) (slice_index_or old w []))) (ne_eqb w u apart)
 
--- nothing is used after the end
-pub no-uses : (graph : ComputationGraph) → AreUses graph [] (replicate (vertices graph) [])
-no-uses graph = record { lists = length-replicate (vertices graph) []; each = λ u h. nothing (vertices graph) u } where
-  nothing : (n u : ℕ) → get_or {A = List ℕ} (replicate n []) u [] ≡ []
-  nothing zero u = refl
-  nothing (suc n) zero = refl
-  nothing (suc n) (suc u) = nothing n u
-
--- the uses from one instance more on
-pub uses-more : (graph : ComputationGraph) (v : ℕ) (later : List ℕ) (old new : List (List ℕ)) → AreUses graph later old → length new ≡ length old
-    → ((w : ℕ) → slice_index_or new w [] ≡ cond (stands_in (predecessors_at graph v) w) (suc (length later) ∷ slice_index_or old w []) (slice_index_or old w []))
-    → AreUses graph (v ∷ later) new
-uses-more graph v later old new h lists each = record {
-  lists = lists ∙ h.lists;
-  each = λ w there. each w ∙ ap (λ (l : List ℕ). cond (stands_in (predecessors_at graph v) w) (suc (length later) ∷ l) l) (h.each w there);
-}
-
 -- an order that holds each instance once is no longer than the instances are
 pub order-short : (graph : ComputationGraph) (order : List ℕ) → HoldsEachOnce graph order → length order ≤ graph.instances
 order-short graph order holds =
@@ -89,20 +72,6 @@ order-short graph order holds =
 pub record AreCollected (graph : ComputationGraph) (order : List ℕ) (lists : List (List ℕ)) (place : ℕ) : Type 0 where
   pub within : place ≤ length order
   pub uses : AreUses graph (drop place order) lists
-
-pub collected-first : (graph : ComputationGraph) (order : List ℕ) → AreCollected graph order (replicate (vertices graph) []) (length order)
-collected-first graph order = record { within = omega arith; uses = subst (λ (l : List ℕ). AreUses graph l (replicate (vertices graph) [])) (sym (drop_all (length order) order (omega arith))) (no-uses graph) }
-
-pub collected-step : (graph : ComputationGraph) (order : List ℕ) (old new : List (List ℕ)) (place left : ℕ) → AreCollected graph order old (place + 1) → left ≡ length order - place
-    → length new ≡ length old
-    → ((w : ℕ) → slice_index_or new w [] ≡ cond (stands_in (predecessors_at graph (get_or order place 0)) w) (left ∷ slice_index_or old w []) (slice_index_or old w []))
-    → AreCollected graph order new place
-collected-step graph order old new place left h from lists each = record {
-  within = omega (arith, h.within);
-  uses = subst (λ (l : List ℕ). AreUses graph l new) (sym (drop_more order place 0 (omega (arith, h.within))))
-      (uses-more graph (get_or order place 0) (drop (place + 1) order) old new h.uses lists
-      (λ w. each w ∙ ap (λ (n : ℕ). cond (stands_in (predecessors_at graph (get_or order place 0)) w) (n ∷ slice_index_or old w []) (slice_index_or old w [])) (from ∙ omega (arith, h.within, length-drop (place + 1) order))));
-}
 
 all-at : (P : ℕ → Type 0) (xs : List ℕ) (k : ℕ) → AllByRecursion P xs → k < length xs → P (get_or xs k 0)
 all-at P [] k h below = absurd (omega (arith, below))

@@ -1,5 +1,5 @@
 -- The vertex that goes: there is one where a red vertex may go, and it is the least of those with the furthest next use.
-use Rattle.std.proofs.Common.{◌≡◌, refl, sym, ◌∙◌, ap, subst, inl, inr, ℕ, zero, suc, ◌+◌, ◌<◌, ◌≤◌, Bool, true, false, cond, not, leb, List, [], ◌∷◌, find, Some, None, arith}
+use Rattle.std.proofs.Common.{◌≡◌, refl, sym, ◌∙◌, ap, inl, inr, ℕ, zero, suc, ◌+◌, ◌<◌, ◌≤◌, Bool, true, false, cond, not, leb, List, [], ◌∷◌, find, Some, None, arith}
 use Rattle.std.specs.Prelude.{◌⊎◌, ◌&&◌, ◌||◌}
 use Rattle.std.specs.List.{list_all, range_with_len}
 use Rattle.std.proofs.lemmas.Bool.{cases_Bool, cases_lt, and_parts, and_from, or_right, or_left, le-leb, not_from_false}
@@ -26,13 +26,6 @@ find-none_at p (z ∷ xs) x e m = by (p z) refl e m (λ (f : find p xs ≡ None)
   by true on f n rest = absurd cc
   by false off f (inl w) rest = ap p w ∙ off
   by false off f (inr n) rest = rest f n
-
-pub find-passes : {A : Type 0} (p : A → Bool) (xs : List A) (y : A) → find p xs ≡ Some y → p y ≡ true
-find-passes p [] y e = absurd cc
-find-passes p (z ∷ xs) y e = by (p z) refl e (λ (f : find p xs ≡ Some y). find-passes p xs y f) where
-  by : (b : Bool) → p z ≡ b → cond b (Some z) (find p xs) ≡ Some y → (find p xs ≡ Some y → p y ≡ true) → p y ≡ true
-  by true on f rest = let same : z ≡ y = cc in subst (λ w. p w ≡ true) same on
-  by false off f rest = rest f
 
 Member-range : (a n k : ℕ) → a ≤ k → k < a + n → Member k (range_with_len a n)
 Member-range a zero k low high = absurd (omega (arith, low, high))

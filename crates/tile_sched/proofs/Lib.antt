@@ -3,3 +3,5 @@ pub mod Members
 pub mod Ranked
 pub mod Fits
 pub mod Once
+pub mod OneSchedule
+pub mod OneOrder

@@ -48,12 +48,15 @@ flips x y = by (nat_eq x y) (nat_eq y x) refl refl where
   by false true e f = sym e ∙ eq-eqb x y (sym (eqb-true y x f))
   by false false e f = refl
 
+pub order_distinct : (count : ℕ) (order : List ℕ) → IsPermutation (range_with_len 0 count) order → IsDistinct nat_eq order
+order_distinct count order moved = IsDistinct-IsPermutation nat_eq flips (range_with_len 0 count) order moved (distinct_range 0 count)
+
 pub holds_each_once : (graph : ComputationGraph) (count : ℕ) (order : List ℕ) → count ≡ graph.instances → IsPermutation (range_with_len 0 count) order → HoldsEachOnce graph order
 holds_each_once graph count order many moved =
     let low : All (λ v. v < 0 + count) (range_with_len 0 count) = λ k d below. All-at (λ v. v < 0 + count) (range_with_len 0 count) k d (below_range 0 count) below in
     let all : AllByRecursion (λ v. v < 0 + count) order = by_recursion (λ v. v < 0 + count) order (All-permutation (λ v. v < 0 + count) (range_with_len 0 count) order moved low) in
     let instances : 0 + count ≡ graph.instances = omega (arith, many) in record {
       there = subst (λ n. AllByRecursion (λ v. v < n) order) instances all;
-      once = IsDistinct-IsPermutation nat_eq flips (range_with_len 0 count) order moved (distinct_range 0 count);
+      once = order_distinct count order moved;
       each = λ v below. sym (list_any-IsPermutation (nat_eq v) (range_with_len 0 count) order moved) ∙ among_range v 0 count (omega arith) (omega (arith, below, many));
     }

@@ -3,3 +3,4 @@ pub mod Reading
 pub mod Texts
 pub mod Order
 pub mod Ranks
+pub mod OneSchedule
