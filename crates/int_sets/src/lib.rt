@@ -12,8 +12,6 @@ mod line;
 mod longer;
 mod proving;
 mod short;
-#[cfg(test)]
-mod tests;
 
 pub use proving::prove;
 pub use short::short_list;

@@ -1,5 +1,5 @@
-//! Worked cases of crates that the program's calls don't show: tokens, forms and matrices, polynomials, counts, covers,
-//! projective programs, computation graphs, replays.
+//! Worked cases of crates that the program's calls don't show: tokens, forms and matrices, multipliers, polynomials,
+//! counts, covers, projective programs, computation graphs, replays.
 #![tactic(auto)]
 
 #[cfg(test)]
@@ -10,6 +10,8 @@ mod cover_tests;
 mod form_tests;
 #[cfg(test)]
 mod graph_tests;
+#[cfg(test)]
+mod multiplier_tests;
 #[cfg(test)]
 mod polynomial_tests;
 #[cfg(test)]

@@ -1,8 +1,10 @@
+//! Multipliers that are found, and short lists compared with all there are.
+
 ghost use Rattle.std.specs.Prelude.{◌≡◌, ◌≤◌, unsigned_abs, IfOk};
 ghost use Rattle.affine_form.specs.Form.{variables};
 
-use crate::prove;
 use affine_form::{Form, Multipliers, System, entails};
+use int_sets::prove;
 use std::alloc::Global;
 use std::test::Fail;
 
