@@ -1,5 +1,5 @@
 -- What a count is made of, and how it can't be.
-use Rattle.std.specs.Prelude.{◌⊎◌, ℕ, List, length}
+use Rattle.std.specs.Prelude.{◌≡◌, ◌⊎◌, ℕ, List, length}
 use Rattle.iolb_model.specs.Form.{AffineForm}
 use Rattle.iolb_model.specs.Program.{AffineProgram}
 use Rattle.claims.specs.Claims.{FirstFails}
@@ -14,9 +14,9 @@ use Rattle.nest_sums.specs.Summing.{AreSummed, SummationPasses}
 abbrev pub AreMade : ℕ → List (AffineForm × AffineForm) → List Quotient → Type 0
 AreMade params nest sums = (total : Quotient) × AreSummed params nest sums total
 
--- An operation of the summation passes its limit; or its polynomials are made, and one of the claims that are tested of them
--- fails.
+-- An operation of the summation passes its limit; or its polynomials are made, and of the claims that are tested of them the
+-- first that fails is that an operation has its measure within the limits (condition 2).
 abbrev pub CheckPasses : AffineProgram → List (AffineForm × AffineForm) → Type 0
 CheckPasses program nest =
     SummationPasses (length program.parameters) nest
-    ⊎ ((sums : List Quotient) × (place : List Step) × (failed : No) × (AreMade (length program.parameters) nest sums × FirstFails (sums_claims program nest sums place SUMS) failed))
+    ⊎ ((sums : List Quotient) × (place : List Step) × (failed : No) × (AreMade (length program.parameters) nest sums × FirstFails (sums_claims program nest sums place SUMS) failed × (failed.condition ≡ 2)))

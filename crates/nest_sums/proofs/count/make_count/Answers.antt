@@ -8,6 +8,7 @@ use Rattle.domain_count.specs.Count.{AreShownBelow}
 use Rattle.domain_count.specs.CountClaims.{count_claims, range_claim, sums_claims}
 use Rattle.domain_count.proofs.Claimed.{ranges-hold}
 use Rattle.nest_sums.specs.Summing.{AreSummed}
+use Rattle.nest_sums.proofs.Exact.{first-is-wide}
 use Rattle.nest_sums.proofs.RangeLemmas.{all-shown, sums-many, fails-behind}
 use Rattle.nest_sums.proofs.count.make_count.Goals as goal
 
@@ -47,20 +48,22 @@ returns-in-Err-No-clause-wide c = λ e.
     = subst (IsRefusal (count_claims (meaning c.args.program.now) c.args.nest.now c.new-sums.result c.new-2.result)) c.in-Err-No.field-0-is refusal in
     let fails : FirstFails (count_claims (meaning c.args.program.now) c.args.nest.now claims c.new-2.result) c.in-Err-No.field-0-0
     = subst (λ (given : SumClaims). FirstFails (count_claims (meaning c.args.program.now) c.args.nest.now given c.new-2.result) c.in-Err-No.field-0-0) c.new-sums.ensures first in
+    let made : AreSummed (length c.args.program.now.params) c.args.nest.now c.in-Ok.summed.sums.items c.in-Ok.summed.total
+    = subst (λ (nest : List (AffineForm × AffineForm)). AreSummed (length c.args.program.now.params) nest c.in-Ok.summed.sums.items c.in-Ok.summed.total) c.bounds-2.ensures
+    (subst (λ (n : ℕ). AreSummed n c.bounds-2.result.now c.in-Ok.summed.sums.items c.in-Ok.summed.total) (ap length c.params-params.ensures.params) c.in-Ok.ensures.made) in
+    let behind : FirstFails (sums_claims (meaning c.args.program.now) c.args.nest.now c.in-Ok.summed.sums.items c.new-2.result SUMS) c.in-Err-No.field-0-0
+    = fails-behind (numbered (range_claim (meaning c.args.program.now) c.args.nest.now c.in_ok-shown.shown.items c.new-2.result) 0 c.args.nest.now)
+    (sums_claims (meaning c.args.program.now) c.args.nest.now c.in-Ok.summed.sums.items c.new-2.result SUMS) c.in-Err-No.field-0-0
+    (ranges-hold (meaning c.args.program.now) c.args.nest.now c.in_ok-shown.shown.items c.new-2.result
+    (subst (λ (nest : List (AffineForm × AffineForm)). AreShownBelow (meaning c.args.program.now) nest c.in_ok-shown.shown.items (length nest)) c.bounds.ensures c.in_ok-shown.ensures.shown))
+    fails in
     inr (
       c.in-Ok.summed.sums.items,
       c.new-2.result,
       c.in-Err-No.field-0-0,
       (
-        (
-          c.in-Ok.summed.total,
-          subst (λ (nest : List (AffineForm × AffineForm)). AreSummed (length c.args.program.now.params) nest c.in-Ok.summed.sums.items c.in-Ok.summed.total) c.bounds-2.ensures
-              (subst (λ (n : ℕ). AreSummed n c.bounds-2.result.now c.in-Ok.summed.sums.items c.in-Ok.summed.total) (ap length c.params-params.ensures.params) c.in-Ok.ensures.made),
-        ),
-        fails-behind (numbered (range_claim (meaning c.args.program.now) c.args.nest.now c.in_ok-shown.shown.items c.new-2.result) 0 c.args.nest.now)
-            (sums_claims (meaning c.args.program.now) c.args.nest.now c.in-Ok.summed.sums.items c.new-2.result SUMS) c.in-Err-No.field-0-0
-            (ranges-hold (meaning c.args.program.now) c.args.nest.now c.in_ok-shown.shown.items c.new-2.result
-            (subst (λ (nest : List (AffineForm × AffineForm)). AreShownBelow (meaning c.args.program.now) nest c.in_ok-shown.shown.items (length nest)) c.bounds.ensures c.in_ok-shown.ensures.shown))
-            fails,
+        (c.in-Ok.summed.total, made),
+        behind,
+        first-is-wide (length c.args.program.now.params) c.args.nest.now c.in-Ok.summed.sums.items c.new-2.result SUMS c.in-Err-No.field-0-0 c.in-Ok.summed.total made behind,
       ),
     )
