@@ -1,6 +1,6 @@
 -- Sizes that are read one by one.
-use Rattle.std.proofs.Common.{◌≡◌, refl, ap, List, [], ◌∷◌, ◌++◌}
-use Rattle.std.specs.Prelude.{Option, Some, None, option_map}
+use Rattle.std.proofs.Common.{◌≡◌, refl, List, ◌++◌}
+use Rattle.std.specs.Prelude.{Option, None, option_map}
 use Rattle.command_words.specs.Sizes.{NamedSize, put_before}
 
 -- these sizes and then others, if there are others

@@ -1,7 +1,6 @@
 -- Words cut at a byte.
-use Rattle.std.proofs.Common.{◌≡◌, refl, ap, ℕ, List, [], ◌∷◌, ◌++◌}
+use Rattle.std.proofs.Common.{◌≡◌, refl, ℕ, List, [], ◌++◌}
 use Rattle.std.specs.Prelude.{Option, Some, None, option_map}
-use Rattle.command_words.specs.Sizes.{front_byte}
 
 -- these bytes and what stands before the cut, and what stands behind it
 abbrev pub behind : List ℕ → List ℕ × List ℕ → List ℕ × List ℕ

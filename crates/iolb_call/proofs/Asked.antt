@@ -1,14 +1,15 @@
--- Words that ask for an evaluation name at least one red pebble.
+-- Words that ask for an evaluation or a replay name at least one red pebble.
 use Rattle.std.proofs.Common.{◌≡◌, subst, ℕ, zero, suc, ◌-◌, ◌^◌, ◌≤◌, Bool, true, false, List, [], ◌∷◌, arith}
 use Rattle.std.specs.Prelude.{⊤, Option, None, Some, IfSome, option_map, option_and_then, if◌then◌else◌, ◌&&◌, nat_le, codes, bytes_eq}
 use Rattle.std.specs.List.{list_any}
 use Rattle.command_words.specs.Numbers.{if_within, memory_in, natural_in}
-use Rattle.command_words.specs.Requests.{Request, Task, checks, evaluates, begins_with_dash, check_in, eval_in, eval_task, request_in, request_of}
+use Rattle.command_words.specs.Requests.{Request, SizedWords, Work, checks, evaluates, judges, replays, begins_with_dash, check_in, eval_in, evaluation, replay, replay_in, request_in, request_of, sized_in}
 use Rattle.command_words.specs.Sizes.{sizes_in}
 
-abbrev pub HasPebbles : Task → Type 0
-HasPebbles checks = ⊤
-HasPebbles (evaluates s named) = 1 ≤ s
+abbrev pub HasPebbles : Work → Type 0
+HasPebbles (judges checks) = ⊤
+HasPebbles (judges (evaluates s named)) = 1 ≤ s
+HasPebbles (replays s named) = 1 ≤ s
 
 every : {A : Type 0} (P : Type 0) (o : Option A) → P → IfSome o (λ _. P)
 every P None p = tt
@@ -34,31 +35,35 @@ within most (suc n) = chosen (nat_le 1 (suc n) && nat_le (suc n) most) (λ s. 1 
 memory : (word : List ℕ) → IfSome (memory_in word) (λ s. 1 ≤ s)
 memory word = chained (if_within 1 (2 ^ 63 - 1)) (λ _. ⊤) (λ s. 1 ≤ s) (natural_in 19 word) (every ⊤ (natural_in 19 word) tt) (λ n _. within (2 ^ 63 - 1) n)
 
-task : (word : List ℕ) (words : List (List ℕ)) → IfSome (eval_task word words) HasPebbles
-task word words = chained (λ s. option_map (evaluates s) (sizes_in words)) (λ s. 1 ≤ s) HasPebbles (memory_in word) (memory word)
-    (λ s some. mapped (evaluates s) HasPebbles (sizes_in words) (every (1 ≤ s) (sizes_in words) some))
+sized : (words : List (List ℕ)) → IfSome (sized_in words) (λ said. 1 ≤ said.s)
+sized [] = tt
+sized (program ∷ []) = tt
+sized (program ∷ second ∷ []) = tt
+sized (program ∷ second ∷ word ∷ words) =
+    chained (λ s. option_map (λ named. record { program = program; second = second; s = s; named = named }) (sizes_in words)) (λ s. 1 ≤ s) (λ (said : SizedWords). 1 ≤ said.s) (memory_in word) (memory word)
+    (λ s some. mapped (λ named. record { program = program; second = second; s = s; named = named }) (λ (said : SizedWords). 1 ≤ said.s) (sizes_in words) (every (1 ≤ s) (sizes_in words) some))
 
-evaluation : (words : List (List ℕ)) → IfSome (eval_in words) (λ request. HasPebbles request.task)
-evaluation [] = tt
-evaluation (program ∷ []) = tt
-evaluation (program ∷ certificate ∷ []) = tt
-evaluation (program ∷ certificate ∷ word ∷ words) =
-    mapped (λ t. record { program = program; certificate = certificate; task = t }) (λ (request : Request). HasPebbles request.task) (eval_task word words) (task word words)
+evaluated : (words : List (List ℕ)) → IfSome (eval_in words) (λ request. HasPebbles request.work)
+evaluated words = mapped evaluation (λ (request : Request). HasPebbles request.work) (sized_in words) (sized words)
 
-check : (words : List (List ℕ)) → IfSome (check_in words) (λ request. HasPebbles request.task)
+replayed : (words : List (List ℕ)) → IfSome (replay_in words) (λ request. HasPebbles request.work)
+replayed words = mapped replay (λ (request : Request). HasPebbles request.work) (sized_in words) (sized words)
+
+check : (words : List (List ℕ)) → IfSome (check_in words) (λ request. HasPebbles request.work)
 check [] = tt
 check (program ∷ []) = tt
 check (program ∷ certificate ∷ []) = tt
 check (program ∷ certificate ∷ more ∷ words) = tt
 
-request : (words : List (List ℕ)) → IfSome (request_in words) (λ r. HasPebbles r.task)
+request : (words : List (List ℕ)) → IfSome (request_in words) (λ r. HasPebbles r.work)
 request [] = tt
 request (command ∷ words) =
-    chosen (bytes_eq command (codes "check")) (λ (r : Request). HasPebbles r.task) (check_in words)
-    (if bytes_eq command (codes "eval") then eval_in words else None) (check words)
-    (chosen (bytes_eq command (codes "eval")) (λ (r : Request). HasPebbles r.task) (eval_in words) None (evaluation words) tt)
+    let others = if bytes_eq command (codes "replay") then replay_in words else None in
+    chosen (bytes_eq command (codes "check")) (λ (r : Request). HasPebbles r.work) (check_in words) (if bytes_eq command (codes "eval") then eval_in words else others) (check words)
+    (chosen (bytes_eq command (codes "eval")) (λ (r : Request). HasPebbles r.work) (eval_in words) others (evaluated words)
+    (chosen (bytes_eq command (codes "replay")) (λ (r : Request). HasPebbles r.work) (replay_in words) None (replayed words) tt))
 
-pub pebbles : (words : List (List ℕ)) (r : Request) → request_of words ≡ Some r → HasPebbles r.task
+pub pebbles : (words : List (List ℕ)) (r : Request) → request_of words ≡ Some r → HasPebbles r.work
 pebbles words r asks =
-    subst (λ (o : Option Request). IfSome o (λ q. HasPebbles q.task)) asks
-    (chosen (list_any begins_with_dash words) (λ (q : Request). HasPebbles q.task) None (request_in words) tt (request words))
+    subst (λ (o : Option Request). IfSome o (λ q. HasPebbles q.work)) asks
+    (chosen (list_any begins_with_dash words) (λ (q : Request). HasPebbles q.work) None (request_in words) tt (request words))

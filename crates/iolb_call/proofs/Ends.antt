@@ -1,8 +1,7 @@
 -- What a request comes to over files that tell what they hold, phase by phase, and that this is one.
-use Rattle.std.proofs.Common.{◌≡◌, refl, sym, ◌∙◌, ap, subst, ℕ, zero, suc, ◌<◌, ◌≤◌, List, [], ◌∷◌, length, arith}
+use Rattle.std.proofs.Common.{◌≡◌, refl, sym, ◌∙◌, ap, subst, ℕ, ◌<◌, ◌≤◌, List, [], length, arith}
 use Rattle.std.specs.Prelude.{⊤, ℤ, Option, Some, None, Result, Ok, Err, IsSomeAnd}
 use Rattle.iolb_model.specs.Bound.{AreMet}
-use Rattle.iolb_model.specs.Form.{AffineForm}
 use Rattle.iolb_model.specs.Printed.{bound_text}
 use Rattle.iolb_model.specs.Program.{AffineProgram}
 use Rattle.claims.specs.declared.refused.No.{No as FailedCondition}
@@ -13,7 +12,7 @@ use Rattle.affine_c.specs.Meaning.{HasFault}
 use Rattle.iolb_cert.specs.OneCertificate.{HasCertificate, TextsHaveOneCertificate, TextsHaveOneAnswer}
 use Rattle.iolb_cert.specs.Texts.{IsTextFault}
 use Rattle.iolb_check.specs.Claims.{CertificateClaim}
-use Rattle.command_words.specs.Requests.{Request, Task, checks, evaluates, request_of}
+use Rattle.command_words.specs.Requests.{Request, Task, checks, evaluates, Work, judges, replays, request_of}
 use Rattle.command_words.specs.Sizes.{values_for}
 use Rattle.iolb_check.specs.declared.bound.Value.{Value}
 use Rattle.affine_program.specs.Assumptions.{IsFirstUnmet}
@@ -25,17 +24,28 @@ use Rattle.iolb_host.specs.Files.{FileMap, content_of}
 use Rattle.iolb_call.specs.declared.status.Status.{Status}
 use Rattle.iolb_call.specs.declared.status.Status.TheVariants.{Done, Words as WordsRefused}
 use Rattle.iolb_call.specs.declared.stop.Stop.{Stop}
-use Rattle.iolb_call.specs.declared.stop.Stop.TheVariants.{Words, ProgramFile, ProgramText, CertificateFile, CertificateText, Condition, Assumption, Wide}
+use Rattle.iolb_call.specs.declared.stop.Stop.TheVariants.{Words, ProgramFile, ProgramText, SecondFile, CertificateText, Condition, Assumption, Wide, ScheduleText, Unplayed}
 use Rattle.iolb_call.specs.Lines.{usage}
-use Rattle.iolb_call.specs.Stop.{program_most, certificate_most, stop_line, stop_status}
-use Rattle.iolb_call.specs.Task.{HasSizes, LacksSizes, bound_with}
+use Rattle.iolb_call.specs.Replays.{moves_at}
+use Rattle.iolb_call.specs.Stop.{program_most, second_most, stop_line, stop_status}
+use Rattle.iolb_call.specs.Task.{bound_with}
+use Rattle.iolb_call.specs.Works.{HasSizes, LacksSizes}
 use Rattle.iolb_check.specs.Conditions.{MeetsConditions, conditions}
 use Rattle.claims.specs.Claims.{FirstFails}
 use Rattle.iolb_call.specs.Values.{values_text}
 use Rattle.iolb_call.proofs.Phases.{Phase, phase_one}
-use Rattle.iolb_call.proofs.Values.{met-first}
+use Rattle.tile_sched.specs.declared.error.SchedFault.{SchedFault}
+use Rattle.tile_sched.specs.declared.schedule.Key.{Key}
+use Rattle.tile_sched.specs.OneSchedule.{IsTextFault as IsScheduleFault, TextsHaveOneSchedule}
+use Rattle.tile_sched.specs.Texts.{IsTextOf as IsScheduleOf}
+use Rattle.replay_call.proofs.Refusals.{first_one, met_first, none_some, same_some}
+use Rattle.replay_call.specs.Laws.{OrdersAreOne, PlayedOrRefused, RefusalsAreOne as UnplayedAreOne}
+use Rattle.replay_call.specs.Lines.{play_text}
+use Rattle.replay_call.specs.Plays.{CanBePlayed, IsUnplayed}
+use Rattle.replay_call.specs.declared.unplayed.Unplayed.{Unplayed as NoPlay}
+use Rattle.command_words.specs.Sizes.{NamedSize}
 
--- What the crates below say: texts and conditions have one answer.
+-- What the crates below say: texts, conditions and schedules have one answer.
 pub record AreExact : Type 0 where
   pub one_program : TextsMeanOneProgram
   pub one_certificate : TextsHaveOneCertificate
@@ -43,6 +53,10 @@ pub record AreExact : Type 0 where
   pub stand : ValidCertificatesStand
   pub one_values : ValidCertificatesGiveOne
   pub one_refusal : RefusalsAreOne
+  pub schedules : TextsHaveOneSchedule
+  pub one_order : OrdersAreOne
+  pub one_unplayed : UnplayedAreOne
+  pub played_or_refused : PlayedOrRefused
 
 -- how a call ends: its status, and what it writes to the output and to the standard error
 pub record CallEnd : Type 0 where
@@ -54,7 +68,7 @@ abbrev pub done_end : List ℕ → CallEnd
 done_end text = record { status = Done; output = text; error = [] }
 
 abbrev pub stop_end : Request → Stop → CallEnd
-stop_end request stop = record { status = stop_status stop; output = []; error = stop_line request.program request.certificate stop }
+stop_end request stop = record { status = stop_status stop; output = []; error = stop_line request.program request.second stop }
 
 abbrev pub words_end : CallEnd
 words_end = record { status = WordsRefused; output = []; error = usage }
@@ -76,14 +90,31 @@ TaskEnds (evaluates s named) request program values end =
     (sizes : List ℤ) × (values_for program.parameters named ≡ Some sizes) × ValueEnds request s program values sizes end
 
 -- the conditions
-abbrev pub ConditionEnds : Request → AffineProgram → CertificateClaim → CallEnd → Type 0
-ConditionEnds request program claim = Phase (FirstFails (conditions program claim)) (λ failed. stop_end request (Condition failed))
-    (MeetsConditions program claim) (TaskEnds request.task request program)
+abbrev pub ConditionEnds : Task → Request → AffineProgram → CertificateClaim → CallEnd → Type 0
+ConditionEnds task request program claim = Phase (FirstFails (conditions program claim)) (λ failed. stop_end request (Condition failed))
+    (MeetsConditions program claim) (TaskEnds task request program)
 
 -- the certificate's text
-abbrev pub CertificateEnds : Request → AffineProgram → List ℕ → CallEnd → Type 0
-CertificateEnds request program bytes = Phase (IsTextFault bytes) (λ fault. stop_end request (CertificateText fault))
-    (HasCertificate bytes) (ConditionEnds request program)
+abbrev pub CertificateEnds : Task → Request → AffineProgram → List ℕ → CallEnd → Type 0
+CertificateEnds task request program bytes = Phase (IsTextFault bytes) (λ fault. stop_end request (CertificateText fault))
+    (HasCertificate bytes) (ConditionEnds task request program)
+
+-- the play of a schedule at sizes
+abbrev pub PlayEnds : Request → ℕ → AffineProgram → List (List Key) → List ℤ → CallEnd → Type 0
+PlayEnds request s program schedule sizes = Phase {X = NoPlay} {Y = List ℕ}
+    (IsUnplayed program schedule sizes s) (λ unplayed. stop_end request (Unplayed unplayed))
+    (CanBePlayed program schedule sizes s) (λ order end. end ≡ done_end (play_text (moves_at program sizes s order)))
+
+-- the schedule's text
+abbrev pub ScheduleEnds : ℕ → List NamedSize → Request → AffineProgram → List ℕ → CallEnd → Type 0
+ScheduleEnds s named request program bytes = Phase {X = SchedFault} {Y = List (List Key)} (IsScheduleFault program bytes) (λ fault. stop_end request (ScheduleText fault))
+    (IsScheduleOf program bytes)
+    (λ schedule end. (sizes : List ℤ) × (values_for program.parameters named ≡ Some sizes) × PlayEnds request s program schedule sizes end)
+
+-- the text of the second file
+abbrev pub TextEnds : Work → Request → AffineProgram → List ℕ → CallEnd → Type 0
+TextEnds (judges task) request program bytes = CertificateEnds task request program bytes
+TextEnds (replays s named) request program bytes = ScheduleEnds s named request program bytes
 
 -- a file is missing or too long
 abbrev pub IsAbsent : Option (List ℕ) → ℕ → FileFault → Type 0
@@ -97,11 +128,11 @@ abbrev pub FileEnds : Option (List ℕ) → ℕ → (FileFault → CallEnd) → 
 FileEnds content most ends Onward = Phase (IsAbsent content most) ends
     (λ bytes. (content ≡ Some bytes) × (length bytes ≤ most)) Onward
 
--- the names of the parameters, and the certificate's file
+-- the names of the parameters, and the second file
 abbrev pub NameEnds : FileMap → Request → AffineProgram → CallEnd → Type 0
-NameEnds map request program = Phase {X = ⊤} {Y = ⊤} (λ _. LacksSizes request.task program.parameters) (λ _. stop_end request Words)
-    (λ _. HasSizes request.task program.parameters)
-    (λ _. FileEnds (content_of map request.certificate) certificate_most (λ fault. stop_end request (CertificateFile fault)) (CertificateEnds request program))
+NameEnds map request program = Phase {X = ⊤} {Y = ⊤} (λ _. LacksSizes request.work program.parameters) (λ _. stop_end request Words)
+    (λ _. HasSizes request.work program.parameters)
+    (λ _. FileEnds (content_of map request.second) (second_most request.work) (λ fault. stop_end request (SecondFile fault)) (TextEnds request.work request program))
 
 -- the program's text
 abbrev pub ProgramEnds : FileMap → Request → List ℕ → CallEnd → Type 0
@@ -118,24 +149,11 @@ CallEnds map words = Phase {X = ⊤} (λ _. request_of words ≡ None) (λ _. wo
 
 -- ---- each has one end
 
-pub same_some : {A : Type 0} (a b : A) → Some a ≡ Some b → a ≡ b
-same_some a b e = cc
-
-none_some : {A : Type 0} (o : Option A) (a : A) → o ≡ None → o ≡ Some a → ⊥
-none_some o a e f = cc
-
-first_one : (rows : List AffineForm) (sizes : List ℤ) (n m : ℕ) → IsFirstUnmet rows sizes n → IsFirstUnmet rows sizes m → n ≡ m
-first_one [] sizes n m unmet other = absurd unmet
-first_one (row ∷ rows) sizes zero zero unmet other = refl
-first_one (row ∷ rows) sizes zero (suc m) unmet other = absurd (unmet other.0)
-first_one (row ∷ rows) sizes (suc n) zero unmet other = absurd (other unmet.0)
-first_one (row ∷ rows) sizes (suc n) (suc m) unmet other = ap suc (first_one rows sizes n m unmet.1 other.1)
-
 values_one : (request : Request) (s : ℕ) (program : AffineProgram) (values : List (List Value)) (sizes : List ℤ) (one other : CallEnd)
     → ValueEnds request s program values sizes one → ValueEnds request s program values sizes other → one ≡ other
 values_one request s program values sizes = phase_one _ _ _ _
     (λ n m unmet again. ap (λ number. stop_end request (Assumption number)) (first_one program.assumptions sizes n m unmet again))
-    (λ n _ unmet met. met-first program.assumptions sizes n met unmet)
+    (λ n _ unmet met. met_first program.assumptions sizes n met unmet)
     (λ _ _ one other _ _. phase_one {X = ⊤} {Y = ⊤} {E = CallEnd} (λ _. HasWideBranch sizes s values) (λ _. stop_end request Wide)
     (λ _. ¬ HasWideBranch sizes s values) (λ _ end. end ≡ done_end (values_text (bound_with program values) sizes s))
     (λ _ _ _ _. refl) (λ _ _ wide narrow. narrow wide) (λ _ _ one other _ _ is does. is ∙ sym does) one other)
@@ -156,21 +174,43 @@ valid_or_not exact program claim values failed valid invalid = exact.stand progr
 same_values : AreExact → (program : AffineProgram) (claim : CertificateClaim) (v w : List (List Value)) → MeetsConditions program claim v → MeetsConditions program claim w → v ≡ w
 same_values exact program claim v w one other = exact.one_values program claim v w one other
 
-conditions_one : AreExact → (request : Request) (program : AffineProgram) (claim : CertificateClaim) (one other : CallEnd)
-    → ConditionEnds request program claim one → ConditionEnds request program claim other → one ≡ other
-conditions_one exact request program claim = phase_one _ _ _ _
+conditions_one : AreExact → (task : Task) (request : Request) (program : AffineProgram) (claim : CertificateClaim) (one other : CallEnd)
+    → ConditionEnds task request program claim one → ConditionEnds task request program claim other → one ≡ other
+conditions_one exact task request program claim = phase_one _ _ _ _
     (λ f g fails again. ap (λ failed. stop_end request (Condition failed)) (same_refusal exact program claim f g fails again))
     (λ failed values fails valid. valid_or_not exact program claim values failed valid fails)
-    (λ v w one other valid again ends end. task_one request.task request program v one other ends
-    (subst (λ (z : List (List Value)). TaskEnds request.task request program z other) (same_values exact program claim w v again valid) end))
+    (λ v w one other valid again ends end. task_one task request program v one other ends
+    (subst (λ (z : List (List Value)). TaskEnds task request program z other) (same_values exact program claim w v again valid) end))
 
-certificate_one : AreExact → (request : Request) (program : AffineProgram) (bytes : List ℕ) (one other : CallEnd)
-    → CertificateEnds request program bytes one → CertificateEnds request program bytes other → one ≡ other
-certificate_one exact request program bytes = phase_one _ _ _ _
+certificate_one : AreExact → (task : Task) (request : Request) (program : AffineProgram) (bytes : List ℕ) (one other : CallEnd)
+    → CertificateEnds task request program bytes one → CertificateEnds task request program bytes other → one ≡ other
+certificate_one exact task request program bytes = phase_one _ _ _ _
     (λ f g has again. ap (λ fault. stop_end request (CertificateText fault)) (exact.one_answer.one_fault bytes f g has again))
     (λ fault claim faulty has. exact.one_answer.either bytes claim fault has faulty)
-    (λ a b one other has again ends end. conditions_one exact request program a one other ends
-    (subst (λ (z : CertificateClaim). ConditionEnds request program z other) (exact.one_certificate bytes b a again has) end))
+    (λ a b one other has again ends end. conditions_one exact task request program a one other ends
+    (subst (λ (z : CertificateClaim). ConditionEnds task request program z other) (exact.one_certificate bytes b a again has) end))
+
+play_one : AreExact → (request : Request) (s : ℕ) (program : AffineProgram) (schedule : List (List Key)) (sizes : List ℤ) (one other : CallEnd)
+    → PlayEnds request s program schedule sizes one → PlayEnds request s program schedule sizes other → one ≡ other
+play_one exact request s program schedule sizes = phase_one _ _ _ _
+    (λ u v held again. ap (λ unplayed. stop_end request (Unplayed unplayed)) (exact.one_unplayed program schedule sizes s u v held again))
+    (λ unplayed order held can. exact.played_or_refused program schedule sizes s order unplayed can held)
+    (λ p q one other can again is does. is
+    ∙ ap (λ (order : List ℕ). done_end (play_text (moves_at program sizes s order))) (exact.one_order program schedule sizes s p q can again) ∙ sym does)
+
+schedule_one : AreExact → (s : ℕ) (named : List NamedSize) (request : Request) (program : AffineProgram) (bytes : List ℕ) (one other : CallEnd)
+    → ScheduleEnds s named request program bytes one → ScheduleEnds s named request program bytes other → one ≡ other
+schedule_one exact s named request program bytes = phase_one _ _ _ _
+    (λ f g has again. ap (λ fault. stop_end request (ScheduleText fault)) (exact.schedules.one_fault program bytes f g has again))
+    (λ fault schedule faulty has. exact.schedules.either program bytes schedule fault has faulty)
+    (λ a b one other has again (sizes, given, ends) (others, gives, end). play_one exact request s program a sizes one other ends
+    (subst (λ (z : List ℤ). PlayEnds request s program a z other) (same_some others sizes (sym gives ∙ given))
+    (subst (λ (z : List (List Key)). PlayEnds request s program z others other) (exact.schedules.one_schedule program bytes b a again has) end)))
+
+text_one : AreExact → (work : Work) (request : Request) (program : AffineProgram) (bytes : List ℕ) (one other : CallEnd)
+    → TextEnds work request program bytes one → TextEnds work request program bytes other → one ≡ other
+text_one exact (judges task) request program bytes one other ends end = certificate_one exact task request program bytes one other ends end
+text_one exact (replays s named) request program bytes one other ends end = schedule_one exact s named request program bytes one other ends end
 
 absent_one : (content : Option (List ℕ)) (most : ℕ) (f g : FileFault) → IsAbsent content most f → IsAbsent content most g → f ≡ g
 absent_one content most Missing Missing absent again = refl
@@ -202,16 +242,17 @@ file_one content most ends Onward onward = phase_one _ _ _ _
     (λ a b one other found again on end. onward a one other on
     (subst (λ (z : List ℕ). Onward z other) (same_some b a (sym again.0 ∙ found.0)) end))
 
-sizes_apart : (task : Task) (names : List (List ℕ)) → LacksSizes task names → HasSizes task names → ⊥
-sizes_apart checks names lacks has = lacks
-sizes_apart (evaluates s named) names lacks has = none_some (values_for names named) has.0 lacks has.1
+sizes_apart : (work : Work) (names : List (List ℕ)) → LacksSizes work names → HasSizes work names → ⊥
+sizes_apart (judges checks) names lacks has = lacks
+sizes_apart (judges (evaluates s named)) names lacks has = none_some (values_for names named) has.0 lacks has.1
+sizes_apart (replays s named) names lacks has = none_some (values_for names named) has.0 lacks has.1
 
 names_one : AreExact → (map : FileMap) (request : Request) (program : AffineProgram) (one other : CallEnd)
     → NameEnds map request program one → NameEnds map request program other → one ≡ other
 names_one exact map request program = phase_one _ _ _ _ (λ _ _ _ _. refl)
-    (λ _ _ lacks has. sizes_apart request.task program.parameters lacks has)
-    (λ _ _ one other _ _. file_one (content_of map request.certificate) certificate_most (λ fault. stop_end request (CertificateFile fault)) (CertificateEnds request program)
-    (certificate_one exact request program) one other)
+    (λ _ _ lacks has. sizes_apart request.work program.parameters lacks has)
+    (λ _ _ one other _ _. file_one (content_of map request.second) (second_most request.work) (λ fault. stop_end request (SecondFile fault)) (TextEnds request.work request program)
+    (text_one exact request.work request program) one other)
 
 same_fault : (source : List ℕ) (f g : ProgramFault) → HasFault source f → HasFault source g → f ≡ g
 same_fault source f g has again =

@@ -6,3 +6,5 @@ pub mod Asked
 pub mod Phases
 pub mod Ends
 pub mod One
+pub mod Replayed
+pub mod Beside

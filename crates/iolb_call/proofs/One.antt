@@ -9,7 +9,7 @@ use Rattle.iolb_model.specs.Program.{AffineProgram}
 use Rattle.c_grammar.specs.Program.{Means}
 use Rattle.iolb_cert.specs.OneCertificate.{HasCertificate}
 use Rattle.iolb_check.specs.Claims.{CertificateClaim}
-use Rattle.command_words.specs.Requests.{Request, Task, checks, evaluates, request_of}
+use Rattle.command_words.specs.Requests.{Request, Task, checks, evaluates, Work, judges, replays, request_of}
 use Rattle.iolb_check.specs.declared.bound.Value.{Value}
 use Rattle.iolb_host.specs.declared.files.FileFault.{FileFault}
 use Rattle.iolb_host.specs.declared.files.FileFault.TheVariants.{Missing, TooLong, Failed, Memory as NoMemoryForFile}
@@ -18,17 +18,21 @@ use Rattle.iolb_host.specs.Files.{FileMap}
 use Rattle.iolb_call.specs.declared.status.Status.{Status}
 use Rattle.iolb_call.specs.declared.status.Status.TheVariants.{Done, Refused, Words as WordsRefused, ProgramText as ProgramRefused, OtherText, FileAbsent, ReadFault, WriteFault, Wide as WideValue, NoMemory}
 use Rattle.iolb_call.specs.declared.stop.Stop.{Stop}
-use Rattle.iolb_call.specs.declared.stop.Stop.TheVariants.{Words, ProgramFile, ProgramText, CertificateFile, CertificateText, Condition, Assumption, Wide, Memory}
-use Rattle.iolb_call.specs.Laws.{IsUndisturbed, OutcomesAreOne, HasAnswer, ValidCertificatesPass, OthersNeverPass}
+use Rattle.iolb_call.specs.declared.stop.Stop.TheVariants.{Words, ProgramFile, ProgramText, SecondFile, CertificateText, Condition, Assumption, Wide, ScheduleText, Unplayed, Memory}
+use Rattle.iolb_call.specs.Laws.{IsUndisturbed, OutcomesAreOne, HasAnswer, ValidCertificatesPass, OthersNeverPass, PlayableSchedulesPass}
 use Rattle.iolb_call.specs.Outcome.{IsStopped, Outcome}
 use Rattle.iolb_call.specs.Reading.{IsContent}
-use Rattle.iolb_call.specs.Stop.{certificate_most, HoldsProgram, HoldsCertificate, HoldsValid, IsAccepted, RequestStop, faults_at, stop_status, Call, Stops}
-use Rattle.iolb_call.specs.Task.{HasSizes, IsAnswer, IsOutside, IsBeyond, bound_with}
+use Rattle.replay_call.specs.Lines.{play_text}
+use Rattle.replay_call.proofs.Refusals.{same_some}
+use Rattle.iolb_call.specs.Replays.{HoldsSchedule, moves_at}
+use Rattle.iolb_call.specs.Stop.{HoldsProgram, HoldsCertificate, HoldsValid, IsAnswered, IsGoodFor, IsWorkDone, RequestStop, TextStop, faults_at, second_most, stop_status, Call, Stops}
+use Rattle.iolb_call.specs.Task.{IsAnswer, IsOutside, IsBeyond, bound_with}
+use Rattle.iolb_call.specs.Works.{HasSizes}
 use Rattle.iolb_call.specs.Use.{CallUse, SinkUse, Gains, Stays}
 use Rattle.iolb_check.specs.Conditions.{MeetsConditions}
 use Rattle.iolb_call.specs.Values.{values_text}
 use Rattle.iolb_call.proofs.Asked.{HasPebbles, pebbles}
-use Rattle.iolb_call.proofs.Ends.{AreExact, CallEnd, CallEnds, CertificateEnds, ConditionEnds, NameEnds, RequestEnds, TaskEnds, calls_one, done_end, same_some, stop_end, words_end}
+use Rattle.iolb_call.proofs.Ends.{AreExact, CallEnd, CallEnds, ConditionEnds, NameEnds, RequestEnds, TaskEnds, TextEnds, calls_one, done_end, stop_end, words_end}
 
 -- ---- stops that are no failure of a read and no want of memory
 
@@ -42,11 +46,13 @@ abbrev IsPlain : Stop → Type 0
 IsPlain Words = ⊤
 IsPlain (ProgramFile fault) = IsPlainFault fault
 IsPlain (ProgramText fault) = ⊤
-IsPlain (CertificateFile fault) = IsPlainFault fault
+IsPlain (SecondFile fault) = IsPlainFault fault
 IsPlain (CertificateText fault) = ⊤
 IsPlain (Condition failed) = ⊤
 IsPlain (Assumption number) = ⊤
 IsPlain Wide = ⊤
+IsPlain (ScheduleText fault) = ⊤
+IsPlain (Unplayed unplayed) = ⊤
 IsPlain Memory = ⊥
 
 one_more : {X : Type 0} (test : X → Bool) (xs : List X) (x : X) → test x ≡ true → count_by test (xs ++ x ∷ []) ≡ count_by test xs + 1
@@ -69,12 +75,14 @@ plain request Words faults after noted calm differs = tt
 plain request (ProgramFile fault) faults after noted calm differs =
     plain_fault faults after request.program fault noted calm (λ is. differs (ap (λ f. stop_status (ProgramFile f)) is))
 plain request (ProgramText fault) faults after noted calm differs = tt
-plain request (CertificateFile fault) faults after noted calm differs =
-    plain_fault faults after request.certificate fault noted calm (λ is. differs (ap (λ f. stop_status (CertificateFile f)) is))
+plain request (SecondFile fault) faults after noted calm differs =
+    plain_fault faults after request.second fault noted calm (λ is. differs (ap (λ f. stop_status (SecondFile f)) is))
 plain request (CertificateText fault) faults after noted calm differs = tt
 plain request (Condition failed) faults after noted calm differs = tt
 plain request (Assumption number) faults after noted calm differs = tt
 plain request Wide faults after noted calm differs = tt
+plain request (ScheduleText fault) faults after noted calm differs = tt
+plain request (Unplayed unplayed) faults after noted calm differs = tt
 plain request Memory faults after noted calm differs = differs refl
 
 -- ---- what a request comes to, from what it is stopped or answered by
@@ -83,41 +91,69 @@ to_names : (map : FileMap) (request : Request) (program : AffineProgram) (end : 
     → NameEnds map request program end → RequestEnds map request end
 to_names map request program end holds ends = inr (holds.source, (holds.content.told, holds.content.few), inr (program, holds.means, ends))
 
-to_text : (map : FileMap) (request : Request) (program : AffineProgram) (bytes : List ℕ) (end : CallEnd) → HasSizes request.task program.parameters
-    → IsContent (Some map) request.certificate certificate_most bytes → CertificateEnds request program bytes end → NameEnds map request program end
+-- the second file is read, and its text ends the call so
+to_text : (map : FileMap) (request : Request) (program : AffineProgram) (bytes : List ℕ) (end : CallEnd) → HasSizes request.work program.parameters
+    → IsContent (Some map) request.second (second_most request.work) bytes → TextEnds request.work request program bytes end → NameEnds map request program end
 to_text map request program bytes end sizes content ends = inr (tt, sizes, inr (bytes, (content.told, content.few), ends))
 
-to_conditions : (map : FileMap) (request : Request) (program : AffineProgram) (claim : CertificateClaim) (end : CallEnd) → HasSizes request.task program.parameters
-    → HoldsCertificate (Some map) request.certificate claim → ConditionEnds request program claim end → NameEnds map request program end
-to_conditions map request program claim end sizes held ends =
-    to_text map request program held.bytes end sizes held.content (inr (claim, held.has, ends))
+-- What the second file comes to: it is there, and its text ends the call so.
+record SecondEnds (map : FileMap) (work : Work) (request : Request) (program : AffineProgram) (end : CallEnd) : Type 0 where
+  bytes : List ℕ
+  content : IsContent (Some map) request.second (second_most work) bytes
+  ends : TextEnds work request program bytes end
 
-to_task : (map : FileMap) (request : Request) (program : AffineProgram) (values : List (List Value)) (end : CallEnd) → HasSizes request.task program.parameters
-    → HoldsValid (Some map) request.certificate program values → TaskEnds request.task request program values end → NameEnds map request program end
-to_task map request program values end sizes valid ends =
-    to_conditions map request program valid.certificate end sizes valid.held (inr (values, valid.valid, ends))
+to_second : (map : FileMap) (request : Request) (program : AffineProgram) (end : CallEnd) → HasSizes request.work program.parameters → SecondEnds map request.work request program end → NameEnds map request program end
+to_second map request program end sizes second = to_text map request program second.bytes end sizes second.content second.ends
+
+to_conditions : (map : FileMap) (task : Task) (request : Request) (program : AffineProgram) (claim : CertificateClaim) (end : CallEnd)
+    → HoldsCertificate (Some map) request.second claim → ConditionEnds task request program claim end → SecondEnds map (judges task) request program end
+to_conditions map task request program claim end held ends = record { bytes = held.bytes; content = held.content; ends = inr (claim, held.has, ends) }
+
+to_task : (map : FileMap) (task : Task) (request : Request) (program : AffineProgram) (values : List (List Value)) (end : CallEnd)
+    → HoldsValid (Some map) request.second program values → TaskEnds task request program values end → SecondEnds map (judges task) request program end
+to_task map task request program values end valid ends =
+    to_conditions map task request program valid.certificate end valid.held (inr (values, valid.valid, ends))
 
 outside_ends : (task : Task) (request : Request) (program : AffineProgram) (values : List (List Value)) (number : ℕ) → IsOutside task program number
-    → HasSizes task program.parameters × TaskEnds task request program values (stop_end request (Assumption number))
+    → TaskEnds task request program values (stop_end request (Assumption number))
 outside_ends checks request program values number outside = absurd outside
-outside_ends (evaluates s named) request program values number (sizes, given, unmet) = ((sizes, given), (sizes, given, inl (number, unmet, refl)))
+outside_ends (evaluates s named) request program values number (sizes, given, unmet) = (sizes, given, inl (number, unmet, refl))
 
 beyond_ends : (task : Task) (request : Request) (program : AffineProgram) (values : List (List Value)) → IsBeyond task program values
-    → HasSizes task program.parameters × TaskEnds task request program values (stop_end request Wide)
+    → TaskEnds task request program values (stop_end request Wide)
 beyond_ends checks request program values beyond = absurd beyond
-beyond_ends (evaluates s named) request program values (sizes, given, met, wide) = ((sizes, given), (sizes, given, inr (tt, met, inl (tt, wide, refl))))
+beyond_ends (evaluates s named) request program values (sizes, given, met, wide) = (sizes, given, inr (tt, met, inl (tt, wide, refl)))
 
 answer_ends : (task : Task) (request : Request) (program : AffineProgram) (values : List (List Value)) (text : List ℕ) → IsAnswer task program values text
-    → HasSizes task program.parameters × TaskEnds task request program values (done_end text)
-answer_ends checks request program values text is = (([], tt), ap done_end is)
+    → TaskEnds task request program values (done_end text)
+answer_ends checks request program values text is = ap done_end is
 answer_ends (evaluates s named) request program values text answer =
-    ((answer.sizes, answer.given), (answer.sizes, answer.given, inr (tt, answer.admitted.met, inr (tt, answer.narrow, ap done_end answer.printed))))
+    (answer.sizes, answer.given, inr (tt, answer.admitted.met, inr (tt, answer.narrow, ap done_end answer.printed)))
 
-accepted_ends : (map : FileMap) (request : Request) (text : List ℕ) → IsAccepted (Some map) request text → RequestEnds map request (done_end text)
-accepted_ends map request text accepted =
-    let ends = answer_ends request.task request accepted.program accepted.good.values text accepted.good.answer in
-    to_names map request accepted.program (done_end text) accepted.holds_program
-    (to_task map request accepted.program accepted.good.values (done_end text) ends.0 accepted.good.valid ends.1)
+-- an answer has sizes
+answer_sizes : (task : Task) (program : AffineProgram) (values : List (List Value)) (text : List ℕ) → IsAnswer task program values text → HasSizes (judges task) program.parameters
+answer_sizes checks program values text is = ([], tt)
+answer_sizes (evaluates s named) program values text answer = (answer.sizes, answer.given)
+
+done_sizes : (map : FileMap) (name : List ℕ) (work : Work) (program : AffineProgram) (text : List ℕ) → IsWorkDone (Some map) name work program text → HasSizes work program.parameters
+done_sizes map name (judges task) program text good = answer_sizes task program good.values text good.answer
+done_sizes map name (replays s named) program text good = (good.sizes, good.given)
+
+done_ends : (map : FileMap) (work : Work) (request : Request) (program : AffineProgram) (text : List ℕ) → IsWorkDone (Some map) request.second work program text
+    → SecondEnds map work request program (done_end text)
+done_ends map (judges task) request program text good =
+    to_task map task request program good.values (done_end text) good.valid (answer_ends task request program good.values text good.answer)
+done_ends map (replays s named) request program text good = record {
+  bytes = good.held.bytes;
+  content = good.held.content;
+  ends = inr (good.schedule, good.held.has, (good.sizes, good.given, inr (good.order, good.can, ap done_end good.printed)));
+}
+
+answered_ends : (map : FileMap) (request : Request) (text : List ℕ) → IsAnswered (Some map) request text → RequestEnds map request (done_end text)
+answered_ends map request text answered =
+    to_names map request answered.program (done_end text) answered.holds_program
+    (to_second map request answered.program (done_end text) (done_sizes map request.second request.work answered.program text answered.good)
+    (done_ends map request.work request answered.program text answered.good))
 
 program_file_ends : (map : FileMap) (request : Request) (fault : FileFault) → RequestStop (Some map) request (ProgramFile fault) → IsPlainFault fault → RequestEnds map request (stop_end request (ProgramFile fault))
 program_file_ends map request Missing cause ok = inl (Missing, cause, refl)
@@ -125,29 +161,63 @@ program_file_ends map request TooLong cause ok = inl (TooLong, cause, refl)
 program_file_ends map request Failed cause ok = absurd ok
 program_file_ends map request NoMemoryForFile cause ok = absurd ok
 
-certificate_file_ends : (map : FileMap) (request : Request) (fault : FileFault) → RequestStop (Some map) request (CertificateFile fault) → IsPlainFault fault → RequestEnds map request (stop_end request (CertificateFile fault))
-certificate_file_ends map request Missing (program, holds, (sizes, cause)) ok =
-    to_names map request program (stop_end request (CertificateFile Missing)) holds (inr (tt, sizes, inl (Missing, cause, refl)))
-certificate_file_ends map request TooLong (program, holds, (sizes, cause)) ok =
-    to_names map request program (stop_end request (CertificateFile TooLong)) holds (inr (tt, sizes, inl (TooLong, cause, refl)))
-certificate_file_ends map request Failed cause ok = absurd ok
-certificate_file_ends map request NoMemoryForFile cause ok = absurd ok
+second_file_ends : (map : FileMap) (request : Request) (fault : FileFault) → RequestStop (Some map) request (SecondFile fault) → IsPlainFault fault → RequestEnds map request (stop_end request (SecondFile fault))
+second_file_ends map request Missing (program, holds, (sizes, cause)) ok =
+    to_names map request program (stop_end request (SecondFile Missing)) holds (inr (tt, sizes, inl (Missing, cause, refl)))
+second_file_ends map request TooLong (program, holds, (sizes, cause)) ok =
+    to_names map request program (stop_end request (SecondFile TooLong)) holds (inr (tt, sizes, inl (TooLong, cause, refl)))
+second_file_ends map request Failed cause ok = absurd ok
+second_file_ends map request NoMemoryForFile cause ok = absurd ok
+
+-- what stops a request at the text of the second file
+text_ends : (map : FileMap) (work : Work) (request : Request) (program : AffineProgram) (stop : Stop) → TextStop (Some map) request.second work program stop → IsPlain stop
+    → SecondEnds map work request program (stop_end request stop)
+text_ends map (judges task) request program Words cause ok = absurd cause
+text_ends map (judges task) request program (ProgramFile fault) cause ok = absurd cause
+text_ends map (judges task) request program (ProgramText fault) cause ok = absurd cause
+text_ends map (judges task) request program (SecondFile fault) cause ok = absurd cause
+text_ends map (judges task) request program (CertificateText fault) (bytes, content, has) ok = record { bytes = bytes; content = content; ends = inl (fault, has, refl) }
+text_ends map (judges task) request program (Condition failed) (claim, held, fails) ok =
+    to_conditions map task request program claim (stop_end request (Condition failed)) held (inl (failed, fails, refl))
+text_ends map (judges task) request program (Assumption number) (values, valid, outside) ok =
+    to_task map task request program values (stop_end request (Assumption number)) valid (outside_ends task request program values number outside)
+text_ends map (judges task) request program Wide (values, valid, beyond) ok =
+    to_task map task request program values (stop_end request Wide) valid (beyond_ends task request program values beyond)
+text_ends map (judges task) request program (ScheduleText fault) cause ok = absurd cause
+text_ends map (judges task) request program (Unplayed unplayed) cause ok = absurd cause
+text_ends map (replays s named) request program Words cause ok = absurd cause
+text_ends map (replays s named) request program (ProgramFile fault) cause ok = absurd cause
+text_ends map (replays s named) request program (ProgramText fault) cause ok = absurd cause
+text_ends map (replays s named) request program (SecondFile fault) cause ok = absurd cause
+text_ends map (replays s named) request program (CertificateText fault) cause ok = absurd cause
+text_ends map (replays s named) request program (Condition failed) cause ok = absurd cause
+text_ends map (replays s named) request program (Assumption number) cause ok = absurd cause
+text_ends map (replays s named) request program Wide cause ok = absurd cause
+text_ends map (replays s named) request program (ScheduleText fault) (bytes, content, has) ok = record { bytes = bytes; content = content; ends = inl (fault, has, refl) }
+text_ends map (replays s named) request program (Unplayed unplayed) (schedule, held, sizes, given, cause) ok = record {
+  bytes = held.bytes;
+  content = held.content;
+  ends = inr (schedule, held.has, (sizes, given, inl (unplayed, cause, refl)));
+}
+text_ends map work request program Memory cause ok = absurd ok
+
+work_ends : (map : FileMap) (request : Request) (program : AffineProgram) (stop : Stop) → HoldsProgram (Some map) request.program program
+    → HasSizes request.work program.parameters × TextStop (Some map) request.second request.work program stop → IsPlain stop → RequestEnds map request (stop_end request stop)
+work_ends map request program stop holds (sizes, cause) ok =
+    to_names map request program (stop_end request stop) holds
+    (to_second map request program (stop_end request stop) sizes (text_ends map request.work request program stop cause ok))
 
 stop_ends : (map : FileMap) (request : Request) (stop : Stop) → RequestStop (Some map) request stop → IsPlain stop → RequestEnds map request (stop_end request stop)
 stop_ends map request Words (program, holds, lacks) ok = to_names map request program (stop_end request Words) holds (inl (tt, lacks, refl))
 stop_ends map request (ProgramFile fault) cause ok = program_file_ends map request fault cause ok
 stop_ends map request (ProgramText fault) (source, content, has) ok = inr (source, (content.told, content.few), inl (fault, has, refl))
-stop_ends map request (CertificateFile fault) cause ok = certificate_file_ends map request fault cause ok
-stop_ends map request (CertificateText fault) (program, holds, (sizes, bytes, content, has)) ok =
-    to_names map request program (stop_end request (CertificateText fault)) holds (to_text map request program bytes (stop_end request (CertificateText fault)) sizes content (inl (fault, has, refl)))
-stop_ends map request (Condition failed) (program, holds, (sizes, claim, held, fails)) ok =
-    to_names map request program (stop_end request (Condition failed)) holds (to_conditions map request program claim (stop_end request (Condition failed)) sizes held (inl (failed, fails, refl)))
-stop_ends map request (Assumption number) (program, holds, (values, valid, outside)) ok =
-    let ends = outside_ends request.task request program values number outside in
-    to_names map request program (stop_end request (Assumption number)) holds (to_task map request program values (stop_end request (Assumption number)) ends.0 valid ends.1)
-stop_ends map request Wide (program, holds, (values, valid, beyond)) ok =
-    let ends = beyond_ends request.task request program values beyond in
-    to_names map request program (stop_end request Wide) holds (to_task map request program values (stop_end request Wide) ends.0 valid ends.1)
+stop_ends map request (SecondFile fault) cause ok = second_file_ends map request fault cause ok
+stop_ends map request (CertificateText fault) (program, holds, cause) ok = work_ends map request program (CertificateText fault) holds cause ok
+stop_ends map request (Condition failed) (program, holds, cause) ok = work_ends map request program (Condition failed) holds cause ok
+stop_ends map request (Assumption number) (program, holds, cause) ok = work_ends map request program (Assumption number) holds cause ok
+stop_ends map request Wide (program, holds, cause) ok = work_ends map request program Wide holds cause ok
+stop_ends map request (ScheduleText fault) (program, holds, cause) ok = work_ends map request program (ScheduleText fault) holds cause ok
+stop_ends map request (Unplayed unplayed) (program, holds, cause) ok = work_ends map request program (Unplayed unplayed) holds cause ok
 stop_ends map request Memory cause ok = absurd ok
 
 -- ---- what a call comes to
@@ -170,7 +240,7 @@ nothing sink stays = (stays.0 ∙ sym (append_nothing sink.before), stays.1)
 done_so : (map : FileMap) (words : List (List ℕ)) (left : CallUse) → Outcome Done (record { words = words; files = Some map }) left → EndsSo map words Done left
 done_so map words left (text, done, gains, stays) = record {
   end = done_end text;
-  ends = inr (done.request, done.asked, accepted_ends map done.request text done.accepted);
+  ends = inr (done.request, done.asked, answered_ends map done.request text done.answered);
   status_is = refl;
   output = gains;
   error = nothing left.error stays;
@@ -207,7 +277,8 @@ ends_so map words OtherText left outcome calm differs = stopped map words OtherT
 ends_so map words FileAbsent left outcome calm differs = stopped map words FileAbsent left outcome calm differs
 ends_so map words ReadFault left outcome calm differs = stopped map words ReadFault left outcome calm differs
 ends_so map words WriteFault left (inl (text, done, fails, stays)) calm differs = absurd (calm.output fails.0)
-ends_so map words WriteFault left (inr (line, due, stays, fails)) calm differs = absurd (calm.error fails.0)
+ends_so map words WriteFault left (inr (inl (line, due, stays, fails))) calm differs = absurd (calm.error fails.0)
+ends_so map words WriteFault left (inr (inr (off, fails))) calm differs = absurd (calm.error fails.0)
 ends_so map words WideValue left outcome calm differs = stopped map words WideValue left outcome calm differs
 ends_so map words NoMemory left outcome calm differs = absurd (differs refl)
 
@@ -239,38 +310,58 @@ memory_or WideValue = inr (λ e. absurd cc)
 memory_or NoMemory = inl refl
 
 -- the text that answers a task
-has_text : (task : Task) (program : AffineProgram) (values : List (List Value)) → HasPebbles task → HasAnswer task program values → (text : List ℕ) × IsAnswer task program values text
+has_text : (task : Task) (program : AffineProgram) (values : List (List Value)) → HasPebbles (judges task) → HasAnswer task program values → (text : List ℕ) × IsAnswer task program values text
 has_text checks program values some has = (bound_text program.parameters (bound_with program values), refl)
 has_text (evaluates s named) program values some (sizes, given, admitted, narrow) = (
   values_text (bound_with program values) sizes s,
   record { sizes = sizes; given = given; some = some; admitted = admitted; narrow = narrow; printed = refl },
 )
 
-passes : (request : Request) (map : FileMap) (words : List (List ℕ)) (program : AffineProgram) (claim : CertificateClaim) (values : List (List Value)) (text : List ℕ) → request_of words ≡ Some request
-    → HoldsProgram (Some map) request.program program → HoldsCertificate (Some map) request.certificate claim → MeetsConditions program claim values → IsAnswer request.task program values text
-    → CallEnds map words (done_end text)
-passes request map words program claim values text asked holds held valid answer =
-    let ends = answer_ends request.task request program values text answer in
-    inr (
-      request,
-      asked,
-      to_names map request program (done_end text) holds
-          (to_task map request program values (done_end text) ends.0 (record { certificate = claim; held = held; valid = valid }) ends.1),
-    )
-
-pub valid_pass : AreExact → ValidCertificatesPass
-valid_pass exact call request program claim values left status reads valid has outcome calm =
+-- a call whose work is done ends so, whatever else may be said of it
+passes : AreExact → (call : Call) (map : FileMap) (request : Request) (work : Work) (program : AffineProgram) (text : List ℕ) (left : CallUse) (status : Status) → call.files ≡ Some map
+    → request_of call.words ≡ Some request → request.work ≡ work → HoldsProgram call.files request.program program → HasSizes work program.parameters
+    → SecondEnds map work request program (done_end text) → Outcome status call left → IsUndisturbed left → (status ≡ Done) ⊎ (status ≡ NoMemory)
+passes exact call map request work program text left status is_told asked works holds sizes second outcome calm =
     elim (memory_or status) [ inl is ↦ inr is | inr differs ↦ inl (ends differs) ] where
       ends : status ≢ NoMemory → status ≡ Done
       ends differs =
-          let so = ends_so reads.map call.words status left (told call reads.map status left reads.told outcome) calm differs in
-          let answer = has_text request.task program values (pebbles call.words request reads.asked) has in
-          let passed = passes request reads.map call.words program claim values answer.0 reads.asked
-          (subst (λ (files : Option FileMap). HoldsProgram files request.program program) reads.told reads.holds_program)
-          (subst (λ (files : Option FileMap). HoldsCertificate files request.certificate claim) reads.told reads.holds_certificate) valid answer.1 in
-          sym so.status_is ∙ ap (λ (e : CallEnd). e.status) (calls_one exact reads.map call.words so.end (done_end answer.0) so.ends passed)
+          let so = ends_so map call.words status left (told call map status left is_told outcome) calm differs in
+          let there = subst (λ (files : Option FileMap). HoldsProgram files request.program program) is_told holds in
+          let passed : CallEnds map call.words (done_end text) =
+          inr (
+            request,
+            asked,
+            to_names map request program (done_end text) there
+                (to_second map request program (done_end text) (subst (λ (w : Work). HasSizes w program.parameters) (sym works) sizes)
+                (subst (λ (w : Work). SecondEnds map w request program (done_end text)) (sym works) second)),
+          ) in
+          sym so.status_is ∙ ap (λ (e : CallEnd). e.status) (calls_one exact map call.words so.end (done_end text) so.ends passed)
 
-same_program : AreExact → (map : FileMap) (name : List ℕ) (p q : AffineProgram) → HoldsProgram (Some map) name p → HoldsProgram (Some map) name q → p ≡ q
+pub valid_pass : AreExact → ValidCertificatesPass
+valid_pass exact call request task program claim values left status reads valid has outcome calm =
+    let answer = has_text task program values (subst HasPebbles reads.judges_it (pebbles call.words request reads.asked)) has in
+    passes exact call reads.map request (judges task) program answer.0 left status reads.told reads.asked reads.judges_it reads.holds_program
+    (answer_sizes task program values answer.0 answer.1)
+    (to_task reads.map task request program values (done_end answer.0) (record {
+      certificate = claim;
+      held = subst (λ (files : Option FileMap). HoldsCertificate files request.second claim) reads.told reads.holds_certificate;
+      valid = valid;
+    }) (answer_ends task request program values answer.0 answer.1)) outcome calm
+
+pub playable_pass : AreExact → PlayableSchedulesPass
+playable_pass exact call request s named program schedule sizes order left status reads given can outcome calm =
+    passes exact call reads.map request (replays s named) program (play_text (moves_at program sizes s order)) left status reads.told reads.asked reads.replays_it reads.holds_program (sizes, given)
+    (done_ends reads.map (replays s named) request program (play_text (moves_at program sizes s order)) (record {
+      schedule = schedule;
+      held = subst (λ (files : Option FileMap). HoldsSchedule files request.second program schedule) reads.told reads.holds_schedule;
+      sizes = sizes;
+      given = given;
+      order = order;
+      can = can;
+      printed = refl;
+    })) outcome calm
+
+pub same_program : AreExact → (map : FileMap) (name : List ℕ) (p q : AffineProgram) → HoldsProgram (Some map) name p → HoldsProgram (Some map) name q → p ≡ q
 same_program exact map name p q holds again =
     exact.one_program again.source p q (subst (λ (bytes : List ℕ). Means bytes p) (same_some holds.source again.source (sym holds.content.told ∙ again.content.told)) holds.means) again.means
 
@@ -279,16 +370,17 @@ same_claim exact map name a b held again =
     exact.one_certificate again.bytes a b (subst (λ (bytes : List ℕ). HasCertificate bytes a) (same_some held.bytes again.bytes (sym held.content.told ∙ again.content.told)) held.has) again.has
 
 pub others_never : AreExact → OthersNeverPass
-others_never exact call request program claim left status reads never outcome is =
+others_never exact call request task program claim left status reads never outcome is =
     fails (told call reads.map Done left reads.told (subst (λ (s : Status). Outcome s call left) is outcome)) where
       fails : Outcome Done (record { words = call.words; files = Some reads.map }) left → ⊥
       fails (text, done, gains, stays) =
           let asks : done.request ≡ request = same_some done.request request (sym done.asked ∙ reads.asked) in
-          let accepted = subst (λ (r : Request). IsAccepted (Some reads.map) r text) asks done.accepted in
+          let answered = subst (λ (r : Request). IsAnswered (Some reads.map) r text) asks done.answered in
+          let good : IsGoodFor (Some reads.map) request.second task answered.program text =
+          subst (λ (w : Work). IsWorkDone (Some reads.map) request.second w answered.program text) reads.judges_it answered.good in
           let holds = subst (λ (files : Option FileMap). HoldsProgram files request.program program) reads.told reads.holds_program in
-          let held = subst (λ (files : Option FileMap). HoldsCertificate files request.certificate claim) reads.told reads.holds_certificate in
-          let good = accepted.good in
-          let p = same_program exact reads.map request.program accepted.program program accepted.holds_program holds in
-          let c = same_claim exact reads.map request.certificate good.valid.certificate claim good.valid.held held in
+          let held = subst (λ (files : Option FileMap). HoldsCertificate files request.second claim) reads.told reads.holds_certificate in
+          let p = same_program exact reads.map request.program answered.program program answered.holds_program holds in
+          let c = same_claim exact reads.map request.second good.valid.certificate claim good.valid.held held in
           never good.values (subst (λ (q : AffineProgram). MeetsConditions q claim good.values) p
-          (subst (λ (d : CertificateClaim). MeetsConditions accepted.program d good.values) c good.valid.valid))
+          (subst (λ (d : CertificateClaim). MeetsConditions answered.program d good.values) c good.valid.valid))

@@ -1,21 +1,14 @@
 -- Values at sizes that meet the assumptions, and their lines.
 use Rattle.std.proofs.Common.{◌≡◌, sym, ◌∙◌, ap, subst, inl, inr, ℕ, zero, suc, ◌+◌, List, [], ◌∷◌, ◌++◌, drop, map, append_assoc, arith}
 use Rattle.std.specs.Prelude.{ℤ, Some, slice_get, codes, decimal, Err}
-use Rattle.iolb_model.specs.Form.{AffineForm}
 use Rattle.iolb_model.specs.Bound.{AreMet, BoundTerm, branch_value}
 use Rattle.iolb_check.specs.declared.bound.Value.{Value}
 use Rattle.iolb_check.specs.declared.value_fault.ValueFault.{ValueFault}
 use Rattle.iolb_check.specs.declared.value_fault.ValueFault.TheVariants.{OutsideAssumption, Wide}
-use Rattle.affine_program.specs.Assumptions.{IsFirstUnmet}
 use Rattle.iolb_check.specs.Bounds.{BoundParts, EvaluatesBranch, HasWideBranch, IsWideBranch, terms_of}
+use Rattle.replay_call.proofs.Refusals.{met_first}
 use Rattle.iolb_call.specs.Values.{branch_value_lines}
 use Rattle.iolb_cert.proofs.Branches.{drop_get, terms-at}
-
--- assumptions that are met have none that isn't
-pub met-first : (rows : List AffineForm) (sizes : List ℤ) (n : ℕ) → AreMet rows sizes → IsFirstUnmet rows sizes n → ⊥
-met-first [] sizes n met unmet = absurd unmet
-met-first (row ∷ rows) sizes zero met unmet = unmet met.0
-met-first (row ∷ rows) sizes (suc n) met unmet = met-first rows sizes n met.1 unmet.1
 
 -- a branch that is there isn't wide where none is
 wide-at : (branches : List (List Value)) (i : ℕ) (terms : List Value) (sizes : List ℤ) (s : ℕ) → slice_get branches i ≡ Some terms → IsWideBranch sizes s terms → HasWideBranch sizes s branches
@@ -28,7 +21,7 @@ wide-at (b ∷ branches) (suc i) terms sizes s e wide = inr (wide-at branches i 
 -- so it has a value
 pub has-value : (bound : BoundParts) (sizes : List ℤ) (s branch : ℕ) (fault : ValueFault) → AreMet bound.assumed.rows sizes → (¬ HasWideBranch sizes s bound.branches)
     → EvaluatesBranch bound sizes s branch (Err fault) → ⊥
-has-value bound sizes s branch (OutsideAssumption n) met narrow e = met-first bound.assumed.rows sizes n met e.2
+has-value bound sizes s branch (OutsideAssumption n) met narrow e = met_first bound.assumed.rows sizes n met e.2
 has-value bound sizes s branch Wide met narrow e = narrow (wide-at bound.branches branch e.0 sizes s e.1 e.2.1)
 
 -- one line more

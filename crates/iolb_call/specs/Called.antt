@@ -1,10 +1,12 @@
 -- The call that the system makes.
-use Rattle.std.specs.Prelude.{List, [], drop, Result, Ok, Err, String}
+use Rattle.std.specs.Prelude.{◌≡◌, ℕ, ◌⊎◌, List, [], drop, Result, Ok, Err, String}
 use Rattle.std.specs.Global.{Global}
 use Rattle.std.specs.Vec.Iter.{into_iter_items}
 use Rattle.std.specs.declared.vec.IntoIter.{IntoIter}
 use Rattle.std.specs.declared.io.Error.{Error}
+use Rattle.iolb_host.specs.Count.{Rose}
 use Rattle.iolb_call.specs.declared.status.Status.{Status}
+use Rattle.iolb_call.specs.declared.status.Status.TheVariants.{Done, WriteFault}
 use Rattle.iolb_call.specs.declared.system.Ended.{Ended}
 use Rattle.iolb_call.specs.Outcome.{Outcome}
 use Rattle.iolb_call.specs.Stop.{Call}
@@ -18,6 +20,11 @@ words_behind (Err error) = []
 -- the status with which the program ended
 abbrev pub status_of : Ended → Status
 status_of ended = ended.status
+
+-- What becomes of a status where a call hands the last of its output on, and the count of failed writes with it: a call that
+-- is done fails where that fails, and every other status stays.
+abbrev pub Finishes : Status → ℕ → ℕ → Status → Type 0
+Finishes status faults faults_after ended = ((ended ≡ status) × (faults_after ≡ faults)) ⊎ ((status ≡ Done) × (ended ≡ WriteFault) × Rose faults faults_after)
 
 -- The program ended as a call of it did.
 abbrev pub IsEnded : Ended → Type 0

@@ -5,6 +5,8 @@ pub mod PointerText
 pub mod Lines
 pub mod Values
 pub mod Task
+pub mod Works
+pub mod Replays
 pub mod Answers
 pub mod Judged
 pub mod Stop

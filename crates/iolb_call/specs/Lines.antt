@@ -5,6 +5,9 @@ use Rattle.iolb_host.specs.declared.files.FileFault.TheVariants.{Missing, TooLon
 use Rattle.affine_c.specs.declared.fault.ProgramFault.{ProgramFault}
 use Rattle.claims.specs.declared.place.Step.{Step}
 use Rattle.cert_parts.specs.declared.error.CertFault.{CertFault}
+use Rattle.tile_sched.specs.declared.error.SchedFault.{SchedFault}
+use Rattle.replay_call.specs.declared.unplayed.Unplayed.{Unplayed as NoPlay}
+use Rattle.replay_call.specs.declared.unplayed.Unplayed.TheVariants.{Assumption, TooMany, OutOfOrder, TooSmall}
 use Rattle.iolb_call.specs.PointerText.{pointer_text}
 
 -- the usage text
@@ -25,11 +28,18 @@ abbrev pub program_line : ProgramFault → List ℕ
 program_line fault = codes "program refused: fault " ++ decimal fault.number ++ codes " at byte " ++ decimal fault.place ++ codes "\n"
 
 -- fault 1 has no place
-abbrev pub place_part : CertFault → List ℕ
-place_part fault = if fault.number == 1 then codes "" else codes " at " ++ pointer_text fault.place
+abbrev pub place_part : ℕ → List Step → List ℕ
+place_part number place = if number == 1 then codes "" else codes " at " ++ pointer_text place
+
+-- the fault of this number at this place of a text
+abbrev pub text_line : List ℕ → ℕ → List Step → List ℕ
+text_line words number place = words ++ decimal number ++ place_part number place ++ codes "\n"
 
 abbrev pub certificate_line : CertFault → List ℕ
-certificate_line fault = codes "certificate text refused: fault " ++ decimal fault.number ++ place_part fault ++ codes "\n"
+certificate_line fault = text_line (codes "certificate text refused: fault ") fault.number fault.place
+
+abbrev pub schedule_line : SchedFault → List ℕ
+schedule_line fault = text_line (codes "schedule text refused: fault ") fault.number fault.place
 
 abbrev pub condition_line : ℕ → List Step → List ℕ
 condition_line condition place = codes "certificate refused: condition " ++ decimal condition ++ codes " at " ++ pointer_text place ++ codes "\n"
@@ -41,3 +51,10 @@ assumption_line number = codes "assumption " ++ decimal number ++ codes " is fal
 -- a value is beyond 128 bits
 abbrev pub wide_line : List ℕ
 wide_line = codes "value beyond 128 bits\n"
+
+-- why a schedule isn't played
+abbrev pub unplayed_line : NoPlay → List ℕ
+unplayed_line (Assumption number) = assumption_line number
+unplayed_line TooMany = codes "too many vertices\n"
+unplayed_line (OutOfOrder vertex source) = codes "out of order: " ++ decimal vertex ++ codes " before " ++ decimal source ++ codes "\n"
+unplayed_line (TooSmall vertex need) = codes "too small: " ++ decimal vertex ++ codes " needs " ++ decimal need ++ codes "\n"

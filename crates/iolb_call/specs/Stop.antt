@@ -1,5 +1,5 @@
 -- Why a call of the program stops, with its cause, its line, its status and the fault of a read that it notes.
-use Rattle.std.specs.Prelude.{◌≡◌, ⊤, ℕ, ◌⊎◌, List, map, Option, None, Some, String, string_bytes}
+use Rattle.std.specs.Prelude.{◌≡◌, ⊤, ℕ, ◌⊎◌, ℤ, List, map, Option, None, Some, String, string_bytes}
 use Rattle.std.specs.Global.{Global}
 use Rattle.iolb_model.specs.Headline.{BoundHolds}
 use Rattle.iolb_model.specs.Program.{AffineProgram}
@@ -8,7 +8,8 @@ use Rattle.affine_c.specs.Meaning.{HasFault}
 use Rattle.iolb_check.specs.Claims.{CertificateClaim}
 use Rattle.iolb_cert.specs.OneCertificate.{HasCertificate}
 use Rattle.iolb_cert.specs.Texts.{IsTextFault}
-use Rattle.command_words.specs.Requests.{Request, request_of}
+use Rattle.command_words.specs.Requests.{Request, Task, Work, judges, replays, request_of}
+use Rattle.command_words.specs.Sizes.{NamedSize, values_for}
 use Rattle.iolb_check.specs.declared.bound.Value.{Value}
 use Rattle.iolb_host.specs.Faults.{NamedFault, after_fault}
 use Rattle.iolb_host.specs.Files.{FileMap}
@@ -17,13 +18,19 @@ use Rattle.iolb_host.specs.declared.files.FileFault.TheVariants.{Missing, TooLon
 use Rattle.iolb_call.specs.declared.status.Status.{Status}
 use Rattle.iolb_call.specs.declared.status.Status.TheVariants.{Refused, Words as WordsRefused, ProgramText as ProgramRefused, OtherText, FileAbsent, ReadFault, Wide as WideValue, NoMemory}
 use Rattle.iolb_call.specs.declared.stop.Stop.{Stop}
-use Rattle.iolb_call.specs.declared.stop.Stop.TheVariants.{Words, ProgramFile, ProgramText, CertificateFile, CertificateText, Condition, Assumption, Wide, Memory}
-use Rattle.iolb_call.specs.Lines.{usage, out_of_memory, file_line, program_line, certificate_line, condition_line, assumption_line, wide_line}
+use Rattle.iolb_call.specs.declared.stop.Stop.TheVariants.{Words, ProgramFile, ProgramText, SecondFile, CertificateText, Condition, Assumption, Wide, ScheduleText, Unplayed, Memory}
+use Rattle.iolb_call.specs.Lines.{usage, out_of_memory, file_line, program_line, certificate_line, schedule_line, condition_line, assumption_line, unplayed_line, wide_line}
 use Rattle.iolb_call.specs.Reading.{IsContent, FaultCause}
-use Rattle.iolb_call.specs.Task.{HasSizes, LacksSizes, IsAnswer, IsOutside, IsBeyond, bound_with}
+use Rattle.iolb_call.specs.Replays.{HoldsSchedule, IsReplayed, schedule_most}
+use Rattle.iolb_call.specs.Task.{IsAnswer, IsOutside, IsBeyond, bound_with}
 use Rattle.iolb_call.specs.Use.{FilesUse, FilesStay}
+use Rattle.iolb_call.specs.Works.{HasSizes, LacksSizes}
 use Rattle.iolb_check.specs.Conditions.{MeetsConditions, conditions}
 use Rattle.claims.specs.Claims.{FirstFails}
+use Rattle.tile_sched.specs.declared.schedule.Key.{Key}
+use Rattle.tile_sched.specs.OneSchedule.{IsTextFault as IsScheduleFault}
+use Rattle.replay_call.specs.declared.unplayed.Unplayed.{Unplayed as NoPlay}
+use Rattle.replay_call.specs.Plays.{IsUnplayed}
 
 -- a program file has at most 4 MiB, and a certificate file at most 64 MiB
 abbrev pub program_most : ℕ
@@ -50,65 +57,120 @@ pub record HoldsValid (files : Option FileMap) (name : List ℕ) (program : Affi
   pub held : HoldsCertificate files name certificate
   pub valid : MeetsConditions program certificate values
 
--- The certificate of a request is valid for a program, this text answers the request's task, and the bound holds.
-pub record IsGoodFor (files : Option FileMap) (request : Request) (program : AffineProgram) (text : List ℕ) : Type 0 where
+-- The file of this name holds a certificate that is valid for a program, this text answers the task, and the bound holds.
+pub record IsGoodFor (files : Option FileMap) (name : List ℕ) (task : Task) (program : AffineProgram) (text : List ℕ) : Type 0 where
   pub values : List (List Value)
-  pub valid : HoldsValid files request.certificate program values
-  pub answer : IsAnswer request.task program values text
+  pub valid : HoldsValid files name program values
+  pub answer : IsAnswer task program values text
   pub holds : BoundHolds program (bound_with program values)
 
--- The two files of a request hold a program and a certificate that is valid for it, and this text answers the task.
-pub record IsAccepted (files : Option FileMap) (request : Request) (text : List ℕ) : Type 0 where
+-- This text answers the work on a program and the file of this name.
+abbrev pub IsWorkDone : Option FileMap → List ℕ → Work → AffineProgram → List ℕ → Type 0
+IsWorkDone files name (judges task) program text = IsGoodFor files name task program text
+IsWorkDone files name (replays s named) program text = IsReplayed files name program s named text
+
+-- The first file of a request holds a program, and this text answers the request's work on it and the second file.
+pub record IsAnswered (files : Option FileMap) (request : Request) (text : List ℕ) : Type 0 where
   pub program : AffineProgram
   pub holds_program : HoldsProgram files request.program program
-  pub good : IsGoodFor files request program text
+  pub good : IsWorkDone files request.second request.work program text
+
+-- how many bytes the second file may have
+abbrev pub second_most : Work → ℕ
+second_most (judges task) = certificate_most
+second_most (replays s named) = schedule_most
+
+-- Why a certificate in the file of this name isn't answered: its text, then the conditions, then the assumptions, then values
+-- beyond 128 bits.
+abbrev pub CertificateStop : Option FileMap → List ℕ → Task → AffineProgram → Stop → Type 0
+CertificateStop files name task program Words = ⊥
+CertificateStop files name task program (ProgramFile fault) = ⊥
+CertificateStop files name task program (ProgramText fault) = ⊥
+CertificateStop files name task program (SecondFile fault) = ⊥
+CertificateStop files name task program (CertificateText fault) = (bytes : List ℕ) × IsContent files name certificate_most bytes × IsTextFault bytes fault
+CertificateStop files name task program (Condition failed) =
+    (certificate : CertificateClaim) × HoldsCertificate files name certificate × FirstFails (conditions program certificate) failed
+CertificateStop files name task program (Assumption number) = (values : List (List Value)) × HoldsValid files name program values × IsOutside task program number
+CertificateStop files name task program Wide = (values : List (List Value)) × HoldsValid files name program values × IsBeyond task program values
+CertificateStop files name task program (ScheduleText fault) = ⊥
+CertificateStop files name task program (Unplayed unplayed) = ⊥
+CertificateStop files name task program Memory = ⊤
+
+-- a schedule in the file of this name can't be played at the sizes that are named
+abbrev pub IsHeldBack : Option FileMap → List ℕ → ℕ → List NamedSize → AffineProgram → NoPlay → Type 0
+IsHeldBack files name s named program unplayed = (schedule : List (List Key)) × HoldsSchedule files name program schedule
+    × (sizes : List ℤ) × (values_for program.parameters named ≡ Some sizes) × IsUnplayed program schedule sizes s unplayed
+
+-- Why a schedule in the file of this name isn't played: its text, then what keeps it from being played.
+abbrev pub ScheduleStop : Option FileMap → List ℕ → ℕ → List NamedSize → AffineProgram → Stop → Type 0
+ScheduleStop files name s named program Words = ⊥
+ScheduleStop files name s named program (ProgramFile fault) = ⊥
+ScheduleStop files name s named program (ProgramText fault) = ⊥
+ScheduleStop files name s named program (SecondFile fault) = ⊥
+ScheduleStop files name s named program (CertificateText fault) = ⊥
+ScheduleStop files name s named program (Condition failed) = ⊥
+ScheduleStop files name s named program (Assumption number) = ⊥
+ScheduleStop files name s named program Wide = ⊥
+ScheduleStop files name s named program (ScheduleText fault) = (bytes : List ℕ) × IsContent files name schedule_most bytes × IsScheduleFault program bytes fault
+ScheduleStop files name s named program (Unplayed unplayed) = IsHeldBack files name s named program unplayed
+ScheduleStop files name s named program Memory = ⊤
+
+-- why the second file isn't answered once it is read
+abbrev pub TextStop : Option FileMap → List ℕ → Work → AffineProgram → Stop → Type 0
+TextStop files name (judges task) program stop = CertificateStop files name task program stop
+TextStop files name (replays s named) program stop = ScheduleStop files name s named program stop
+
+abbrev pub WorkStop : Option FileMap → Request → AffineProgram → Stop → Type 0
+WorkStop files request program stop = HasSizes request.work program.parameters × TextStop files request.second request.work program stop
 
 -- Why a request stops once its program is read: each cause stands after the earlier ones, the names of the parameters, the
--- certificate's file, its text, the conditions, the assumptions, and values beyond 128 bits.
-abbrev pub CertificateStop : Option FileMap → Request → AffineProgram → Stop → Type 0
-CertificateStop files request program Words = LacksSizes request.task program.parameters
-CertificateStop files request program (ProgramFile fault) = ⊥
-CertificateStop files request program (ProgramText fault) = ⊥
-CertificateStop files request program (CertificateFile fault) = HasSizes request.task program.parameters
-    × FaultCause files request.certificate certificate_most fault
-CertificateStop files request program (CertificateText fault) = HasSizes request.task program.parameters
-    × (bytes : List ℕ) × IsContent files request.certificate certificate_most bytes × IsTextFault bytes fault
-CertificateStop files request program (Condition failed) = HasSizes request.task program.parameters
-    × (certificate : CertificateClaim) × HoldsCertificate files request.certificate certificate × FirstFails (conditions program certificate) failed
-CertificateStop files request program (Assumption number) = (values : List (List Value))
-    × HoldsValid files request.certificate program values × IsOutside request.task program number
-CertificateStop files request program Wide = (values : List (List Value))
-    × HoldsValid files request.certificate program values × IsBeyond request.task program values
-CertificateStop files request program Memory = ⊤
+-- second file, and what it holds.
+abbrev pub SecondStop : Option FileMap → Request → AffineProgram → Stop → Type 0
+SecondStop files request program Words = LacksSizes request.work program.parameters
+SecondStop files request program (ProgramFile fault) = ⊥
+SecondStop files request program (ProgramText fault) = ⊥
+SecondStop files request program (SecondFile fault) = HasSizes request.work program.parameters
+    × FaultCause files request.second (second_most request.work) fault
+SecondStop files request program (CertificateText fault) = WorkStop files request program (CertificateText fault)
+SecondStop files request program (Condition failed) = WorkStop files request program (Condition failed)
+SecondStop files request program (Assumption number) = WorkStop files request program (Assumption number)
+SecondStop files request program Wide = WorkStop files request program Wide
+SecondStop files request program (ScheduleText fault) = WorkStop files request program (ScheduleText fault)
+SecondStop files request program (Unplayed unplayed) = WorkStop files request program (Unplayed unplayed)
+SecondStop files request program Memory = ⊤
 
 -- the same with a program that the request's first file holds
 abbrev pub StopAfterProgram : Option FileMap → Request → Stop → Type 0
 StopAfterProgram files request stop = (program : AffineProgram) × HoldsProgram files request.program program
-    × CertificateStop files request program stop
+    × SecondStop files request program stop
 
 -- Why a request stops.
 abbrev pub RequestStop : Option FileMap → Request → Stop → Type 0
 RequestStop files request Words = StopAfterProgram files request Words
 RequestStop files request (ProgramFile fault) = FaultCause files request.program program_most fault
 RequestStop files request (ProgramText fault) = (source : List ℕ) × IsContent files request.program program_most source × HasFault source fault
-RequestStop files request (CertificateFile fault) = StopAfterProgram files request (CertificateFile fault)
+RequestStop files request (SecondFile fault) = StopAfterProgram files request (SecondFile fault)
 RequestStop files request (CertificateText fault) = StopAfterProgram files request (CertificateText fault)
 RequestStop files request (Condition failed) = StopAfterProgram files request (Condition failed)
 RequestStop files request (Assumption number) = StopAfterProgram files request (Assumption number)
 RequestStop files request Wide = StopAfterProgram files request Wide
+RequestStop files request (ScheduleText fault) = StopAfterProgram files request (ScheduleText fault)
+RequestStop files request (Unplayed unplayed) = StopAfterProgram files request (Unplayed unplayed)
 RequestStop files request Memory = ⊤
 
 -- the line that says why
 abbrev pub stop_line : List ℕ → List ℕ → Stop → List ℕ
-stop_line program_name certificate_name Words = usage
-stop_line program_name certificate_name (ProgramFile fault) = file_line program_name fault
-stop_line program_name certificate_name (ProgramText fault) = program_line fault
-stop_line program_name certificate_name (CertificateFile fault) = file_line certificate_name fault
-stop_line program_name certificate_name (CertificateText fault) = certificate_line fault
-stop_line program_name certificate_name (Condition failed) = condition_line failed.condition failed.place
-stop_line program_name certificate_name (Assumption number) = assumption_line number
-stop_line program_name certificate_name Wide = wide_line
-stop_line program_name certificate_name Memory = out_of_memory
+stop_line program_name second_name Words = usage
+stop_line program_name second_name (ProgramFile fault) = file_line program_name fault
+stop_line program_name second_name (ProgramText fault) = program_line fault
+stop_line program_name second_name (SecondFile fault) = file_line second_name fault
+stop_line program_name second_name (CertificateText fault) = certificate_line fault
+stop_line program_name second_name (Condition failed) = condition_line failed.condition failed.place
+stop_line program_name second_name (Assumption number) = assumption_line number
+stop_line program_name second_name Wide = wide_line
+stop_line program_name second_name (ScheduleText fault) = schedule_line fault
+stop_line program_name second_name (Unplayed unplayed) = unplayed_line unplayed
+stop_line program_name second_name Memory = out_of_memory
 
 -- the status of a file that was not read
 abbrev pub file_status : FileFault → Status
@@ -122,11 +184,13 @@ abbrev pub stop_status : Stop → Status
 stop_status Words = WordsRefused
 stop_status (ProgramFile fault) = file_status fault
 stop_status (ProgramText fault) = ProgramRefused
-stop_status (CertificateFile fault) = file_status fault
+stop_status (SecondFile fault) = file_status fault
 stop_status (CertificateText fault) = OtherText
 stop_status (Condition failed) = Refused
 stop_status (Assumption number) = Refused
 stop_status Wide = WideValue
+stop_status (ScheduleText fault) = OtherText
+stop_status (Unplayed unplayed) = Refused
 stop_status Memory = NoMemory
 
 -- The faults of reads once a request stops for this reason: where a file wasn't read there is one more, of that file.
@@ -134,11 +198,13 @@ abbrev pub faults_at : Request → Stop → List NamedFault → List NamedFault
 faults_at request Words faults = faults
 faults_at request (ProgramFile fault) faults = after_fault faults request.program fault
 faults_at request (ProgramText fault) faults = faults
-faults_at request (CertificateFile fault) faults = after_fault faults request.certificate fault
+faults_at request (SecondFile fault) faults = after_fault faults request.second fault
 faults_at request (CertificateText fault) faults = faults
 faults_at request (Condition failed) faults = faults
 faults_at request (Assumption number) faults = faults
 faults_at request Wide faults = faults
+faults_at request (ScheduleText fault) faults = faults
+faults_at request (Unplayed unplayed) faults = faults
 faults_at request Memory faults = faults
 
 -- what the program is called with: the words, and what the files tell
@@ -157,7 +223,7 @@ pub record StopsInRequest (call : Call) (files : FilesUse) (stop : Stop) (line :
   pub asked : request_of call.words ≡ Some request
   pub cause : RequestStop call.files request stop
   pub noted : files.after ≡ faults_at request stop files.before
-  pub says : line ≡ stop_line request.program request.certificate stop
+  pub says : line ≡ stop_line request.program request.second stop
 
 -- the words ask for nothing that the program does, and the line is the usage text
 pub record StopsAtWords (call : Call) (files : FilesUse) (stop : Stop) (line : List ℕ) : Type 0 where

@@ -1,5 +1,5 @@
 -- What a task asks for of a program and a certificate that meets the conditions, and what answers it.
-use Rattle.std.specs.Prelude.{◌≡◌, ⊤, ℕ, ◌≤◌, ℤ, List, map, Some, None}
+use Rattle.std.specs.Prelude.{◌≡◌, ⊤, ℕ, ◌≤◌, ℤ, List, map, Some}
 use Rattle.iolb_model.specs.declared.game.Move.{Move}
 use Rattle.iolb_model.specs.Bound.{AreMet, Bound, IsAdmitted, bound_value}
 use Rattle.iolb_model.specs.Game.{IsCompletePebbling, loads}
@@ -21,14 +21,6 @@ bound_with program values = record { assumptions = program.assumptions; branches
 abbrev pub GivesSizes : Task → List (List ℕ) → List ℤ → Type 0
 GivesSizes checks names sizes = ⊤
 GivesSizes (evaluates s named) names sizes = values_for names named ≡ Some sizes
-
-abbrev pub HasSizes : Task → List (List ℕ) → Type 0
-HasSizes task names = (sizes : List ℤ) × GivesSizes task names sizes
-
--- a task doesn't name each of the parameters exactly once, or names something else
-abbrev pub LacksSizes : Task → List (List ℕ) → Type 0
-LacksSizes checks names = ⊥
-LacksSizes (evaluates s named) names = values_for names named ≡ None
 
 -- The values of the branches and of the bound are printed at the sizes that are named, which meet the assumptions and at
 -- which no value is beyond 128 bits.

@@ -53,3 +53,7 @@ Fails sink = Rose sink.faults sink.faults_after
 -- a write of these bytes failed: the sink has the first of them more, none, some or all
 abbrev pub FailsWithin : SinkUse → List ℕ → Type 0
 FailsWithin sink piece = Fails sink × AppendsPart sink.before sink.after piece
+
+-- the sink has the first bytes of a piece more, none, some or all, and no write failed
+abbrev pub GainsPart : SinkUse → List ℕ → Type 0
+GainsPart sink piece = AppendsPart sink.before sink.after piece × (sink.faults_after ≡ sink.faults)

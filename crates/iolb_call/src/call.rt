@@ -4,29 +4,24 @@ ghost use Rattle.std.specs.Prelude.{◌≡◌, ◌≤◌};
 ghost use Rattle.iolb_call.specs.Stop.{call_of, stop_status, stop_line as line_of_stop};
 ghost use Rattle.iolb_call.specs.Written.{LineWritten};
 ghost use Rattle.iolb_call.specs.Outcome.{Outcome};
-ghost use Rattle.iolb_call.specs.Headline.{IsLowerBoundPrinted};
+ghost use Rattle.iolb_call.specs.Headline.{IsDoneAsAsked};
 ghost use Rattle.iolb_call.specs.Use.{HasOneFaultAtMost, files_use, sink_use};
 
-use crate::checking::run_command;
 use crate::lines::stop_line;
+use crate::requests::run_command;
 use crate::status::Status;
 use crate::stop::Stop;
-use crate::writing::{no_memory, write_line, write_output};
+use crate::writing::{no_memory, write_answer, write_line};
 use command_words::command_of;
 use iolb_host::{Files, Sink};
+use replay_call::replays_are_one;
 use std::alloc::Global;
 
 /// Writes why a request about these two files stops.
-fn stopped<E: Sink>(
-    alloc: Global,
-    program: &str,
-    certificate: &str,
-    stop: &Stop,
-    err: &mut E,
-) -> Status
-    ensures { LineWritten (sink_use E.written E.faults err.old err.new) (line_of_stop program.now certificate.now stop.now) (stop_status stop.now) result }
+fn stopped<E: Sink>(alloc: Global, program: &str, second: &str, stop: &Stop, err: &mut E) -> Status
+    ensures { LineWritten (sink_use E.written E.faults err.old err.new) (line_of_stop program.now second.now stop.now) (stop_status stop.now) result }
 {
-    match stop_line(alloc, program, certificate, stop) {
+    match stop_line(alloc, program, second, stop) {
         Ok(line) => write_line(err, line.as_slice(), stop.status()),
         Err(_) => no_memory(err),
     }
@@ -34,7 +29,8 @@ fn stopped<E: Sink>(
 
 /// Does what the words after the program's name ask for: `check PROGRAM CERTIFICATE` checks a certificate and prints its
 /// bound, and `eval PROGRAM CERTIFICATE S NAME=NUMBER...` checks it and prints the values of the bound's branches, and its
-/// own, with S red pebbles at these sizes of the program's parameters.
+/// own, with S red pebbles at these sizes of the program's parameters. `replay PROGRAM SCHEDULE S NAME=NUMBER...` plays a
+/// schedule with S red pebbles at these sizes, and prints the moves and how many of them load, store and compute.
 pub fn run<F: Files, O: Sink, E: Sink>(
     alloc: Global,
     words: &Vec<String>,
@@ -47,7 +43,7 @@ pub fn run<F: Files, O: Sink, E: Sink>(
       output = sink_use O.written O.faults out.old out.new;
       error = sink_use E.written E.faults err.old err.new;
     }) }
-    ensures headline { result ≡ Status.Done → IsLowerBoundPrinted (call_of words.now.items (F.told files.old)) (record {
+    ensures headline { result ≡ Status.Done → IsDoneAsAsked (call_of words.now.items (F.told files.old)) (record {
       files = files_use F.faults files.old files.new;
       output = sink_use O.written O.faults out.old out.new;
       error = sink_use E.written E.faults err.old err.new;
@@ -59,13 +55,14 @@ pub fn run<F: Files, O: Sink, E: Sink>(
     ensures output_counts { O.faults out.old ≤ O.faults out.new }
     ensures error_counts { E.faults err.old ≤ E.faults err.new }
 {
+    replays_are_one();
     let command = match command_of(alloc, words.as_slice()) {
         Ok(Some(command)) => command,
         Ok(None) => return stopped(alloc, "", "", &Stop::Words, err),
         Err(_) => return stopped(alloc, "", "", &Stop::Memory, err),
     };
     match run_command(alloc, &command, files) {
-        Ok(text) => write_output(out, err, text.as_slice()),
-        Err(stop) => stopped(alloc, command.program, command.certificate, &stop, err),
+        Ok(answer) => write_answer(alloc, answer, out, err),
+        Err(stop) => stopped(alloc, command.program, command.second, &stop, err),
     }
 }

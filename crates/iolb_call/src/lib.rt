@@ -1,13 +1,16 @@
-//! What `iolb` does when it is called: it checks certificates of lower bounds on the loads of affine loop nests, and
-//! evaluates them.
+//! What `iolb` does when it is called: it checks certificates of lower bounds on the loads of affine loop nests, evaluates
+//! them, and plays schedules of the nests, whose loads are upper bounds.
 #![tactic(auto)]
 
 mod answer;
+mod answered;
 mod call;
 mod checking;
 mod law;
 mod lines;
+mod playing;
 mod pointer_text;
+mod requests;
 mod status;
 mod stop;
 mod system;

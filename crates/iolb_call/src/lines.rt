@@ -1,23 +1,28 @@
 //! The lines that are written to the standard error.
 
 ghost use Rattle.std.specs.Prelude.{◌≡◌, ◌++◌, ℕ, codes, decimal, IfOk};
-ghost use Rattle.iolb_call.specs.Lines.{usage, out_of_memory, file_line as line_of_file, program_line as line_of_program, place_part as part_of_place, certificate_line as line_of_certificate, condition_line as line_of_condition, assumption_line as line_of_assumption};
+ghost use Rattle.iolb_call.specs.Lines.{usage, out_of_memory, file_line as line_of_file, program_line as line_of_program, place_part as part_of_place, text_line as line_of_text, certificate_line as line_of_certificate, schedule_line as line_of_schedule, condition_line as line_of_condition, assumption_line as line_of_assumption, unplayed_line as line_of_unplayed};
 ghost use Rattle.iolb_call.specs.Stop.{stop_line as line_of_stop};
 
 use crate::pointer_text::pointer_text;
 use crate::stop::Stop;
 use affine_c::ProgramFault;
 use affine_form::Memory;
-use claims::No;
+use claims::{No, Place};
 use iolb_cert::CertFault;
 use iolb_host::FileFault;
+use replay_call::Unplayed;
 use std::alloc::Global;
+use tile_sched::SchedFault;
 
 const USAGE: &[u8] =
     b"usage: iolb check PROGRAM CERTIFICATE\n       iolb bound PROGRAM\n       iolb eval PROGRAM CERTIFICATE S NAME=NUMBER...\n       iolb replay PROGRAM SCHEDULE S NAME=NUMBER...\n       iolb sample N\n";
 
 /// The line for a value beyond 128 bits.
 const WIDE: &[u8] = b"value beyond 128 bits\n";
+
+/// The line for a graph that is out of reach.
+const TOO_MANY: &[u8] = b"too many vertices\n";
 
 /// The line for want of memory.
 pub(crate) const OUT_OF_MEMORY: &[u8] = b"out of memory\n";
@@ -48,28 +53,51 @@ fn program_line(alloc: Global, fault: ProgramFault) -> Result<Vec<u8>, Memory>
     Ok(Vec::from_slice(alloc, line.as_bytes())?)
 }
 
-/// The place of a fault of a certificate's text; fault 1 has none.
-fn place_part(alloc: Global, fault: &CertFault) -> Result<Vec<u8>, Memory>
-    ensures { IfOk result (λ text. text.items ≡ part_of_place fault.now) }
+/// The place of a fault of this number in a text; fault 1 has none.
+fn place_part(alloc: Global, number: u8, place: &Place) -> Result<Vec<u8>, Memory>
+    ensures { IfOk result (λ text. text.items ≡ part_of_place number place.now) }
 {
-    if fault.number == 1 {
+    if number == 1 {
         return Ok(Vec::new(alloc));
     }
     let mut text = Vec::from_slice(alloc, b" at ")?;
-    text.extend_from_slice(pointer_text(alloc, &fault.place)?.as_slice())?;
+    text.extend_from_slice(pointer_text(alloc, place)?.as_slice())?;
     Ok(text)
+}
+
+/// The fault of this number at this place of a text, behind words.
+fn text_line(alloc: Global, words: &[u8], number: u8, place: &Place) -> Result<Vec<u8>, Memory>
+    ensures { IfOk result (λ line. line.items ≡ line_of_text words.now number place.now) }
+{
+    let mut line = Vec::from_slice(alloc, words)?;
+    line.extend_from_slice(format!(in alloc; "{number}")?.as_bytes())?;
+    line.extend_from_slice(place_part(alloc, number, place)?.as_slice())?;
+    line.push(b'\n')?;
+    Ok(line)
 }
 
 /// The fault of a certificate's text.
 fn certificate_line(alloc: Global, fault: &CertFault) -> Result<Vec<u8>, Memory>
     ensures { IfOk result (λ line. line.items ≡ line_of_certificate fault.now) }
 {
-    let number = fault.number;
-    let words = format!(in alloc; "certificate text refused: fault {number}")?;
-    let mut line = Vec::from_slice(alloc, words.as_bytes())?;
-    line.extend_from_slice(place_part(alloc, fault)?.as_slice())?;
-    line.push(b'\n')?;
-    Ok(line)
+    text_line(
+        alloc,
+        b"certificate text refused: fault ",
+        fault.number,
+        &fault.place,
+    )
+}
+
+/// The fault of a schedule's text.
+fn schedule_line(alloc: Global, fault: &SchedFault) -> Result<Vec<u8>, Memory>
+    ensures { IfOk result (λ line. line.items ≡ line_of_schedule fault.now) }
+{
+    text_line(
+        alloc,
+        b"schedule text refused: fault ",
+        fault.number,
+        &fault.place,
+    )
 }
 
 /// The condition that fails.
@@ -92,24 +120,54 @@ fn assumption_line(alloc: Global, number: u16) -> Result<Vec<u8>, Memory>
     Ok(Vec::from_slice(alloc, line.as_bytes())?)
 }
 
+/// An instance that comes before a source of it.
+fn order_line(alloc: Global, vertex: u32, source: u32) -> Result<Vec<u8>, Memory>
+    ensures { IfOk result (λ line. line.items ≡ line_of_unplayed (Unplayed.OutOfOrder vertex source)) }
+{
+    let line = format!(in alloc; "out of order: {vertex} before {source}\n")?;
+    Ok(Vec::from_slice(alloc, line.as_bytes())?)
+}
+
+/// An instance that needs more red pebbles than there are.
+fn need_line(alloc: Global, vertex: u32, need: u64) -> Result<Vec<u8>, Memory>
+    ensures { IfOk result (λ line. line.items ≡ line_of_unplayed (Unplayed.TooSmall vertex need)) }
+{
+    let line = format!(in alloc; "too small: {vertex} needs {need}\n")?;
+    Ok(Vec::from_slice(alloc, line.as_bytes())?)
+}
+
+/// Why a schedule isn't played.
+fn unplayed_line(alloc: Global, unplayed: Unplayed) -> Result<Vec<u8>, Memory>
+    ensures { IfOk result (λ line. line.items ≡ line_of_unplayed unplayed) }
+{
+    match unplayed {
+        Unplayed::Assumption(number) => assumption_line(alloc, number),
+        Unplayed::TooMany => Ok(Vec::from_slice(alloc, TOO_MANY)?),
+        Unplayed::OutOfOrder { vertex, source } => order_line(alloc, vertex, source),
+        Unplayed::TooSmall { vertex, need } => need_line(alloc, vertex, need),
+    }
+}
+
 /// The line that says why a request about these two files stops.
 pub(crate) fn stop_line(
     alloc: Global,
     program: &str,
-    certificate: &str,
+    second: &str,
     stop: &Stop,
 ) -> Result<Vec<u8>, Memory>
-    ensures { IfOk result (λ line. line.items ≡ line_of_stop program.now certificate.now stop.now) }
+    ensures { IfOk result (λ line. line.items ≡ line_of_stop program.now second.now stop.now) }
 {
     match stop {
         Stop::Words => Ok(Vec::from_slice(alloc, USAGE)?),
         Stop::ProgramFile(fault) => file_line(alloc, program, *fault),
         Stop::ProgramText(fault) => program_line(alloc, *fault),
-        Stop::CertificateFile(fault) => file_line(alloc, certificate, *fault),
+        Stop::SecondFile(fault) => file_line(alloc, second, *fault),
         Stop::CertificateText(fault) => certificate_line(alloc, fault),
         Stop::Condition(failed) => condition_line(alloc, failed),
         Stop::Assumption(number) => assumption_line(alloc, *number),
         Stop::Wide => Ok(Vec::from_slice(alloc, WIDE)?),
+        Stop::ScheduleText(fault) => schedule_line(alloc, fault),
+        Stop::Unplayed(unplayed) => unplayed_line(alloc, *unplayed),
         Stop::Memory => Ok(Vec::from_slice(alloc, OUT_OF_MEMORY)?),
     }
 }

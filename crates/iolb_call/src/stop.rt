@@ -8,6 +8,8 @@ use affine_c::ProgramFault;
 use claims::No;
 use iolb_cert::CertFault;
 use iolb_host::FileFault;
+use replay_call::Unplayed;
+use tile_sched::SchedFault;
 
 /// Why a call of the program stops before it is done.
 #[derive(Debug, Drop)]
@@ -18,8 +20,8 @@ pub enum Stop {
     ProgramFile(FileFault),
     /// The program's text has a fault.
     ProgramText(ProgramFault),
-    /// The certificate's file wasn't read.
-    CertificateFile(FileFault),
+    /// The file of the certificate or the schedule wasn't read.
+    SecondFile(FileFault),
     /// The certificate's text has a fault.
     CertificateText(CertFault),
     /// The certificate fails a condition.
@@ -28,6 +30,10 @@ pub enum Stop {
     Assumption(u16),
     /// A value is beyond 128 bits.
     Wide,
+    /// The schedule's text has a fault.
+    ScheduleText(SchedFault),
+    /// The schedule can't be played.
+    Unplayed(Unplayed),
     /// There was no memory.
     Memory,
 }
@@ -52,9 +58,9 @@ impl Stop {
             Stop::Words => Status::Words,
             Stop::ProgramFile(fault) => status_of_file(*fault),
             Stop::ProgramText(_) => Status::ProgramText,
-            Stop::CertificateFile(fault) => status_of_file(*fault),
-            Stop::CertificateText(_) => Status::OtherText,
-            Stop::Condition(_) | Stop::Assumption(_) => Status::Refused,
+            Stop::SecondFile(fault) => status_of_file(*fault),
+            Stop::CertificateText(_) | Stop::ScheduleText(_) => Status::OtherText,
+            Stop::Condition(_) | Stop::Assumption(_) | Stop::Unplayed(_) => Status::Refused,
             Stop::Wide => Status::Wide,
             Stop::Memory => Status::NoMemory,
         }

@@ -4,7 +4,8 @@ ghost use Rattle.std.specs.Prelude.{◌≡◌, ◌≢◌, ◌⊎◌, drop, IfOk,
 ghost use Rattle.std.specs.IoError.{error_kind};
 ghost use Rattle.std.specs.Process.{exit_status};
 ghost use Rattle.std.specs.Vec.Iter.{into_iter_items};
-ghost use Rattle.iolb_call.specs.Called.{IsEnded, words_behind};
+ghost use Rattle.iolb_host.specs.StdSink.{fault_count};
+ghost use Rattle.iolb_call.specs.Called.{Finishes, IsEnded, words_behind};
 ghost use Rattle.iolb_call.specs.Outcome.{Outcome};
 ghost use Rattle.iolb_call.specs.Stop.{call_of};
 ghost use Rattle.iolb_call.specs.Use.{files_use, sink_use};
@@ -16,8 +17,9 @@ use affine_form::Memory;
 use iolb_host::{Files, Sink, StdFiles, StdSink};
 use std::alloc::Global;
 use std::env::Args;
-use std::io::ErrorKind;
+use std::io::{BufWriter, ErrorKind};
 use std::process::{ExitCode, Termination};
+use std::rt::Stdout;
 use std::{env, io};
 
 /// The words behind the program's name, of all the words of a call.
@@ -80,13 +82,33 @@ impl Termination for Ended {
     }
 }
 
-/// Calls the program over the system's files and streams.
+/// Hands what a call wrote to the output to the system, where the call is done.
+fn finished(status: Status, out: &mut StdSink<BufWriter<Stdout>>) -> Status
+    ensures { Finishes status (fault_count out.old) (fault_count out.new) result }
+{
+    if status != Status::Done {
+        return status;
+    }
+    match out.finish() {
+        Ok(()) => Status::Done,
+        Err(_) => Status::WriteFault,
+    }
+}
+
+/// Calls the program over the system's files and streams. The last of the output is handed to the system at the end; where
+/// that fails, the status is that of a failed write.
 pub fn program(rt: &HostRuntime) -> Ended
     ensures { IsEnded result }
 {
-    let mut files = StdFiles::new(rt);
-    let mut out = StdSink::output(rt);
     let mut err = StdSink::error(rt);
+    let Ok(mut out) = StdSink::output(rt.alloc(), rt) else {
+        return Ended {
+            status: no_memory(&mut err),
+        };
+    };
+    let mut files = StdFiles::new(rt);
     let status = called(rt.alloc(), env::args(rt), &mut files, &mut out, &mut err);
-    Ended { status }
+    Ended {
+        status: finished(status, &mut out),
+    }
 }

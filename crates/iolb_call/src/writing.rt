@@ -3,9 +3,12 @@
 ghost use Rattle.iolb_call.specs.Use.{sink_use};
 ghost use Rattle.iolb_call.specs.Written.{LineWritten, OutputWritten, WantSaid};
 
+use crate::answered::Answer;
 use crate::lines::OUT_OF_MEMORY;
 use crate::status::Status;
 use iolb_host::{Sink, SinkFault};
+use replay_call::Play;
+use std::alloc::Global;
 
 /// Says on the standard error that there was no memory.
 pub(crate) fn no_memory<E: Sink>(err: &mut E) -> Status
@@ -29,13 +32,39 @@ pub(crate) fn write_line<E: Sink>(err: &mut E, line: &[u8], status: Status) -> S
     }
 }
 
-/// Writes the text to the output.
-pub(crate) fn write_output<O: Sink, E: Sink>(out: &mut O, err: &mut E, text: &[u8]) -> Status
-    ensures { OutputWritten (sink_use O.written O.faults out.old out.new) (sink_use E.written E.faults err.old err.new) text.now result }
+/// Writes a text to the output.
+fn write_text<O: Sink, E: Sink>(out: &mut O, err: &mut E, text: &Vec<u8>) -> Status
+    ensures { OutputWritten (sink_use O.written O.faults out.old out.new) (sink_use E.written E.faults err.old err.new) (Answer.Text text.now) result }
 {
-    match out.put(text) {
+    match out.put(text.as_slice()) {
         Ok(()) => Status::Done,
         Err(SinkFault::Failed) => Status::WriteFault,
         Err(SinkFault::Memory) => no_memory(err),
+    }
+}
+
+/// Writes the lines of a play to the output.
+fn write_play<O: Sink, E: Sink>(alloc: Global, play: Play, out: &mut O, err: &mut E) -> Status
+    ensures { OutputWritten (sink_use O.written O.faults out.old out.new) (sink_use E.written E.faults err.old err.new) (Answer.Lines play) result }
+{
+    match play.put(alloc, out) {
+        Ok(()) => Status::Done,
+        Err(SinkFault::Failed) => Status::WriteFault,
+        Err(SinkFault::Memory) => no_memory(err),
+    }
+}
+
+/// Writes an answer to the output.
+pub(crate) fn write_answer<O: Sink, E: Sink>(
+    alloc: Global,
+    answer: Answer,
+    out: &mut O,
+    err: &mut E,
+) -> Status
+    ensures { OutputWritten (sink_use O.written O.faults out.old out.new) (sink_use E.written E.faults err.old err.new) answer result }
+{
+    match answer {
+        Answer::Text(text) => write_text(out, err, &text),
+        Answer::Lines(play) => write_play(alloc, play, out, err),
     }
 }

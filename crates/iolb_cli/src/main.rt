@@ -1,4 +1,5 @@
-//! The program `iolb`: checks certificates of lower bounds on the loads of affine loop nests, and evaluates them.
+//! The program `iolb`: checks certificates of lower bounds on the loads of affine loop nests, evaluates them, and plays
+//! schedules of the nests.
 #![tactic(auto)]
 
 use iolb_call::{Ended, program};

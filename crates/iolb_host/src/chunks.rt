@@ -60,8 +60,7 @@ fn read_chunk<S: Read>(source: &mut S, bytes: &mut Vec<u8>, spare: u64) -> Resul
     }
 }
 
-/// Writes the whole piece, at least one byte at each turn, and flushes the stream. A write that takes nothing and an
-/// interrupted one are failed ones.
+/// Writes the whole piece, at least one byte at each turn. A write that takes nothing and an interrupted one are failed ones.
 pub(crate) fn write_whole<W: Write>(stream: &mut W, piece: &[u8]) -> Result<(), SinkFault>
     ensures ok { OnOk result (Appends (W.contents stream.old) (W.contents stream.new) piece.now) }
     ensures failed { OnErr result ((count : ℕ)
@@ -76,8 +75,5 @@ pub(crate) fn write_whole<W: Write>(stream: &mut W, piece: &[u8]) -> Result<(), 
             Ok(count) => rest = &rest[count..],
         }
     }
-    match stream.flush() {
-        Ok(()) => Ok(()),
-        Err(_) => Err(SinkFault::Failed),
-    }
+    Ok(())
 }

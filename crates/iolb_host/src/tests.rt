@@ -7,11 +7,10 @@ ghost use Rattle.iolb_host.specs.Sink.{after_write};
 ghost use Rattle.iolb_host.specs.Files.{FileMap, content_of};
 
 use super::*;
-use crate::chunks::write_whole;
 use std::alloc::{AllocError, Global};
 use std::collections::BTreeMap;
 use std::io;
-use std::io::Write;
+use std::io::{BufWriter, Write};
 use std::test::Fail;
 
 // Two files, read one after the other.
@@ -125,14 +124,25 @@ impl Write for Holding {
 }
 
 #[test]
-fn a_write_is_flushed(rt: HostRuntime) -> Result<(), Fail> {
+fn what_is_held_is_flushed_at_last(rt: HostRuntime) -> Result<(), Fail> {
     let alloc = rt.alloc();
-    let mut stream = Holding {
+    let stream = Holding {
         held: Vec::new(alloc),
         flushed: Vec::new(alloc),
     };
-    write_whole(&mut stream, b"ab")?;
-    assert_eq!(rt; stream.flushed.as_slice(), b"ab".as_slice());
+    let mut sink = StdSink {
+        stream: BufWriter::with_capacity(alloc, 4, stream)?,
+        faults: 0,
+    };
+    sink.put(b"ab")?;
+    assert_eq!(rt; sink.stream.get_ref().held.len(), 0);
+    sink.put(b"cde")?;
+    assert_eq!(rt; sink.stream.get_ref().flushed.len(), 0);
+    sink.finish()?;
+    assert_eq!(rt;
+        sink.stream.get_ref().flushed.as_slice(),
+        b"abcde".as_slice()
+    );
     Ok(())
 }
 
@@ -150,7 +160,9 @@ fn the_system_is_reached(rt: HostRuntime) -> Result<(), Fail> {
         files.read("/dev/zero", 9000).err(),
         Some(FileFault::TooLong)
     );
-    StdSink::output(&rt).put(b"output\n")?;
+    let mut output = StdSink::output(rt.alloc(), &rt)?;
+    output.put(b"output\n")?;
+    output.finish()?;
     StdSink::error(&rt).put(b"error\n")?;
     Ok(())
 }

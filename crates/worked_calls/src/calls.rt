@@ -24,15 +24,29 @@ fn words_of(alloc: Global, line: &str) -> Result<Vec<String>, AllocError> {
     Ok(words)
 }
 
+/// The last lines of a text that ends with a newline, so many.
+fn last_lines(text: &[u8], count: usize) -> &[u8] {
+    let mut seen = 0;
+    for place in (0..text.len()).rev() {
+        if text[place] == b'\n' {
+            if seen == count {
+                return &text[place + 1..];
+            }
+            seen += 1;
+        }
+    }
+    text
+}
+
 /// What a call with these words over these files answers: what it wrote to the output and to the standard error, and its
-/// status.
+/// status. Of the output it may have only the last lines.
 fn answer(
     alloc: Global,
+    scene: &Scene,
     words: &Vec<String>,
     files: BTreeMap<String, Vec<u8>>,
-    failing: Option<Failing>,
 ) -> Result<Vec<u8>, AllocError> {
-    let (reads, output, error) = match failing {
+    let (reads, output, error) = match scene.failing {
         Some(Failing::Read(number)) => (Some(number), None, None),
         Some(Failing::Output(number)) => (None, Some(number), None),
         Some(Failing::Error(number)) => (None, None, Some(number)),
@@ -42,7 +56,11 @@ fn answer(
     let mut out = MemSink::new(alloc, numbers(alloc, output)?);
     let mut err = MemSink::new(alloc, numbers(alloc, error)?);
     let status = run(alloc, words, &mut files, &mut out, &mut err).number();
-    let mut answer = Vec::from_slice(alloc, out.bytes())?;
+    let written = match scene.last {
+        Some(count) => last_lines(out.bytes(), count),
+        None => out.bytes(),
+    };
+    let mut answer = Vec::from_slice(alloc, written)?;
     answer.extend_from_slice(err.bytes())?;
     answer.extend_from_slice(format!(in alloc; "status {status}\n")?.as_bytes())?;
     Ok(answer)
@@ -78,7 +96,7 @@ fn cut_answer<F: Files>(
     if let Some(bytes) = files.get_mut(name) {
         bytes.truncate(length);
     }
-    answer(alloc, words, files, scene.failing)
+    answer(alloc, scene, words, files)
 }
 
 /// The length of a file without its last byte; 0 where there is none.
@@ -135,7 +153,7 @@ pub(crate) fn call<F: Files>(
         Some(name) => call_cut(alloc, scene, folder, &words, name.as_str(), transcript),
         None => {
             let files = scene.files(folder, words.as_slice())?;
-            let answer = answer(alloc, &words, files, scene.failing)?;
+            let answer = answer(alloc, scene, &words, files)?;
             transcript.extend_from_slice(answer.as_slice())
         }
     }

@@ -125,6 +125,9 @@ fn arrange<F: Files>(
     } else if kind == "cuts" {
         scene.cuts = Some(name.to_string(alloc)?);
         Ok(())
+    } else if kind == "last" {
+        scene.last = name.parse::<usize>().ok();
+        Ok(())
     } else if kind == "fail" {
         fail(scene, name, rest, transcript)
     } else {

@@ -16,7 +16,7 @@ pub(crate) enum Failing {
 }
 
 /// The files that a script made, and what it arranged for the next call: files as they are edited, the read or the write
-/// that fails, and the file that is cut after each of its bytes.
+/// that fails, the file that is cut after each of its bytes, and how many lines of the output are printed.
 #[derive(Drop)]
 pub(crate) struct Scene {
     alloc: Global,
@@ -24,6 +24,7 @@ pub(crate) struct Scene {
     edited: BTreeMap<String, Vec<u8>>,
     pub(crate) failing: Option<Failing>,
     pub(crate) cuts: Option<String>,
+    pub(crate) last: Option<usize>,
 }
 
 impl Scene {
@@ -35,6 +36,7 @@ impl Scene {
             edited: BTreeMap::new(alloc),
             failing: None,
             cuts: None,
+            last: None,
         }
     }
 
@@ -55,6 +57,7 @@ impl Scene {
         self.edited = BTreeMap::new(self.alloc);
         self.failing = None;
         self.cuts = None;
+        self.last = None;
     }
 
     /// The bytes of a file, where there is one: as it is edited for the next call, as the script made it, or as it lies in

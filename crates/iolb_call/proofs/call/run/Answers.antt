@@ -6,7 +6,7 @@ use Rattle.iolb_call.specs.Lines.{usage}
 use Rattle.iolb_call.specs.Stop.{call_of, stop_line}
 use Rattle.iolb_call.specs.Use.{files_use, sink_use}
 use Rattle.iolb_call.proofs.Words.{words_are}
-use Rattle.iolb_call.proofs.Stops.{stopped_outcome, done_outcome, done_headline, one_fault}
+use Rattle.iolb_call.proofs.Stops.{stopped_outcome, done_outcome, headline, one_fault}
 use Rattle.iolb_call.proofs.call.run.Goals as goal
 
 pub returns-in-Ok-None-clause-outcome : goal.returns-in-Ok-None-clause-outcome
@@ -30,32 +30,26 @@ returns-in-Ok-clause-outcome g c =
     done_outcome (call_of c.args.words.now.items (g.F.Files.told c.args.files.now))
     (record {
       files = files_use g.F.Files.faults c.args.files.now c.run_command.new.files;
-      output = sink_use g.O.Sink.written g.O.Sink.faults c.args.out.now c.write_output.new.out;
-      error = sink_use g.E.Sink.written g.E.Sink.faults c.args.err.now c.write_output.new.err;
+      output = sink_use g.O.Sink.written g.O.Sink.faults c.args.out.now c.write_answer.new.out;
+      error = sink_use g.E.Sink.written g.E.Sink.faults c.args.err.now c.write_answer.new.err;
     })
-    c.as_slice-in-Ok.result.now c.write_output.result
+    c.in-Ok.answer c.write_answer.result
     (record {
       request = asked c.in-Ok-Some.command;
       asked = words_are c.as_slice.ensures.value (sym c.in-Ok-Some.ensures.command ∙ ap (option_map asked) c.in-Ok-Some.field-0-is);
-      accepted = rw c.as_slice-in-Ok.ensures.value c.in-Ok.ensures.accepted;
+      answered = c.in-Ok.ensures.answered;
       read = c.in-Ok.ensures.read;
-    }) c.write_output.ensures
+    }) c.in-Ok.ensures.kind c.write_answer.ensures
 
 pub returns-in-Ok-clause-headline : goal.returns-in-Ok-clause-headline
 returns-in-Ok-clause-headline g c =
-    done_headline (call_of c.args.words.now.items (g.F.Files.told c.args.files.now))
+    headline c.replays_are_one.ensures.complete (call_of c.args.words.now.items (g.F.Files.told c.args.files.now))
     (record {
       files = files_use g.F.Files.faults c.args.files.now c.run_command.new.files;
-      output = sink_use g.O.Sink.written g.O.Sink.faults c.args.out.now c.write_output.new.out;
-      error = sink_use g.E.Sink.written g.E.Sink.faults c.args.err.now c.write_output.new.err;
+      output = sink_use g.O.Sink.written g.O.Sink.faults c.args.out.now c.write_answer.new.out;
+      error = sink_use g.E.Sink.written g.E.Sink.faults c.args.err.now c.write_answer.new.err;
     })
-    c.as_slice-in-Ok.result.now c.write_output.result
-    (record {
-      request = asked c.in-Ok-Some.command;
-      asked = words_are c.as_slice.ensures.value (sym c.in-Ok-Some.ensures.command ∙ ap (option_map asked) c.in-Ok-Some.field-0-is);
-      accepted = rw c.as_slice-in-Ok.ensures.value c.in-Ok.ensures.accepted;
-      read = c.in-Ok.ensures.read;
-    }) c.write_output.ensures
+    c.write_answer.result (returns-in-Ok-clause-outcome g c)
 
 pub returns-clause-outcome : goal.returns-clause-outcome
 returns-clause-outcome g c =
@@ -65,7 +59,7 @@ returns-clause-outcome g c =
       output = sink_use g.O.Sink.written g.O.Sink.faults c.args.out.now c.args.out.now;
       error = sink_use g.E.Sink.written g.E.Sink.faults c.args.err.now c.stopped-in-Err-run_command.new.err;
     })
-    c.in-Err-run_command.stop (stop_line c.in-Ok-Some.command.program.now c.in-Ok-Some.command.certificate.now c.in-Err-run_command.stop) c.stopped-in-Err-run_command.result
+    c.in-Err-run_command.stop (stop_line c.in-Ok-Some.command.program.now c.in-Ok-Some.command.second.now c.in-Err-run_command.stop) c.stopped-in-Err-run_command.result
     (inr (inr (record {
       request = asked c.in-Ok-Some.command;
       asked = words_are c.as_slice.ensures.value (sym c.in-Ok-Some.ensures.command ∙ ap (option_map asked) c.in-Ok-Some.field-0-is);

@@ -14,10 +14,6 @@ returns-in-Ok-eq0-clause-failed g c =
     appends_part _ _ _ _ _ c.loop-rest.rest.now c.in-Ok-eq0.field-0 c.loop-rest.invariant.1
     c.loop-rest.invariant.2 c.in-Ok-eq0.ensures.bytes
 
-pub returns-in-Err-flush-clause-failed : goal.returns-in-Err-flush-clause-failed
-returns-in-Err-flush-clause-failed g c =
-    keeps_part _ _ _ _ _ c.loop-rest.rest.now c.loop-rest.invariant.1 c.loop-rest.invariant.2 c.in-Err-flush.ensures.bytes
-
 pub returns-in-Err-clause-failed : goal.returns-in-Err-clause-failed
 returns-in-Err-clause-failed g c =
     keeps_part _ _ _ _ _ c.loop-rest.rest.now c.loop-rest.invariant.1 c.loop-rest.invariant.2 c.in-Err.ensures.bytes

@@ -1,0 +1,12 @@
+//! What a command is answered with.
+
+use replay_call::Play;
+
+/// What is written where a command is done.
+#[derive(Drop)]
+pub(crate) enum Answer {
+    /// A text, by one write.
+    Text(Vec<u8>),
+    /// The lines of a play, each by one write.
+    Lines(Play),
+}
