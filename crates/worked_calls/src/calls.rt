@@ -26,13 +26,13 @@ fn words_of(alloc: Global, line: &str) -> Result<Vec<String>, AllocError> {
 
 /// The last lines of a text that ends with a newline, so many.
 fn last_lines(text: &[u8], count: usize) -> &[u8] {
-    let mut seen = 0;
+    let mut left = count;
     for place in (0..text.len()).rev() {
         if text[place] == b'\n' {
-            if seen == count {
+            if left == 0 {
                 return &text[place + 1..];
             }
-            seen += 1;
+            left -= 1;
         }
     }
     text
