@@ -1,5 +1,5 @@
 //! Worked cases of crates that the program's calls don't show: tokens, forms and matrices, polynomials, covers,
-//! computation graphs, replays.
+//! computation graphs, source trees, replays.
 #![tactic(auto)]
 
 #[cfg(test)]
@@ -14,6 +14,8 @@ mod polynomial_tests;
 mod replay_tests;
 #[cfg(test)]
 mod schedule_tests;
+#[cfg(test)]
+mod source_tree_tests;
 #[cfg(test)]
 mod texts;
 #[cfg(test)]
