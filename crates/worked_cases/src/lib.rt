@@ -1,5 +1,5 @@
 //! Worked cases of crates that the program's calls don't show: tokens, forms and matrices, multipliers, polynomials,
-//! counts, covers, projective programs, computation graphs, replays.
+//! counts, covers, projective programs, computation graphs, source trees, replays.
 #![tactic(auto)]
 
 #[cfg(test)]
@@ -20,6 +20,8 @@ mod projective_tests;
 mod replay_tests;
 #[cfg(test)]
 mod schedule_tests;
+#[cfg(test)]
+mod source_tree_tests;
 #[cfg(test)]
 mod texts;
 #[cfg(test)]
