@@ -10,7 +10,7 @@ use Rattle.dep_quast.specs.Context.{ReadOf}
 use Rattle.dep_quast.specs.Tree.{SelectionTree, leaf_count}
 use Rattle.flow_deps.specs.declared.candidate.Candidate.{Candidate}
 use Rattle.flow_deps.specs.declared.candidate.Candidate.TheVariants.{NoWrite, SameTurn, TurnBefore}
-use Rattle.flow_deps.specs.declared.wanted.Wanted.TheVariants.{Short}
+use Rattle.answers.specs.declared.wanted.Wanted.TheVariants.{Short}
 use Rattle.flow_deps.specs.Candidates.{Shape, candidate_shape, candidates}
 use Rattle.flow_deps.specs.Plain.{IsShown, IsNotShown, IsFirstShown, IsPlain, Stands}
 use Rattle.flow_deps.proofs.ShownTrees.{shape_leaves, leaves-of_shape}

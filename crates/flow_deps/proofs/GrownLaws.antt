@@ -17,10 +17,10 @@ use Rattle.dep_quast.specs.Claims.{IsFew, context_system, claims}
 use Rattle.dep_quast.specs.Tree.{SelectionTree, leaf, test, empty, blank}
 use Rattle.dep_quast.specs.Truth.{IsLevel}
 use Rattle.dep_quast.proofs.Fits.{common-first, common-second, depth-few}
-use Rattle.flow_deps.specs.Answers.{IsAnswered, pointless}
+use Rattle.answers.specs.Answers.{IsAnswered, pointless}
 use Rattle.flow_deps.specs.Growth.{IsLeafUnder}
 use Rattle.flow_deps.specs.Plain.{Stands}
-use Rattle.flow_deps.proofs.AnswerLaws.{answer-names}
+use Rattle.answers.proofs.AnswerLaws.{answer-names}
 use Rattle.flow_deps.proofs.ShownLeaves.{within_rows-length}
 
 -- the rows of a leaf are few, where not too many tests are nested

@@ -1,4 +1,3 @@
-pub mod AnswerLaws
 pub mod PointLaws
 pub mod CandidateLaws
 pub mod Moved

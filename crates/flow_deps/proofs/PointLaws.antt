@@ -17,7 +17,7 @@ use Rattle.affine_form.proofs.RowLemmas.{variables-over, length-difference}
 use Rattle.affine_form.proofs.Sizes.{size-add}
 use Rattle.affine_form.specs.declared.form.Form.{Form}
 use Rattle.dep_quast.specs.Context.{ReadOf, variables_at}
-use Rattle.flow_deps.proofs.AnswerLaws.{All-left, All-right}
+use Rattle.answers.proofs.AnswerLaws.{All-left, All-right}
 use Rattle.flow_deps.specs.Candidates.{subscript_for, is_name, loop_value, values_along, point_from, FindsPoint}
 
 -- ---- subscripts

@@ -22,12 +22,12 @@ use Rattle.dep_quast.specs.Claims.{IsFew, follow_claims, pointless_claims, conte
 use Rattle.dep_quast.specs.Tree.{SourceClaim, source, input, empty, blank, leaf, test}
 use Rattle.dep_quast.specs.Truth.{IsThere, ReadFits}
 use Rattle.dep_quast.proofs.Fits.{cells-many, ranks-same}
-use Rattle.flow_deps.specs.declared.wanted.Wanted.{Wanted}
-use Rattle.flow_deps.specs.declared.wanted.Wanted.TheVariants.{Short}
-use Rattle.flow_deps.specs.Answers.{Question, Answers, HasNoShort, HasShortAnswer, following, pointless}
+use Rattle.answers.specs.declared.wanted.Wanted.{Wanted}
+use Rattle.answers.specs.declared.wanted.Wanted.TheVariants.{Short}
+use Rattle.answers.specs.Answers.{Question, Answers, HasNoShort, HasShortAnswer, following, pointless}
 use Rattle.flow_deps.specs.Candidates.{Shape, shape_of, no_write, last_write, other, split}
 use Rattle.flow_deps.specs.Plain.{IsShown, IsNotShown}
-use Rattle.flow_deps.proofs.AnswerLaws.{AreAnswered-length, answers-name, follow-hold, follow-short, pointless-hold, pointless-short}
+use Rattle.answers.proofs.AnswerLaws.{AreAnswered-length, answers-name, follow-hold, follow-short, pointless-hold, pointless-short}
 
 -- ---- no write is earlier
 

@@ -11,8 +11,8 @@ use Rattle.dep_quast.specs.Context.{ReadOf, variables_at, no_row}
 use Rattle.dep_quast.specs.Claims.{claims}
 use Rattle.dep_quast.specs.Tree.{source, input, empty, blank, SelectionTree, leaf, test, tree_of, leaf_count}
 use Rattle.dep_quast.specs.declared.quast.Quast.{Quast}
-use Rattle.flow_deps.specs.declared.wanted.Wanted.{Wanted}
-use Rattle.flow_deps.specs.declared.wanted.Wanted.TheVariants.{Short}
+use Rattle.answers.specs.declared.wanted.Wanted.{Wanted}
+use Rattle.answers.specs.declared.wanted.Wanted.TheVariants.{Short}
 use Rattle.flow_deps.specs.Candidates.{Shape, shape_of, no_write, last_write, other, split}
 use Rattle.flow_deps.specs.Growth.{IsLeafUnder}
 use Rattle.flow_deps.specs.Plain.{IsShown, IsNotShown, FindsTree}

@@ -1,4 +1,3 @@
-pub mod Answers
 pub mod Candidates
 pub mod Plain
 pub mod Origins

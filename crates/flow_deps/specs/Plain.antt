@@ -13,9 +13,9 @@ use Rattle.dep_quast.specs.declared.quast.Quast.{Quast}
 use Rattle.dep_quast.specs.Truth.{FitsUnder}
 use Rattle.part_fit.specs.Limits.{IsNestedTree}
 use Rattle.iolb_model.specs.declared.limits.TheConstants.{TREE_TESTS}
-use Rattle.flow_deps.specs.declared.wanted.Wanted.{Wanted}
-use Rattle.flow_deps.specs.declared.wanted.Wanted.TheVariants.{Short}
-use Rattle.flow_deps.specs.Answers.{IsAsShort}
+use Rattle.answers.specs.declared.wanted.Wanted.{Wanted}
+use Rattle.answers.specs.declared.wanted.Wanted.TheVariants.{Short}
+use Rattle.answers.specs.Answers.{IsAsShort}
 use Rattle.flow_deps.specs.Candidates.{Shape, shape_of, candidates, candidate_shape}
 
 -- A tree stands under these tests: it fits, each claim holds wherever the tree stands, and it is within the limits, with

@@ -9,15 +9,15 @@ ghost use Rattle.dep_quast.specs.Tree.{tree_of};
 ghost use Rattle.dep_quast.specs.Truth.{ReadFits, IsThere};
 ghost use Rattle.dep_quast.specs.Views.{read_of, claim_of};
 ghost use Rattle.dep_quast.specs.Claims.{inside_goals, cell_goals, before_goals};
-ghost use Rattle.flow_deps.specs.Answers.{HasNoShort, Answers, following};
+ghost use Rattle.answers.specs.Answers.{HasNoShort, Answers, following};
 ghost use Rattle.flow_deps.specs.Candidates.{last_write, no_write};
 ghost use Rattle.flow_deps.specs.Growth.{IsLeafUnder};
 ghost use Rattle.flow_deps.specs.Plain.{FindsTree};
 
-use crate::answers::{goals_answered, system_answered};
+use answers::{goals_answered, system_answered};
 use crate::no_writes::{between_answered, earlier_answered};
 use crate::rows::{context_rows, precedence_rows, values_of_reader, written_rows};
-use crate::wanted::Wanted;
+use answers::Wanted;
 use affine_form::{Form, Memory, Multipliers, System, system_of};
 use affine_program::Program;
 use dep_quast::Quast;

@@ -2,7 +2,6 @@
 //! writers (Feautrier 1991), with the multipliers that show them.
 #![tactic(auto)]
 
-mod answers;
 pub mod candidate;
 mod candidates;
 mod growth;
@@ -15,7 +14,6 @@ mod points;
 mod rows;
 mod solved;
 mod source_trees;
-pub mod wanted;
 mod writes;
 
 pub use plain_trees::plain;

@@ -10,10 +10,10 @@ ghost use Rattle.dep_quast.specs.Context.{reference_of, variables_at, variables_
 ghost use Rattle.dep_quast.specs.Levels.{levels};
 ghost use Rattle.dep_quast.specs.Truth.{ReadFits};
 ghost use Rattle.dep_quast.specs.Views.{read_of, claim_of};
-ghost use Rattle.flow_deps.specs.Answers.{HasNoShort, Answers, pointless};
+ghost use Rattle.answers.specs.Answers.{HasNoShort, Answers, pointless};
 
-use crate::answers::{system_answered, with_answers};
-use crate::wanted::Wanted;
+use answers::{system_answered, with_answers};
+use answers::Wanted;
 use crate::writes::{
     rows_after_source, rows_before_reader, rows_of_write, variables_beside, writers,
 };

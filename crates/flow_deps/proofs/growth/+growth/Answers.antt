@@ -11,7 +11,7 @@ use Rattle.dep_quast.specs.Views.{read_of}
 use Rattle.dep_quast.specs.declared.quast.Quast.{Quast}
 use Rattle.flow_deps.specs.Plain.{Stands}
 use Rattle.flow_deps.specs.Growth.{IsLeafUnder}
-use Rattle.flow_deps.proofs.AnswerLaws.{some-has}
+use Rattle.answers.proofs.AnswerLaws.{some-has}
 use Rattle.flow_deps.proofs.GrownLaws.{context-few, blank-stands, test-stands, none-there}
 use Rattle.flow_deps.proofs.growth.+growth.Goals as goal
 

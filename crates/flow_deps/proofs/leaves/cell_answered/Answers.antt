@@ -8,7 +8,7 @@ use Rattle.claims.proofs.Found.{IfOk-then}
 use Rattle.dep_quast.specs.Claims.{cell_goals}
 use Rattle.dep_quast.specs.Context.{parameter_point, reader_point, reference_of}
 use Rattle.dep_quast.specs.Views.{read_of, claim_of}
-use Rattle.flow_deps.specs.Answers.{Answers, HasNoShort, following}
+use Rattle.answers.specs.Answers.{Answers, HasNoShort, following}
 use Rattle.flow_deps.proofs.leaves.cell_answered.Goals as goal
 
 pub returns : goal.returns

@@ -3,9 +3,9 @@ use Rattle.affine_form.specs.System.{AffineSystem}
 use Rattle.affine_program.specs.Parts.{meaning}
 use Rattle.dep_quast.specs.Claims.{context_system}
 use Rattle.dep_quast.specs.Views.{read_of}
-use Rattle.flow_deps.specs.declared.wanted.Wanted.TheVariants.{Any}
-use Rattle.flow_deps.specs.Answers.{HasShortAnswer, IsAnswered, IsAsShort, pointless}
-use Rattle.flow_deps.proofs.AnswerLaws.{found-some, system-is}
+use Rattle.answers.specs.declared.wanted.Wanted.TheVariants.{Any}
+use Rattle.answers.specs.Answers.{HasShortAnswer, IsAnswered, IsAsShort, pointless}
+use Rattle.answers.proofs.AnswerLaws.{found-some, system-is}
 use Rattle.flow_deps.proofs.GrownLaws.{empty-stands}
 use Rattle.flow_deps.proofs.leaves.empty_leaf.Goals as goal
 

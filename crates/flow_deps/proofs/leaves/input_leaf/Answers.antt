@@ -4,8 +4,8 @@ use Rattle.iolb_model.specs.declared.limits.TheConstants.{ROWS}
 use Rattle.affine_program.specs.Parts.{meaning}
 use Rattle.dep_quast.specs.Context.{context, earlier_writes}
 use Rattle.dep_quast.specs.Views.{read_of}
-use Rattle.flow_deps.specs.Answers.{Answers, HasNoShort, pointless}
-use Rattle.flow_deps.proofs.AnswerLaws.{found-none, found-some}
+use Rattle.answers.specs.Answers.{Answers, HasNoShort, pointless}
+use Rattle.answers.proofs.AnswerLaws.{found-none, found-some}
 use Rattle.flow_deps.proofs.ShownLeaves.{input-shown, many-rows-input, earlier-not}
 use Rattle.flow_deps.proofs.leaves.input_leaf.Goals as goal
 

@@ -8,10 +8,10 @@ use Rattle.dep_quast.specs.Context.{context, writes_between}
 use Rattle.dep_quast.specs.Tree.{SourceClaim, leaf, source}
 use Rattle.dep_quast.specs.Truth.{IsThere}
 use Rattle.dep_quast.specs.Views.{read_of, claim_of}
-use Rattle.flow_deps.specs.Answers.{Answers, HasNoShort, following, pointless}
+use Rattle.answers.specs.Answers.{Answers, HasNoShort, following, pointless}
 use Rattle.flow_deps.specs.Candidates.{last_write}
 use Rattle.flow_deps.specs.Plain.{IsShown}
-use Rattle.flow_deps.proofs.AnswerLaws.{found-none, found-some, system-is}
+use Rattle.answers.proofs.AnswerLaws.{found-none, found-some, system-is}
 use Rattle.flow_deps.proofs.ShownLeaves.{source-not, source-shown}
 use Rattle.flow_deps.proofs.leaves.source_leaf.Goals as goal
 

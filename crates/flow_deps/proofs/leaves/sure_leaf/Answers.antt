@@ -4,7 +4,7 @@ use Rattle.affine_program.specs.Parts.{meaning}
 use Rattle.claims.proofs.Found.{IfOk-then}
 use Rattle.dep_quast.specs.Tree.{tree_of}
 use Rattle.dep_quast.specs.Views.{read_of}
-use Rattle.flow_deps.specs.declared.wanted.Wanted.TheVariants.{Any}
+use Rattle.answers.specs.declared.wanted.Wanted.TheVariants.{Any}
 use Rattle.flow_deps.specs.Candidates.{no_write}
 use Rattle.flow_deps.specs.Growth.{IsLeafUnder}
 use Rattle.flow_deps.specs.Plain.{FindsTree}

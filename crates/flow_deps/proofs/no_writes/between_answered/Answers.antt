@@ -7,8 +7,8 @@ use Rattle.affine_program.specs.Parts.{meaning}
 use Rattle.dep_quast.specs.Context.{before_reader, after_source, write_between, reference_of}
 use Rattle.dep_quast.specs.Levels.{levels, writers}
 use Rattle.dep_quast.specs.Views.{read_of, claim_of}
-use Rattle.flow_deps.specs.Answers.{Answers, HasNoShort, pointless}
-use Rattle.flow_deps.proofs.AnswerLaws.{found-none, found-some, systems-more, none-among, flat-take-more}
+use Rattle.answers.specs.Answers.{Answers, HasNoShort, pointless}
+use Rattle.answers.proofs.AnswerLaws.{found-none, found-some, systems-more, none-among, flat-take-more}
 use Rattle.flow_deps.proofs.no_writes.between_answered.Goals as goal
 
 pub returns-in_default : goal.returns-in_default

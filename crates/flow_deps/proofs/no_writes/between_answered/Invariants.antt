@@ -4,7 +4,7 @@ use Rattle.affine_program.specs.Parts.{meaning}
 use Rattle.dep_quast.specs.Context.{write_between}
 use Rattle.dep_quast.specs.Levels.{levels}
 use Rattle.dep_quast.specs.Views.{read_of, claim_of}
-use Rattle.flow_deps.specs.Answers.{Answers, pointless}
+use Rattle.answers.specs.Answers.{Answers, pointless}
 use Rattle.flow_deps.proofs.no_writes.between_answered.Given as goal
 
 abbrev pub invariant-loop-writer : goal.invariant-loop-writer

@@ -4,8 +4,8 @@ use Rattle.affine_program.specs.Parts.{meaning}
 use Rattle.dep_quast.specs.Context.{before_reader}
 use Rattle.dep_quast.specs.Levels.{level_count}
 use Rattle.dep_quast.specs.Views.{read_of}
-use Rattle.flow_deps.specs.Answers.{HasShortAnswer, IsAnswered, IsAsShort, pointless}
-use Rattle.flow_deps.proofs.AnswerLaws.{found-none, found-some, system-is, levels-more, none-level}
+use Rattle.answers.specs.Answers.{HasShortAnswer, IsAnswered, IsAsShort, pointless}
+use Rattle.answers.proofs.AnswerLaws.{found-none, found-some, system-is, levels-more, none-level}
 use Rattle.flow_deps.proofs.no_writes.levels_answered.Goals as goal
 
 pub returns-in_default : goal.returns-in_default

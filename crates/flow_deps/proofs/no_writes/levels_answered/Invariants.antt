@@ -3,7 +3,7 @@ use Rattle.std.specs.List.{range_with_len}
 use Rattle.affine_program.specs.Parts.{meaning}
 use Rattle.dep_quast.specs.Context.{before_reader}
 use Rattle.dep_quast.specs.Views.{read_of}
-use Rattle.flow_deps.specs.Answers.{Answers, pointless}
+use Rattle.answers.specs.Answers.{Answers, pointless}
 use Rattle.flow_deps.proofs.no_writes.levels_answered.Given as goal
 
 abbrev pub invariant-loop-level : goal.invariant-loop-level

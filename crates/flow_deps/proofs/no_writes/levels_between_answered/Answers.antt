@@ -7,8 +7,8 @@ use Rattle.affine_program.specs.Parts.{meaning}
 use Rattle.dep_quast.specs.Context.{before_reader, after_source}
 use Rattle.dep_quast.specs.Levels.{levels, level_count}
 use Rattle.dep_quast.specs.Views.{read_of, claim_of}
-use Rattle.flow_deps.specs.Answers.{Answers, HasNoShort, pointless}
-use Rattle.flow_deps.proofs.AnswerLaws.{found-none, found-some, systems-more, none-after, flat-range-more}
+use Rattle.answers.specs.Answers.{Answers, HasNoShort, pointless}
+use Rattle.answers.proofs.AnswerLaws.{found-none, found-some, systems-more, none-after, flat-range-more}
 use Rattle.flow_deps.proofs.no_writes.levels_between_answered.Goals as goal
 
 pub returns-in_default : goal.returns-in_default

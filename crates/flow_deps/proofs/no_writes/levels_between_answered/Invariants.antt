@@ -5,7 +5,7 @@ use Rattle.affine_program.specs.Parts.{meaning}
 use Rattle.dep_quast.specs.Context.{before_reader, after_source}
 use Rattle.dep_quast.specs.Levels.{levels}
 use Rattle.dep_quast.specs.Views.{read_of, claim_of}
-use Rattle.flow_deps.specs.Answers.{Answers, pointless}
+use Rattle.answers.specs.Answers.{Answers, pointless}
 use Rattle.flow_deps.proofs.no_writes.levels_between_answered.Given as goal
 
 abbrev pub invariant-loop-after : goal.invariant-loop-after

@@ -6,7 +6,7 @@ use Rattle.dep_quast.specs.Tree.{tree_of}
 use Rattle.dep_quast.specs.Views.{read_of}
 use Rattle.flow_deps.specs.declared.candidate.Candidate.{Candidate}
 use Rattle.flow_deps.specs.declared.candidate.Candidate.TheVariants.{NoWrite}
-use Rattle.flow_deps.specs.declared.wanted.Wanted.TheVariants.{Short}
+use Rattle.answers.specs.declared.wanted.Wanted.TheVariants.{Short}
 use Rattle.flow_deps.specs.Candidates.{Shape, candidate_shape}
 use Rattle.flow_deps.proofs.FirstShown.{first-here, first-later, first-none}
 use Rattle.flow_deps.proofs.ShownTrees.{finds-none, finds-some}

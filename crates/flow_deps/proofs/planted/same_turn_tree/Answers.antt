@@ -8,7 +8,7 @@ use Rattle.claims.proofs.Found.{IfOk-then}
 use Rattle.dep_quast.specs.Views.{read_of}
 use Rattle.dep_quast.proofs.Fits.{common-few}
 use Rattle.flow_deps.specs.declared.candidate.Candidate.TheVariants.{SameTurn}
-use Rattle.flow_deps.specs.declared.wanted.Wanted.TheVariants.{Short}
+use Rattle.answers.specs.declared.wanted.Wanted.TheVariants.{Short}
 use Rattle.flow_deps.specs.Candidates.{Shape, last_write, first_values, point_from, candidate_shape}
 use Rattle.flow_deps.specs.Plain.{FindsTree}
 use Rattle.flow_deps.proofs.PointLaws.{point-none, point-some}

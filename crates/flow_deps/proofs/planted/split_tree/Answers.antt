@@ -5,7 +5,7 @@ use Rattle.dep_quast.specs.Context.{variables_at, no_row}
 use Rattle.dep_quast.specs.Tree.{test, tree_of}
 use Rattle.dep_quast.specs.Views.{read_of}
 use Rattle.dep_quast.specs.declared.quast.Quast.{Quast}
-use Rattle.flow_deps.specs.declared.wanted.Wanted.TheVariants.{Short}
+use Rattle.answers.specs.declared.wanted.Wanted.TheVariants.{Short}
 use Rattle.flow_deps.specs.Candidates.{Shape, last_write, no_write, split}
 use Rattle.flow_deps.specs.Plain.{IsShown, IsNotShown}
 use Rattle.flow_deps.proofs.ShownTrees.{split-shown, split-sides, finds-none, finds-some}

@@ -7,7 +7,7 @@ use Rattle.claims.proofs.Found.{IfOk-then}
 use Rattle.dep_quast.specs.Views.{read_of}
 use Rattle.dep_quast.proofs.Fits.{common-second}
 use Rattle.flow_deps.specs.declared.candidate.Candidate.TheVariants.{TurnBefore}
-use Rattle.flow_deps.specs.declared.wanted.Wanted.TheVariants.{Short}
+use Rattle.answers.specs.declared.wanted.Wanted.TheVariants.{Short}
 use Rattle.flow_deps.specs.Candidates.{Shape, last_write, no_write, split, first_values, turn_before, later_turn, point_from, candidate_shape, FindsPoint}
 use Rattle.flow_deps.specs.Plain.{FindsTree}
 use Rattle.flow_deps.proofs.PointLaws.{point-none, point-some, not-both}

@@ -1,6 +1,6 @@
-use Rattle.flow_deps.specs.Answers.{IsAnswered, HasShortAnswer, IsAsShort, Question}
-use Rattle.flow_deps.proofs.AnswerLaws.{goals-more, none-goal, found-none, found-some}
-use Rattle.flow_deps.proofs.answers.goals_answered.Goals as goal
+use Rattle.answers.specs.Answers.{IsAnswered, HasShortAnswer, IsAsShort, Question}
+use Rattle.answers.proofs.AnswerLaws.{goals-more, none-goal, found-none, found-some}
+use Rattle.answers.proofs.answers.goals_answered.Goals as goal
 
 pub returns-in_default : goal.returns-in_default
 returns-in_default c =

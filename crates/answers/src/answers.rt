@@ -4,7 +4,7 @@ ghost use Rattle.std.specs.Prelude.{◌≡◌, ◌≤◌, ◌++◌, IfOk, MatchO
 ghost use Rattle.affine_form.specs.Form.{variables};
 ghost use Rattle.affine_form.specs.Shown.{minus_one};
 ghost use Rattle.affine_form.specs.System.{AllOver};
-ghost use Rattle.flow_deps.specs.Answers.{IsAnswered, HasShortAnswer, HasNoShort, IsAsShort, Answers, following, pointless};
+ghost use Rattle.answers.specs.Answers.{IsAnswered, HasShortAnswer, HasNoShort, IsAsShort, Answers, following, pointless};
 ghost use Rattle.iolb_model.specs.declared.limits.TheConstants.{VARIABLES};
 
 use crate::wanted::Wanted;
@@ -32,7 +32,7 @@ fn answered(
 }
 
 /// Whether a goal is found to follow from the rows of the system.
-pub(crate) fn is_answered(alloc: Global, system: &System, goal: &Form) -> Result<bool, Memory>
+pub fn is_answered(alloc: Global, system: &System, goal: &Form) -> Result<bool, Memory>
     requires { variables goal.now ≡ system.now.vars }
 {
     let found = prove(alloc, system, goal)?;
@@ -40,7 +40,7 @@ pub(crate) fn is_answered(alloc: Global, system: &System, goal: &Form) -> Result
 }
 
 /// Multipliers that show each goal from the rows of the system. None only where some goal has no short list.
-pub(crate) fn goals_answered(
+pub fn goals_answered(
     alloc: Global,
     wanted: Wanted,
     system: &System,
@@ -60,7 +60,7 @@ pub(crate) fn goals_answered(
 }
 
 /// Multipliers that show that no point meets all rows. None only where no short list does, or the rows are too many.
-pub(crate) fn system_answered(
+pub fn system_answered(
     alloc: Global,
     wanted: Wanted,
     vars: usize,
@@ -89,7 +89,7 @@ fn minus_one(alloc: Global, vars: usize) -> Result<Form, Memory>
 }
 
 /// Answers, and then more.
-pub(crate) fn with_answers(
+pub fn with_answers(
     all: Vec<Multipliers>,
     more: Vec<Multipliers>,
 ) -> Result<Vec<Multipliers>, Memory>

@@ -14,9 +14,9 @@ use Rattle.claims.specs.Claims.{AllHold}
 use Rattle.claims.specs.declared.place.Step.{Step}
 use Rattle.int_sets.specs.ShortList.{IsShort}
 use Rattle.dep_quast.specs.Claims.{IsFew, follow_claims, pointless_claims}
-use Rattle.flow_deps.specs.declared.wanted.Wanted.{Wanted}
+use Rattle.answers.specs.declared.wanted.Wanted.{Wanted}
 use Rattle.part_fit.specs.Limits.{NamesRows, NameRows}
-use Rattle.flow_deps.specs.Answers.{Question, IsAnswered, AreAnswered, following, pointless, HasShortAnswer, IsAsShort, Answers, HasNoShort}
+use Rattle.answers.specs.Answers.{Question, IsAnswered, AreAnswered, following, pointless, HasShortAnswer, IsAsShort, Answers, HasNoShort}
 
 -- ---- lists
 
@@ -48,9 +48,6 @@ AreAnswered-append [] ys [] ns p q = q
 AreAnswered-append [] ys (m ∷ ms) ns p q = absurd p
 AreAnswered-append (x ∷ xs) ys [] ns p q = absurd p
 AreAnswered-append (x ∷ xs) ys (m ∷ ms) ns p q = (p.0, AreAnswered-append xs ys ms ns p.1 q)
-
-pub Answers-none : (wanted : Wanted) → Answers wanted [] []
-Answers-none wanted = record { each = tt; as_short = tt }
 
 pub Answers-append : (wanted : Wanted) (xs ys : List Question) (ms ns : List FarkasMultipliers) → Answers wanted xs ms → Answers wanted ys ns → Answers wanted (xs ++ ys) (ms ++ ns)
 Answers-append wanted xs ys ms ns p q =

@@ -7,8 +7,8 @@ use Rattle.affine_form.specs.Shown.{minus_one}
 use Rattle.affine_form.specs.System.{AffineSystem}
 use Rattle.int_sets.specs.ShortList.{IsShort, HasShortList}
 use Rattle.dep_quast.specs.Claims.{IsFew, Follows}
-use Rattle.flow_deps.specs.declared.wanted.Wanted.{Wanted}
-use Rattle.flow_deps.specs.declared.wanted.Wanted.TheVariants.{Short, Any}
+use Rattle.answers.specs.declared.wanted.Wanted.{Wanted}
+use Rattle.answers.specs.declared.wanted.Wanted.TheVariants.{Short, Any}
 
 -- A question: does the goal follow from the system?
 pub record Question : Type 0 where
