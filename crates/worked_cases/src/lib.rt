@@ -1,9 +1,7 @@
-//! Worked cases of crates that the program's calls don't show: tokens, forms and matrices, multipliers, polynomials,
-//! counts, covers, projective programs, computation graphs, source trees, replays.
+//! Worked cases of crates that the program's calls don't show: tokens, forms and matrices, polynomials, the numbers of
+//! covers, computation graphs, replays.
 #![tactic(auto)]
 
-#[cfg(test)]
-mod count_tests;
 #[cfg(test)]
 mod cover_tests;
 #[cfg(test)]
@@ -11,17 +9,11 @@ mod form_tests;
 #[cfg(test)]
 mod graph_tests;
 #[cfg(test)]
-mod multiplier_tests;
-#[cfg(test)]
 mod polynomial_tests;
-#[cfg(test)]
-mod projective_tests;
 #[cfg(test)]
 mod replay_tests;
 #[cfg(test)]
 mod schedule_tests;
-#[cfg(test)]
-mod source_tree_tests;
 #[cfg(test)]
 mod texts;
 #[cfg(test)]

@@ -1,10 +1,13 @@
 //! Programs that are projective, and programs that miss it by one property each.
 
-use crate::texts::PRODUCT;
 use affine_c::read_program;
 use projective::as_projective;
 use std::alloc::Global;
 use std::test::Fail;
+
+/// The matrix product.
+pub const PRODUCT: &[u8] =
+    b"#pragma scop\nfor (i = 0; i < N; i++) for (j = 0; j < N; j++) for (k = 0; k < N; k++) C[i][j] = C[i][j] + A[i][k] * B[k][j];\n#pragma endscop\n";
 
 /// The product of a tensor with two matrices along its last two loops.
 const TENSOR: &[u8] =

@@ -1,6 +1,6 @@
 //! Source trees that are known.
 
-use crate::texts::PRODUCT;
+use crate::projective_tests::PRODUCT;
 use affine_c::read_program;
 use affine_form::{Form, Name};
 use dep_quast::Quast;

@@ -1,0 +1,14 @@
+//! Worked cases of what makes certificates: multipliers, counts, source trees and least covers that are found, and
+//! projective programs.
+#![tactic(auto)]
+
+#[cfg(test)]
+mod count_tests;
+#[cfg(test)]
+mod cover_tests;
+#[cfg(test)]
+mod multiplier_tests;
+#[cfg(test)]
+mod projective_tests;
+#[cfg(test)]
+mod source_tree_tests;
