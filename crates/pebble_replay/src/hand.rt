@@ -58,7 +58,7 @@ impl Hand {
             order,
             place,
             hand: self,
-            moves: Vec::new(alloc),
+            moves: Vec::with_capacity(alloc, 12)?,
         };
         turn.finish()?;
         let Turn { hand, moves, .. } = turn;
