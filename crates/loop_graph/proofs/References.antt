@@ -3,10 +3,10 @@ use Rattle.std.proofs.Common.{◌≡◌, sym, ◌∙◌, ap, subst, ℕ, zero, s
 use Rattle.std.specs.List.{AllByRecursion}
 use Rattle.std.proofs.lemmas.List.{length-map, get_or-map}
 use Rattle.std.proofs.lemmas.Simd.{map-map}
-use Rattle.std.specs.Prelude.{ℤ, IsSomeAnd, slice_get}
+use Rattle.std.specs.Prelude.{IsSomeAnd, slice_get}
 use Rattle.iolb_model.specs.Source.{cell_of}
 use Rattle.iolb_model.specs.Path.{PathStep}
-use Rattle.iolb_model.specs.Program.{Access, AffineProgram, AccessFits, Statement as ModelStatement, StatementFits, statement_at, no_statement}
+use Rattle.iolb_model.specs.Program.{Access, AccessFits, Statement as ModelStatement, StatementFits, statement_at, no_statement}
 use Rattle.iolb_model.specs.declared.limits.TheConstants.{READS, SUBSCRIPTS}
 use Rattle.affine_form.specs.Rows.{step_of}
 use Rattle.affine_program.specs.declared.reference.Reference.{Reference}

@@ -5,7 +5,7 @@ use Rattle.std.specs.HashMap.{Updates}
 use Rattle.std.specs.List.{enumerate_from}
 use Rattle.arrayvec.specs.ArrayVec.{ArrayVec}
 use Rattle.std.specs.Option.{option_map_or}
-use Rattle.std.proofs.lemmas.List.{append_assoc, length-append, length-map, map_push, drop_all}
+use Rattle.std.proofs.lemmas.List.{append_assoc, length-append, length-map, map_push}
 use Rattle.std.proofs.lemmas.List.Elements.{filter_map-append}
 use Rattle.base_laws.proofs.Lists.{add-one}
 use Rattle.iolb_model.specs.Program.{AffineProgram}

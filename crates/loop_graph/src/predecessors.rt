@@ -35,7 +35,12 @@ fn predecessors_of(
     ensures grows { OnOk result (known.new.inputs ≤ known.old.inputs + READS) }
 {
     let statement = &program.statements()[usize::from(run.statement)];
-    known.read_all(alloc, statement.reads.as_slice(), run.point.as_slice(), instances)
+    known.read_all(
+        alloc,
+        statement.reads.as_slice(),
+        run.point.as_slice(),
+        instances,
+    )
 }
 
 /// How many input cells are read, and the predecessors of each run, where the runs are all instances of a program in the

@@ -17,9 +17,9 @@ loop-reference-preserved c =
     let more : c.if-not-contains.preds.items ≡ cond (list_any (λ y. nat_eq y c.in_ok-vertex.vertex) preds) preds (preds ++ c.in_ok-vertex.vertex ∷ []) =
     elim c.if-not-contains.branch [
       | then-not-contains+in_ok-push w ↦ ap (λ (l : Vec ℕ Global). l.items) w.preds-is ∙ w.in_ok-push.ensures.items
-        ∙ sym (cond-false (list_any (λ y. nat_eq y c.in_ok-vertex.vertex) preds) preds (preds ++ c.in_ok-vertex.vertex ∷ []) (sym any ∙ w.if-not-contains.true))
+          ∙ sym (cond-false (list_any (λ y. nat_eq y c.in_ok-vertex.vertex) preds) preds (preds ++ c.in_ok-vertex.vertex ∷ []) (sym any ∙ w.if-not-contains.true))
       | else-not-contains w ↦ ap (λ (l : Vec ℕ Global). l.items) w.preds-is
-        ∙ sym (cond-true (list_any (λ y. nat_eq y c.in_ok-vertex.vertex) preds) preds (preds ++ c.in_ok-vertex.vertex ∷ []) (sym any ∙ w.if-not-contains.false))
+          ∙ sym (cond-true (list_any (λ y. nat_eq y c.in_ok-vertex.vertex) preds) preds (preds ++ c.in_ok-vertex.vertex ∷ []) (sym any ∙ w.if-not-contains.false))
     ] in record {
       few = omega (arith, c.loop-reference.invariant.few, c.in_ok-vertex.ensures.grows);
       preceded = λ writer before met. read-next (λ (reference : Reference). cell_of (access_of reference) c.args.point.now) c.args.instances writer before c.args.references.now
