@@ -1,8 +1,8 @@
 -- Members that are taken once, where a list grows at its end.
-use Rattle.std.proofs.Common.{◌≡◌, refl, sym, ◌∙◌, ap, ℕ, suc, ◌+◌, ◌<◌, Bool, true, false, cond, not, List, [], ◌∷◌, ◌++◌, length, take, get_or, nat_eq, arith}
+use Rattle.std.proofs.Common.{◌≡◌, refl, sym, ◌∙◌, ap, ℕ, suc, ◌+◌, Bool, true, false, cond, not, List, [], ◌∷◌, ◌++◌, length, nat_eq, arith}
 use Rattle.std.specs.Prelude.{◌||◌, filter}
 use Rattle.std.specs.List.{list_any, position_or_len}
-use Rattle.std.proofs.lemmas.List.{append-nil, take_more}
+use Rattle.std.proofs.lemmas.List.{append-nil}
 use Rattle.std.proofs.lemmas.List.Elements.{filter-append}
 use Rattle.std.proofs.lemmas.Bool.{eqb-true, eq-eqb}
 use Rattle.std.proofs.lemmas.Map.Views.{any-filter_same}
@@ -78,11 +78,10 @@ any-flips : (v : ℕ) (xs : List ℕ) → list_any (λ y. nat_eq y v) xs ≡ lis
 any-flips v [] = refl
 any-flips v (x ∷ xs) = ap (λ (b : Bool). b || list_any (λ y. nat_eq y v) xs) (flips nat_eq eqb-true (λ n. eq-eqb n n refl) x v) ∙ ap (λ (b : Bool). nat_eq v x || b) (any-flips v xs)
 
--- the next of some numbers is taken, if it wasn't there
-pub distinct-next : (numbers found more : List ℕ) (k v : ℕ) → k < length numbers → v ≡ get_or numbers k 0 → found ≡ distinct nat_eq (take k numbers)
-    → more ≡ cond (list_any (λ y. nat_eq y v) found) found (found ++ v ∷ []) → more ≡ distinct nat_eq (take (k + 1) numbers)
-distinct-next numbers found more k v below is so_far pushed =
+-- one number more is taken, if it wasn't there
+pub distinct-more : (numbers found more : List ℕ) (v : ℕ) → found ≡ distinct nat_eq numbers → more ≡ cond (list_any (λ y. nat_eq y v) found) found (found ++ v ∷ [])
+    → more ≡ distinct nat_eq (numbers ++ v ∷ [])
+distinct-more numbers found more v so_far pushed =
     pushed ∙ ap (λ (b : Bool). cond b found (found ++ v ∷ [])) (any-flips v found)
     ∙ ap (λ (l : List ℕ). cond (list_any (nat_eq v) l) l (l ++ v ∷ [])) so_far
-    ∙ sym (distinct-push nat_eq eqb-true (λ n. eq-eqb n n refl) v (take k numbers))
-    ∙ ap (distinct nat_eq) (ap (λ (z : ℕ). take k numbers ++ z ∷ []) is ∙ sym (take_more numbers k 0 below))
+    ∙ sym (distinct-push nat_eq eqb-true (λ n. eq-eqb n n refl) v numbers)

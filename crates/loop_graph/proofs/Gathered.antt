@@ -1,8 +1,9 @@
 -- What is known of cells, where reads are gone through.
-use Rattle.std.proofs.Common.{◌≡◌, refl, sym, ◌∙◌, ap, subst, ℕ, ◌+◌, ◌<◌, Bool, true, false, cond, List, [], ◌∷◌, ◌++◌, length, map, take, get_or, Some, None, Vec, Global, arith}
+use Rattle.std.proofs.Common.{◌≡◌, refl, sym, ◌∙◌, ap, subst, ℕ, ◌+◌, ◌<◌, Bool, true, false, cond, List, [], ◌∷◌, ◌++◌, length, map, take, get_or, Some, None, nat_eq, arith}
 use Rattle.std.specs.Prelude.{ℤ, Option, ◌||◌, filter_map}
-use Rattle.std.specs.BTreeMap.{get, is_at, Updates}
+use Rattle.std.specs.HashMap.{get, Updates}
 use Rattle.std.specs.List.{list_any, position_or_len}
+use Rattle.arrayvec.specs.ArrayVec.{ArrayVec}
 use Rattle.std.proofs.lemmas.Bool.{cond-true, cond-false, or_left}
 use Rattle.std.proofs.lemmas.List.{append-nil, append_assoc, length-append, map-append, map_push, take_more}
 use Rattle.std.proofs.lemmas.List.Elements.{filter_map-append}
@@ -10,11 +11,10 @@ use Rattle.std.proofs.lemmas.List.Folds.{list_any-append}
 use Rattle.iolb_model.specs.Source.{Cell, same_cell, Source, input, source_or}
 use Rattle.iolb_model.specs.Graph.{distinct, input_cell, vertex_of}
 use Rattle.execution_laws.proofs.Cells.{same_cell-equal, same_cell_refl}
-use Rattle.loop_graph.specs.Cells.{cell_view, cell_cmp}
-use Rattle.loop_graph.specs.Known.{vertex_among, vertex_in, AreKnown, AreRead, source_by}
+use Rattle.loop_graph.specs.Cells.{cell_view, is_cell}
+use Rattle.loop_graph.specs.Known.{vertex_among, vertex_in, AreKnown, AreRead, ArePreceded, source_by}
 use Rattle.loop_graph.specs.declared.known.Known.{Known}
-use Rattle.loop_graph.proofs.Distinct.{flips, distinct-push, distinct-append, position-kept, position-new}
-use Rattle.loop_graph.proofs.SameCells.{at_cell}
+use Rattle.loop_graph.proofs.Distinct.{flips, distinct-push, distinct-append, distinct-more, position-kept, position-new}
 
 found-parts : (b : Bool) (n v : ℕ) → cond b (Some n) None ≡ Some v → (b ≡ true) × (n ≡ v)
 found-parts true n v e = (refl, cc)
@@ -98,7 +98,7 @@ module _ (instances : ℕ) where
       }) (ap (λ (ds : List Cell). vertex_among instances ds cell) same ∙ among)
 
   -- a cell of which something is known
-  pub known-read : (writer : Cell → Option ℕ) (before : List Cell) (cell : ℕ × Vec ℤ Global) (known : Known) (v : ℕ) → AreKnown instances writer before known → get cell_cmp known.vertices cell ≡ Some v
+  pub known-read : (writer : Cell → Option ℕ) (before : List Cell) (cell : ℕ × ArrayVec ℤ) (known : Known) (v : ℕ) → AreKnown instances writer before known → get is_cell known.vertices cell ≡ Some v
       → AreRead instances writer before (source_by writer (cell_view cell) ∷ []) known (v ∷ [])
   known-read writer before cell known v met is = by (writer (cell_view cell)) (sym (met.each cell) ∙ is) where
     by : (o : Option ℕ) → vertex_in instances (distinct same_cell before) o (cell_view cell) ≡ Some v → AreRead instances writer before (source_or o (cell_view cell) ∷ []) known (v ∷ [])
@@ -111,10 +111,10 @@ module _ (instances : ℕ) where
       same = cc
 
   -- a cell of which nothing is known
-  pub new-read : (writer : Cell → Option ℕ) (before : List Cell) (cell copy : ℕ × Vec ℤ Global) (known new : Known) (v : ℕ) → AreKnown instances writer before known → get cell_cmp known.vertices cell ≡ None
-      → cell_view copy ≡ cell_view cell → v ≡ instances + known.inputs → Updates cell_cmp known.vertices new.vertices copy (Some v) → new.inputs ≡ known.inputs + 1
+  pub new-read : (writer : Cell → Option ℕ) (before : List Cell) (cell : ℕ × ArrayVec ℤ) (known new : Known) (v : ℕ) → AreKnown instances writer before known → get is_cell known.vertices cell ≡ None
+      → v ≡ instances + known.inputs → Updates is_cell known.vertices new.vertices cell (Some v) → new.inputs ≡ known.inputs + 1
       → AreRead instances writer before (source_by writer (cell_view cell) ∷ []) new (v ∷ [])
-  new-read writer before cell copy known new v met none copied vertex updates longer =
+  new-read writer before cell known new v met none vertex updates longer =
       subst (λ (o : Option ℕ). AreRead instances writer before (source_or o (cell_view cell) ∷ []) new (v ∷ [])) (sym unwritten)
       (read-input writer before (cell_view cell) new v (record { many = many; each = each }) (ap (λ (ds : List Cell). vertex_among instances ds (cell_view cell)) more ∙ own)) where
         nothing : (o : Option ℕ) → vertex_in instances (distinct same_cell before) o (cell_view cell) ≡ None → (o ≡ None) × (vertex_among instances (distinct same_cell before) (cell_view cell) ≡ None)
@@ -139,9 +139,6 @@ module _ (instances : ℕ) where
         many : new.inputs ≡ length (distinct same_cell (before ++ cell_view cell ∷ []))
         many = omega (arith, longer, met.many, ap length more, length-append (distinct same_cell before) (cell_view cell ∷ []))
 
-        tested : (other : ℕ × Vec ℤ Global) → is_at (cell_cmp copy) other ≡ same_cell (cell_view cell) (cell_view other)
-        tested other = at_cell copy other ∙ ap (λ (c : Cell). same_cell c (cell_view other)) copied
-
         stays_in : (o : Option ℕ) (other : Cell) → same_cell other (cell_view cell) ≡ false
             → vertex_in instances (distinct same_cell before) o other ≡ vertex_in instances (distinct same_cell before ++ cell_view cell ∷ []) o other
         stays_in None other e = sym (among-more (distinct same_cell before) (cell_view cell) other e)
@@ -155,9 +152,9 @@ module _ (instances : ℕ) where
             ∙ ap (λ (c : Cell). vertex_in instances (distinct same_cell before ++ cell_view cell ∷ []) (writer c) c) same
         by other false e = stays_in (writer other) other (flips same_cell same_cell-equal same_cell_refl other (cell_view cell) ∙ e)
 
-        each : (other : ℕ × Vec ℤ Global) → get cell_cmp new.vertices other ≡ vertex_in instances (distinct same_cell (before ++ cell_view cell ∷ [])) (writer (cell_view other)) (cell_view other)
+        each : (other : ℕ × ArrayVec ℤ) → get is_cell new.vertices other ≡ vertex_in instances (distinct same_cell (before ++ cell_view cell ∷ [])) (writer (cell_view other)) (cell_view other)
         each other =
-            updates.0 other ∙ ap (λ (b : Bool). cond b (Some v) (get cell_cmp known.vertices other)) (tested other)
+            updates.0 other
             ∙ ap (λ (o : Option ℕ). cond (same_cell (cell_view cell) (cell_view other)) (Some v) o) (met.each other)
             ∙ by (cell_view other) (same_cell (cell_view cell) (cell_view other)) refl
             ∙ sym (ap (λ (ds : List Cell). vertex_in instances ds (writer (cell_view other)) (cell_view other)) more)
@@ -193,15 +190,19 @@ module _ (instances : ℕ) where
         ∙ sym (map-append (vertex_of instances (distinct same_cell (((before ++ filter_map input_cell sources) ++ filter_map input_cell (source ∷ [])) ++ later))) sources (source ∷ []))
         ∙ ap (λ (l : List Cell). map (vertex_of instances (distinct same_cell (l ++ later))) (sources ++ source ∷ [])) (sym all)
 
--- the next of some cells is read
-pub read-next : (instances : ℕ) (writer : Cell → Option ℕ) (before : List Cell) (cells : List (ℕ × Vec ℤ Global)) (k : ℕ) (cell : ℕ × Vec ℤ Global) (known new : Known) (vertices more : List ℕ) (v : ℕ)
-    → k < length cells → cell ≡ get_or cells k cell → AreRead instances writer before (map (source_by writer) (map cell_view (take k cells))) known vertices
-    → ((met : List Cell) → AreKnown instances writer met known → AreRead instances writer met (source_by writer (cell_view cell) ∷ []) new (v ∷ []))
-    → more ≡ vertices ++ v ∷ [] → AreRead instances writer before (map (source_by writer) (map cell_view (take (k + 1) cells))) new more
-read-next instances writer before cells k cell known new vertices more v below is read one pushed =
-    let longer : map (source_by writer) (map cell_view (take (k + 1) cells)) ≡ map (source_by writer) (map cell_view (take k cells)) ++ source_by writer (cell_view cell) ∷ [] =
-    ap (λ (l : List (ℕ × Vec ℤ Global)). map (source_by writer) (map cell_view l)) (take_more cells k cell below ∙ ap (λ (z : ℕ × Vec ℤ Global). take k cells ++ z ∷ []) (sym is))
-    ∙ ap (map (source_by writer)) (map_push cell_view (take k cells) cell) ∙ map_push (source_by writer) (map cell_view (take k cells)) (cell_view cell) in
-    subst (λ (l : List Source). AreRead instances writer before l new more) (sym longer)
-    (subst (λ (l : List ℕ). AreRead instances writer before (map (source_by writer) (map cell_view (take k cells)) ++ source_by writer (cell_view cell) ∷ []) new l) (sym pushed)
-    (one-read-more instances writer before (map (source_by writer) (map cell_view (take k cells))) (source_by writer (cell_view cell)) known new vertices v read one))
+-- The next of some cells is read: its vertex is taken, if it wasn't there.
+pub read-next : {A : Type 0} (f : A → Cell) (instances : ℕ) (writer : Cell → Option ℕ) (before : List Cell) (xs : List A) (k : ℕ) (x : A) (known new : Known) (preds more : List ℕ) (v : ℕ)
+    → k < length xs → x ≡ get_or xs k x → ArePreceded instances writer before (map (source_by writer) (map f (take k xs))) known preds
+    → ((met : List Cell) → AreKnown instances writer met known → AreRead instances writer met (source_by writer (f x) ∷ []) new (v ∷ []))
+    → more ≡ cond (list_any (λ y. nat_eq y v) preds) preds (preds ++ v ∷ [])
+    → ArePreceded instances writer before (map (source_by writer) (map f (take (k + 1) xs))) new more
+read-next {A} f instances writer before xs k x known new preds more v below is so_far one pushed =
+    let longer : map (source_by writer) (map f (take (k + 1) xs)) ≡ map (source_by writer) (map f (take k xs)) ++ source_by writer (f x) ∷ [] =
+    ap (λ (l : List A). map (source_by writer) (map f l)) (take_more xs k x below ∙ ap (λ (z : A). take k xs ++ z ∷ []) (sym is))
+    ∙ ap (map (source_by writer)) (map_push f (take k xs) x) ∙ map_push (source_by writer) (map f (take k xs)) (f x) in
+    record {
+      vertices = so_far.vertices ++ v ∷ [];
+      read = subst (λ (l : List Source). AreRead instances writer before l new (so_far.vertices ++ v ∷ [])) (sym longer)
+          (one-read-more instances writer before (map (source_by writer) (map f (take k xs))) (source_by writer (f x)) known new so_far.vertices v so_far.read one);
+      once = distinct-more so_far.vertices preds more v so_far.once pushed;
+    }

@@ -1,5 +1,4 @@
 pub mod Distinct
-pub mod SameCells
 pub mod References
 pub mod Gathered
 pub mod Scanned

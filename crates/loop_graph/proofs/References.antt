@@ -1,25 +1,37 @@
 -- The references of a run's statement are over the values of its point.
-use Rattle.std.proofs.Common.{◌≡◌, sym, ◌∙◌, ap, subst, ℕ, ◌+◌, ◌<◌, ◌≤◌, List, [], ◌∷◌, length, map, get_or, Vec, Global, arith}
+use Rattle.std.proofs.Common.{◌≡◌, sym, ◌∙◌, ap, subst, ℕ, zero, suc, ◌+◌, ◌<◌, ◌≤◌, List, [], ◌∷◌, length, map, get_or, arith}
 use Rattle.std.specs.List.{AllByRecursion}
 use Rattle.std.proofs.lemmas.List.{length-map, get_or-map}
 use Rattle.std.proofs.lemmas.Simd.{map-map}
-use Rattle.std.specs.Prelude.{ℤ}
+use Rattle.std.specs.Prelude.{IsSomeAnd, slice_get}
 use Rattle.iolb_model.specs.Source.{cell_of}
 use Rattle.iolb_model.specs.Path.{PathStep}
-use Rattle.iolb_model.specs.Program.{Access, AffineProgram, AccessFits, IsOver, Statement as ModelStatement, StatementFits, statement_at, no_statement}
-use Rattle.iolb_model.specs.declared.limits.TheConstants.{READS}
+use Rattle.iolb_model.specs.Program.{Access, AccessFits, Statement as ModelStatement, StatementFits, statement_at, no_statement}
+use Rattle.iolb_model.specs.declared.limits.TheConstants.{READS, SUBSCRIPTS}
 use Rattle.affine_form.specs.Rows.{step_of}
 use Rattle.affine_program.specs.declared.reference.Reference.{Reference}
 use Rattle.affine_program.specs.declared.statement.Statement.{Statement}
-use Rattle.affine_program.specs.Parts.{ProgramParts, IsProgram, access_of, statement_of, meaning}
+use Rattle.affine_program.specs.Parts.{ProgramParts, IsProgram, access_of, array_of, statement_of, meaning}
 use Rattle.affine_program.proofs.Bounds.{stands, path-is, limits-at}
 use Rattle.program_runs.specs.declared.listed.Run.{Run}
 use Rattle.program_runs.specs.Runs.{IsRun, run_of}
-use Rattle.loop_graph.specs.Cells.{AreOver, cell_view, cells_read}
+use Rattle.loop_graph.specs.Cells.{Fits, cells_read}
 
-over-all : (program : AffineProgram) (variables : ℕ) (references : List Reference) → AllByRecursion (AccessFits program variables) (map access_of references) → AllByRecursion (AreOver variables) references
-over-all program variables [] h = tt
-over-all program variables (reference ∷ references) h = (h.0.subscripts, over-all program variables references h.1)
+-- a reference of a program has few subscripts
+few-subscripts : (parts : ProgramParts) (variables : ℕ) (reference : Reference) → IsProgram parts → AccessFits (meaning parts) variables (access_of reference) → length reference.subs.items ≤ SUBSCRIPTS
+few-subscripts parts variables reference is fits = by parts.arrays reference.array is.limits.ranks fits.rank where
+  by : (arrays : List (List ℕ × ℕ)) (k : ℕ) → AllByRecursion (λ (array : List ℕ × ℕ). array.1 ≤ SUBSCRIPTS) arrays
+      → IsSomeAnd (slice_get (map array_of arrays) k) (λ array. length reference.subs.items ≡ array.rank) → length reference.subs.items ≤ SUBSCRIPTS
+  by [] k h at = absurd at
+  by (array ∷ arrays) zero h at = omega (arith, h.0, at)
+  by (array ∷ arrays) (suc k) h at = by arrays k h.1 at
+
+fits-one : (parts : ProgramParts) (variables : ℕ) (reference : Reference) → IsProgram parts → AccessFits (meaning parts) variables (access_of reference) → Fits variables reference
+fits-one parts variables reference is fits = record { over = fits.subscripts; few = few-subscripts parts variables reference is fits }
+
+fits-all : (parts : ProgramParts) (variables : ℕ) (references : List Reference) → IsProgram parts → AllByRecursion (AccessFits (meaning parts) variables) (map access_of references) → AllByRecursion (Fits variables) references
+fits-all parts variables [] is h = tt
+fits-all parts variables (reference ∷ references) is h = (fits-one parts variables reference is h.0, fits-all parts variables references is h.1)
 
 -- a run's statement is there
 pub there : (parts : ProgramParts) (table : List Statement) (run : Run) → table ≡ parts.statements → IsRun (meaning parts) run → run.statement < length table
@@ -40,15 +52,17 @@ module _ (parts : ProgramParts) (run : Run) (at : Statement) (is : IsProgram par
       runs.values ∙ ap (λ (path : List PathStep). length parts.params + length path) (path-is parts run.statement at is below read) in
       subst (λ (n : ℕ). StatementFits (meaning parts) n run.statement) (sym many) (stands parts run.statement at is below read).1
 
-  pub written-over : AllByRecursion (IsOver (length run.point.items)) at.writes.subs.items
-  written-over = subst (λ (s : ModelStatement). AllByRecursion (IsOver (length run.point.items)) s.writes.subscripts) statement-is fits.writes.subscripts
+  pub written-fits : Fits (length run.point.items) at.writes
+  written-fits =
+      fits-one parts (length run.point.items) at.writes is
+      (subst (λ (s : ModelStatement). AccessFits (meaning parts) (length run.point.items) s.writes) statement-is fits.writes)
 
-  pub read-over : AllByRecursion (AreOver (length run.point.items)) at.reads.items
-  read-over =
-      over-all (meaning parts) (length run.point.items) at.reads.items
+  pub read-fit : AllByRecursion (Fits (length run.point.items)) at.reads.items
+  read-fit =
+      fits-all parts (length run.point.items) at.reads.items is
       (subst (λ (s : ModelStatement). AllByRecursion (AccessFits (meaning parts) (length run.point.items)) s.reads) statement-is fits.reads)
 
-  read-few : length at.reads.items ≤ READS
+  pub read-few : length at.reads.items ≤ READS
   read-few = (limits-at parts run.statement at is below read).reads
 
   -- the cells that the run reads
@@ -56,8 +70,3 @@ module _ (parts : ProgramParts) (run : Run) (at : Statement) (is : IsProgram par
   read-cells =
       sym (map-map (λ (access : Access). cell_of access run.point.items) access_of at.reads.items)
       ∙ sym (ap (λ (s : ModelStatement). map (λ (access : Access). cell_of access run.point.items) s.reads) statement-is)
-
-  pub few-cells : (cells : List (ℕ × Vec ℤ Global)) (references : List Reference) (point : List ℤ) → map cell_view cells ≡ map (λ reference. cell_of (access_of reference) point) references
-      → references ≡ at.reads.items → length cells ≤ READS
-  few-cells cells references point are lent =
-      omega (arith, read-few, ap length lent, ap length are, length-map cells cell_view, length-map references (λ reference. cell_of (access_of reference) point))

@@ -1,10 +1,11 @@
 -- What is known at a place of the execution, where the reads of all instances before it were gone through.
 use Rattle.std.proofs.Common.{◌≡◌, refl, sym, ◌∙◌, ap, subst, ℕ, zero, suc, ◌+◌, ◌<◌, ◌≤◌, Bool, true, false, cond, List, [], ◌∷◌, ◌++◌, length, map, drop, get_or, Some, nat_eq, Vec, Global, arith}
 use Rattle.std.specs.Prelude.{ℤ, Option, slice_get, filter_map, flat_map}
-use Rattle.std.specs.BTreeMap.{get, Updates}
+use Rattle.std.specs.HashMap.{Updates}
 use Rattle.std.specs.List.{enumerate_from}
+use Rattle.arrayvec.specs.ArrayVec.{ArrayVec}
 use Rattle.std.specs.Option.{option_map_or}
-use Rattle.std.proofs.lemmas.List.{append_assoc, length-append, length-map, map_push, drop_all}
+use Rattle.std.proofs.lemmas.List.{append_assoc, length-append, length-map, map_push}
 use Rattle.std.proofs.lemmas.List.Elements.{filter_map-append}
 use Rattle.base_laws.proofs.Lists.{add-one}
 use Rattle.iolb_model.specs.Program.{AffineProgram}
@@ -15,13 +16,12 @@ use Rattle.iolb_model.specs.Game.{vertices}
 use Rattle.execution_laws.proofs.Cells.{same_cell-equal, same_cell_refl}
 use Rattle.program_runs.specs.Runs.{with_point, run_of}
 use Rattle.program_runs.specs.declared.listed.Run.{Run}
-use Rattle.loop_graph.specs.Cells.{cell_view, cell_cmp, cell_written, cells_read}
+use Rattle.loop_graph.specs.Cells.{cell_view, is_cell, cell_written, cells_read}
 use Rattle.loop_graph.specs.Known.{vertex_in, AreKnown, ArePreceded, source_by}
 use Rattle.loop_graph.specs.declared.known.Known.{Known}
 use Rattle.loop_graph.specs.Found.{AreListed}
 use Rattle.loop_graph.specs.declared.limits.TheConstants.{VERTICES}
 use Rattle.loop_graph.proofs.Distinct.{distinct-append}
-use Rattle.loop_graph.proofs.SameCells.{at_cell}
 
 -- what two lists with the same images have at a place
 pub paired : {A B C : Type 0} (f : A → C) (g : B → C) (xs : List A) (ys : List B) (i : ℕ) (a : A) → map f xs ≡ map g ys → i < length xs → a ≡ get_or xs i a
@@ -96,24 +96,24 @@ module _ (program : AffineProgram) (parameters : List ℤ) where
       omega (arith, many, ap length whole, length-append (distinct same_cell met) more.0)
 
   -- what is known once an instance has written
-  known-more : (i : ℕ) (x : Instance) (met : List Cell) (known new : Known) (written : ℕ × Vec ℤ Global) → slice_get (execution program parameters) i ≡ Some x
+  known-more : (i : ℕ) (x : Instance) (met : List Cell) (known new : Known) (written : ℕ × ArrayVec ℤ) → slice_get (execution program parameters) i ≡ Some x
       → AreKnown (length (execution program parameters)) (writer_before program parameters i) met known
-      → cell_view written ≡ written_cell program parameters x → Updates cell_cmp known.vertices new.vertices written (Some i) → new.inputs ≡ known.inputs
+      → cell_view written ≡ written_cell program parameters x → Updates is_cell known.vertices new.vertices written (Some i) → new.inputs ≡ known.inputs
       → AreKnown (length (execution program parameters)) (writer_before program parameters (suc i)) met new
   known-more i x met known new written here are is updates same = record {
     many = same ∙ are.many;
     each = λ cell. updates.0 cell
-        ∙ ap (λ (b : Bool). cond b (Some i) (get cell_cmp known.vertices cell)) (at_cell written cell ∙ ap (λ (c : Cell). same_cell c (cell_view cell)) is)
-        ∙ ap (λ (o : Option ℕ). cond (same_cell (written_cell program parameters x) (cell_view cell)) (Some i) o) (are.each cell)
+        ∙ ap (λ (o : Option ℕ). cond (same_cell (cell_view written) (cell_view cell)) (Some i) o) (are.each cell)
+        ∙ ap (λ (c : Cell). cond (same_cell c (cell_view cell)) (Some i) (vertex_in (length (execution program parameters)) (distinct same_cell met) (writer_before program parameters i (cell_view cell)) (cell_view cell))) is
         ∙ later-writer (length (execution program parameters)) (distinct same_cell met) (cell_view cell) i (same_cell (written_cell program parameters x) (cell_view cell)) (writer_before program parameters i (cell_view cell))
         ∙ sym (ap (λ (o : Option Instance). vertex_in (length (execution program parameters)) (distinct same_cell met)
         (cond (option_map_or (λ (instance : Instance). same_cell (written_cell program parameters instance) (cell_view cell)) o false) (Some i) (writer_before program parameters i (cell_view cell))) (cell_view cell)) here);
   }
 
-  pub scan-step : (i : ℕ) (x : Instance) (known read new : Known) (preds : List (Vec ℕ Global)) (found : Vec ℕ Global) (written : ℕ × Vec ℤ Global)
+  pub scan-step : (i : ℕ) (x : Instance) (known read new : Known) (preds : List (Vec ℕ Global)) (found : Vec ℕ Global) (written : ℕ × ArrayVec ℤ)
       → drop i (execution program parameters) ≡ x ∷ drop (suc i) (execution program parameters) → slice_get (execution program parameters) i ≡ Some x
       → IsScanned program parameters i known preds → Gives program parameters x known read found
-      → cell_view written ≡ written_cell program parameters x → Updates cell_cmp read.vertices new.vertices written (Some i) → new.inputs ≡ read.inputs
+      → cell_view written ≡ written_cell program parameters x → Updates is_cell read.vertices new.vertices written (Some i) → new.inputs ≡ read.inputs
       → IsScanned program parameters (suc i) new (preds ++ found ∷ [])
   scan-step i x known read new preds found written is here so_far gives wrote updates same = record {
     met = so_far.met ++ filter_map input_cell (sources_of program parameters (execution program parameters) (i, x));
@@ -170,9 +170,9 @@ module _ (program : AffineProgram) (parameters : List ℤ) (runs : List Run) (li
       (subst (λ (p : ℕ × List ℤ). ArePreceded instances writer before (map (source_by writer) (cells_read program p)) read found.items) at
       (gives writer before (subst (λ (n : ℕ). AreKnown n writer before known) (sym all) met)))
 
-  pub scan-run : (i : ℕ) (run : Run) (instances : ℕ) (known read new : Known) (preds : List (Vec ℕ Global)) (found : Vec ℕ Global) (written : ℕ × Vec ℤ Global)
+  pub scan-run : (i : ℕ) (run : Run) (instances : ℕ) (known read new : Known) (preds : List (Vec ℕ Global)) (found : Vec ℕ Global) (written : ℕ × ArrayVec ℤ)
       → i < length runs → run ≡ get_or runs i run → instances ≡ length runs → IsScanned program parameters i known preds → GivesRun program instances run known read found
-      → cell_view written ≡ cell_written program (run_of run) → Updates cell_cmp read.vertices new.vertices written (Some i) → new.inputs ≡ read.inputs
+      → cell_view written ≡ cell_written program (run_of run) → Updates is_cell read.vertices new.vertices written (Some i) → new.inputs ≡ read.inputs
       → IsScanned program parameters (i + 1) new (preds ++ found ∷ [])
   scan-run i run instances known read new preds found written below is many so_far gives wrote updates same =
       let at = paired run_of (with_point parameters) runs (execution program parameters) i run listed below is in

@@ -1,24 +1,23 @@
 -- The code's cells, as those of the definitions.
-use Rattle.std.specs.Prelude.{ℕ, ℤ, List, map, Vec}
-use Rattle.std.specs.Global.{Global}
+use Rattle.std.specs.Prelude.{ℕ, ◌≤◌, ℤ, Bool, List, length, map}
 use Rattle.std.specs.List.{AllByRecursion}
-use Rattle.std.specs.declared.cmp.Ordering.{Ordering}
-use Rattle.std.specs.Ordering.{ordering_then, nat_cmp, int_cmp}
-use Rattle.std.specs.Cmp.Lexicographic.{slice_cmp}
+use Rattle.arrayvec.specs.ArrayVec.{ArrayVec}
 use Rattle.iolb_model.specs.Program.{AffineProgram, IsOver, statement_at}
-use Rattle.iolb_model.specs.Source.{Cell, cell_of}
+use Rattle.iolb_model.specs.Source.{Cell, same_cell, cell_of}
 use Rattle.affine_program.specs.declared.reference.Reference.{Reference}
+use Rattle.iolb_model.specs.declared.limits.TheConstants.{SUBSCRIPTS}
 
-abbrev pub cell_view : ℕ × Vec ℤ Global → Cell
+abbrev pub cell_view : ℕ × ArrayVec ℤ → Cell
 cell_view cell = record { array = cell.0; subscripts = cell.1.items }
 
--- the order of cells: by the array's number, and then subscript by subscript
-abbrev pub cell_cmp : ℕ × Vec ℤ Global → ℕ × Vec ℤ Global → Ordering
-cell_cmp x y = ordering_then (nat_cmp x.0 y.0) (slice_cmp int_cmp x.1.items y.1.items)
+-- whether two of them are one cell
+abbrev pub is_cell : ℕ × ArrayVec ℤ → ℕ × ArrayVec ℤ → Bool
+is_cell x y = same_cell (cell_view x) (cell_view y)
 
--- the subscripts of a reference are over so many variables
-abbrev pub AreOver : ℕ → Reference → Type 0
-AreOver variables reference = AllByRecursion (IsOver variables) reference.subs.items
+-- a reference has at most 4 subscripts, each over so many variables
+pub record Fits (variables : ℕ) (reference : Reference) : Type 0 where
+  pub over : AllByRecursion (IsOver variables) reference.subs.items
+  pub few : length reference.subs.items ≤ SUBSCRIPTS
 
 -- the cell that an instance writes, by its statement and the values of the parameters and of its loops
 abbrev pub cell_written : AffineProgram → ℕ × List ℤ → Cell

@@ -1,11 +1,11 @@
 -- The vertices whose words stand in cells, where the reads of a program are gone through.
-use Rattle.std.specs.Prelude.{◌≡◌, ℕ, nat_eq, if◌then◌else◌, ℤ, List, [], ◌++◌, map, length, filter_map, Option, Some, None, Vec}
-use Rattle.std.specs.Global.{Global}
-use Rattle.std.specs.BTreeMap.{get}
+use Rattle.std.specs.Prelude.{◌≡◌, ℕ, nat_eq, if◌then◌else◌, ℤ, List, [], ◌++◌, map, length, filter_map, Option, Some, None}
+use Rattle.std.specs.HashMap.{get}
 use Rattle.std.specs.List.{list_any}
+use Rattle.arrayvec.specs.ArrayVec.{ArrayVec}
 use Rattle.iolb_model.specs.Source.{Cell, same_cell, Source, input, source_or}
 use Rattle.iolb_model.specs.Graph.{distinct, input_cell, vertex_of}
-use Rattle.loop_graph.specs.Cells.{cell_view, cell_cmp}
+use Rattle.loop_graph.specs.Cells.{cell_view, is_cell}
 use Rattle.loop_graph.specs.declared.known.Known.{Known}
 
 -- the vertex of an input cell where the graph has so many instances and these input cells, if it is one of them
@@ -26,7 +26,7 @@ pub record KnowsNothing (known : Known) : Type 0 where
 -- and the vertex whose word stands in each cell.
 pub record AreKnown (instances : ℕ) (writer : Cell → Option ℕ) (cells : List Cell) (known : Known) : Type 0 where
   pub many : known.inputs ≡ length (distinct same_cell cells)
-  pub each : (cell : ℕ × Vec ℤ Global) → get cell_cmp known.vertices cell ≡ vertex_in instances (distinct same_cell cells) (writer (cell_view cell)) (cell_view cell)
+  pub each : (cell : ℕ × ArrayVec ℤ) → get is_cell known.vertices cell ≡ vertex_in instances (distinct same_cell cells) (writer (cell_view cell)) (cell_view cell)
 
 -- the source of a read of a cell, where cells have these last writers
 abbrev pub source_by : (Cell → Option ℕ) → Cell → Source

@@ -1,21 +1,26 @@
 //! The vertices whose words stand in cells.
 
 ghost use Rattle.std.specs.Prelude.{◌≡◌, ◌+◌, ◌<◌, ◌≤◌, ◌^◌, ◌∷◌, [], List, Option, Some, ℕ, length, map, IfOk, OnOk};
-ghost use Rattle.std.specs.BTreeMap.{Updates};
-ghost use Rattle.iolb_model.specs.Source.{Cell as ModelCell};
-ghost use Rattle.loop_graph.specs.Cells.{cell_view, cell_cmp};
-ghost use Rattle.loop_graph.specs.Known.{AreKnown, AreRead, KnowsNothing, source_by};
+ghost use Rattle.std.specs.HashMap.{Updates};
+ghost use Rattle.std.specs.List.{AllByRecursion};
+ghost use Rattle.iolb_model.specs.Source.{cell_of, Cell as ModelCell};
+ghost use Rattle.affine_form.specs.Form.{IsSmall};
+ghost use Rattle.affine_program.specs.Parts.{access_of};
+ghost use Rattle.loop_graph.specs.Cells.{cell_view, is_cell, Fits};
+ghost use Rattle.loop_graph.specs.Known.{AreKnown, AreRead, ArePreceded, KnowsNothing, source_by};
+ghost use Rattle.iolb_model.specs.declared.limits.TheConstants.{VALUE_SIZE};
 
-use crate::cells::Cell;
+use crate::cells::{Cell, cell_at};
 use affine_form::Memory;
+use affine_program::Reference;
 use std::alloc::Global;
-use std::collections::BTreeMap;
+use std::collections::HashMap;
 
 /// Where the reads of a program are gone through: for each cell that was written its last writer, for each other one that
 /// was read its input vertex, and how many inputs there are.
 #[derive(Drop)]
 pub(crate) struct Known {
-    pub(crate) vertices: BTreeMap<Cell, u32>,
+    pub(crate) vertices: HashMap<Cell, u32>,
     pub(crate) inputs: u32,
 }
 
@@ -25,48 +30,54 @@ impl Known {
         ensures { KnowsNothing result }
     {
         Known {
-            vertices: BTreeMap::new(alloc),
+            vertices: HashMap::new(alloc),
             inputs: 0,
         }
     }
 
     /// The vertex of a cell that is read: its last writer, or an input, which is put behind the others if it is new.
-    fn read(&mut self, alloc: Global, cell: &Cell, instances: u32) -> Result<u32, Memory>
+    fn read(&mut self, cell: Cell, instances: u32) -> Result<u32, Memory>
         requires { instances + self.old.inputs < 2 ^ 31 }
-        ensures read { (writer : ModelCell → Option ℕ) (before : List ModelCell) → AreKnown instances writer before self.old → IfOk result (λ vertex. AreRead instances writer before (source_by writer (cell_view cell.now) ∷ []) self.new (vertex ∷ [])) }
+        ensures read { (writer : ModelCell → Option ℕ) (before : List ModelCell) → AreKnown instances writer before self.old → IfOk result (λ vertex. AreRead instances writer before (source_by writer (cell_view cell) ∷ []) self.new (vertex ∷ [])) }
         ensures grows { OnOk result (self.new.inputs ≤ self.old.inputs + 1) }
     {
-        if let Some(vertex) = self.vertices.get(cell).copied() {
+        if let Some(vertex) = self.vertices.get(&cell).copied() {
             return Ok(vertex);
         }
         let vertex = instances + self.inputs;
-        let copy = (cell.0, Vec::from_slice(alloc, cell.1.as_slice())?);
-        self.vertices.insert(copy, vertex)?;
+        self.vertices.insert(cell, vertex)?;
         self.inputs += 1;
         Ok(vertex)
     }
 
-    /// The vertices of cells that are read one after the other.
+    /// The vertices of the cells of references at a point, which are read one after the other: each once, where it first stands.
     pub(crate) fn read_all(
         &mut self,
         alloc: Global,
-        cells: &[Cell],
+        references: &[Reference],
+        point: &[i128],
         instances: u32,
     ) -> Result<Vec<u32>, Memory>
-        requires { instances + self.old.inputs + length cells.now < 2 ^ 31 }
-        ensures read { (writer : ModelCell → Option ℕ) (before : List ModelCell) → AreKnown instances writer before self.old → IfOk result (λ vertices. AreRead instances writer before (map (source_by writer) (map cell_view cells.now)) self.new vertices.items) }
-        ensures grows { OnOk result (self.new.inputs ≤ self.old.inputs + length cells.now) }
+        requires fit { AllByRecursion (Fits (length point.now)) references.now }
+        requires small { AllByRecursion (IsSmall VALUE_SIZE) point.now }
+        requires few { instances + self.old.inputs + length references.now < 2 ^ 31 }
+        ensures preceded { (writer : ModelCell → Option ℕ) (before : List ModelCell) → AreKnown instances writer before self.old
+            → IfOk result (λ preds. ArePreceded instances writer before (map (source_by writer) (map (λ reference. cell_of (access_of reference) point.now) references.now)) self.new preds.items) }
+        ensures grows { OnOk result (self.new.inputs ≤ self.old.inputs + length references.now) }
     {
-        let mut vertices = Vec::new(alloc);
-        for cell in cells {
-            vertices.push(self.read(alloc, cell, instances)?)?;
+        let mut preds = Vec::new(alloc);
+        for reference in references {
+            let vertex = self.read(cell_at(reference, point), instances)?;
+            if !preds.as_slice().contains(&vertex) {
+                preds.push(vertex)?;
+            }
         }
-        Ok(vertices)
+        Ok(preds)
     }
 
     /// The instance at a place writes a cell.
     pub(crate) fn write(&mut self, cell: Cell, place: u32) -> Result<(), Memory>
-        ensures updates { OnOk result (Updates cell_cmp self.old.vertices self.new.vertices cell (Some place)) }
+        ensures updates { OnOk result (Updates is_cell self.old.vertices self.new.vertices cell (Some place)) }
         ensures inputs { OnOk result (self.new.inputs ≡ self.old.inputs) }
     {
         self.vertices.insert(cell, place)?;

@@ -12,7 +12,7 @@ use affine_form::Memory;
 use affine_program::Program;
 use program_runs::Run;
 use std::alloc::Global;
-use std::collections::BTreeSet;
+use std::collections::HashSet;
 
 /// For each run whether no later one writes the cell that it writes, where the runs are all instances of a program in the
 /// order of execution.
@@ -24,10 +24,10 @@ pub(crate) fn last_writers(
     requires { AllByRecursion (IsRun (meaning program.now)) runs.now }
     ensures { (parameters : List ℤ) → AreListed (meaning program.now) parameters runs.now → IfOk result (λ last. last.items ≡ (computation_graph (meaning program.now) parameters).last_writers) }
 {
-    let mut later = BTreeSet::new(alloc);
+    let mut later = HashSet::new(alloc);
     let mut last = vec![in alloc; false; runs.len()]?;
     for place in (0..runs.len()).rev() {
-        last[place] = later.insert(written_by(alloc, program, &runs[place])?)?;
+        last[place] = later.insert(written_by(program, &runs[place]))?;
     }
     Ok(last)
 }

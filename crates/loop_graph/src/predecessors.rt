@@ -1,8 +1,8 @@
 //! The predecessors of instances.
 
-ghost use Rattle.std.specs.Prelude.{◌≡◌, ◌+◌, ◌<◌, ◌≤◌, ◌^◌, List, Option, ℕ, ℤ, length, map, nat_eq, IfOk, OnOk};
+ghost use Rattle.std.specs.Prelude.{◌≡◌, ◌+◌, ◌<◌, ◌≤◌, ◌^◌, List, Option, ℕ, ℤ, length, map, IfOk, OnOk};
 ghost use Rattle.std.specs.List.{AllByRecursion};
-ghost use Rattle.iolb_model.specs.Graph.{computation_graph, distinct};
+ghost use Rattle.iolb_model.specs.Graph.{computation_graph};
 ghost use Rattle.iolb_model.specs.Source.{Cell as ModelCell};
 ghost use Rattle.affine_program.specs.Parts.{meaning};
 ghost use Rattle.program_runs.specs.Runs.{run_of, IsRun};
@@ -12,26 +12,13 @@ ghost use Rattle.loop_graph.specs.Found.{AreListed, ArePredecessors};
 ghost use Rattle.iolb_model.specs.declared.limits.TheConstants.{READS};
 ghost use Rattle.loop_graph.specs.declared.limits.TheConstants.{VERTICES};
 
-use crate::cells::{read_by, written_by};
+use crate::cells::written_by;
 use crate::known::Known;
 use crate::limits;
 use affine_form::Memory;
 use affine_program::Program;
 use program_runs::Run;
 use std::alloc::Global;
-
-/// Each vertex once, where it first stands.
-fn distinct_of(alloc: Global, vertices: &[u32]) -> Result<Vec<u32>, Memory>
-    ensures { IfOk result (λ found. found.items ≡ distinct nat_eq vertices.now) }
-{
-    let mut found = Vec::new(alloc);
-    for vertex in vertices {
-        if !found.as_slice().contains(vertex) {
-            found.push(*vertex)?;
-        }
-    }
-    Ok(found)
-}
 
 /// The predecessors of a run: the vertices of the cells that it reads, each once, in the order of the reads.
 fn predecessors_of(
@@ -47,9 +34,13 @@ fn predecessors_of(
         → IfOk result (λ preds. ArePreceded instances writer before (map (source_by writer) (cells_read (meaning program.now) (run_of run.now))) known.new preds.items) }
     ensures grows { OnOk result (known.new.inputs ≤ known.old.inputs + READS) }
 {
-    let cells = read_by(alloc, program, run)?;
-    let vertices = known.read_all(alloc, cells.as_slice(), instances)?;
-    distinct_of(alloc, vertices.as_slice())
+    let statement = &program.statements()[usize::from(run.statement)];
+    known.read_all(
+        alloc,
+        statement.reads.as_slice(),
+        run.point.as_slice(),
+        instances,
+    )
 }
 
 /// How many input cells are read, and the predecessors of each run, where the runs are all instances of a program in the
@@ -71,7 +62,7 @@ pub(crate) fn predecessors(
         if instances + known.inputs > limits::VERTICES {
             return Ok(None);
         }
-        known.write(written_by(alloc, program, run)?, place as u32)?;
+        known.write(written_by(program, run), place as u32)?;
     }
     Ok(Some((known.inputs, preds)))
 }

@@ -14,12 +14,14 @@ use Rattle.pebble_game.specs.Graphs.{IsWellFormedGraph}
 use Rattle.pebble_game.proofs.Marks.{member-stands}
 use Rattle.pebble_replay.specs.Played.{reads}
 use Rattle.pebble_replay.specs.Uses.{uses_of, first_or_zero, left_from}
-use Rattle.pebble_replay.specs.Turns.{pair_cmp, IsQueue, current, later, IsBetween, IsHolding, IsReleasing, IsSameTurn}
+use Rattle.pebble_replay.specs.Queue.{pair_cmp}
+use Rattle.pebble_replay.specs.Turns.{IsQueue, current, later, IsBetween, IsHolding, IsReleasing, IsSameTurn}
 use Rattle.pebble_replay.specs.declared.hand.Hand.{Hand}
 use Rattle.pebble_replay.specs.declared.turn.Turn.{Turn}
 use Rattle.pebble_replay.proofs.Marks.{apart-stands}
 use Rattle.pebble_replay.proofs.Queue.{at-pair, left-first}
-use Rattle.pebble_replay.proofs.Steps.{IsSwitched, switched-queue, same-queue}
+use Rattle.pebble_replay.specs.Queue.{IsSwitched}
+use Rattle.pebble_replay.proofs.Steps.{switched-queue, same-queue}
 
 pub hold-step : (graph : ComputationGraph) (v : ℕ) (later : List ℕ) (u : ℕ) (left : List ℕ) (hand new : Hand) → IsHolding graph v later (u ∷ left) hand
     → new.board ≡ hand.board → new.uses ≡ set hand.uses u (drop 1 (slice_index_or hand.uses u []))

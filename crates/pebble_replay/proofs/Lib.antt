@@ -6,6 +6,7 @@ pub mod Turns
 pub mod Playing
 pub mod UseLists
 pub mod Queue
+pub mod Waiting
 pub mod Steps
 pub mod Popped
 pub mod Loading

@@ -12,11 +12,13 @@ use Rattle.iolb_model.specs.Game.{Board, marked, vertices, final_board}
 use Rattle.pebble_game.specs.Boards.{IsBoardOf, is_full}
 use Rattle.pebble_replay.specs.Played.{reads, is_used, may_go, victim, moves_out, room_moves}
 use Rattle.pebble_replay.specs.Uses.{left_from}
-use Rattle.pebble_replay.specs.Turns.{pair_cmp, IsQueue, IsInTurn}
+use Rattle.pebble_replay.specs.Queue.{pair_cmp}
+use Rattle.pebble_replay.specs.Turns.{IsQueue, IsInTurn}
 use Rattle.pebble_replay.specs.declared.hand.Hand.{Hand}
 use Rattle.pebble_replay.proofs.Marks.{marked-below, taken-other, taken-here}
 use Rattle.pebble_replay.proofs.Queue.{known, nobody, first-goes, left-used}
-use Rattle.pebble_replay.proofs.Steps.{IsSwitched, switched-queue, final-fits}
+use Rattle.pebble_replay.specs.Queue.{IsSwitched}
+use Rattle.pebble_replay.proofs.Steps.{switched-queue, final-fits}
 
 -- the moves by which a vertex goes, by what is left from its next use on
 abbrev pub out_by_left : Board → ℕ × ℕ → List Move

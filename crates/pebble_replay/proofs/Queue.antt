@@ -13,7 +13,8 @@ use Rattle.iolb_model.specs.Graph.{ComputationGraph}
 use Rattle.iolb_model.specs.Game.{Board, vertices}
 use Rattle.pebble_replay.specs.Played.{reads, is_used, next_use, may_go, is_furthest, victim}
 use Rattle.pebble_replay.specs.Uses.{uses_of, first_or_zero, left_from}
-use Rattle.pebble_replay.specs.Turns.{pair_cmp, IsQueue}
+use Rattle.pebble_replay.specs.Queue.{pair_cmp}
+use Rattle.pebble_replay.specs.Turns.{IsQueue}
 use Rattle.pebble_replay.proofs.Victim.{list_all-from, list_all-at, Member-vertices}
 
 -- ---- keys

@@ -3,7 +3,6 @@ use Rattle.std.proofs.Common.{◌≡◌, refl, sym, ◌∙◌, ap, inl, inr, ℕ
 use Rattle.std.specs.Prelude.{◌⊎◌, ◌&&◌, nat_eq}
 use Rattle.std.specs.List.{list_any}
 use Rattle.std.specs.BTreeMap.{is_at}
-use Rattle.std.specs.BTreeSet.{BTreeSet}
 use Rattle.std.proofs.lemmas.Bool.{cases_eq, and_from, and_left, and_right, eq-eqb, ne_eqb}
 use Rattle.std.proofs.lemmas.List.{length-set}
 use Rattle.iolb_model.specs.declared.game.Move.{Move}
@@ -11,7 +10,8 @@ use Rattle.iolb_model.specs.declared.game.Move.TheVariants.{Load, Store, Compute
 use Rattle.iolb_model.specs.Graph.{ComputationGraph}
 use Rattle.iolb_model.specs.Game.{Board, board_after, final_board}
 use Rattle.pebble_game.specs.Boards.{IsBoardOf}
-use Rattle.pebble_replay.specs.Turns.{pair_cmp, IsQueue, Gains}
+use Rattle.pebble_replay.specs.Queue.{pair_cmp, Waiting, IsSwitched}
+use Rattle.pebble_replay.specs.Turns.{IsQueue, Gains}
 use Rattle.pebble_replay.specs.declared.turn.Turn.{Turn}
 use Rattle.pebble_replay.proofs.Queue.{at-pair}
 
@@ -34,10 +34,6 @@ after-fits graph board (Erase v) fits = record { red = fits.red; blue = length-s
 pub final-fits : (graph : ComputationGraph) (board : Board) (moves : List Move) → IsBoardOf graph board → IsBoardOf graph (final_board board moves)
 final-fits graph board [] fits = fits
 final-fits graph board (move ∷ moves) fits = final-fits graph (board_after board move) moves (after-fits graph board move fits)
-
--- a key was put into a queue (true) or taken out of it (false), and nothing else changed
-abbrev pub IsSwitched : List (ℕ × ℕ) → List (ℕ × ℕ) → ℕ × ℕ → Bool → Type 0
-IsSwitched keys new k b = (q : ℕ × ℕ) → list_any (is_at (pair_cmp q)) new ≡ cond (is_at (pair_cmp k) q) b (list_any (is_at (pair_cmp q)) keys)
 
 -- then its vertex waits, or doesn't
 pub switched-queue : (keys new : List (ℕ × ℕ)) (waits waiting : ℕ → Bool) (left : ℕ → ℕ) (k : ℕ × ℕ) (b : Bool) → IsQueue keys waits left → k.0 ≡ left k.1
@@ -69,16 +65,9 @@ switched-queue keys new waits waiting left k b queue own switched here others q 
 pub same-queue : (keys : List (ℕ × ℕ)) (waits waiting : ℕ → Bool) (left : ℕ → ℕ) → IsQueue keys waits left → ((w : ℕ) → waiting w ≡ waits w) → IsQueue keys waiting left
 same-queue keys waits waiting left queue same q = queue q ∙ ap (λ (c : Bool). c && nat_eq q.0 (left q.1)) (sym (same q.1))
 
--- what is left need only be said of those that wait
-pub requeued : (keys : List (ℕ × ℕ)) (waits : ℕ → Bool) (left left' : ℕ → ℕ) → IsQueue keys waits left → ((w : ℕ) → waits w ≡ true → left' w ≡ left w) → IsQueue keys waits left'
-requeued keys waits left left' queue same q = queue q ∙ by (waits q.1) refl where
-  by : (c : Bool) → waits q.1 ≡ c → (c && nat_eq q.0 (left q.1)) ≡ (c && nat_eq q.0 (left' q.1))
-  by true e = ap (nat_eq q.0) (sym (same q.1 e))
-  by false e = refl
-
 -- a turn with another queue
-abbrev pub with_queue : Turn → BTreeSet (ℕ × ℕ) → Turn
+abbrev pub with_queue : Turn → Waiting → Turn
 with_queue turn queue = record turn { hand = record turn.hand { queue = queue } }
 
-pub gains-queue : (old new : Turn) (queue : BTreeSet (ℕ × ℕ)) (moves : List Move) → Gains (with_queue old queue) new moves → Gains old new moves
+pub gains-queue : (old new : Turn) (queue : Waiting) (moves : List Move) → Gains (with_queue old queue) new moves → Gains old new moves
 gains-queue old new queue moves g = record { graph = g.graph; order = g.order; place = g.place; uses = g.uses; board = g.board; moves = g.moves }

@@ -2,5 +2,6 @@ pub mod Order
 pub mod Played
 pub mod Complete
 pub mod Uses
+pub mod Queue
 pub mod Turns
 pub mod Player

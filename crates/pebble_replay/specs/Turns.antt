@@ -1,8 +1,6 @@
 -- The turn of an instance: what is known of the red vertices and their next uses while its moves are made.
 use Rattle.std.specs.Prelude.{◌≡◌, ℕ, suc, nat_eq, Bool, true, false, not, ◌&&◌, ◌||◌, if◌then◌else◌, List, [], ◌∷◌, ◌++◌, length, drop, slice_index_or, ◌<◌}
 use Rattle.std.specs.List.{list_any, AllByRecursion, IsDistinct}
-use Rattle.std.specs.Ordering.{nat_cmp, ordering_then}
-use Rattle.std.specs.declared.cmp.Ordering.{Ordering}
 use Rattle.std.specs.BTreeMap.{is_at}
 use Rattle.iolb_model.specs.declared.game.Move.{Move}
 use Rattle.iolb_model.specs.declared.game.Move.TheVariants.{Load}
@@ -10,13 +8,10 @@ use Rattle.iolb_model.specs.Graph.{ComputationGraph}
 use Rattle.iolb_model.specs.Game.{Board, marked, vertices, stands_in, final_board}
 use Rattle.pebble_game.specs.Boards.{IsBoardOf}
 use Rattle.pebble_replay.specs.Played.{reads, may_go, room_moves, instance_moves}
+use Rattle.pebble_replay.specs.Queue.{pair_cmp}
 use Rattle.pebble_replay.specs.Uses.{uses_of, left_from, AreUses}
 use Rattle.pebble_replay.specs.declared.hand.Hand.{Hand}
 use Rattle.pebble_replay.specs.declared.turn.Turn.{Turn}
-
--- the order of keys: by how many instances stand from the next use on, then by the vertex
-abbrev pub pair_cmp : ℕ × ℕ → ℕ × ℕ → Ordering
-pair_cmp x y = ordering_then (nat_cmp x.0 y.0) (nat_cmp x.1 y.1)
 
 -- the keys are those of the vertices that wait, each with what is left from its next use on
 abbrev pub IsQueue : List (ℕ × ℕ) → (ℕ → Bool) → (ℕ → ℕ) → Type 0

@@ -6,13 +6,13 @@ ghost use Rattle.pebble_replay.specs.Order.{HoldsEachOnce};
 ghost use Rattle.pebble_replay.specs.Played.{instance_moves};
 ghost use Rattle.pebble_replay.specs.Turns.{IsBetween};
 
+use crate::lazy_queue::Queue;
 use crate::turn::Turn;
 use crate::uses::Uses;
 use crate::uses_in::uses_in;
 use iolb_model::game::Move;
 use pebble_game::{Board, Graph, Memory};
 use std::alloc::Global;
-use std::collections::BTreeSet;
 
 /// The board; for each vertex the uses to come; and red vertices by what is left of the order from their next use on, so that
 /// the first is the one to go.
@@ -20,7 +20,7 @@ use std::collections::BTreeSet;
 pub(crate) struct Hand {
     pub(crate) board: Board,
     pub(crate) uses: Uses,
-    pub(crate) queue: BTreeSet<(u32, u32)>,
+    pub(crate) queue: Queue,
 }
 
 impl Hand {
@@ -34,7 +34,7 @@ impl Hand {
         Ok(Hand {
             board: Board::new(alloc, graph, s)?,
             uses: uses_in(alloc, graph, order)?,
-            queue: BTreeSet::new(alloc),
+            queue: Queue::new(alloc, s),
         })
     }
 
@@ -54,11 +54,12 @@ impl Hand {
         ensures board { IfOk result (λ played. played.0.board ≡ record self.board { board = final_board self.board.board (instance_moves graph.now self.board.s (drop (suc place) order.now) (slice_index_or order.now place 0) self.board.board) }) }
     {
         let mut turn = Turn {
+            alloc,
             graph,
             order,
             place,
             hand: self,
-            moves: Vec::new(alloc),
+            moves: Vec::with_capacity(alloc, 12)?,
         };
         turn.finish()?;
         let Turn { hand, moves, .. } = turn;

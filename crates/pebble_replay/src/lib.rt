@@ -7,6 +7,7 @@ pub mod fault;
 mod faults;
 mod hand;
 pub mod law;
+mod lazy_queue;
 pub mod played;
 pub mod player;
 pub mod replays;

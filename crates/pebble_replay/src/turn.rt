@@ -11,10 +11,12 @@ ghost use Rattle.pebble_replay.specs.Turns.{current, later, IsBetween, IsHolding
 use crate::hand::Hand;
 use iolb_model::game::Move;
 use pebble_game::{Graph, Memory};
+use std::alloc::Global;
 
 /// The turn of the instance at a place of an order: what the player holds, and the moves made so far.
 #[derive(Drop)]
 pub(crate) struct Turn<'a> {
+    pub(crate) alloc: Global,
     pub(crate) graph: &'a Graph,
     pub(crate) order: &'a [u32],
     pub(crate) place: usize,
@@ -137,8 +139,7 @@ impl<'a> Turn<'a> {
         ensures held { (left : List ℕ) → IsHolding self.old.graph.now (current self.old) (later self.old) (u ∷ left) self.old.hand → IsHolding self.old.graph.now (current self.old) (later self.old) left self.new.hand }
         ensures same { IsSameTurn self.old self.new }
     {
-        let key = (self.hand.uses.next(u), u);
-        self.hand.queue.remove(&key);
+        self.hand.queue.remove(self.hand.uses.next(u), u);
         self.hand.uses.pop(u);
     }
 
@@ -167,8 +168,8 @@ impl<'a> Turn<'a> {
         ensures same_uses { OnOk result (self.new.hand.uses ≡ self.old.hand.uses) }
     {
         if self.hand.board.is_red(u) {
-            let key = (self.hand.uses.next(u), u);
-            self.hand.queue.insert(key)?;
+            let left = self.hand.uses.next(u);
+            self.hand.queue.insert(self.alloc, left, u)?;
         }
         Ok(())
     }

@@ -11,7 +11,7 @@ ghost use Rattle.program_runs.specs.Turns.{item_turns, row_turns, turns as turns
 ghost use Rattle.program_runs.specs.Rooms.{HasRoom, IsLeft};
 ghost use Rattle.iolb_model.specs.declared.limits.TheConstants.{VALUE_SIZE};
 
-use crate::listed::with_value;
+use crate::listed::put_point;
 use affine_form::Memory;
 use affine_program::{Item, Program};
 use std::alloc::Global;
@@ -90,8 +90,9 @@ fn behind_item(alloc: Global, item: &Item, point: &[i128], room: Room) -> Left
                 return Ok(None);
             }
             let mut left = room;
+            let mut inner = Vec::new(alloc);
             while value <= last {
-                let inner = with_value(alloc, point, value)?;
+                put_point(&mut inner, point, value)?;
                 let Some(entered) = behind_turn(left) else {
                     return Ok(None);
                 };

@@ -5,4 +5,4 @@ mod counted;
 mod listed;
 
 pub use counted::{Room, has_room};
-pub use listed::{Run, runs, values_of, with_value};
+pub use listed::{Run, runs, values_of};

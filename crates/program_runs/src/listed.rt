@@ -34,13 +34,14 @@ pub fn values_of(alloc: Global, sizes: &[i64]) -> Result<Vec<i128>, Memory>
     Ok(values)
 }
 
-/// A point with one value more.
-pub fn with_value(alloc: Global, point: &[i128], value: i128) -> Result<Vec<i128>, Memory>
-    ensures { IfOk result (λ longer. longer.items ≡ point.now ++ value ∷ []) }
+/// Puts a point with one value more in the place of what a buffer held.
+pub(crate) fn put_point(buffer: &mut Vec<i128>, point: &[i128], value: i128) -> Result<(), Memory>
+    ensures { OnOk result (buffer.new.items ≡ point.now ++ value ∷ []) }
 {
-    let mut longer = Vec::from_slice(alloc, point)?;
-    longer.push(value)?;
-    Ok(longer)
+    buffer.clear();
+    buffer.extend_from_slice(point)?;
+    buffer.push(value)?;
+    Ok(())
 }
 
 /// Puts the instances of an item at the end: of a loop those of its body for each of its values.
@@ -64,8 +65,9 @@ fn push_item(alloc: Global, item: &Item, point: &[i128], runs: &mut Vec<Run>) ->
         } => {
             let last = upper.value(point);
             let mut value = lower.value(point);
+            let mut inner = Vec::new(alloc);
             while value <= last {
-                let inner = with_value(alloc, point, value)?;
+                put_point(&mut inner, point, value)?;
                 push_row(alloc, body, inner.as_slice(), runs)?;
                 value += 1;
             }

@@ -75,7 +75,7 @@ behind_item-behind_row-requires t c =
     let le : to_z w128 c.loop-value.value-bits ≤ℤ to_z w128 (of_z w128 c.value-last.result) = at_most (to_z w128 c.loop-value.value-bits) (to_z w128 (of_z w128 c.value-last.result)) c.loop-value-test.true in
     let begun = c.if-not-may_begin.ensures.0 refl in
     let small : IsSmall VALUE_SIZE (to_z w128 c.loop-value.value-bits) = between (to_z w128 (of_z w128 c.value-value.result)) (to_z w128 c.loop-value.value-bits) (to_z w128 (of_z w128 c.value-last.result)) begun.0 begun.1 c.loop-value.invariant.from le in
-    let inner : c.as_slice.result.now ≡ c.args.point.now ++ to_z w128 c.loop-value.value-bits ∷ [] = c.as_slice.ensures.value ∙ c.in_ok-inner-in-Loop.ensures in
+    let inner : c.as_slice.result.now ≡ c.args.point.now ++ to_z w128 c.loop-value.value-bits ∷ [] = c.as_slice.ensures.value ∙ c.in_ok-put_point-in-Loop.ensures in
     let fits : ItemFits c.requires.fits.0 (length c.args.point.now) (loop c.in-Loop.name c.in-Loop.lower c.in-Loop.upper (row_of c.in-Loop.body.items)) = subst (ItemFits c.requires.fits.0 (length c.args.point.now)) is c.requires.fits.1 in
     let long : suc (length c.args.point.now) ≡ length c.as_slice.result.now = omega (arith, ap length inner, length-append c.args.point.now (to_z w128 c.loop-value.value-bits ∷ [])) in
     let body : RowFits c.requires.fits.0 (length c.as_slice.result.now) (row_of c.deref.result.now) =
@@ -93,7 +93,7 @@ behind_item-returns-in-None t c =
     let le : to_z w128 c.loop-value.value-bits ≤ℤ to_z w128 (of_z w128 c.value-last.result) = at_most (to_z w128 c.loop-value.value-bits) (to_z w128 (of_z w128 c.value-last.result)) c.loop-value-test.true in
     let begun = c.if-not-may_begin.ensures.0 refl in
     let small : IsSmall VALUE_SIZE (to_z w128 c.loop-value.value-bits) = between (to_z w128 (of_z w128 c.value-value.result)) (to_z w128 c.loop-value.value-bits) (to_z w128 (of_z w128 c.value-last.result)) begun.0 begun.1 c.loop-value.invariant.from le in
-    let inner : c.as_slice.result.now ≡ c.args.point.now ++ to_z w128 c.loop-value.value-bits ∷ [] = c.as_slice.ensures.value ∙ c.in_ok-inner-in-Loop.ensures in
+    let inner : c.as_slice.result.now ≡ c.args.point.now ++ to_z w128 c.loop-value.value-bits ∷ [] = c.as_slice.ensures.value ∙ c.in_ok-put_point-in-Loop.ensures in
     let taken : RowLeft (row_of c.in-Loop.body.items) (c.args.point.now ++ to_z w128 c.loop-value.value-bits ∷ []) c.in-Some.entered c.in_ok-rest-in-Loop.field-0 =
     subst (λ (l : List ℤ). RowLeft (row_of c.in-Loop.body.items) l c.in-Some.entered c.in_ok-rest-in-Loop.field-0) inner
     (subst (λ (l : List Item). RowLeft (row_of l) c.as_slice.result.now c.in-Some.entered c.in_ok-rest-in-Loop.field-0) c.deref.ensures.value c.in_ok-rest-in-Loop.ensures) in
@@ -114,7 +114,7 @@ behind_item-loop-value-preserved t c =
     let begun = c.if-not-may_begin.ensures.0 refl in
     let small : IsSmall VALUE_SIZE (to_z w128 c.loop-value.value-bits) = between (to_z w128 (of_z w128 c.value-value.result)) (to_z w128 c.loop-value.value-bits) (to_z w128 (of_z w128 c.value-last.result)) begun.0 begun.1 c.loop-value.invariant.from le in
     let fits : FitsSigned w128 (to_z w128 c.loop-value.value-bits +ℤ pos 1) = fits_signed_from_abs w128 (to_z w128 c.loop-value.value-bits +ℤ pos 1) (omega (arith, ints, small)) in
-    let inner : c.as_slice.result.now ≡ c.args.point.now ++ to_z w128 c.loop-value.value-bits ∷ [] = c.as_slice.ensures.value ∙ c.in_ok-inner-in-Loop.ensures in
+    let inner : c.as_slice.result.now ≡ c.args.point.now ++ to_z w128 c.loop-value.value-bits ∷ [] = c.as_slice.ensures.value ∙ c.in_ok-put_point-in-Loop.ensures in
     let taken : RowLeft (row_of c.in-Loop.body.items) (c.args.point.now ++ to_z w128 c.loop-value.value-bits ∷ []) c.in-Some.entered c.in_ok-rest-in-Loop.field-0 =
     subst (λ (l : List ℤ). RowLeft (row_of c.in-Loop.body.items) l c.in-Some.entered c.in_ok-rest-in-Loop.field-0) inner
     (subst (λ (l : List Item). RowLeft (row_of l) c.as_slice.result.now c.in-Some.entered c.in_ok-rest-in-Loop.field-0) c.deref.ensures.value c.in_ok-rest-in-Loop.ensures) in

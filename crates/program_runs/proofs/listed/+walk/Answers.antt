@@ -37,7 +37,7 @@ push_item-push_row-requires t c =
     let is : item_of c.args.item.now ≡ loop c.in-Loop.name c.in-Loop.lower c.in-Loop.upper (row_of c.in-Loop.body.items) = ap item_of c.in-Loop.is ∙ item_of-Loop c.in-Loop.name c.in-Loop.lower c.in-Loop.upper c.in-Loop.body in
     let fits : ItemFits c.requires.fits.0 (length c.args.point.now) (loop c.in-Loop.name c.in-Loop.lower c.in-Loop.upper (row_of c.in-Loop.body.items)) =
     subst (ItemFits c.requires.fits.0 (length c.args.point.now)) is c.requires.fits.1 in
-    let inner : c.as_slice.result.now ≡ c.args.point.now ++ to_z w128 c.loop-value.value-bits ∷ [] = c.as_slice.ensures.value ∙ c.in_ok-inner-in-Loop.ensures in
+    let inner : c.as_slice.result.now ≡ c.args.point.now ++ to_z w128 c.loop-value.value-bits ∷ [] = c.as_slice.ensures.value ∙ c.in_ok-put_point-in-Loop.ensures in
     let asks = body_asks (row_of c.in-Loop.body.items) c.args.point.now c.as_slice.result.now (to_z w128 c.loop-value.value-bits) (to_z w128 (of_z w128 c.value-last.result)) inner (at_most (to_z w128 c.loop-value.value-bits) (to_z w128 (of_z w128 c.value-last.result)) c.loop-value-test.true) (c.requires.fits.0, fits.2) c.requires.point c.loop-value.invariant.turns in
     let body : RowAsks (row_of c.deref.result.now) c.as_slice.result.now = subst (λ (l : List Item). RowAsks (row_of l) c.as_slice.result.now) (sym c.deref.ensures.value) asks.0 in
     let fewer : row_size (row_of c.in-Loop.body.items) < item_size (item_of c.args.item.now) = body_smaller (item_of c.args.item.now) c.in-Loop.name c.in-Loop.lower c.in-Loop.upper (row_of c.in-Loop.body.items) is in
@@ -59,7 +59,7 @@ pub push_item-loop-value-preserved : goal.push_item-loop-value-preserved
 push_item-loop-value-preserved t c =
     let first = first_turns (IsSmall VALUE_SIZE) (row_of c.in-Loop.body.items) c.args.point.now (to_z w128 c.loop-value.value-bits) (to_z w128 (of_z w128 c.value-last.result)) (at_most (to_z w128 c.loop-value.value-bits) (to_z w128 (of_z w128 c.value-last.result)) c.loop-value-test.true) c.loop-value.invariant.turns in
     let fits : FitsSigned w128 (to_z w128 c.loop-value.value-bits +ℤ pos 1) = fits_signed_from_abs w128 (to_z w128 c.loop-value.value-bits +ℤ pos 1) (omega (arith, ints, first.0)) in
-    let inner : c.as_slice.result.now ≡ c.args.point.now ++ to_z w128 c.loop-value.value-bits ∷ [] = c.as_slice.ensures.value ∙ c.in_ok-inner-in-Loop.ensures in
+    let inner : c.as_slice.result.now ≡ c.args.point.now ++ to_z w128 c.loop-value.value-bits ∷ [] = c.as_slice.ensures.value ∙ c.in_ok-put_point-in-Loop.ensures in
     let pushed : map run_of c.push_row.new.runs.items ≡ map run_of c.loop-value.runs.items ++ map (with_point (c.args.point.now ++ to_z w128 c.loop-value.value-bits ∷ [])) (row_runs (row_of c.in-Loop.body.items) (c.args.point.now ++ to_z w128 c.loop-value.value-bits ∷ [])) =
     subst (λ (l : List ℤ). map run_of c.push_row.new.runs.items ≡ map run_of c.loop-value.runs.items ++ map (with_point l) (row_runs (row_of c.in-Loop.body.items) l)) inner
     (subst (λ (l : List Item). map run_of c.push_row.new.runs.items ≡ map run_of c.loop-value.runs.items ++ map (with_point c.as_slice.result.now) (row_runs (row_of l) c.as_slice.result.now)) c.deref.ensures.value c.in_ok-push_row-in-Loop.ensures) in

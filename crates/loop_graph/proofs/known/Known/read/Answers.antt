@@ -4,11 +4,11 @@ use Rattle.loop_graph.proofs.known.Known.read.Goals as goal
 
 pub returns-in-Some-clause-read : goal.returns-in-Some-clause-read
 returns-in-Some-clause-read c = λ writer before met.
-    known-read c.args.instances writer before c.args.cell.now c.args.self.now c.in-Some.vertex met (sym c.get.ensures.value ∙ sym c.in-Some.ensures)
+    known-read c.args.instances writer before c.args.cell c.args.self.now c.in-Some.vertex met (sym c.get.ensures.value ∙ sym c.in-Some.ensures)
 
 pub returns-clause-read : goal.returns-clause-read
 returns-clause-read c = λ writer before met.
     let none : c.copied.result ≡ None = grind (arith, c.in_default.is, c.in_default.not-Some) in
-    new-read c.args.instances writer before c.args.cell.now (c.args.cell.now.0, c.in_ok-from_slice.field-0) c.args.self.now
+    new-read c.args.instances writer before c.args.cell c.args.self.now
     (record { vertices = c.insert.new.self; inputs = c.args.self.now.inputs + 1 }) (c.args.instances + c.args.self.now.inputs) met (sym c.get.ensures.value ∙ sym c.copied.ensures ∙ none)
-    (λ i. record { array = c.args.cell.now.0; subscripts = (c.in_ok-from_slice.ensures.items ∙ c.as_slice.ensures.value) i }) refl c.in_ok-insert.ensures.updates refl
+    refl c.in_ok-insert.ensures.updates refl
