@@ -16,16 +16,15 @@ ghost use Rattle.flow_deps.specs.Growth.{IsGuarded, IsLeafUnder};
 ghost use Rattle.flow_deps.specs.Plain.{Stands};
 ghost use Rattle.iolb_model.specs.declared.limits.TheConstants.{TREE_TESTS, TREE_LEAVES};
 
-use answers::is_answered;
 use crate::leaves::{has_no_point, source_leaf, sure_leaf, unshown};
 use crate::origins::Origin;
 use crate::rows::{
     context_rows, precedence_rows, tests_of_no, tests_of_yes, values_of_reader, written_rows,
 };
 use crate::solved::solved_point;
-use answers::Wanted;
 use affine_form::{Form, Memory, system_of};
 use affine_program::{Program, is_small_form};
+use answers::{Wanted, is_answered};
 use dep_quast::Quast;
 use dep_quast::claimed::Claimed;
 use dep_quast::lists::followed_by;

@@ -14,12 +14,11 @@ ghost use Rattle.flow_deps.specs.Candidates.{last_write, no_write};
 ghost use Rattle.flow_deps.specs.Growth.{IsLeafUnder};
 ghost use Rattle.flow_deps.specs.Plain.{FindsTree};
 
-use answers::{goals_answered, system_answered};
 use crate::no_writes::{between_answered, earlier_answered};
 use crate::rows::{context_rows, precedence_rows, values_of_reader, written_rows};
-use answers::Wanted;
 use affine_form::{Form, Memory, Multipliers, System, system_of};
 use affine_program::Program;
+use answers::{Wanted, goals_answered, system_answered};
 use dep_quast::Quast;
 use dep_quast::claimed::Claimed;
 use dep_quast::lists::followed_by;

@@ -12,13 +12,12 @@ ghost use Rattle.dep_quast.specs.Truth.{ReadFits};
 ghost use Rattle.dep_quast.specs.Views.{read_of, claim_of};
 ghost use Rattle.answers.specs.Answers.{HasNoShort, Answers, pointless};
 
-use answers::{system_answered, with_answers};
-use answers::Wanted;
 use crate::writes::{
     rows_after_source, rows_before_reader, rows_of_write, variables_beside, writers,
 };
 use affine_form::{Form, Memory, Multipliers};
 use affine_program::Program;
+use answers::{Wanted, system_answered, with_answers};
 use dep_quast::claimed::Claimed;
 use dep_quast::levels::level_count;
 use dep_quast::reader::{Reader, reference};

@@ -11,15 +11,7 @@ use std::test::Fail;
 const COORDINATES: [u32; 3] = [1, 2, 4];
 
 /// The sets that aren't empty, each with its bit in a family of sets.
-const SETS: [(u32, u32); 7] = [
-    (1, 1),
-    (2, 2),
-    (3, 4),
-    (4, 8),
-    (5, 16),
-    (6, 32),
-    (7, 64),
-];
+const SETS: [(u32, u32); 7] = [(1, 1), (2, 2), (3, 4), (4, 8), (5, 16), (6, 32), (7, 64)];
 
 /// What the digits of a code in a base give in total at the items that meet a set; the digits stand for the items in order.
 fn total_at(items: &[u32], base: u32, code: u32, set: u32) -> u32
