@@ -16,7 +16,7 @@ use Rattle.nest_sums.specs.Made.{AreMade, CheckPasses}
 use Rattle.domain_count.specs.Claims.{SumClaims}
 use Rattle.domain_count.specs.Count.{AreShownBelow, IsCount, bounds_at, range_goal, rows_before}
 use Rattle.poly_tree.specs.Poly.{Quotient}
-use Rattle.part_fit.specs.Limits.{IsSmallPolynomial}
+use Rattle.part_fit.specs.Limits.{IsSmallPolynomial, NameRows}
 use Rattle.part_fit.specs.PartFit.{polynomials_fit}
 
 -- ---- ranges
@@ -25,10 +25,12 @@ use Rattle.part_fit.specs.PartFit.{polynomials_fit}
 abbrev pub HasShortRange : AffineProgram → List (AffineForm × AffineForm) → ℕ → Type 0
 HasShortRange program nest k = HasShortList (rows_before program (take k nest)) (range_goal (rows_before program (take k nest)).vars (bounds_at nest k))
 
--- multipliers, one for each of so many variables, show that their ranges are whole, as short as is wanted
+-- multipliers, one for each of so many variables, show that their ranges are whole, from rows below 128 and as short
+-- as is wanted
 pub record AreRanges (wanted : Wanted) (program : AffineProgram) (nest : List (AffineForm × AffineForm)) (count : ℕ) (shown : List FarkasMultipliers) : Type 0 where
   pub each : length shown ≡ count
   pub shown_below : AreShownBelow program nest shown count
+  pub names : NameRows shown
   pub as_short : AllByRecursion (IsAsShort wanted) shown
 
 -- what a search for them finds: those of all variables; or nothing, and then some range has no short list
@@ -48,14 +50,15 @@ abbrev pub CountPasses : AffineProgram → List (AffineForm × AffineForm) → T
 CountPasses program nest =
     CheckPasses program nest ⊎ ((sums : List Quotient) × AreMade (length program.parameters) nest sums × (¬ ArePolynomials (length program.parameters) nest sums))
 
--- Claims of a nest's number of points: they are right, their polynomials are those of the summation, and their multipliers are
--- as short as is wanted.
+-- Claims of a nest's number of points: they are right, their polynomials are those of the summation, and their multipliers name
+-- rows below 128 and are as short as is wanted.
 pub record AreCounted (wanted : Wanted) (program : AffineProgram) (nest : List (AffineForm × AffineForm)) (claims : SumClaims) : Type 0 where
   pub total : Quotient
   pub right : IsCount program nest claims total
   pub each : length claims.shown ≡ length nest
   pub polynomials : ArePolynomials (length program.parameters) nest claims.sums
   pub made : AreMade (length program.parameters) nest claims.sums
+  pub names : NameRows claims.shown
   pub as_short : AllByRecursion (IsAsShort wanted) claims.shown
 
 -- what a search for them finds: them; or nothing, and then there are none with short lists, but where the count passes a limit

@@ -1,6 +1,6 @@
 -- Opening terms: what a program is sure to load of an array, as a read of it says whose subscripts are loops' names.
-use Rattle.std.specs.Prelude.{◌≡◌, ◌⊎◌, ℕ, suc, ◌+◌, ◌<◌, ◌≤◌, nat_eq, Bool, if◌then◌else◌, ℤ, pos, ⊤, List, [], ◌∷◌, ◌++◌, length, map, filter, list_any, flat_map, Option, Some, None, Contains}
-use Rattle.std.specs.List.{AllByRecursion, IsDistinct, range_with_len}
+use Rattle.std.specs.Prelude.{◌≡◌, ◌⊎◌, ℕ, ◌+◌, ◌<◌, ◌≤◌, nat_eq, Bool, if◌then◌else◌, ℤ, pos, ⊤, List, [], ◌∷◌, ◌++◌, length, map, filter, flat_map, Option, Some, None, Contains}
+use Rattle.std.specs.List.{AllByRecursion, IsDistinct, list_any, range_with_len}
 use Rattle.iolb_model.specs.Form.{AffineForm}
 use Rattle.iolb_model.specs.Path.{PathStep, rises}
 use Rattle.iolb_model.specs.Program.{AffineProgram}
@@ -56,7 +56,7 @@ at_values program far bound = widened (width program far) (substitution bound (p
 abbrev pub with_variable : AffineProgram → NestSoFar → AffineForm → AffineForm → NestSoFar
 with_variable program far lower upper = record {
   nest = far.nest ++ (at_values program far lower, at_values program far upper) ∷ [];
-  values = map (widened (suc (width program far))) far.values ++ variable (suc (width program far)) (width program far) ∷ [];
+  values = map (widened (width program far + 1)) far.values ++ variable (width program far + 1) (width program far) ∷ [];
 }
 
 -- into another loop, in its first turn: it has its lower bound at the values so far
@@ -71,7 +71,7 @@ into_loop program named far (rises lower upper) = if named then with_variable pr
 abbrev pub nest_along : AffineProgram → List ℕ → ℕ → List PathStep → NestSoFar → NestSoFar
 nest_along program loops number [] far = far
 nest_along program loops number (step ∷ path) far =
-    nest_along program loops (suc number) path (into_loop program (is_named loops number) far step)
+    nest_along program loops (number + 1) path (into_loop program (is_named loops number) far step)
 
 -- The nest of the loops that are named, outermost first, and the loop values: a loop that is named has its variable, each
 -- other its lower bound at the values before it.

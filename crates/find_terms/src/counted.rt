@@ -1,9 +1,10 @@
 //! Counts of nests, with multipliers that are as short as is wanted.
 
-ghost use Rattle.std.specs.Prelude.{◌≡◌, ◌+◌, ◌≤◌, ◌<◌, [], ◌∷◌, length, IfOk, MatchOption, IsTrue, ◌↔◌};
+ghost use Rattle.std.specs.Prelude.{◌≡◌, ◌+◌, ◌≤◌, ◌<◌, [], ◌∷◌, length, IfOk, OnOk, MatchOption, IsTrue, ◌↔◌};
 ghost use Rattle.affine_form.specs.Rows.{BoundsFit, IsSmallOver};
 ghost use Rattle.affine_program.specs.Parts.{meaning};
 ghost use Rattle.answers.specs.Answers.{Answers, HasNoShort, following};
+ghost use Rattle.dep_quast.specs.Claims.{IsFew};
 ghost use Rattle.domain_count.specs.Count.{rows_before, range_goal};
 ghost use Rattle.find_terms.specs.Counted.{ArePolynomials, FindsCount, FindsRanges};
 ghost use Rattle.iolb_model.specs.declared.limits.TheConstants.{NEST_VARIABLES, PARAMETERS};
@@ -36,8 +37,9 @@ pub(crate) fn counted(
     };
     let made = match make_count(alloc, program, nest) {
         Ok(made) => made,
+        Err(CountFault::NotProved(_)) => return Ok(None),
+        Err(CountFault::Wide) => return Ok(None),
         Err(CountFault::Memory) => return Err(Memory),
-        Err(_) => return Ok(None),
     };
     let params = program.params().len();
     if !are_polynomials(alloc, params, nest, made.sums())? {
@@ -61,7 +63,10 @@ fn are_polynomials(
     let place = Place::new(Vec::new(alloc));
     let called = nest.bounds().len();
     let misfit = polynomials_misfit(alloc, &place, key::SUMS, params, sums, called)?;
-    Ok(misfit.is_none() && are_small_polynomials(sums))
+    if misfit.is_some() {
+        return Ok(false);
+    }
+    Ok(are_small_polynomials(sums))
 }
 
 /// Copies of polynomials.
@@ -108,12 +113,14 @@ fn range_answered(
     requires fit { BoundsFit (length program.now.params) before.now }
     requires lower { IsSmallOver (length program.now.params + length before.now) bounds.now.0 }
     requires upper { IsSmallOver (length program.now.params + length before.now) bounds.now.1 }
-    ensures { IfOk result (λ found. let system = rows_before (meaning program.now) before.now in
+    ensures few { OnOk result (IsFew (length (rows_before (meaning program.now) before.now).rows)) }
+    ensures answers { IfOk result (λ found. let system = rows_before (meaning program.now) before.now in
         let questions = following system (range_goal (length program.now.params + length before.now) bounds.now ∷ []) in
         MatchOption found (HasNoShort questions) (λ shown. Answers wanted questions shown.items)) }
 {
     let vars = program.params().len() + before.len();
     let system = rows_before(alloc, program, before)?;
+    let _rows = system.rows();
     let mut goals = Vec::new(alloc);
     goals.push(difference(alloc, vars, &bounds.1, &bounds.0, 1)?)?;
     goals_answered(alloc, wanted, &system, goals.as_slice())

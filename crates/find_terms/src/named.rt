@@ -42,7 +42,8 @@ pub(crate) fn loops_named(
     ensures { IfOk result (λ found. FindsLoops (meaning program.now) (read_of reader) found) }
 {
     let mut loops = Vec::new(alloc);
-    for subscript in reference(program, reader).subs.as_slice() {
+    let subscripts = reference(program, reader).subs.as_slice();
+    for subscript in subscripts {
         let Some(level) = loop_named(alloc, program, reader, subscript)? else {
             return Ok(None);
         };

@@ -1,11 +1,12 @@
 //! What is shown of the instances of an outline.
 
-ghost use Rattle.std.specs.Prelude.{◌≡◌, ◌≤◌, ◌+◌, length, IfOk, MatchOption, IsTrue, ◌↔◌};
+ghost use Rattle.std.specs.Prelude.{◌≡◌, ◌≤◌, ◌+◌, length, IfOk, OnOk, MatchOption, IsTrue, ◌↔◌};
 ghost use Rattle.std.specs.List.{AllByRecursion};
 ghost use Rattle.affine_form.specs.Form.{variables};
 ghost use Rattle.affine_form.specs.Rows.{IsSmallOver, put_in};
 ghost use Rattle.affine_program.specs.Parts.{meaning, IsProgram};
 ghost use Rattle.answers.specs.Answers.{Answers, HasNoShort, following};
+ghost use Rattle.dep_quast.specs.Claims.{IsFew};
 ghost use Rattle.dep_quast.specs.Context.{variables_at};
 ghost use Rattle.dep_quast.specs.Tree.{tree_of};
 ghost use Rattle.reuse_paths.specs.OpenLeaves.{TestsFit};
@@ -112,7 +113,7 @@ pub(crate) fn inside_answered(
     outline: &Outline,
 ) -> Result<Option<Vec<Multipliers>>, Memory>
     requires { OutlineFits (meaning program.now) (outline_of outline.now) }
-    ensures few { IfOk result (λ found. length (nest_system (meaning program.now) (bare (outline_of outline.now))).rows ≤ 128) }
+    ensures few { OnOk result (IsFew (length (nest_system (meaning program.now) (bare (outline_of outline.now))).rows)) }
     ensures answers { IfOk result (λ found. let term = bare (outline_of outline.now) in
         let questions = following (nest_system (meaning program.now) term) (inside_goals (meaning program.now) term) in
         MatchOption found (HasNoShort questions) (λ shown. Answers wanted questions shown.items)) }

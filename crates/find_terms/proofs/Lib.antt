@@ -1,0 +1,8 @@
+pub mod EntryLaws
+pub mod ColdLaws
+pub mod NameLaws
+pub mod CountLaws
+pub mod NestLaws
+pub mod PlainLaws
+pub mod ReadLaws
+pub mod AcceptLaws
