@@ -13,6 +13,8 @@ mod graph_tests;
 #[cfg(test)]
 mod multiplier_tests;
 #[cfg(test)]
+mod opening_tests;
+#[cfg(test)]
 mod polynomial_tests;
 #[cfg(test)]
 mod projective_tests;
