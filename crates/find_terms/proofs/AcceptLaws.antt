@@ -2,6 +2,7 @@
 use Rattle.std.proofs.Common.{◌≡◌, ◌≢◌, refl, sym, ◌∙◌, ap, subst, ℕ, zero, suc, ◌+◌, ◌*◌, ◌<◌, ◌≤◌, Bool, true, false, List, [], ◌∷◌, ◌++◌, length, map, arith, inl, inr}
 use Rattle.std.specs.Prelude.{⊤, ◌==◌, if◌then◌else◌, cond, filter, flat_map, Option, Some, None}
 use Rattle.std.specs.List.{AllByRecursion}
+use Rattle.std.proofs.lemmas.Bool.{eqb-true, eq-eqb}
 use Rattle.std.proofs.lemmas.List.{length-map}
 use Rattle.base_laws.proofs.Lists.{All-append}
 use Rattle.iolb_model.specs.Form.{AffineForm}
@@ -50,7 +51,8 @@ use Rattle.iolb_check.proofs.PiecesOf.{pieces-told}
 use Rattle.find_terms.specs.Accepted.{HasPlainTree, OpeningsAreWithinLimits, OpeningsMeetConditions, alone}
 use Rattle.find_terms.specs.Openings.{AreNamed, AreRising, IsFirstOpening, IsOpeningBranch, IsOpeningTerm, array_read, named_loops, opening_outline, reader_of}
 use Rattle.find_terms.specs.Outline.{ColdOutline, outline_in}
-use Rattle.find_terms.specs.Shown.{AreEntries, IsShownCold}
+use Rattle.find_terms.specs.Entries.{AreEntries}
+use Rattle.find_terms.specs.Shown.{IsShownCold}
 use Rattle.find_terms.proofs.ColdLaws.{parts-of}
 use Rattle.find_terms.proofs.NameLaws.{none-named}
 use Rattle.find_terms.proofs.PlainLaws.{blank-not, shown-over}
@@ -106,8 +108,8 @@ module _ (program : ProgramParts) (trees : List (List SelectionTree)) where
   placed cold first plain =
       let opens : IsOpeningTerm P (reader_of cold) cold = first.opens in
       let loops : List ℕ = opens.outline.0 in
-      let named : AreNamed P (reader_of cold) loops = opens.outline.1.0 in
-      let same : outline_in (term_of cold) ≡ opening_outline P (reader_of cold) loops = opens.outline.1.1 in
+      let named : AreNamed P (reader_of cold) loops = opens.outline.1 in
+      let same : outline_in (term_of cold) ≡ opening_outline P (reader_of cold) loops = opens.outline.2 in
       record {
         there = tree-there (reader_of cold) (tree_at trees cold.statement cold.read) plain;
         shown = shown-over Short P opens.tree (tree_of_cold cold) cold opens.plain plain opens.shown;
@@ -121,8 +123,19 @@ module _ (program : ProgramParts) (trees : List (List SelectionTree)) where
     term = term_of cold
 
     columns : (rows columns called : ℕ) → (rows ≡ 0 → columns ≡ 0) → ((1 ≤ rows) → columns ≡ called) → columns ≡ (if rows == 0 then 0 else called)
-    columns zero cs called none some = none refl
-    columns (suc rows) cs called none some = some (omega arith)
+    columns rows cs called none some = by (rows == 0) refl where
+      by : (b : Bool) → (rows == 0) ≡ b → cs ≡ (if b then 0 else called)
+      by true is = none (eqb-true rows 0 is)
+      by false is = some (positive rows (λ zero_rows. clash (eq-eqb rows 0 zero_rows) is)) where
+        clash : (rows == 0) ≡ true → (rows == 0) ≡ false → ⊥
+        clash x y = both (rows == 0) x y where
+          both : (b : Bool) → b ≡ true → b ≡ false → ⊥
+          both true p q = cc
+          both false p q = cc
+
+        positive : (n : ℕ) → (n ≡ 0 → ⊥) → 1 ≤ n
+        positive zero h = absurd (h refl)
+        positive (suc n) h = omega arith
 
     cold-fit : (place : List Step) → AllHold (cold_fit P trees place term)
     cold-fit place =
@@ -284,7 +297,7 @@ module _ (program : ProgramParts) (trees : List (List SelectionTree)) where
       (AllHold-append claims [] holds tt)
 
 pub openings-meet : OpeningsMeetConditions
-openings-meet program trees branch is (colds, (openings, (same, none))) fit valid plain =
+openings-meet program trees branch is (colds, openings, same, none) fit valid plain =
     let P : AffineProgram = meaning program in
     let here : claim_of_branch branch ≡ made program trees colds = λ i. record { terms = map claim_of_term (same i); disjoint = none i } in
     subst (λ (b : BranchClaim). AllHold (conditions P (record { trees = trees; branches = b ∷ [] }))) (sym here)
@@ -298,7 +311,7 @@ all-small program [] h = tt
 all-small program (cold ∷ colds) h = (h.0.opens.shown.small, all-small program colds h.1)
 
 pub openings-small : OpeningsAreWithinLimits
-openings-small program quasts branch (colds, (openings, (same, none))) small = record {
+openings-small program quasts branch (colds, openings, same, none) small = record {
   trees = small;
   few = omega arith;
   branches = (

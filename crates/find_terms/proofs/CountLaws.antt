@@ -21,7 +21,9 @@ use Rattle.nest_sums.proofs.RangeLemmas.{shown-more}
 use Rattle.poly_tree.specs.Poly.{Quotient}
 use Rattle.part_fit.specs.Limits.{NamesRows}
 use Rattle.part_fit.specs.PartFit.{polynomials_fit, sum_at}
-use Rattle.find_terms.specs.Counted.{AreCounted, AreRanges, HasShortRange}
+use Rattle.nest_sums.specs.Made.{AreMade}
+use Rattle.nest_sums.specs.Ranges.{AreRight, IsFirstNotShown}
+use Rattle.find_terms.specs.Counted.{AreCounted, AreRanges, ArePolynomials, CountPasses, FindsRanges, HasShortRange}
 
 -- ---- ranges
 
@@ -77,3 +79,27 @@ fit-anywhere variables place other index (sum ∷ sums) h = (h.0, fit-anywhere v
 -- what is asked of polynomials is asked at any place
 pub polynomials-anywhere : (params called : ℕ) (place other : List Step) (sums : List Quotient) → AllHold (polynomials_fit params place sums called) → AllHold (polynomials_fit params other sums called)
 polynomials-anywhere params called place other sums h = (h.0, fit-anywhere (suc params) place other 0 sums h.1)
+
+-- ---- what is found
+
+module _ (program : AffineProgram) (nest : List (AffineForm × AffineForm)) where
+  -- some range has no short list
+  pub ranges-none : FindsRanges Short program nest None → (claims : SumClaims) → AreCounted Short program nest claims → CountPasses program nest
+  ranges-none (k, below, none) claims h = absurd (none (short-range program nest claims k h below))
+
+  pub first-none : (k : ℕ) → IsFirstNotShown program nest k → (claims : SumClaims) → AreCounted Short program nest claims → CountPasses program nest
+  first-none k none claims h = absurd (none.no_list (short-range program nest claims k h none.there))
+
+  -- all that is claimed is found
+  pub counted-some : (wanted : Wanted) (shown : List FarkasMultipliers) (made claims : SumClaims) → AreRanges wanted program nest (length nest) shown → AreRight program nest made
+      → AreMade (length program.parameters) nest made.sums → ArePolynomials (length program.parameters) nest made.sums → claims ≡ record { shown = shown; sums = made.sums }
+      → AreCounted wanted program nest claims
+  counted-some wanted shown made claims ranges right are fit same = subst (AreCounted wanted program nest) (sym same) (record {
+    total = right.0;
+    right = record { shown = ranges.shown_below; sums = right.1.sums };
+    each = ranges.each;
+    polynomials = fit;
+    made = are;
+    names = ranges.names;
+    as_short = ranges.as_short;
+  })

@@ -17,19 +17,18 @@ use Rattle.reuse_paths.specs.declared.leaf.Leaf.{Leaf}
 use Rattle.reuse_paths.specs.LeafClaims.{LeafClaim, no_point, stops, is_credited, goes_on, arrives, claim_of}
 use Rattle.reuse_paths.specs.OpenLeaves.{OpenLeaf, is_input}
 use Rattle.wavefront.specs.Leaves.{leaves_claims}
-use Rattle.find_terms.specs.Entries.{AreClosed, Closes, system_at}
-use Rattle.find_terms.specs.Shown.{AreEntries, IsEntry, IsEntryAsShort}
+use Rattle.find_terms.specs.Entries.{AreClosed, AreEntries, Closes, IsEntry, IsEntryAsShort, system_at}
 
 -- ---- one leaf
 
 -- a stop closes an input
 pub stop-closes : (wanted : Wanted) (system : AffineSystem) (input : Bool) → IsFew (length system.rows) → input ≡ true → Closes wanted system input (stops [])
-stop-closes wanted system input few is = record { few = few; closed = is; entry = (is, refl); as_short = tt }
+stop-closes wanted system input few is = record { few = few; closed = is; is_entry = (is, refl); as_short = tt }
 
 -- multipliers which show that no point comes close another leaf
 pub empty-closes : (wanted : Wanted) (system : AffineSystem) (input : Bool) (m : FarkasMultipliers) → input ≡ false → IsAnswered (pointless system) m → IsAsShort wanted m
     → Closes wanted system input (no_point m)
-empty-closes wanted system input m not answer short = record { few = answer.0; closed = answer.1; entry = not; as_short = short }
+empty-closes wanted system input m not answer short = record { few = answer.0; closed = answer.1; is_entry = not; as_short = short }
 
 -- an entry which closes another leaf with short lists is an answer
 pub closed-answer : (system : AffineSystem) (input : Bool) (entry : LeafClaim) → input ≡ false → Closes Short system input entry → HasShortAnswer (pointless system)
@@ -86,7 +85,7 @@ pub closed-entries : (wanted : Wanted) (vars : ℕ) (rows : List AffineForm) (le
 closed-entries wanted vars rows [] [] h = tt
 closed-entries wanted vars rows [] (e ∷ entries) h = absurd h
 closed-entries wanted vars rows (l ∷ leaves) [] h = absurd h
-closed-entries wanted vars rows (l ∷ leaves) (e ∷ entries) h = (h.0.entry, closed-entries wanted vars rows leaves entries h.1)
+closed-entries wanted vars rows (l ∷ leaves) (e ∷ entries) h = (h.0.is_entry, closed-entries wanted vars rows leaves entries h.1)
 
 pub closed-short : (wanted : Wanted) (vars : ℕ) (rows : List AffineForm) (leaves : List OpenLeaf) (entries : List LeafClaim) → AreClosed wanted vars rows leaves entries
     → AllByRecursion (IsEntryAsShort wanted) entries
@@ -97,7 +96,7 @@ closed-short wanted vars rows (l ∷ leaves) (e ∷ entries) h = (h.0.as_short, 
 
 closed-small-one : (wanted : Wanted) (system : AffineSystem) (input : Bool) (entry : LeafClaim) → Closes wanted system input entry → IsSmallEntry entry
 closed-small-one wanted system input (no_point m) h = answer-names (pointless system) m (h.few, h.closed)
-closed-small-one wanted system input (stops label) h = subst (AllByRecursion _) (sym h.entry.1) tt
+closed-small-one wanted system input (stops label) h = subst (AllByRecursion _) (sym h.is_entry.1) tt
 closed-small-one wanted system input (is_credited credit rows label) h = absurd h.closed
 closed-small-one wanted system input (goes_on rows label) h = absurd h.closed
 closed-small-one wanted system input (arrives equal) h = absurd h.closed
@@ -117,6 +116,6 @@ hold-closed wanted vars rows [] [] place index are short h = tt
 hold-closed wanted vars rows [] (e ∷ entries) place index are short h = absurd are
 hold-closed wanted vars rows (l ∷ leaves) [] place index are short h = absurd are
 hold-closed wanted vars rows (l ∷ leaves) (e ∷ entries) place index are short h = (
-  record { few = h.0; closed = h.1.0; entry = are.0; as_short = short.0 },
+  record { few = h.0; closed = h.1.0; is_entry = are.0; as_short = short.0 },
   hold-closed wanted vars rows leaves entries place (suc index) are.1 short.1 h.1.1,
 )

@@ -4,5 +4,6 @@ pub mod NameLaws
 pub mod CountLaws
 pub mod NestLaws
 pub mod PlainLaws
+pub mod TermLaws
 pub mod ReadLaws
 pub mod AcceptLaws

@@ -1,9 +1,13 @@
 -- The loops that subscripts name.
 use Rattle.std.proofs.Common.{◌≡◌, ◌≢◌, refl, sym, ◌∙◌, ap, subst, ℕ, zero, suc, ◌+◌, ◌<◌, ◌≤◌, Bool, true, false, List, [], ◌∷◌, ◌++◌, length, map, filter, take, drop, replicate, get_or, arith, inl, inr}
-use Rattle.std.specs.Prelude.{◌⊎◌, nat_eq, slice_set, ◌||◌, cond}
+use Rattle.std.specs.Prelude.{◌⊎◌, nat_eq, slice_set, ◌||◌, cond, flat_map, T}
+use Rattle.std.proofs.Math.Dec.{eqb, eqb_refl}
+use Rattle.std.proofs.lemmas.Bool.{eqb-true}
+use Rattle.std.proofs.lemmas.Grind.{flat_map-append}
+use Rattle.std.proofs.lemmas.Map.Steps.{length-le_from_distinct_below}
 use Rattle.std.specs.List.{AllByRecursion, IsDistinct, list_any, range_with_len}
 use Rattle.std.proofs.Math.IntN.{ℤ, pos}
-use Rattle.std.proofs.lemmas.List.{length-map, map-append, take_more, take_all, get_or_default}
+use Rattle.std.proofs.lemmas.List.{append-nil, length-append, length-map, map-append, take_more, take_all, get_or_default}
 use Rattle.std.proofs.lemmas.List.Elements.{filter-append}
 use Rattle.std.proofs.lemmas.List.FromFn.{length-range_with_len, map-range_with_len_more}
 use Rattle.base_laws.proofs.Lists.{All-push, All-read}
@@ -70,12 +74,10 @@ module _ (program : AffineProgram) (reader : ReadOf) where
       loops-same loops (take count all) h.there (sym h.subscripts ∙ ap (take count) g.subscripts ∙ map-take (loop_variable program reader) count all)
 
   map-at : (all : List ℕ) (k : ℕ) (form : AffineForm) → k < length all → form ≡ get_or (map (loop_variable program reader) all) k form
-      → (loop : ℕ) × ((k : ℕ) × (k < length all) × (loop ≡ get_or all k loop)) × (form ≡ loop_variable program reader loop)
+      → (loop : ℕ) × (loop ≡ get_or all k loop) × (form ≡ loop_variable program reader loop)
   map-at [] k form below e = absurd (omega arith)
-  map-at (a ∷ all) zero form below e = (a, ((0, (omega arith, refl)), e))
-  map-at (a ∷ all) (suc k) form below e =
-      let later = map-at all k form (omega arith) e in
-      (later.0, ((suc later.1.0.0, (omega (arith, later.1.0.1), later.1.0.2)), later.1.1))
+  map-at (a ∷ all) zero form below e = (a, refl, e)
+  map-at (a ∷ all) (suc k) form below e = map-at all k form (omega arith) e
 
 -- ---- membership
 
@@ -126,27 +128,35 @@ module _ (program : AffineProgram) (reader : ReadOf) (count : ℕ) (form : Affin
   named-here all h =
       let many = named-many program reader all h in
       let here = map-at program reader all count form (omega (arith, below, many)) (is ∙ ap (λ (fs : List AffineForm). get_or fs count form) h.subscripts) in
-      (here.0, (omega (arith, below, many), (here.1.0, here.1.1)))
+      (here.0, omega (arith, below, many), here.1, here.2)
 
   -- the subscript isn't a loop's variable
   pub named-not : ((loop : ℕ) → loop < depth_of program reader.statement → ¬ (form ≡ loop_variable program reader loop)) → (all : List ℕ) → ¬ AreNamed program reader all
   named-not none all h =
       let here = named-here all h in
-      none here.0 (All-read (λ (loop : ℕ). loop < depth_of program reader.statement) all count here.0 h.there here.1.0 here.1.1.0) here.1.1.1
+      none here.0 (All-read (λ (loop : ℕ). loop < depth_of program reader.statement) all count here.0 h.there here.1 here.2) here.3
 
   -- it is the variable of one that is named before
   pub named-twice : (level : ℕ) → level < depth_of program reader.statement → form ≡ loop_variable program reader level → list_any (λ (loop : ℕ). nat_eq loop level) loops ≡ true
       → (all : List ℕ) → ¬ AreNamed program reader all
   named-twice level inside names found all h =
       let here = named-here all h in
-      let same : level ≡ here.0 = loop-place program reader level here.0 inside (sym names ∙ here.1.1.1) in
-      let there : level ≡ get_or all count level = same ∙ here.1.1.0 ∙ get_or_default all count here.0 level here.1.0 in
+      let same : level ≡ here.0 = loop-place program reader level here.0 inside (sym names ∙ here.3) in
+      let there : level ≡ get_or all count level = same ∙ here.2 ∙ get_or_default all count here.0 level here.1 in
       let not : list_any (λ (loop : ℕ). nat_eq loop level) loops ≡ false =
-      ap (list_any (λ (loop : ℕ). nat_eq loop level)) (begins program reader count loops all so_far h) ∙ distinct-before all count level h.different here.1.0 there in
+      ap (list_any (λ (loop : ℕ). nat_eq loop level)) (begins program reader count loops all so_far h) ∙ distinct-before all count level h.different here.1 there in
       both _ found not where
         both : (b : Bool) → b ≡ true → b ≡ false → ⊥
         both true p q = cc
         both false p q = cc
+
+-- before the first subscript
+pub named-none : (program : AffineProgram) (reader : ReadOf) (loops : List ℕ) → loops ≡ [] → AreNamedTo program reader 0 loops
+unfolding IsDistinct
+named-none program reader loops e = subst (AreNamedTo program reader 0) (sym e) (record { there = tt; different = tt; subscripts = take_none (reference_of program reader).subscripts }) where
+  take_none : (xs : List AffineForm) → take 0 xs ≡ []
+  take_none [] = refl
+  take_none (x ∷ xs) = refl
 
 -- all subscripts
 pub named-all : (program : AffineProgram) (reader : ReadOf) (count : ℕ) (loops : List ℕ) → length (reference_of program reader).subscripts ≤ count → AreNamedTo program reader count loops → AreNamed program reader loops
@@ -170,30 +180,46 @@ range-next k =
 pub below-next : (p : ℕ → Bool) (k : ℕ) → filter p (range_with_len 0 (k + 1)) ≡ filter p (range_with_len 0 k) ++ cond (p k) (k ∷ []) []
 below-next p k = ap (filter p) (range-next k) ∙ filter-append p (range_with_len 0 k) (k ∷ [])
 
+-- with one that passes, and with one that doesn't
+pub rows-in : (p : ℕ → Bool) (f : ℕ → List ℤ) (k : ℕ) → p k ≡ true → (length (filter p (range_with_len 0 (k + 1))) ≡ length (filter p (range_with_len 0 k)) + 1)
+    × (flat_map f (filter p (range_with_len 0 (k + 1))) ≡ flat_map f (filter p (range_with_len 0 k)) ++ f k)
+rows-in p f k is =
+    let next : filter p (range_with_len 0 (k + 1)) ≡ filter p (range_with_len 0 k) ++ k ∷ [] =
+    below-next p k ∙ ap (λ (b : Bool). filter p (range_with_len 0 k) ++ cond b (k ∷ []) []) is in (
+      ap length next ∙ length-append (filter p (range_with_len 0 k)) (k ∷ []),
+      ap (flat_map f) next ∙ flat_map-append f (filter p (range_with_len 0 k)) (k ∷ []) ∙ ap (λ (xs : List ℤ). flat_map f (filter p (range_with_len 0 k)) ++ xs) (append-nil (f k)),
+    )
+
+pub rows-out : (p : ℕ → Bool) (k : ℕ) → p k ≡ false → filter p (range_with_len 0 (k + 1)) ≡ filter p (range_with_len 0 k)
+rows-out p k is = below-next p k ∙ ap (λ (b : Bool). filter p (range_with_len 0 k) ++ cond b (k ∷ []) []) is ∙ append-nil (filter p (range_with_len 0 k))
+
 -- a list has what stands first in it
 named-first : (l : ℕ) (loops : List ℕ) → is_named (l ∷ loops) l ≡ true
-named-first l loops = ap (λ (b : Bool). b || list_any (λ (loop : ℕ). nat_eq loop l) loops) (same l) where
-  same : (n : ℕ) → nat_eq n n ≡ true
-  same zero = refl
-  same (suc n) = same n
+named-first l loops = ap (λ (b : Bool). b || list_any (λ (loop : ℕ). nat_eq loop l) loops) (T-true (nat_eq l l) (eqb_refl l)) where
+  T-true : (b : Bool) → T b → b ≡ true
+  T-true true h = refl
+  T-true false h = absurd h
 
 -- a number that passes a test stands among those that do
+longer-or : (b : Bool) (a : ℕ) (ns : List ℕ) → length (cond b (a ∷ ns) ns) ≡ 0 → (b ≡ false) × (length ns ≡ 0)
+longer-or true a ns q = absurd (omega arith)
+longer-or false a ns q = (refl, q)
+
 some-pass : (p : ℕ → Bool) (a n k : ℕ) → a ≤ k → k < a + n → p k ≡ true → length (filter p (range_with_len a n)) ≢ 0
-some-pass p a zero k le less yes e = absurd (omega arith)
-some-pass p a (suc n) k le less yes e = by (cases a k le) where
-  cases : (x y : ℕ) → x ≤ y → (x ≡ y) ⊎ (x + 1 ≤ y)
-  cases x y q = grind arith
+some-pass p a zero k le less passes e = absurd (omega arith)
+some-pass p a (suc n) k le less passes e =
+    let both = longer-or (p a) a (filter p (range_with_len (a + 1) n)) e in
+    by (cases a k le) both.0 (λ later. some-pass p (a + 1) n k later (omega (arith, less)) passes both.1) where
+      cases : (x y : ℕ) → x ≤ y → (x ≡ y) ⊎ (x + 1 ≤ y)
+      cases x y q = grind arith
 
-  longer : (b : Bool) (ns : List ℕ) → length (cond b (a ∷ ns) ns) ≡ 0 → (b ≡ false) × (length ns ≡ 0)
-  longer true ns q = absurd (omega arith)
-  longer false ns q = (refl, q)
+      clash : (b : Bool) → b ≡ true → b ≡ false → ⊥
+      clash true x y = cc
+      clash false x y = cc
 
-  by : (a ≡ k) ⊎ (a + 1 ≤ k) → ⊥
-  by (inl same) = both (p a) (ap p same ∙ yes) (longer (p a) (filter p (range_with_len (a + 1) n)) e).0 where
-    both : (b : Bool) → b ≡ true → b ≡ false → ⊥
-    both true x y = cc
-    both false x y = cc
-  by (inr later) = some-pass p (a + 1) n k later (omega (arith, less)) yes (longer (p a) (filter p (range_with_len (a + 1) n)) e).1
+      by : (a ≡ k) ⊎ (a + 1 ≤ k) → p a ≡ false → (a + 1 ≤ k → ⊥) → ⊥
+      by (inl same) fails rest = clash (p a) (ap p same ∙ passes) fails
+      by (inr later) fails rest = rest later
 
 -- where none is named, there is no loop
 pub none-named : (program : AffineProgram) (reader : ReadOf) (loops : List ℕ) → AllByRecursion (λ (loop : ℕ). loop < depth_of program reader.statement) loops
@@ -202,12 +228,24 @@ none-named program reader [] h e = refl
 none-named program reader (l ∷ loops) h e =
     absurd (some-pass (is_named (l ∷ loops)) 0 (depth_of program reader.statement) l (omega arith) (omega (arith, h.0)) (named-first l loops) e)
 
-filter-few : (p : ℕ → Bool) (ns : List ℕ) → length (filter p ns) ≤ length ns
+pub filter-few : (p : ℕ → Bool) (ns : List ℕ) → length (filter p ns) ≤ length ns
 filter-few p [] = omega arith
 filter-few p (n ∷ ns) = by (p n) (filter-few p ns) where
   by : (b : Bool) → length (filter p ns) ≤ length ns → length (cond b (n ∷ filter p ns) (filter p ns)) ≤ suc (length ns)
   by true h = omega arith
   by false h = omega arith
+
+-- there are no more loops than around the statement
+member-below : (xs : List ℕ) (n q : ℕ) → AllByRecursion (λ (x : ℕ). x < n) xs → list_any (eqb q) xs ≡ true → q < n
+member-below [] n q h e = absurd cc
+member-below (x ∷ xs) n q h e = by (eqb q x) refl e (member-below xs n q h.1) where
+  by : (b : Bool) → b ≡ eqb q x → (b || list_any (eqb q) xs) ≡ true → (list_any (eqb q) xs ≡ true → q < n) → q < n
+  by true same found rest = omega (arith, eqb-true q x (sym same), h.0)
+  by false same found rest = rest found
+
+pub loops-few : (program : AffineProgram) (reader : ReadOf) (loops : List ℕ) → AreNamed program reader loops → length loops ≤ depth_of program reader.statement
+loops-few program reader loops h =
+    length-le_from_distinct_below loops (depth_of program reader.statement) h.different (λ q. member-below loops (depth_of program reader.statement) q h.there)
 
 pub named-few : (program : AffineProgram) (reader : ReadOf) (loops : List ℕ) → length (named_loops program reader loops) ≤ depth_of program reader.statement
 named-few program reader loops = omega (

@@ -113,6 +113,15 @@ module _ (program : AffineProgram) where
     values = All-push (IsSmallOver (width program far)) far.values (at_values program far lower) h.values (record { over = over; small = small });
   }
 
+  -- what is made in a step
+  pub variable-made : (far : NestSoFar) (lower upper l u : AffineForm) (vars : ℕ) (nest : List (AffineForm × AffineForm)) (values : List AffineForm) → vars ≡ width program far
+      → l ≡ at_values program far lower → u ≡ at_values program far upper → nest ≡ far.nest ++ (l, u) ∷ [] → values ≡ map (widened (vars + 1)) far.values ++ variable (vars + 1) vars ∷ []
+      → record { nest = nest; values = values } ≡ with_variable program far lower upper
+  variable-made far lower upper l u vars nest values wide is_l is_u is_nest is_values =
+      let a : nest ≡ (with_variable program far lower upper).nest = is_nest ∙ ap (λ (x : AffineForm). far.nest ++ (x, u) ∷ []) is_l ∙ ap (λ (x : AffineForm). far.nest ++ (at_values program far lower, x) ∷ []) is_u in
+      let b : values ≡ (with_variable program far lower upper).values = is_values ∙ ap (λ (n : ℕ). map (widened (n + 1)) far.values ++ variable (n + 1) n ∷ []) wide in
+      λ i. record { nest = a i; values = b i }
+
   -- ---- there are as many variables as loops that are named
 
   into-many : (named : Bool) (far : NestSoFar) (step : PathStep) → length (into_loop program named far step).nest ≡ length far.nest + (if named then 1 else 0)
@@ -137,12 +146,12 @@ module _ (program : AffineProgram) where
 -- ---- the matrix
 
 pub rows-many : (loops ns : List ℕ) → length (flat_map (λ (loop : ℕ). map (same_loop loop) loops) ns) ≡ length ns * length loops
-rows-many loops [] = refl
+rows-many loops [] = omega arith
 rows-many loops (n ∷ ns) =
-    length-append (map (same_loop n) loops) (flat_map (λ (loop : ℕ). map (same_loop loop) loops) ns) ∙ together (length-map loops (same_loop n)) (rows-many loops ns) where
-      together : length (map (same_loop n) loops) ≡ length loops → length (flat_map (λ (loop : ℕ). map (same_loop loop) loops) ns) ≡ length ns * length loops
-          → length (map (same_loop n) loops) + length (flat_map (λ (loop : ℕ). map (same_loop loop) loops) ns) ≡ suc (length ns) * length loops
-      together e f = ap (λ (k : ℕ). k + length (flat_map (λ (loop : ℕ). map (same_loop loop) loops) ns)) e ∙ ap (λ (k : ℕ). length loops + k) f
+    length-append (map (same_loop n) loops) (flat_map (λ (loop : ℕ). map (same_loop loop) loops) ns)
+    ∙ together (length (map (same_loop n) loops)) (length (flat_map (λ (loop : ℕ). map (same_loop loop) loops) ns)) (length ns) (length loops) (length-map loops (same_loop n)) (rows-many loops ns) where
+      together : (a b m k : ℕ) → a ≡ k → b ≡ m * k → a + b ≡ suc m * k
+      together a b m k e f = grind arith
 
 row-small : (n : ℕ) (loops : List ℕ) → AllByRecursion (IsSmall NUMBER_SIZE) (map (same_loop n) loops)
 row-small n [] = tt

@@ -26,7 +26,8 @@ use Rattle.wavefront.specs.ColdClaims.{cold_claims, matrix_claims}
 use Rattle.wavefront.specs.Leaves.{inside_claims, leaves_claims}
 use Rattle.wavefront.specs.Term.{ColdTerm, instance_point, nest_system, nest_variables}
 use Rattle.wavefront.specs.View.{term_of}
-use Rattle.find_terms.specs.Shown.{AreEntries, IsShownCold}
+use Rattle.find_terms.specs.Entries.{AreEntries}
+use Rattle.find_terms.specs.Shown.{IsShownCold}
 use Rattle.reuse_paths.specs.LeafClaims.{claim_of}
 
 -- ---- trees that name a source or an input at each leaf

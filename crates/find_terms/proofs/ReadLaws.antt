@@ -10,7 +10,7 @@ use Rattle.dep_quast.specs.Truth.{ReadFits}
 use Rattle.dep_quast.proofs.Fits.{fits-at}
 use Rattle.affine_program.specs.Domain.{depth_of}
 use Rattle.wavefront.specs.declared.cold.Cold.{Cold}
-use Rattle.find_terms.specs.Found.{HasNoEarlier}
+use Rattle.find_terms.specs.Found.{FindsFirst, HasNoEarlier}
 use Rattle.find_terms.specs.Openings.{AreOpenings, AreRising, HasPlainRead, IsEarlierRead, IsFirstOpening, IsPlainRead, array_read, reader_of}
 use Rattle.iolb_model.specs.declared.limits.TheConstants.{TERMS}
 
@@ -44,7 +44,7 @@ module _ (program : AffineProgram) (array : ℕ) where
   earlier-statement s count all none other (inl less) is plain = elim (cases other.statement s less) [
     | inl below ↦ none other (inl below) is plain
     | inr here ↦
-        let there : other.read < length (statement_at program other.statement).reads = plain.1.0.read.read in
+        let there : other.read < length (statement_at program other.statement).reads = plain.1.read.read in
         let same : length (statement_at program other.statement).reads ≡ length (statement_at program s).reads = ap (λ (n : ℕ). length (statement_at program n).reads) here in
         none other (inr (here, omega (arith, there, same, all))) is plain
   ]
@@ -55,7 +55,7 @@ module _ (program : AffineProgram) (array : ℕ) where
 
   -- none behind all statements
   pub earlier-all : (end : ℕ) → length program.statements ≤ end → HasNoEarlier program array (record { statement = end; read = 0 }) → ¬ HasPlainRead program array
-  earlier-all end all none (reader, (is, plain)) = none reader (inl (omega (arith, all, plain.1.0.read.statement))) is plain
+  earlier-all end all none (reader, is, plain) = none reader (inl (omega (arith, all, plain.1.read.statement))) is plain
 
 -- ---- arrays
 
@@ -78,13 +78,13 @@ rising-push [] n h below = (tt, tt)
 rising-push (m ∷ ns) n h below = (All-push (λ (later : ℕ). m < later) ns n h.0 below.0, rising-push ns n h.1 below.1)
 
 contains-left : (xs ys : List ℕ) (n : ℕ) → Contains xs n → Contains (xs ++ ys) n
-contains-left [] ys n (k, (below, is)) = absurd (omega arith)
-contains-left (x ∷ xs) ys n (zero, (below, is)) = (0, (omega arith, is))
-contains-left (x ∷ xs) ys n (suc k, (below, is)) = let h = contains-left xs ys n (k, (omega arith, is)) in (suc h.0, (omega (arith, h.1.0), h.1.1))
+contains-left [] ys n (k, below, is) = absurd (omega arith)
+contains-left (x ∷ xs) ys n (zero, below, is) = (0, omega arith, is)
+contains-left (x ∷ xs) ys n (suc k, below, is) = let h = contains-left xs ys n (k, omega arith, is) in (suc h.0, omega (arith, h.1), h.2)
 
 contains-last : (xs : List ℕ) (n : ℕ) → Contains (xs ++ n ∷ []) n
-contains-last [] n = (0, (omega arith, refl))
-contains-last (x ∷ xs) n = let h = contains-last xs n in (suc h.0, (omega (arith, h.1.0), h.1.1))
+contains-last [] n = (0, omega arith, refl)
+contains-last (x ∷ xs) n = let h = contains-last xs n in (suc h.0, omega (arith, h.1), h.2)
 
 module _ (program : AffineProgram) where
   -- what stands of the arrays before one
@@ -164,11 +164,16 @@ openings-all program end colds well past h = record {
   all = λ array has. h.all array (omega (arith, past, below array has)) has;
 } where
   below : (array : ℕ) → HasPlainRead program array → array < length program.arrays
-  below array (reader, (is, plain)) = omega (arith, array-there program reader well plain.1.0.read, is)
+  below array (reader, is, plain) = omega (arith, array-there program reader well plain.1.read, is)
 
 -- where there are none, no read is plain
 pub openings-empty : (program : AffineProgram) (colds : List Cold) → length colds ≡ 0 → AreOpenings program colds → (reader : ReadOf) → ¬ IsPlainRead program reader
-openings-empty program colds none h reader plain = elim (h.all (reference_of program reader).array (reader, (refl, plain))) [
-  | inl there ↦ absurd (omega (arith, there.1.0, length-map colds (array_read program), none))
+openings-empty program colds none h reader plain = elim (h.all (reference_of program reader).array (reader, refl, plain)) [
+  | inl there ↦ absurd (omega (arith, there.1, length-map colds (array_read program), none))
   | inr full ↦ absurd (omega (arith, full.0, none))
 ]
+
+-- ---- what a search for the first plain read finds
+
+pub first-none : (program : AffineProgram) (array : ℕ) (end : ReadOf) (found : Option Cold) → found ≡ None → FindsFirst program array end found → HasNoEarlier program array end
+first-none program array end found is h = subst (FindsFirst program array end) is h

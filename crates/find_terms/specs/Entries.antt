@@ -1,23 +1,51 @@
--- Entries at the leaves of source trees, as they are found.
-use Rattle.std.specs.Prelude.{ℕ, Bool, ⊤, List, [], ◌∷◌, ◌++◌, length, map, Option, Some, None, Vec}
+-- Entries at the leaves of source trees: that a walk stops at an input, and that no point comes to another leaf.
+use Rattle.std.specs.Prelude.{◌≡◌, ℕ, Bool, true, false, ⊤, List, [], ◌∷◌, ◌++◌, length, map, Option, Some, None, Vec}
 use Rattle.std.specs.Global.{Global}
+use Rattle.std.specs.List.{AllByRecursion}
 use Rattle.iolb_model.specs.Form.{AffineForm}
 use Rattle.affine_form.specs.System.{AffineSystem}
 use Rattle.answers.specs.declared.wanted.Wanted.{Wanted}
 use Rattle.answers.specs.declared.wanted.Wanted.TheVariants.{Short}
+use Rattle.answers.specs.Answers.{IsAsShort}
 use Rattle.dep_quast.specs.Claims.{IsFew}
 use Rattle.reuse_paths.specs.declared.leaf.Leaf.{Leaf}
-use Rattle.reuse_paths.specs.LeafClaims.{LeafClaim, claim_of}
+use Rattle.reuse_paths.specs.LeafClaims.{LeafClaim, no_point, stops, is_credited, goes_on, arrives, claim_of}
 use Rattle.reuse_paths.specs.OpenLeaves.{OpenLeaf, is_input}
 use Rattle.wavefront.specs.Leaves.{IsClosed}
-use Rattle.find_terms.specs.Shown.{IsEntry, IsEntryAsShort}
+
+-- ---- entries, by themselves
+
+-- At an input the walk stops, with no label; every other leaf is claimed to have no point.
+abbrev pub IsEntry : Bool → LeafClaim → Type 0
+IsEntry input (no_point shown) = input ≡ false
+IsEntry input (stops label) = (input ≡ true) × (label ≡ [])
+IsEntry input (is_credited credit rows label) = ⊥
+IsEntry input (goes_on rows label) = ⊥
+IsEntry input (arrives equal) = ⊥
+
+-- one for each leaf
+abbrev pub AreEntries : List OpenLeaf → List LeafClaim → Type 0
+AreEntries [] [] = ⊤
+AreEntries [] (entry ∷ entries) = ⊥
+AreEntries (l ∷ leaves) [] = ⊥
+AreEntries (l ∷ leaves) (entry ∷ entries) = IsEntry (is_input l.origin) entry × AreEntries leaves entries
+
+-- their multipliers are as short as is wanted
+abbrev pub IsEntryAsShort : Wanted → LeafClaim → Type 0
+IsEntryAsShort wanted (no_point shown) = IsAsShort wanted shown
+IsEntryAsShort wanted (stops label) = AllByRecursion (IsAsShort wanted) label
+IsEntryAsShort wanted (is_credited credit rows label) = AllByRecursion (IsAsShort wanted) rows × AllByRecursion (IsAsShort wanted) label
+IsEntryAsShort wanted (goes_on rows label) = AllByRecursion (IsAsShort wanted) rows × AllByRecursion (IsAsShort wanted) label
+IsEntryAsShort wanted (arrives equal) = AllByRecursion (IsAsShort wanted) equal
+
+-- ---- entries that close leaves
 
 -- an entry closes a leaf whose system has few rows: it stops at an input, and shows another leaf to have no point, by
 -- multipliers as short as is wanted
 pub record Closes (wanted : Wanted) (system : AffineSystem) (input : Bool) (entry : LeafClaim) : Type 0 where
   pub few : IsFew (length system.rows)
   pub closed : IsClosed system input entry
-  pub entry : IsEntry input entry
+  pub is_entry : IsEntry input entry
   pub as_short : IsEntryAsShort wanted entry
 
 -- the system of a leaf: these rows, and its tests

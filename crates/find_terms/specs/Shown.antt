@@ -2,7 +2,6 @@
 use Rattle.std.specs.Prelude.{◌≡◌, ℕ, Bool, true, false, ⊤, List, [], ◌∷◌, length, map, Option, Some, None}
 use Rattle.std.specs.List.{AllByRecursion}
 use Rattle.iolb_model.specs.Program.{AffineProgram}
-use Rattle.affine_form.specs.Multipliers.{FarkasMultipliers}
 use Rattle.answers.specs.declared.wanted.Wanted.{Wanted}
 use Rattle.answers.specs.declared.wanted.Wanted.TheVariants.{Short}
 use Rattle.answers.specs.Answers.{IsAsShort}
@@ -10,8 +9,7 @@ use Rattle.claims.specs.Claims.{AllHold}
 use Rattle.claims.specs.declared.place.Step.{Step}
 use Rattle.dep_quast.specs.Tree.{SelectionTree}
 use Rattle.nest_sums.specs.Made.{AreMade}
-use Rattle.reuse_paths.specs.LeafClaims.{LeafClaim, no_point, stops, is_credited, goes_on, arrives, claim_of}
-use Rattle.reuse_paths.specs.OpenLeaves.{OpenLeaf, is_input}
+use Rattle.reuse_paths.specs.LeafClaims.{claim_of}
 use Rattle.wavefront.specs.declared.cold.Cold.{Cold}
 use Rattle.wavefront.specs.ColdClaims.{cold_claims}
 use Rattle.wavefront.specs.ColdPieces.{leaves_of}
@@ -19,34 +17,8 @@ use Rattle.wavefront.specs.Loads.{ColdFits}
 use Rattle.wavefront.specs.View.{term_of}
 use Rattle.iolb_check.specs.Limits.{IsSmallCold}
 use Rattle.find_terms.specs.Counted.{ArePolynomials, CountPasses}
+use Rattle.find_terms.specs.Entries.{AreEntries, IsEntryAsShort}
 use Rattle.find_terms.specs.Outline.{ColdOutline, outline_in}
-
--- ---- entries
-
--- At an input the walk stops, with no label; every other leaf is claimed to have no point.
-abbrev pub IsEntry : Bool → LeafClaim → Type 0
-IsEntry input (no_point shown) = input ≡ false
-IsEntry input (stops label) = (input ≡ true) × (label ≡ [])
-IsEntry input (is_credited credit rows label) = ⊥
-IsEntry input (goes_on rows label) = ⊥
-IsEntry input (arrives equal) = ⊥
-
--- one for each leaf
-abbrev pub AreEntries : List OpenLeaf → List LeafClaim → Type 0
-AreEntries [] [] = ⊤
-AreEntries [] (entry ∷ entries) = ⊥
-AreEntries (l ∷ leaves) [] = ⊥
-AreEntries (l ∷ leaves) (entry ∷ entries) = IsEntry (is_input l.origin) entry × AreEntries leaves entries
-
--- their multipliers are as short as is wanted
-abbrev pub IsEntryAsShort : Wanted → LeafClaim → Type 0
-IsEntryAsShort wanted (no_point shown) = IsAsShort wanted shown
-IsEntryAsShort wanted (stops label) = AllByRecursion (IsAsShort wanted) label
-IsEntryAsShort wanted (is_credited credit rows label) = AllByRecursion (IsAsShort wanted) rows × AllByRecursion (IsAsShort wanted) label
-IsEntryAsShort wanted (goes_on rows label) = AllByRecursion (IsAsShort wanted) rows × AllByRecursion (IsAsShort wanted) label
-IsEntryAsShort wanted (arrives equal) = AllByRecursion (IsAsShort wanted) equal
-
--- ---- terms
 
 -- the multipliers of a cold term are as short as is wanted
 pub record IsColdAsShort (wanted : Wanted) (cold : Cold) : Type 0 where

@@ -63,10 +63,10 @@ fn are_polynomials(
     let place = Place::new(Vec::new(alloc));
     let called = nest.bounds().len();
     let misfit = polynomials_misfit(alloc, &place, key::SUMS, params, sums, called)?;
-    if misfit.is_some() {
-        return Ok(false);
+    match misfit {
+        Some(_) => Ok(false),
+        None => Ok(are_small_polynomials(sums)),
     }
-    Ok(are_small_polynomials(sums))
 }
 
 /// Copies of polynomials.

@@ -3,16 +3,16 @@
 
 mod counted;
 mod entries;
-mod filled;
+mod filling;
 pub mod law;
 mod named;
 mod nests;
-mod opening;
+mod openings;
 mod outline;
 mod outlined;
 mod outlines;
 mod undone;
 
-pub use filled::filled;
-pub use opening::opening;
+pub use filling::filled;
+pub use openings::opening;
 pub use outline::Outline;

@@ -5,4 +5,4 @@ use Rattle.flow_deps.specs.Candidates.{loop_variable}
 use Rattle.find_terms.proofs.named.loop_named.Given as goal
 
 abbrev pub invariant-loop-level : goal.invariant-loop-level
-invariant-loop-level l = (loop : ℕ) → loop < l.level → ¬ (l.form ≡ loop_variable (meaning l.program) (read_of l.reader) loop)
+invariant-loop-level l = (loop : ℕ) → loop < l.level → ¬ (l.form ≡ loop_variable (meaning l.program) (read_of l.fn.reader) loop)

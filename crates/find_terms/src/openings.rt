@@ -8,7 +8,7 @@ ghost use Rattle.iolb_check.specs.declared.term.Term.TheVariants as terms;
 ghost use Rattle.find_terms.specs.Found.{FindsFirst, FindsRead, FindsTerm, HasNoEarlier};
 ghost use Rattle.find_terms.specs.Openings.{AreOpenings, FindsOpening};
 
-use crate::filled::filled;
+use crate::filling::filled;
 use crate::outlines::opening_outline;
 use affine_form::Memory;
 use affine_program::Program;
