@@ -232,10 +232,10 @@ module _ (program : ProgramParts) (trees : List (List SelectionTree)) where
   all-cells (cold ∷ colds) = (stops-are-cells (term_of cold) (leaves_of P (tree_of_cold cold) (term_of cold)) (term_of cold).leaves, all-cells colds)
 
   other-cell : (a b : ℕ) → a < b → same_target (Cell a) (Cell b) ≡ false
-  other-cell zero zero h = absurd (omega arith)
-  other-cell zero (suc b) h = refl
-  other-cell (suc a) zero h = absurd (omega arith)
-  other-cell (suc a) (suc b) h = other-cell a b (omega arith)
+  other-cell a b h = by (a == b) refl where
+    by : (x : Bool) → (a == b) ≡ x → (a == b) ≡ false
+    by true e = absurd (omega (arith, eqb-true a b e, h))
+    by false e = e
 
   none-same : (a b : ℕ) (t : Target) (us : List Target) → a < b → t ≡ Cell a → AllByRecursion (λ (u : Target). u ≡ Cell b) us → filter (same_target t) us ≡ []
   none-same a b t [] less is h = refl

@@ -30,7 +30,7 @@ use Rattle.find_terms.specs.Counted.{AreCounted, AreRanges, ArePolynomials, Coun
 -- one question is answered by one list
 one-answer : (question : Question) (ms : List FarkasMultipliers) → AreAnswered (question ∷ []) ms → (m : FarkasMultipliers) × (ms ≡ m ∷ []) × IsAnswered question m
 one-answer question [] h = absurd h
-one-answer question (m ∷ []) h = (m, (refl, h.0))
+one-answer question (m ∷ []) h = (m, refl, h.0)
 one-answer question (m ∷ n ∷ ms) h = absurd h.1
 
 module _ (wanted : Wanted) (program : AffineProgram) (nest : List (AffineForm × AffineForm)) (k : ℕ) (before : List (AffineForm × AffineForm)) (pair : AffineForm × AffineForm)
@@ -46,8 +46,8 @@ module _ (wanted : Wanted) (program : AffineProgram) (nest : List (AffineForm ×
       let one = one-answer question shown answers.each in
       let m : FarkasMultipliers = one.0 in
       let shows : ShowsRange program (take k nest) (bounds_at nest k) m =
-      subst (λ (b : List (AffineForm × AffineForm)). ShowsRange program b (bounds_at nest k) m) first (subst (λ (p : AffineForm × AffineForm). ShowsRange program before p m) there one.1.1.1) in
-      let same : more ≡ all ++ m ∷ [] = pushed ∙ ap (λ (ms : List FarkasMultipliers). all ++ ms) one.1.0 in
+      subst (λ (b : List (AffineForm × AffineForm)). ShowsRange program b (bounds_at nest k) m) first (subst (λ (p : AffineForm × AffineForm). ShowsRange program before p m) there one.2.1) in
+      let same : more ≡ all ++ m ∷ [] = pushed ∙ ap (λ (ms : List FarkasMultipliers). all ++ ms) one.1 in
       record {
         each = ap length same ∙ length-append all (m ∷ []) ∙ ap (λ (n : ℕ). n + 1) h.each;
         shown_below = subst (λ (ms : List FarkasMultipliers). AreShownBelow program nest ms (k + 1)) (sym same) (shown-more program nest all m k h.each h.shown_below shows);

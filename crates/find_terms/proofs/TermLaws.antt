@@ -18,7 +18,7 @@ use Rattle.find_terms.specs.Counted.{CountPasses}
 use Rattle.find_terms.specs.Found.{FarFits, FindsRead, FindsTerm, HasNoEarlier, IsSmallNest}
 use Rattle.find_terms.specs.Openings.{AreNamed, HasOpeningOutline, IsEarlierRead, IsFirstOpening, IsOpeningTerm, IsPlainRead, NestSoFar, array_read, is_named, named_loops, named_nest, opening_outline, reader_of}
 use Rattle.find_terms.specs.Outline.{ColdOutline, OutlineFits, outline_in}
-use Rattle.find_terms.specs.Shown.{IsShownCold}
+use Rattle.find_terms.specs.Shown.{FindsCold, IsShownCold}
 use Rattle.find_terms.proofs.NameLaws.{named-many, named-same}
 use Rattle.find_terms.proofs.NestLaws.{along-many}
 use Rattle.find_terms.proofs.PlainLaws.{plain-tests, shown-over}
@@ -73,6 +73,11 @@ module _ (program : AffineProgram) (reader : ReadOf) where
       ap (λ (o : ColdOutline). o.reader) (same ∙ is),
       record { read = read; tree = tree; plain = plain; outline = (loops, named, same ∙ is); shown = shown },
     )
+
+    -- what the search for a term of the outline finds
+    pub term-found : ReadFits program reader → (found : Option Cold) → FindsCold Short program tree outline found → FindsTerm program reader found
+    term-found read None h = term-none h
+    term-found read (Some cold) h = term-some cold read h.0 h.1
 
   -- ---- first plain reads
 

@@ -42,7 +42,8 @@ pub(crate) fn counted(
         Err(CountFault::Memory) => return Err(Memory),
     };
     let params = program.params().len();
-    if !are_polynomials(alloc, params, nest, made.sums())? {
+    let fit = are_polynomials(alloc, params, nest, made.sums())?;
+    if !fit {
         return Ok(None);
     }
     let sums = copies(alloc, made.sums())?;

@@ -36,7 +36,8 @@ pub fn filled(
     requires tests { TestsFit (variables_at (meaning program.now) (outline_of outline).reader) (tree_of quast.now) }
     ensures { IfOk result (λ found. FindsCold wanted (meaning program.now) (tree_of quast.now) (outline_of outline) found) }
 {
-    if !cells_undone(alloc, program, &outline)? {
+    let undone = cells_undone(alloc, program, &outline)?;
+    if !undone {
         return Ok(None);
     }
     let Some(inside) = inside_answered(alloc, wanted, program, &outline)? else {

@@ -20,8 +20,8 @@ returns-in-Some c =
     let fails = subst (FindsMisfit claims) c.in-Some.is (subst (λ (n : ℕ). FindsMisfit (polynomials_fit c.args.params place c.args.sums.now n) c.in_ok-misfit.misfit) (ap length c.bounds-called.ensures) c.in_ok-misfit.ensures) in
     (λ is. clash is, λ h. absurd (accepted-stand claims (misfit _) (h.uses place) fails))
 
-pub returns-in-None : goal.returns-in-None
-returns-in-None c =
+pub returns : goal.returns
+returns c =
     let place : List Step = c.new-place.result ++ Key SUMS ∷ [] in
     let claims : List Claim = polynomials_fit c.args.params place c.args.sums.now (length c.args.nest.now) in
     let holds : AllHold claims = subst (FindsMisfit claims) c.in-None.is (subst (λ (n : ℕ). FindsMisfit (polynomials_fit c.args.params place c.args.sums.now n) c.in_ok-misfit.misfit) (ap length c.bounds-called.ensures) c.in_ok-misfit.ensures) in (

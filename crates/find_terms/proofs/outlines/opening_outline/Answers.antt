@@ -17,7 +17,7 @@ returns-in_default-2 c =
     let reader : ReadOf = read_of c.args.reader in
     let loops : List ℕ = c.in-Some.loops.items in
     let named : AreNamed program reader loops = subst (FindsLoops program reader) c.in-Some.is c.in_ok-loops.ensures in
-    let none = subst (FindsNest program (depth_of program c.args.reader.statement) (named_nest program reader c.as_slice.result.now)) c.in_default.is c.in_ok-far.ensures in
+    let none = subst (FindsNest program (depth_of program c.args.reader.statement) (named_nest program reader c.as_slice.result.now)) c.in_default-2.is c.in_ok-far.ensures in
     outline-none program reader loops named (subst (λ (ls : List ℕ). ¬ IsSmallNest (named_nest program reader ls)) c.as_slice.ensures.value none)
 
 pub returns : goal.returns
