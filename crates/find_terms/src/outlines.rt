@@ -57,6 +57,7 @@ pub(crate) fn opening_outline(
     requires { ReadFits (meaning program.now) (read_of reader) }
     ensures { IfOk result (λ found. FindsOutline (meaning program.now) (read_of reader) found) }
 {
+    let _params = program.params();
     let Some(loops) = loops_named(alloc, program, reader)? else {
         return Ok(None);
     };

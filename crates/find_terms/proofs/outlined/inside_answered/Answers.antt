@@ -20,7 +20,7 @@ on-ok (Err e) P h = tt
 pub returns-clause-few : goal.returns-clause-few
 returns-clause-few c =
     on-ok c.goals_answered.result (IsFew (length (nest_system (meaning c.args.program.now) (bare (outline_of c.args.outline.now))).rows))
-    (subst (λ (s : AffineSystem). IsFew (length s.rows)) (c.in_ok-system.ensures ∙ ap (rows_before (meaning c.args.program.now)) c.bounds.ensures) c.rows.ensures.few)
+    (subst (λ (s : AffineSystem). IsFew (length s.rows)) (c.in_ok-system.ensures ∙ ap (rows_before (meaning c.args.program.now)) c.bounds.ensures) c.rows-rows.ensures.few)
 
 pub returns-clause-answers : goal.returns-clause-answers
 returns-clause-answers c =

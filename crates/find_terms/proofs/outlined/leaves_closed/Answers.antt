@@ -20,6 +20,21 @@ push_open_leaves-requires-clause-few_forms c =
     subst (λ (n : ℕ). n ≤ 24) (sym (ap length c.as_slice.ensures.value ∙ c.in_ok-point.ensures.many))
     (reader-few c.args.program.now (outline_of c.args.outline.now).reader c.variables-vars.ensures.kept c.requires.fits.read)
 
+pub entries_at-requires-clause-leaves_over : goal.entries_at-requires-clause-leaves_over
+entries_at-requires-clause-leaves_over c =
+    let program = meaning c.args.program.now in
+    let vars : ℕ = c.variables-vars.result in
+    let point : List AffineForm = c.as_slice.result.now in
+    let tree : SelectionTree = tree_of c.args.quast.now in
+    let leaves : c.as_slice-2.result.now ≡ open_leaves vars point [] tree =
+    c.as_slice-2.ensures.value ∙ c.in_ok-push_open_leaves.ensures ∙ ap (λ (l : List OpenLeaf). l ++ open_leaves vars point [] tree) c.new-leaves.ensures.items in
+    let over : AllByRecursion (IsSmallOver vars) point =
+    subst (λ (n : ℕ). AllByRecursion (IsSmallOver n) point) (sym c.variables-vars.ensures.variables)
+    (subst (AllByRecursion (IsSmallOver (nest_variables program (bare (outline_of c.args.outline.now))))) (sym c.as_slice.ensures.value) c.in_ok-point.ensures.over) in
+    let many = ap length c.as_slice.ensures.value ∙ c.in_ok-point.ensures.many in
+    subst (AllByRecursion (λ (l : OpenLeaf). AllOver vars l.tests)) (sym leaves)
+    (open-over vars point over [] tree (subst (λ (n : ℕ). TestsFit n tree) (sym many) c.requires.tests) tt)
+
 pub returns : goal.returns
 returns c =
     let program = meaning c.args.program.now in
