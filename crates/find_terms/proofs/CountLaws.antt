@@ -67,7 +67,8 @@ module _ (wanted : Wanted) (program : AffineProgram) (nest : List (AffineForm ×
 pub short-range : (program : AffineProgram) (nest : List (AffineForm × AffineForm)) (claims : SumClaims) (k : ℕ) → AreCounted Short program nest claims → k < length nest → HasShortRange program nest k
 short-range program nest claims k h below = (
   multipliers_at claims.shown k,
-  (All-at IsShort claims.shown k (record { scale = 1; rest = 0; weights = [] }) h.as_short (omega (arith, h.each, below)), (h.right.shown k below).1),
+  All-at IsShort claims.shown k (record { scale = 1; rest = 0; weights = [] }) h.as_short (omega (arith, h.each, below)),
+  (h.right.shown k below).1,
 )
 
 -- ---- polynomials
