@@ -61,8 +61,10 @@ fn first_in(
     requires none_before { HasNoEarlier (meaning program.now) array (record { statement = statement; read = 0 }) }
     ensures { IfOk result (λ found. FindsFirst (meaning program.now) array (record { statement = statement + 1; read = 0 }) found) }
 {
-    let count = program.statements()[usize::from(statement)].reads.len();
-    for read in 0..count {
+    let reads = program.statements()[usize::from(statement)]
+        .reads
+        .as_slice();
+    for read in 0..reads.len() {
         let read = read as u16;
         if let Some(cold) = term_of_array(alloc, program, array, Reader { statement, read })? {
             return Ok(Some(cold));
@@ -123,7 +125,7 @@ pub fn opening(alloc: Global, program: &Program) -> Result<Option<Branch>, Memor
     ensures { IfOk result (λ found. FindsOpening (meaning program.now) found) }
 {
     let colds = opening_terms(alloc, program)?;
-    if colds.is_empty() {
+    if colds.len() == 0 {
         return Ok(None);
     }
     let terms = as_terms(alloc, colds)?;

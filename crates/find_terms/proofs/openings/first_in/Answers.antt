@@ -31,4 +31,5 @@ returns c =
     c.index-statements-from.is ∙ ap (λ (table : List Statement). get_or table c.from.result at) c.statements.ensures.statements ∙ ap (λ (n : ℕ). get_or c.args.program.now.statements n at) c.from.ensures in
     let many : length (statement_at program s).reads ≡ length at.reads.items =
     ap (λ (t : ModelStatement). length t.reads) (statement-is c.args.program.now s at c.requires.there is) ∙ length-map at.reads.items access_of in
-    earlier-statement program c.args.array s c.loop-read.read (omega (arith, many, c.len-count.ensures, c.loop-read-test.false)) c.loop-read.invariant
+    let lent : c.as_slice-reads.result.now ≡ at.reads.items = c.as_slice-reads.ensures.value ∙ ap (λ (t : Statement). t.reads.items) (sym c.index-statements-from.is) in
+    earlier-statement program c.args.array s c.loop-read.read (omega (arith, many, ap length lent, c.loop-read-test.false)) c.loop-read.invariant
