@@ -1,4 +1,4 @@
-//! Worked cases of what makes certificates: multipliers, counts, source trees and least covers that are found, and
+//! Worked cases of what makes certificates: multipliers, counts, source trees, least covers and opening terms that are found, and
 //! projective programs.
 #![tactic(auto)]
 
@@ -8,6 +8,8 @@ mod count_tests;
 mod cover_tests;
 #[cfg(test)]
 mod multiplier_tests;
+#[cfg(test)]
+mod opening_tests;
 #[cfg(test)]
 mod projective_tests;
 #[cfg(test)]
