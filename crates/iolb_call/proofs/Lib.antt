@@ -1,5 +1,6 @@
 pub mod Keys
 pub mod Words
+pub mod Notes
 pub mod Stops
 pub mod Values
 pub mod Asked
