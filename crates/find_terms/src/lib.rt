@@ -1,17 +1,20 @@
-//! Branches that are proposed for certificates of a program.
+//! Terms of bounds, found.
 #![tactic(auto)]
 
-use affine_form::Memory;
-use affine_program::Program;
-use iolb_check::Branch;
-use reuse_paths::Quasts;
-use std::alloc::Global;
+mod candidates;
+mod counted;
+mod entries;
+mod filled;
+pub mod law;
+mod named;
+mod nests;
+mod opening;
+mod outline;
+mod outlined;
+mod outlines;
+mod undone;
 
-/// Branches that may be accepted over these source trees. Nothing is promised of them.
-pub fn candidates(
-    alloc: Global,
-    _program: &Program,
-    _quasts: &Quasts,
-) -> Result<Vec<Branch>, Memory> {
-    Ok(Vec::new(alloc))
-}
+pub use candidates::candidates;
+pub use filled::filled;
+pub use opening::opening;
+pub use outline::Outline;

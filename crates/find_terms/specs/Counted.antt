@@ -1,0 +1,64 @@
+-- What is claimed of a nest's number of points, as it is found.
+use Rattle.std.specs.Prelude.{◌≡◌, ◌⊎◌, ℕ, ◌<◌, List, length, take, Option, Some, None, Vec}
+use Rattle.std.specs.Global.{Global}
+use Rattle.std.specs.List.{AllByRecursion}
+use Rattle.iolb_model.specs.Form.{AffineForm}
+use Rattle.iolb_model.specs.Program.{AffineProgram}
+use Rattle.affine_form.specs.declared.multipliers.Multipliers.{Multipliers}
+use Rattle.affine_form.specs.Multipliers.{FarkasMultipliers}
+use Rattle.answers.specs.declared.wanted.Wanted.{Wanted}
+use Rattle.answers.specs.declared.wanted.Wanted.TheVariants.{Short}
+use Rattle.answers.specs.Answers.{IsAsShort}
+use Rattle.claims.specs.Claims.{AllHold}
+use Rattle.claims.specs.declared.place.Step.{Step}
+use Rattle.int_sets.specs.ShortList.{HasShortList}
+use Rattle.nest_sums.specs.Made.{AreMade, CheckPasses}
+use Rattle.domain_count.specs.Claims.{SumClaims}
+use Rattle.domain_count.specs.Count.{AreShownBelow, IsCount, bounds_at, range_goal, rows_before}
+use Rattle.poly_tree.specs.Poly.{Quotient}
+use Rattle.part_fit.specs.Limits.{IsSmallPolynomial}
+use Rattle.part_fit.specs.PartFit.{polynomials_fit}
+
+-- ---- ranges
+
+-- the range of a variable has a short list that shows it to be whole
+abbrev pub HasShortRange : AffineProgram → List (AffineForm × AffineForm) → ℕ → Type 0
+HasShortRange program nest k = HasShortList (rows_before program (take k nest)) (range_goal (rows_before program (take k nest)).vars (bounds_at nest k))
+
+-- multipliers, one for each of so many variables, show that their ranges are whole, as short as is wanted
+pub record AreRanges (wanted : Wanted) (program : AffineProgram) (nest : List (AffineForm × AffineForm)) (count : ℕ) (shown : List FarkasMultipliers) : Type 0 where
+  pub each : length shown ≡ count
+  pub shown_below : AreShownBelow program nest shown count
+  pub as_short : AllByRecursion (IsAsShort wanted) shown
+
+-- what a search for them finds: those of all variables; or nothing, and then some range has no short list
+abbrev pub FindsRanges : Wanted → AffineProgram → List (AffineForm × AffineForm) → Option (Vec Multipliers Global) → Type 0
+FindsRanges wanted program nest None = (k : ℕ) × (k < length nest) × (¬ HasShortRange program nest k)
+FindsRanges wanted program nest (Some shown) = AreRanges wanted program nest (length nest) shown.items
+
+-- ---- counts
+
+-- a nest's polynomials are within the limits of certificates, and each uses the parameters and the variables up to its own
+pub record ArePolynomials (params : ℕ) (nest : List (AffineForm × AffineForm)) (sums : List Quotient) : Type 0 where
+  pub small : AllByRecursion IsSmallPolynomial sums
+  pub uses : (place : List Step) → AllHold (polynomials_fit params place sums (length nest))
+
+-- A count passes a limit: an operation on its polynomials does, or its polynomials do, which are those of the summation.
+abbrev pub CountPasses : AffineProgram → List (AffineForm × AffineForm) → Type 0
+CountPasses program nest =
+    CheckPasses program nest ⊎ ((sums : List Quotient) × AreMade (length program.parameters) nest sums × (¬ ArePolynomials (length program.parameters) nest sums))
+
+-- Claims of a nest's number of points: they are right, their polynomials are those of the summation, and their multipliers are
+-- as short as is wanted.
+pub record AreCounted (wanted : Wanted) (program : AffineProgram) (nest : List (AffineForm × AffineForm)) (claims : SumClaims) : Type 0 where
+  pub total : Quotient
+  pub right : IsCount program nest claims total
+  pub each : length claims.shown ≡ length nest
+  pub polynomials : ArePolynomials (length program.parameters) nest claims.sums
+  pub made : AreMade (length program.parameters) nest claims.sums
+  pub as_short : AllByRecursion (IsAsShort wanted) claims.shown
+
+-- what a search for them finds: them; or nothing, and then there are none with short lists, but where the count passes a limit
+abbrev pub FindsCount : Wanted → AffineProgram → List (AffineForm × AffineForm) → Option SumClaims → Type 0
+FindsCount wanted program nest None = (claims : SumClaims) → AreCounted Short program nest claims → CountPasses program nest
+FindsCount wanted program nest (Some claims) = AreCounted wanted program nest claims

@@ -1,0 +1,74 @@
+-- Cold terms that are shown over a source tree.
+use Rattle.std.specs.Prelude.{◌≡◌, ℕ, Bool, true, false, ⊤, List, [], ◌∷◌, length, map, Option, Some, None}
+use Rattle.std.specs.List.{AllByRecursion}
+use Rattle.iolb_model.specs.Program.{AffineProgram}
+use Rattle.affine_form.specs.Multipliers.{FarkasMultipliers}
+use Rattle.answers.specs.declared.wanted.Wanted.{Wanted}
+use Rattle.answers.specs.declared.wanted.Wanted.TheVariants.{Short}
+use Rattle.answers.specs.Answers.{IsAsShort}
+use Rattle.claims.specs.Claims.{AllHold}
+use Rattle.claims.specs.declared.place.Step.{Step}
+use Rattle.dep_quast.specs.Tree.{SelectionTree}
+use Rattle.nest_sums.specs.Made.{AreMade}
+use Rattle.reuse_paths.specs.LeafClaims.{LeafClaim, no_point, stops, is_credited, goes_on, arrives, claim_of}
+use Rattle.reuse_paths.specs.OpenLeaves.{OpenLeaf, is_input}
+use Rattle.wavefront.specs.declared.cold.Cold.{Cold}
+use Rattle.wavefront.specs.ColdClaims.{cold_claims}
+use Rattle.wavefront.specs.ColdPieces.{leaves_of}
+use Rattle.wavefront.specs.Loads.{ColdFits}
+use Rattle.wavefront.specs.View.{term_of}
+use Rattle.iolb_check.specs.Limits.{IsSmallCold}
+use Rattle.find_terms.specs.Counted.{ArePolynomials, CountPasses}
+use Rattle.find_terms.specs.Outline.{ColdOutline, outline_in}
+
+-- ---- entries
+
+-- At an input the walk stops, with no label; every other leaf is claimed to have no point.
+abbrev pub IsEntry : Bool → LeafClaim → Type 0
+IsEntry input (no_point shown) = input ≡ false
+IsEntry input (stops label) = (input ≡ true) × (label ≡ [])
+IsEntry input (is_credited credit rows label) = ⊥
+IsEntry input (goes_on rows label) = ⊥
+IsEntry input (arrives equal) = ⊥
+
+-- one for each leaf
+abbrev pub AreEntries : List OpenLeaf → List LeafClaim → Type 0
+AreEntries [] [] = ⊤
+AreEntries [] (entry ∷ entries) = ⊥
+AreEntries (l ∷ leaves) [] = ⊥
+AreEntries (l ∷ leaves) (entry ∷ entries) = IsEntry (is_input l.origin) entry × AreEntries leaves entries
+
+-- their multipliers are as short as is wanted
+abbrev pub IsEntryAsShort : Wanted → LeafClaim → Type 0
+IsEntryAsShort wanted (no_point shown) = IsAsShort wanted shown
+IsEntryAsShort wanted (stops label) = AllByRecursion (IsAsShort wanted) label
+IsEntryAsShort wanted (is_credited credit rows label) = AllByRecursion (IsAsShort wanted) rows × AllByRecursion (IsAsShort wanted) label
+IsEntryAsShort wanted (goes_on rows label) = AllByRecursion (IsAsShort wanted) rows × AllByRecursion (IsAsShort wanted) label
+IsEntryAsShort wanted (arrives equal) = AllByRecursion (IsAsShort wanted) equal
+
+-- ---- terms
+
+-- the multipliers of a cold term are as short as is wanted
+pub record IsColdAsShort (wanted : Wanted) (cold : Cold) : Type 0 where
+  pub ranges : AllByRecursion (IsAsShort wanted) cold.sums.shown
+  pub inside : AllByRecursion (IsAsShort wanted) cold.inside.items
+  pub leaves : AllByRecursion (IsEntryAsShort wanted) (map claim_of cold.leaves.items)
+
+-- A cold term is shown over the source tree of its read: it fits them, all that it claims holds wherever the term stands, and
+-- it is within the limits of certificates. Its polynomials are those of the summation, it stops at inputs alone, and its
+-- multipliers are as short as is wanted.
+pub record IsShownCold (wanted : Wanted) (program : AffineProgram) (tree : SelectionTree) (cold : Cold) : Type 0 where
+  pub fits : ColdFits program tree (term_of cold)
+  pub one_each : length cold.sums.shown ≡ length cold.nest
+  pub polynomials : ArePolynomials (length program.parameters) cold.nest cold.sums.sums
+  pub holds : (place : List Step) → AllHold (cold_claims program place tree (term_of cold))
+  pub small : IsSmallCold cold
+  pub made : AreMade (length program.parameters) cold.nest cold.sums.sums
+  pub entries : AreEntries (leaves_of program tree (term_of cold)) (map claim_of cold.leaves.items)
+  pub as_short : IsColdAsShort wanted cold
+
+-- What a search for a cold term of an outline finds: one that is shown, as short as is wanted; or nothing, and then no short
+-- lists show one, but where its count passes a limit.
+abbrev pub FindsCold : Wanted → AffineProgram → SelectionTree → ColdOutline → Option Cold → Type 0
+FindsCold wanted program tree outline None = (cold : Cold) → outline_in (term_of cold) ≡ outline → IsShownCold Short program tree cold → CountPasses program outline.nest
+FindsCold wanted program tree outline (Some cold) = (outline_in (term_of cold) ≡ outline) × IsShownCold wanted program tree cold
