@@ -1,5 +1,5 @@
 -- Certificates that are accepted for a program.
-use Rattle.std.specs.Prelude.{◌≡◌, ⊤}
+use Rattle.std.specs.Prelude.{◌≡◌, ⊤, ℕ, List}
 use Rattle.iolb_model.specs.Headline.{BoundHolds}
 use Rattle.affine_program.specs.Parts.{ProgramParts, meaning}
 use Rattle.claims.specs.Claims.{FirstFails}
@@ -12,7 +12,6 @@ use Rattle.iolb_cert.specs.OneCertificate.{HasCertificate}
 use Rattle.bound_maker.specs.declared.accepted.Accepted.{Accepted}
 use Rattle.bound_maker.specs.declared.growing.Verdict.{Verdict}
 use Rattle.bound_maker.specs.declared.growing.Verdict.TheVariants.{Taken, Refused, TooLong}
-use Rattle.std.specs.Prelude.{ℕ, List}
 
 -- A certificate meets all conditions for a program, and this bound has the values of its terms and holds.
 pub record Gives (program : ProgramParts) (certificate : CertificateParts) (bound : BoundParts) : Type 0 where

@@ -1,7 +1,9 @@
 //! An accepted certificate that takes branches, one after another.
 
 ghost use Rattle.std.specs.Prelude.{◌≡◌, [], ◌∷◌, ◌++◌, ◌<◌, length, IfOk, IfSome};
+ghost use Rattle.affine_program.specs.Parts.{meaning};
 ghost use Rattle.bound_maker.specs.Accepted.{IsAccepted, IsTaken};
+ghost use Rattle.bound_maker.specs.Opened.{BeginsWithOpening};
 ghost use Rattle.iolb_check.specs.Limits.{IsSmallBranch};
 ghost use Rattle.iolb_model.specs.declared.limits.TheConstants.{BRANCHES};
 
@@ -91,8 +93,10 @@ fn grown(
     most: usize,
 ) -> Result<Growing, Memory>
     requires accepted { IsAccepted program.now accepted }
+    requires opening { BeginsWithOpening (meaning program.now) accepted.certificate.branches }
     requires small { IsSmallBranch branch }
-    ensures { IfOk result (λ growing. IsAccepted program.now growing.accepted) }
+    ensures accepted { IfOk result (λ growing. IsAccepted program.now growing.accepted) }
+    ensures opening { IfOk result (λ growing. BeginsWithOpening (meaning program.now) growing.accepted.certificate.branches) }
 {
     if accepted.certificate.branches().len() >= limits::BRANCHES {
         let full = true;
@@ -141,8 +145,10 @@ fn offered(
     branch: Branch,
     most: usize,
 ) -> Result<Growing, Memory>
-    requires { IsAccepted program.now growing.accepted }
-    ensures { IfOk result (λ growing. IsAccepted program.now growing.accepted) }
+    requires accepted { IsAccepted program.now growing.accepted }
+    requires opening { BeginsWithOpening (meaning program.now) growing.accepted.certificate.branches }
+    ensures accepted { IfOk result (λ growing. IsAccepted program.now growing.accepted) }
+    ensures opening { IfOk result (λ growing. BeginsWithOpening (meaning program.now) growing.accepted.certificate.branches) }
 {
     if growing.full {
         return Ok(growing);
@@ -162,8 +168,10 @@ pub(crate) fn with_branches(
     proposals: Vec<Branch>,
     most: usize,
 ) -> Result<Accepted, Memory>
-    requires { IsAccepted program.now accepted }
-    ensures { IfOk result (IsAccepted program.now) }
+    requires accepted { IsAccepted program.now accepted }
+    requires opening { BeginsWithOpening (meaning program.now) accepted.certificate.branches }
+    ensures accepted { IfOk result (IsAccepted program.now) }
+    ensures opening { IfOk result (λ accepted. BeginsWithOpening (meaning program.now) accepted.certificate.branches) }
 {
     let mut growing = Growing {
         accepted,

@@ -1,8 +1,9 @@
 //! Source trees of all reads of a program.
 
-ghost use Rattle.std.specs.Prelude.{◌<◌, length, map, IfOk};
+ghost use Rattle.std.specs.Prelude.{◌≡◌, ◌==◌, ◌<◌, length, map, true, IfOk};
+ghost use Rattle.std.specs.List.{list_any};
 ghost use Rattle.affine_program.specs.Parts.{meaning};
-ghost use Rattle.bound_maker.specs.Trees.{HasRow, HasTrees, IsSourceTree};
+ghost use Rattle.bound_maker.specs.Trees.{HasRow, HasTrees, IsSourceTree, is_named as is_named_in, is_of_read};
 ghost use Rattle.dep_quast.specs.Tree.{tree_of};
 ghost use Rattle.dep_quast.specs.Truth.{ReadFits};
 ghost use Rattle.dep_quast.specs.Views.{read_of};
@@ -36,13 +37,23 @@ fn is_written(program: &Program, array: u16) -> bool {
     false
 }
 
+/// Whether a term is a cold term of a read.
+fn is_of(term: &Term, reader: Reader) -> bool
+    ensures { result ≡ is_of_read (read_of reader) term.now }
+{
+    match term {
+        Term::Cold(cold) => cold.statement == reader.statement && cold.read == reader.read,
+        Term::Partition(_) | Term::Wavefront(_) => false,
+    }
+}
+
 /// Whether one of the terms is a cold term of a read.
-fn is_named(terms: &[Term], reader: Reader) -> bool {
+fn are_of(terms: &[Term], reader: Reader) -> bool
+    ensures { result ≡ list_any (is_of_read (read_of reader)) terms.now }
+{
     for term in terms {
-        if let Term::Cold(cold) = term {
-            if cold.statement == reader.statement && cold.read == reader.read {
-                return true;
-            }
+        if is_of(term, reader) {
+            return true;
         }
     }
     false
@@ -51,11 +62,12 @@ fn is_named(terms: &[Term], reader: Reader) -> bool {
 /// Whether the source tree of a read is looked for.
 fn is_within(program: &Program, reader: Reader, scope: Scope<'_>) -> bool
     requires { ReadFits (meaning program.now) (read_of reader) }
+    ensures { is_named_in scope (read_of reader) ≡ true → result ≡ true }
 {
     match scope {
         Scope::All => true,
         Scope::Few(terms) => {
-            is_named(terms, reader) || !is_written(program, reference(program, reader).array)
+            are_of(terms, reader) || !is_written(program, reference(program, reader).array)
         }
     }
 }
@@ -68,7 +80,7 @@ fn tree(
     scope: Scope<'_>,
 ) -> Result<Quast, Memory>
     requires { ReadFits (meaning program.now) (read_of reader) }
-    ensures { IfOk result (λ quast. IsSourceTree (meaning program.now) (read_of reader) (tree_of quast)) }
+    ensures { IfOk result (λ quast. IsSourceTree (meaning program.now) scope (read_of reader) (tree_of quast)) }
 {
     if is_within(program, reader, scope) {
         quast(alloc, program, reader.statement, reader.read)
@@ -85,7 +97,7 @@ fn row(
     scope: Scope<'_>,
 ) -> Result<Vec<Quast>, Memory>
     requires { statement < length program.now.statements }
-    ensures { IfOk result (λ row. HasRow (meaning program.now) statement (map tree_of row.items)) }
+    ensures { IfOk result (λ row. HasRow (meaning program.now) scope statement (map tree_of row.items)) }
 {
     let count = program.statements()[statement].reads.len();
     let mut row = Vec::new(alloc);
@@ -105,7 +117,7 @@ pub(crate) fn source_trees(
     program: &Program,
     scope: Scope<'_>,
 ) -> Result<Quasts, Memory>
-    ensures { IfOk result (λ quasts. HasTrees (meaning program.now) (trees_of quasts)) }
+    ensures { IfOk result (λ quasts. HasTrees (meaning program.now) scope (trees_of quasts)) }
 {
     let mut rows = Vec::new(alloc);
     for statement in 0..program.statements().len() {
