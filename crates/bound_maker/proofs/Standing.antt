@@ -26,9 +26,9 @@ use Rattle.part_fit.specs.FitClaims.{names}
 use Rattle.part_fit.specs.PartFit.{form_at, forms_fit}
 use Rattle.part_fit.specs.TreeFit.{order_rows_at, source_lists_fit, leaf_fit, tree_fit, tree_at, row_at, row_fit, trees_fit}
 use Rattle.reuse_paths.specs.Trees.{read_of, row_claims, rows_claims, tree_place}
-use Rattle.iolb_check.specs.Claims.{BranchClaim, CertificateClaim}
 use Rattle.iolb_check.specs.Conditions.{conditions}
 use Rattle.bound_maker.specs.Trees.{HasRow, HasTrees, IsSourceTree, RowStands, RowsStand}
+use Rattle.bound_maker.specs.declared.trees.Scope.{Scope}
 
 -- a level is below their number
 level-below : (program : AffineProgram) (t s level : ℕ) → IsLevel program t s level → level < level_count program t s
@@ -43,7 +43,7 @@ forms-hold : (vars : ℕ) (place : List Step) (index : ℕ) (forms : List Affine
 forms-hold vars place index [] small = tt
 forms-hold vars place index (form ∷ forms) small = (small.0.over, forms-hold vars place (suc index) forms small.1)
 
-module _ (program : AffineProgram) (well : IsWellFormed program) where
+module _ (program : AffineProgram) (scope : Scope) (well : IsWellFormed program) where
   module _ (reader : ReadOf) (fits : ReadFits program reader) where
     -- as many rows as show the order at a level
     before-many : (claim : SourceClaim) → claim.statement < length program.statements → IsLevel program claim.statement reader.statement claim.level
@@ -90,7 +90,7 @@ module _ (program : AffineProgram) (well : IsWellFormed program) where
 
   -- the trees of a statement's reads fit
   row-holds : (place : List Step) (statement read : ℕ) (row : List SelectionTree) → statement < length program.statements → read + length row ≡ length (statement_at program statement).reads
-      → RowStands program statement read row → AllHold (numbered (tree_at program place statement) read row)
+      → RowStands program scope statement read row → AllHold (numbered (tree_at program place statement) read row)
   row-holds place statement read [] there many stand = tt
   row-holds place statement read (tree ∷ row) there many stand =
       let reader : ReadOf = read_of statement read in
@@ -100,7 +100,7 @@ module _ (program : AffineProgram) (well : IsWellFormed program) where
 
   -- and those of all
   rows-hold : (place : List Step) (first : ℕ) (rows : List (List SelectionTree)) → first + length rows ≡ length program.statements
-      → RowsStand program first rows → AllHold (numbered (row_at program place) first rows)
+      → RowsStand program scope first rows → AllHold (numbered (row_at program place) first rows)
   rows-hold place first [] many stand = tt
   rows-hold place first (row ∷ rows) many stand =
       AllHold-append (row_at program place first row) (numbered (row_at program place) (suc first) rows)
@@ -108,47 +108,51 @@ module _ (program : AffineProgram) (well : IsWellFormed program) where
       (rows-hold place (suc first) rows (omega arith) stand.1)
 
   -- what the trees claim holds
-  row-valid : (statement read : ℕ) (row : List SelectionTree) → RowStands program statement read row → AllHold (row_claims program statement read row)
+  row-valid : (statement read : ℕ) (row : List SelectionTree) → RowStands program scope statement read row → AllHold (row_claims program statement read row)
   row-valid statement read [] stand = tt
   row-valid statement read (tree ∷ row) stand =
       AllHold-append (claims program (read_of statement read) [] (tree_place statement read) tree) (row_claims program statement (suc read) row)
       (stand.0.stands.valid (tree_place statement read)) (row-valid statement (suc read) row stand.1)
 
-  rows-valid : (first : ℕ) (rows : List (List SelectionTree)) → RowsStand program first rows → AllHold (rows_claims program first rows)
+  rows-valid : (first : ℕ) (rows : List (List SelectionTree)) → RowsStand program scope first rows → AllHold (rows_claims program first rows)
   rows-valid first [] stand = tt
   rows-valid first (row ∷ rows) stand =
       AllHold-append (row_claims program first 0 row) (rows_claims program (suc first) rows) (row-valid first 0 row stand.0.stand) (rows-valid (suc first) rows stand.1)
 
+  -- the trees fit
+  pub trees-fit : (trees : List (List SelectionTree)) → HasTrees program scope trees → AllHold (trees_fit program trees)
+  trees-fit trees has = (has.many, rows-hold (Key QUASTS ∷ []) 0 trees (omega (arith, has.many)) has.stand)
+
+  pub trees-valid : (trees : List (List SelectionTree)) → HasTrees program scope trees → AllHold (rows_claims program 0 trees)
+  trees-valid trees has = rows-valid 0 trees has.stand
+
   -- a certificate of the trees without branches meets all conditions
-  bare-holds : (trees : List (List SelectionTree)) → HasTrees program trees → AllHold (conditions program (record { trees = trees; branches = [] }))
+  bare-holds : (trees : List (List SelectionTree)) → HasTrees program scope trees → AllHold (conditions program (record { trees = trees; branches = [] }))
   bare-holds trees has =
-      let fit : AllHold (trees_fit program trees) = (has.many, rows-hold (Key QUASTS ∷ []) 0 trees (omega (arith, has.many)) has.stand) in
       AllHold-append (trees_fit program trees ++ rows_claims program 0 trees) []
-      (AllHold-append (trees_fit program trees) (rows_claims program 0 trees) fit (rows-valid 0 trees has.stand)) tt
+      (AllHold-append (trees_fit program trees) (rows_claims program 0 trees) (trees-fit trees has) (trees-valid trees has)) tt
 
   -- so it isn't refused
-  pub bare-stands : (certificate : CertificateClaim) (failed : FailedCondition) → certificate.branches ≡ [] → HasTrees program certificate.trees → FirstFails (conditions program certificate) failed → ⊥
-  bare-stands certificate failed none has fails =
-      accepted-stand (conditions program (record { trees = certificate.trees; branches = [] })) failed (bare-holds certificate.trees has)
-      (subst (λ (branches : List BranchClaim). FirstFails (conditions program (record { trees = certificate.trees; branches = branches })) failed) none fails)
+  pub bare-stands : (trees : List (List SelectionTree)) (failed : FailedCondition) → HasTrees program scope trees → FirstFails (conditions program (record { trees = trees; branches = [] })) failed → ⊥
+  bare-stands trees failed has fails = accepted-stand (conditions program (record { trees = trees; branches = [] })) failed (bare-holds trees has) fails
 
 -- one tree more at the end of a row, and one row more
-pub row-pushed : (program : AffineProgram) (statement read : ℕ) (row : List SelectionTree) (tree : SelectionTree) → RowStands program statement read row → IsSourceTree program (read_of statement (read + length row)) tree
-    → RowStands program statement read (row ++ tree ∷ [])
-row-pushed program statement read [] tree stand is = (subst (λ (n : ℕ). IsSourceTree program (read_of statement n) tree) (none read) is, tt) where
+pub row-pushed : (program : AffineProgram) (scope : Scope) (statement read : ℕ) (row : List SelectionTree) (tree : SelectionTree) → RowStands program scope statement read row → IsSourceTree program scope (read_of statement (read + length row)) tree
+    → RowStands program scope statement read (row ++ tree ∷ [])
+row-pushed program scope statement read [] tree stand is = (subst (λ (n : ℕ). IsSourceTree program scope (read_of statement n) tree) (none read) is, tt) where
   none : (n : ℕ) → n + 0 ≡ n
   none n = omega arith
-row-pushed program statement read (first ∷ row) tree stand is =
-    (stand.0, row-pushed program statement (suc read) row tree stand.1 (subst (λ (n : ℕ). IsSourceTree program (read_of statement n) tree) (next read (length row)) is)) where
+row-pushed program scope statement read (first ∷ row) tree stand is =
+    (stand.0, row-pushed program scope statement (suc read) row tree stand.1 (subst (λ (n : ℕ). IsSourceTree program scope (read_of statement n) tree) (next read (length row)) is)) where
       next : (m n : ℕ) → m + suc n ≡ suc m + n
       next m n = omega arith
 
-pub rows-pushed : (program : AffineProgram) (first : ℕ) (rows : List (List SelectionTree)) (row : List SelectionTree) → RowsStand program first rows → HasRow program (first + length rows) row
-    → RowsStand program first (rows ++ row ∷ [])
-rows-pushed program first [] row stand has = (subst (λ (n : ℕ). HasRow program n row) (none first) has, tt) where
+pub rows-pushed : (program : AffineProgram) (scope : Scope) (first : ℕ) (rows : List (List SelectionTree)) (row : List SelectionTree) → RowsStand program scope first rows → HasRow program scope (first + length rows) row
+    → RowsStand program scope first (rows ++ row ∷ [])
+rows-pushed program scope first [] row stand has = (subst (λ (n : ℕ). HasRow program scope n row) (none first) has, tt) where
   none : (n : ℕ) → n + 0 ≡ n
   none n = omega arith
-rows-pushed program first (one ∷ rows) row stand has =
-    (stand.0, rows-pushed program (suc first) rows row stand.1 (subst (λ (n : ℕ). HasRow program n row) (next first (length rows)) has)) where
+rows-pushed program scope first (one ∷ rows) row stand has =
+    (stand.0, rows-pushed program scope (suc first) rows row stand.1 (subst (λ (n : ℕ). HasRow program scope n row) (next first (length rows)) has)) where
       next : (m n : ℕ) → m + suc n ≡ suc m + n
       next m n = omega arith

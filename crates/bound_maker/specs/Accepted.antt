@@ -11,7 +11,7 @@ use Rattle.iolb_check.specs.Limits.{CertificateParts}
 use Rattle.iolb_cert.specs.OneCertificate.{HasCertificate}
 use Rattle.bound_maker.specs.declared.accepted.Accepted.{Accepted}
 use Rattle.bound_maker.specs.declared.growing.Verdict.{Verdict}
-use Rattle.bound_maker.specs.declared.growing.Verdict.TheVariants.{Taken, Refused, TooLong}
+use Rattle.bound_maker.specs.declared.growing.Verdict.TheVariants.{Taken, Left}
 
 -- A certificate meets all conditions for a program, and this bound has the values of its terms and holds.
 pub record Gives (program : ProgramParts) (certificate : CertificateParts) (bound : BoundParts) : Type 0 where
@@ -35,5 +35,4 @@ IsAccepted program accepted = IsGiven program accepted.certificate accepted.boun
 -- what a certificate that is taken gives
 abbrev pub IsTaken : ProgramParts → CertificateParts → Verdict → Type 0
 IsTaken program certificate (Taken bound text) = IsGiven program certificate bound text.items
-IsTaken program certificate Refused = ⊤
-IsTaken program certificate TooLong = ⊤
+IsTaken program certificate (Left full) = ⊤

@@ -28,10 +28,8 @@ pub(crate) struct Growing {
 pub(crate) enum Verdict {
     /// It gives this bound, and this is its text.
     Taken(Bound, Vec<u8>),
-    /// It is refused.
-    Refused,
-    /// It is accepted, but its text is too long.
-    TooLong,
+    /// It is left as it was: the larger one is refused, or, where it takes no more, its text is too long.
+    Left { full: bool },
 }
 
 /// A branch that has a term and is within the limits of certificates, or nothing.
@@ -74,11 +72,11 @@ fn verdict_on(
     ensures { IfOk result (IsTaken program.now larger.now) }
 {
     let Some(bound) = bound_for(alloc, program, larger)? else {
-        return Ok(Verdict::Refused);
+        return Ok(Verdict::Left { full: false });
     };
     let text = certificate_text(alloc, larger)?;
     if text.len() > most && larger.branches().len() > 1 {
-        return Ok(Verdict::TooLong);
+        return Ok(Verdict::Left { full: true });
     }
     Ok(Verdict::Taken(bound, text))
 }
@@ -118,22 +116,14 @@ fn grown(
             };
             Ok(Growing { accepted, full })
         }
-        Verdict::Refused => Ok(Growing {
-            accepted: Accepted {
+        Verdict::Left { full } => {
+            let accepted = Accepted {
                 certificate: without_last(larger),
                 bound,
                 text,
-            },
-            full: false,
-        }),
-        Verdict::TooLong => Ok(Growing {
-            accepted: Accepted {
-                certificate: without_last(larger),
-                bound,
-                text,
-            },
-            full: true,
-        }),
+            };
+            Ok(Growing { accepted, full })
+        }
     }
 }
 

@@ -8,4 +8,4 @@ mod making;
 mod trees;
 
 pub use accepted::Accepted;
-pub use making::made;
+pub use making::{made, made_within};

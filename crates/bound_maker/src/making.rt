@@ -34,8 +34,8 @@ pub fn made(alloc: Global, program: &Program) -> Result<Accepted, Memory>
     made_within(alloc, program, TEXT_MOST)
 }
 
-/// The same with another number of bytes.
-pub(crate) fn made_within(
+/// The same with another number of bytes than 64 MiB.
+pub fn made_within(
     alloc: Global,
     program: &Program,
     most: usize,
@@ -73,7 +73,7 @@ fn shortened(alloc: Global, program: &Program) -> Result<Accepted, Memory>
     ensures accepted { IfOk result (IsAccepted program.now) }
     ensures opening { IfOk result (λ accepted. BeginsWithOpening (meaning program.now) accepted.certificate.branches) }
 {
-    let opening = opening(alloc, program)?;
-    let quasts = short_trees(alloc, program, &opening)?;
-    opened(alloc, program, quasts, opening)
+    let first = opening(alloc, program)?;
+    let quasts = short_trees(alloc, program, &first)?;
+    opened(alloc, program, quasts, first)
 }

@@ -1,7 +1,9 @@
 //! Worked cases of crates that the program's calls don't show: tokens, forms and matrices, multipliers, polynomials,
-//! counts, covers, projective programs, computation graphs, source trees, replays.
+//! counts, covers, projective programs, computation graphs, source trees, certificates that are made, replays.
 #![tactic(auto)]
 
+#[cfg(test)]
+mod bound_tests;
 #[cfg(test)]
 mod count_tests;
 #[cfg(test)]
