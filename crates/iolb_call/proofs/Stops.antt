@@ -285,7 +285,7 @@ stopped_outcome call left stop line status stops stays (inr (inr want)) = wanted
 -- an answer that was broken off, once the line for want of memory was to be written
 broken : (call : Call) (left : CallUse) (status : Status) → IsBrokenOff call left.files left.output → WantSaid left.error status → Outcome status call left
 broken call left status off (inl (ends, said)) = subst (λ (s : Status). Outcome s call left) (sym ends) (inr off, said)
-broken call left status off (inr (ends, fails)) = subst (λ (s : Status). Outcome s call left) (sym ends) (inr (inr (off, fails)))
+broken call left status off (inr (ends, fails)) = subst (λ (s : Status). Outcome s call left) (sym ends) (inr (inr (inl (off, fails))))
 
 begun : (work : Work) (answer : Answer) (output : SinkUse) → IsOfWork work answer → HasBegun answer output → Stays output ⊎ IsBegun work output (answer_text answer)
 begun (judges task) (Text text) output of begins = inl begins
@@ -323,20 +323,9 @@ done_outcome call left answer status done of (inl (ends, gains, noted)) =
 done_outcome call left answer status done of (inr (inl (ends, fails, stays))) =
     subst (λ (s : Status). Outcome s call left) (sym ends) (inl (answer_text answer, answer_note answer, done, fails, inl stays))
 done_outcome call left answer status done of (inr (inr (inl (ends, lacks)))) =
-    subst (λ (s : Status). Outcome s call left) (sym ends) (inr (inr (inr (answer_text answer, answer_note answer, done, note_lacks answer left.output left.error lacks))))
+    let wrote = note_lacks answer left.output left.error lacks in
+    subst (λ (s : Status). Outcome s call left) (sym ends) (inr (inr (inr (answer_text answer, answer_note answer, done, wrote.0, wrote.1))))
 done_outcome call left answer status done of (inr (inr (inr (begins, want)))) = begun_outcome call left answer status done of begins want
-
--- ---- answers without a second file
-
--- why the work of making a certificate isn't answered
-pub unmade : (r : Result Answer Stop) (files : Option FileMap) (request : Request) (program : AffineProgram) → IfErr r (λ stop. stop ≡ Memory) → IfErr r (λ stop. SecondStop files request program stop)
-unmade (Ok answer) files request program stop = tt
-unmade (Err stop) files request program is = subst (λ (s : Stop). SecondStop files request program s) (sym is) tt
-
--- and no read had a fault
-pub unread : (r : Result Answer Stop) (request : Request) (faults after : List NamedFault) → after ≡ faults → IfErr r (λ stop. stop ≡ Memory) → IfErr r (λ stop. after ≡ faults_at request stop faults)
-unread (Ok answer) request faults after same stop = tt
-unread (Err stop) request faults after same is = subst (λ (s : Stop). after ≡ faults_at request s faults) (sym is) same
 
 -- ---- status 0
 
