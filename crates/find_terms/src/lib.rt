@@ -1,7 +1,6 @@
 //! Terms of bounds, found.
 #![tactic(auto)]
 
-mod candidates;
 mod counted;
 mod entries;
 mod filled;
@@ -12,9 +11,10 @@ mod opening;
 mod outline;
 mod outlined;
 mod outlines;
+mod proposals;
 mod undone;
 
-pub use candidates::candidates;
 pub use filled::filled;
 pub use opening::opening;
 pub use outline::Outline;
+pub use proposals::candidates;
