@@ -1,6 +1,6 @@
 -- Source trees that stand, with the opening branch: within the limits, and plain where the branch names their reads.
 use Rattle.std.proofs.Common.{Bool, true, false, ◌≡◌, refl, sym, ◌∙◌, ap, subst, inl, inr, ℕ, zero, suc, ◌+◌, ◌<◌, ◌≤◌, List, [], ◌∷◌, ◌++◌, length, map, arith, Vec, Global, Bor}
-use Rattle.std.specs.Prelude.{◌⊎◌, ◌==◌, ◌&&◌, ◌||◌, Option, None, Some, option_and_then, slice_get}
+use Rattle.std.specs.Prelude.{◌⊎◌, ◌==◌, ◌&&◌, ◌||◌, Option, None, Some, IfNone, option_and_then, slice_get}
 use Rattle.std.specs.List.{AllByRecursion, list_any}
 use Rattle.std.proofs.lemmas.Bool.{eq-eqb}
 use Rattle.iolb_model.specs.Program.{AffineProgram, statement_at}
@@ -22,14 +22,16 @@ use Rattle.iolb_check.specs.declared.term.Term.{Term}
 use Rattle.iolb_check.specs.declared.term.Term.TheVariants as terms
 use Rattle.iolb_check.specs.declared.term.Branch.{Branch}
 use Rattle.iolb_check.specs.Conditions.{conditions}
-use Rattle.iolb_check.specs.Limits.{IsWithinLimits}
+use Rattle.iolb_check.specs.Limits.{CertificateParts, IsWithinLimits}
 use Rattle.find_terms.specs.Accepted.{HasPlainTree, OpeningsAreWithinLimits, OpeningsMeetConditions, alone}
-use Rattle.find_terms.specs.Openings.{IsFirstOpening, IsOpeningBranch, reader_of}
+use Rattle.find_terms.specs.Openings.{FindsOpening, IsFirstOpening, IsOpeningBranch, reader_of}
+use Rattle.bound_maker.specs.Accepted.{IsRefused}
+use Rattle.bound_maker.specs.declared.accepted.Accepted.{Accepted}
 use Rattle.bound_maker.specs.Opened.{BeginsWithOpening, HasTreesFor, NamesBranch, NamesTerm}
 use Rattle.bound_maker.specs.Trees.{HasRow, HasTrees, IsSourceTree, RowStands, RowsStand, is_named, is_of_read}
 use Rattle.bound_maker.specs.declared.trees.Scope.{Scope}
 use Rattle.bound_maker.specs.declared.trees.Scope.TheVariants.{All, Few}
-use Rattle.bound_maker.proofs.Standing.{trees-fit, trees-valid}
+use Rattle.bound_maker.proofs.Standing.{bare-stands, trees-fit, trees-valid}
 
 no-more : (n : ℕ) → n + 0 ≡ n
 no-more n = omega arith
@@ -107,10 +109,44 @@ opening-stands law program trees branch failed kept (scope, has, named) opening 
     accepted-stand (conditions P (alone trees branch)) failed
     (law program trees branch kept opening (trees-fit P scope kept.well_formed trees has) (trees-valid P scope kept.well_formed trees has) plain) fails
 
+-- ---- certificates that aren't refused
+
+pub bare-small : (program : AffineProgram) (quasts : Quasts) (branches : List Branch) → ((scope : Scope) × HasTrees program scope (trees_of quasts)) → branches ≡ []
+    → IsWithinLimits (record { quasts = quasts; branches = branches })
+bare-small program quasts branches (scope, has) none =
+    subst (λ (all : List Branch). IsWithinLimits (record { quasts = quasts; branches = all })) (sym none) (record { trees = trees-small program scope quasts has; few = omega arith; branches = tt })
+
+refused : (program : ProgramParts) (certificate : CertificateParts) (found : Option Accepted) → found ≡ None → IfNone found (IsRefused program certificate) → IsRefused program certificate
+refused program certificate found none h = subst (λ (o : Option Accepted). IfNone o (IsRefused program certificate)) none h
+
+pub bare-accepted : (program : ProgramParts) (certificate : CertificateParts) (quasts : Quasts) (branches : List Branch) (found : Option Accepted) → IsProgram program
+    → ((scope : Scope) × HasTrees (meaning program) scope (trees_of quasts)) → certificate ≡ record { quasts = quasts; branches = branches } → branches ≡ [] → found ≡ None
+    → IfNone found (IsRefused program certificate) → ⊥
+bare-accepted program certificate quasts branches found kept (scope, has) is empty none h =
+    let at : IsRefused program (record { quasts = quasts; branches = [] }) =
+    subst (λ (all : List Branch). IsRefused program (record { quasts = quasts; branches = all })) empty
+    (subst (λ (c : CertificateParts). IsRefused program c) is (refused program certificate found none h)) in
+    bare-stands (meaning program) scope kept.well_formed (trees_of quasts) at.0 has at.1
+
+pub opening-accepted : OpeningsMeetConditions → (program : ProgramParts) (certificate : CertificateParts) (quasts : Quasts) (branches : List Branch) (branch : Branch) (found : Option Accepted) → IsProgram program
+    → HasTreesFor (meaning program) (Some branch) (trees_of quasts) → IsOpeningBranch (meaning program) branch → certificate ≡ record { quasts = quasts; branches = branches } → branches ≡ branch ∷ [] → found ≡ None
+    → IfNone found (IsRefused program certificate) → ⊥
+opening-accepted law program certificate quasts branches branch found kept has opening is one none h =
+    let at : IsRefused program (record { quasts = quasts; branches = branch ∷ [] }) =
+    subst (λ (all : List Branch). IsRefused program (record { quasts = quasts; branches = all })) one
+    (subst (λ (c : CertificateParts). IsRefused program c) is (refused program certificate found none h)) in
+    opening-stands law program (trees_of quasts) branch at.0 kept has opening at.1
+
+-- the opening branch alone
+pub begins-opened : (program : AffineProgram) (opening : Option Branch) (branch : Branch) (branches : List Branch) → opening ≡ Some branch → FindsOpening program opening → branches ≡ branch ∷ []
+    → BeginsWithOpening program branches
+begins-opened program opening branch branches some finds is =
+    let found : FindsOpening program (Some branch) = subst (λ (o : Option Branch). FindsOpening program o) some finds in inr (branch, [], is, found.0, found.1)
+
 -- what begins with the opening branch does so with a branch more at the end
 pub begins-pushed : (program : AffineProgram) (branches : List Branch) (branch : Branch) → BeginsWithOpening program branches → BeginsWithOpening program (branches ++ branch ∷ [])
 begins-pushed program branches branch (inl never) = inl never
-begins-pushed program branches branch (inr (first, later, is, opens)) = inr (first, later ++ branch ∷ [], ap (λ (all : List Branch). all ++ branch ∷ []) is, opens)
+begins-pushed program branches branch (inr (first, later, is, opens, some)) = inr (first, later ++ branch ∷ [], ap (λ (all : List Branch). all ++ branch ∷ []) is, opens, some)
 
 -- ---- named reads
 
@@ -148,3 +184,8 @@ names-few slice (terms.Wavefront front ∷ all) reach = (tt, names-few slice all
 
 pub own-named : (slice : Bor (List Term)) (branch : Branch) → slice.now ≡ branch.terms.items → NamesBranch (Few slice) (Some branch)
 own-named slice branch is = subst (λ (all : List Term). AllByRecursion (NamesTerm (Few slice)) all) is (names-few slice slice.now (λ reader h. h))
+
+-- trees with those of a branch's reads are trees for it
+pub short-for : (program : AffineProgram) (opening : Option Branch) (branch : Branch) (slice : Bor (List Term)) (trees : List (List SelectionTree)) → opening ≡ Some branch → slice.now ≡ branch.terms.items
+    → HasTrees program (Few slice) trees → HasTreesFor program opening trees
+short-for program opening branch slice trees is same has = subst (λ (o : Option Branch). HasTreesFor program o trees) (sym is) (Few slice, has, own-named slice branch same)

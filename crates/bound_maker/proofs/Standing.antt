@@ -22,7 +22,7 @@ use Rattle.dep_quast.specs.Tree.{SourceClaim, Leaf as TreeLeaf, source, input, e
 use Rattle.dep_quast.specs.Truth.{ReadFits, IsLevel, LeafFits, FitsUnder}
 use Rattle.dep_quast.proofs.Counts.{earlier-many, between-many, order-many, level-within}
 use Rattle.dep_quast.proofs.Fits.{common-first, common-second}
-use Rattle.part_fit.specs.FitClaims.{names}
+use Rattle.part_fit.specs.FitClaims.{names, so_many}
 use Rattle.part_fit.specs.PartFit.{form_at, forms_fit}
 use Rattle.part_fit.specs.TreeFit.{order_rows_at, source_lists_fit, leaf_fit, tree_fit, tree_at, row_at, row_fit, trees_fit}
 use Rattle.reuse_paths.specs.Trees.{read_of, row_claims, rows_claims, tree_place}
@@ -63,14 +63,14 @@ module _ (program : AffineProgram) (scope : Scope) (well : IsWellFormed program)
         let lists : List Claim = source_lists_fit program reader claim place in
         let forms : List Claim = forms_fit (variables_at program reader) (place ++ Key POINT ∷ []) claim.point in
         let last : List Claim = names (place ++ Key STATEMENT ∷ []) claim.statement (length program.statements) ∷ [] in
-        let each : AllHold lists = (
+        let point : AllHold (so_many (place ++ Key POINT ∷ []) (length claim.point) (depth_of program claim.statement) ∷ []) = (h.there.point, tt) in
+        let each : AllHold lists =
+        (
           h.lists.before ∙ before-many claim h.there.statement h.there.level h.there.point,
-          h.lists.between ∙ between-many program reader (context program reader tests) claim,
-          h.lists.cell,
-          h.lists.inside,
-          level-below program claim.statement reader.statement claim.level h.there.level,
-          h.there.point,
-          tt,
+          (
+            h.lists.between ∙ between-many program reader (context program reader tests) claim,
+            (h.lists.cell, (h.lists.inside, (level-below program claim.statement reader.statement claim.level h.there.level, point))),
+          ),
         ) in
         AllHold-append (lists ++ forms) last
         (AllHold-append lists forms each (forms-hold (variables_at program reader) (place ++ Key POINT ∷ []) 0 claim.point h.there.forms)) (h.there.statement, tt)

@@ -62,7 +62,7 @@ fn are_of(terms: &[Term], reader: Reader) -> bool
 /// Whether the source tree of a read is looked for.
 fn is_within(program: &Program, reader: Reader, scope: Scope<'_>) -> bool
     requires { ReadFits (meaning program.now) (read_of reader) }
-    ensures { is_named_in scope (read_of reader) ≡ true → result ≡ true }
+    ensures { is_named_in scope.entry (read_of reader) ≡ true → result ≡ true }
 {
     match scope {
         Scope::All => true,
@@ -80,8 +80,9 @@ fn tree(
     scope: Scope<'_>,
 ) -> Result<Quast, Memory>
     requires { ReadFits (meaning program.now) (read_of reader) }
-    ensures { IfOk result (λ quast. IsSourceTree (meaning program.now) scope (read_of reader) (tree_of quast)) }
+    ensures { IfOk result (λ quast. IsSourceTree (meaning program.now) scope.entry (read_of reader) (tree_of quast)) }
 {
+    let _params = program.params();
     if is_within(program, reader, scope) {
         quast(alloc, program, reader.statement, reader.read)
     } else {
@@ -97,7 +98,7 @@ fn row(
     scope: Scope<'_>,
 ) -> Result<Vec<Quast>, Memory>
     requires { statement < length program.now.statements }
-    ensures { IfOk result (λ row. HasRow (meaning program.now) scope statement (map tree_of row.items)) }
+    ensures { IfOk result (λ row. HasRow (meaning program.now) scope.entry statement (map tree_of row.items)) }
 {
     let count = program.statements()[statement].reads.len();
     let mut row = Vec::new(alloc);
@@ -117,7 +118,7 @@ pub(crate) fn source_trees(
     program: &Program,
     scope: Scope<'_>,
 ) -> Result<Quasts, Memory>
-    ensures { IfOk result (λ quasts. HasTrees (meaning program.now) scope (trees_of quasts)) }
+    ensures { IfOk result (λ quasts. HasTrees (meaning program.now) scope.entry (trees_of quasts)) }
 {
     let mut rows = Vec::new(alloc);
     for statement in 0..program.statements().len() {
