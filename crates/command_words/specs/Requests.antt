@@ -7,7 +7,7 @@ use Rattle.command_words.specs.declared.command.Job.{Job}
 use Rattle.command_words.specs.declared.command.Job.TheVariants.{Check, Eval}
 use Rattle.command_words.specs.declared.command.SizedCall.{SizedCall}
 use Rattle.command_words.specs.declared.command.Work.{Work as WorkInCode}
-use Rattle.command_words.specs.declared.command.Work.TheVariants.{Judge, Replay}
+use Rattle.command_words.specs.declared.command.Work.TheVariants.{Judge, Replay, Bound}
 use Rattle.command_words.specs.Numbers.{memory_in}
 use Rattle.command_words.specs.Sizes.{NamedSize, named_of, sizes_in}
 use Rattle.iolb_model.specs.declared.limits.TheConstants.{VALUE_SIZE}
@@ -17,13 +17,14 @@ pub data Task : Type 0 where
   checks : Task
   evaluates : ℕ → List NamedSize → Task
 
--- What is to be done with a program and a second file: a task for the certificate in it, or to play the schedule in it with
--- so many red pebbles at these sizes.
+-- What is to be done with a program: with a second file, a task for the certificate in it, or to play the schedule in it with
+-- so many red pebbles at these sizes; or to make a certificate.
 pub data Work : Type 0 where
   judges : Task → Work
   replays : ℕ → List NamedSize → Work
+  bounds : Work
 
--- work on the program and what else is in two files, by their names
+-- Work on the program and what else is in two files, by their names. The second name is empty where there is no such file.
 pub record Request : Type 0 where
   pub program : List ℕ
   pub second : List ℕ
@@ -40,6 +41,12 @@ check_in (program ∷ certificate ∷ []) = Some (record { program = program; se
 check_in (program ∷ certificate ∷ more ∷ words) = None
 check_in (program ∷ []) = None
 check_in [] = None
+
+-- `bound PROGRAM`
+abbrev pub bound_in : List (List ℕ) → Option Request
+bound_in (program ∷ []) = Some (record { program = program; second = []; work = bounds })
+bound_in (program ∷ more ∷ words) = None
+bound_in [] = None
 
 -- what words PROGRAM SECOND S NAME=NUMBER... say
 pub record SizedWords : Type 0 where
@@ -73,8 +80,9 @@ abbrev pub request_in : List (List ℕ) → Option Request
 request_in [] = None
 request_in (command ∷ words) =
     if bytes_eq command (codes "check") then check_in words
+    else (if bytes_eq command (codes "bound") then bound_in words
     else (if bytes_eq command (codes "eval") then eval_in words
-    else (if bytes_eq command (codes "replay") then replay_in words else None))
+    else (if bytes_eq command (codes "replay") then replay_in words else None)))
 
 -- What words ask for; nothing where one begins with `-`.
 abbrev pub request_of : List (List ℕ) → Option Request
@@ -88,6 +96,7 @@ task_of (Eval memory sizes) = evaluates memory (map named_of sizes.items)
 abbrev pub work_of : WorkInCode → Work
 work_of (Judge job) = judges (task_of job)
 work_of (Replay memory sizes) = replays memory (map named_of sizes.items)
+work_of Bound = bounds
 
 abbrev pub asked : Command → Request
 asked command = record { program = command.program.now; second = command.second.now; work = work_of command.work }
@@ -108,3 +117,4 @@ IsSmallJob (Eval memory sizes) = IsSmallSetting memory sizes.items
 abbrev pub IsSmallWork : WorkInCode → Type 0
 IsSmallWork (Judge job) = IsSmallJob job
 IsSmallWork (Replay memory sizes) = IsSmallSetting memory sizes.items
+IsSmallWork Bound = ⊤

@@ -2,7 +2,7 @@
 
 ghost use Rattle.std.specs.Prelude.{◌≡◌, ◌≤◌, ◌<◌, ◌^◌, map, option_map, unsigned_abs, string_bytes, IfOk, IfSome};
 ghost use Rattle.std.specs.List.{AllByRecursion, list_any};
-ghost use Rattle.command_words.specs.Requests.{asked, begins_with_dash, check_in, eval_in, replay_in, request_of, sized_in, sized_of, IsSmallSetting, IsSmallWork};
+ghost use Rattle.command_words.specs.Requests.{asked, begins_with_dash, bound_in, check_in, eval_in, replay_in, request_of, sized_in, sized_of, IsSmallSetting, IsSmallWork};
 
 use crate::number::memory_of;
 use crate::size::{Size, sizes_of};
@@ -18,16 +18,18 @@ pub enum Job {
     Eval { memory: u64, sizes: Vec<Size> },
 }
 
-/// What is to be done with a program and a second file.
+/// What is to be done with a program, and with a second file where there is one.
 #[derive(Debug, Drop)]
 pub enum Work {
-    /// The file holds a certificate.
+    /// The second file holds a certificate.
     Judge(Job),
-    /// The file holds a schedule: play it with this many red pebbles at these sizes.
+    /// The second file holds a schedule: play it with this many red pebbles at these sizes.
     Replay { memory: u64, sizes: Vec<Size> },
+    /// There is no second file: make a certificate.
+    Bound,
 }
 
-/// Work on the program and what else is in two files, by their names.
+/// Work on the program and what else is in two files, by their names. The second name is empty where there is no such file.
 #[derive(Debug, Drop)]
 pub struct Command<'a> {
     pub program: &'a str,
@@ -89,7 +91,7 @@ fn sized_words(alloc: Global, words: &[String]) -> Result<Option<SizedCall<'_>>,
     }
 }
 
-/// What the words behind the program's name ask for: `check PROGRAM CERTIFICATE`,
+/// What the words behind the program's name ask for: `check PROGRAM CERTIFICATE`, `bound PROGRAM`,
 /// `eval PROGRAM CERTIFICATE S NAME=NUMBER...`, or `replay PROGRAM SCHEDULE S NAME=NUMBER...`, where S is 1 to 19 digits,
 /// from 1 to 2^63 - 1, a NUMBER an optional `-` and 1 to 13 digits, of size below 2^40, and a NAME the bytes before the first
 /// `=`. `None` where they ask for nothing of this, or a word begins with `-`.
@@ -105,6 +107,9 @@ pub fn command_of(alloc: Global, words: &[String]) -> Result<Option<Command<'_>>
     };
     if command.as_str() == "check" {
         return Ok(check_command(arguments));
+    }
+    if command.as_str() == "bound" {
+        return Ok(bound_command(arguments));
     }
     if command.as_str() == "eval" {
         return eval_command(alloc, arguments);
@@ -125,6 +130,21 @@ fn check_command(words: &[String]) -> Option<Command<'_>>
             program: program.as_str(),
             second: certificate.as_str(),
             work: Work::Judge(Job::Check),
+        }),
+        _ => None,
+    }
+}
+
+/// The making of a certificate that words PROGRAM ask for.
+fn bound_command(words: &[String]) -> Option<Command<'_>>
+    ensures command { option_map asked result ≡ bound_in (map (λ word. string_bytes word) words.now) }
+    ensures small { IfSome result (λ command. IsSmallWork command.work) }
+{
+    match words {
+        [program] => Some(Command {
+            program: program.as_str(),
+            second: "",
+            work: Work::Bound,
         }),
         _ => None,
     }

@@ -3,13 +3,14 @@ use Rattle.std.proofs.Common.{◌≡◌, subst, ℕ, zero, suc, ◌-◌, ◌^◌
 use Rattle.std.specs.Prelude.{⊤, Option, None, Some, IfSome, option_map, option_and_then, if◌then◌else◌, ◌&&◌, nat_le, codes, bytes_eq}
 use Rattle.std.specs.List.{list_any}
 use Rattle.command_words.specs.Numbers.{if_within, memory_in, natural_in}
-use Rattle.command_words.specs.Requests.{Request, SizedWords, Work, checks, evaluates, judges, replays, begins_with_dash, check_in, eval_in, evaluation, replay, replay_in, request_in, request_of, sized_in}
+use Rattle.command_words.specs.Requests.{Request, SizedWords, Work, checks, evaluates, judges, replays, bounds, begins_with_dash, bound_in, check_in, eval_in, evaluation, replay, replay_in, request_in, request_of, sized_in}
 use Rattle.command_words.specs.Sizes.{sizes_in}
 
 abbrev pub HasPebbles : Work → Type 0
 HasPebbles (judges checks) = ⊤
 HasPebbles (judges (evaluates s named)) = 1 ≤ s
 HasPebbles (replays s named) = 1 ≤ s
+HasPebbles bounds = ⊤
 
 every : {A : Type 0} (P : Type 0) (o : Option A) → P → IfSome o (λ _. P)
 every P None p = tt
@@ -55,13 +56,20 @@ check (program ∷ []) = tt
 check (program ∷ certificate ∷ []) = tt
 check (program ∷ certificate ∷ more ∷ words) = tt
 
+made : (words : List (List ℕ)) → IfSome (bound_in words) (λ request. HasPebbles request.work)
+made [] = tt
+made (program ∷ []) = tt
+made (program ∷ more ∷ words) = tt
+
 request : (words : List (List ℕ)) → IfSome (request_in words) (λ r. HasPebbles r.work)
 request [] = tt
 request (command ∷ words) =
     let others = if bytes_eq command (codes "replay") then replay_in words else None in
-    chosen (bytes_eq command (codes "check")) (λ (r : Request). HasPebbles r.work) (check_in words) (if bytes_eq command (codes "eval") then eval_in words else others) (check words)
+    let sized = if bytes_eq command (codes "eval") then eval_in words else others in
+    chosen (bytes_eq command (codes "check")) (λ (r : Request). HasPebbles r.work) (check_in words) (if bytes_eq command (codes "bound") then bound_in words else sized) (check words)
+    (chosen (bytes_eq command (codes "bound")) (λ (r : Request). HasPebbles r.work) (bound_in words) sized (made words)
     (chosen (bytes_eq command (codes "eval")) (λ (r : Request). HasPebbles r.work) (eval_in words) others (evaluated words)
-    (chosen (bytes_eq command (codes "replay")) (λ (r : Request). HasPebbles r.work) (replay_in words) None (replayed words) tt))
+    (chosen (bytes_eq command (codes "replay")) (λ (r : Request). HasPebbles r.work) (replay_in words) None (replayed words) tt)))
 
 pub pebbles : (words : List (List ℕ)) (r : Request) → request_of words ≡ Some r → HasPebbles r.work
 pebbles words r asks =

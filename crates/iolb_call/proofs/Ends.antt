@@ -12,7 +12,7 @@ use Rattle.affine_c.specs.Meaning.{HasFault}
 use Rattle.iolb_cert.specs.OneCertificate.{HasCertificate, TextsHaveOneCertificate, TextsHaveOneAnswer}
 use Rattle.iolb_cert.specs.Texts.{IsTextFault}
 use Rattle.iolb_check.specs.Claims.{CertificateClaim}
-use Rattle.command_words.specs.Requests.{Request, Task, checks, evaluates, Work, judges, replays, request_of}
+use Rattle.command_words.specs.Requests.{Request, Task, checks, evaluates, Work, judges, replays, bounds, request_of}
 use Rattle.command_words.specs.Sizes.{values_for}
 use Rattle.iolb_check.specs.declared.bound.Value.{Value}
 use Rattle.affine_program.specs.Assumptions.{IsFirstUnmet}
@@ -58,20 +58,24 @@ pub record AreExact : Type 0 where
   pub one_unplayed : UnplayedAreOne
   pub played_or_refused : PlayedOrRefused
 
--- how a call ends: its status, and what it writes to the output and to the standard error
-pub record CallEnd : Type 0 where
-  pub status : Status
-  pub output : List ℕ
-  pub error : List ℕ
+-- How a call ends: with a status, and what it writes to the output and to the standard error; or it is done with a certificate of
+-- a program, which isn't said.
+pub data CallEnd : Type 0 where
+  wrote : Status → List ℕ → List ℕ → CallEnd
+  bounded : AffineProgram → CallEnd
+
+abbrev pub end_status : CallEnd → Status
+end_status (wrote status output error) = status
+end_status (bounded program) = Done
 
 abbrev pub done_end : List ℕ → CallEnd
-done_end text = record { status = Done; output = text; error = [] }
+done_end text = wrote Done text []
 
 abbrev pub stop_end : Request → Stop → CallEnd
-stop_end request stop = record { status = stop_status stop; output = []; error = stop_line request.program request.second stop }
+stop_end request stop = wrote (stop_status stop) [] (stop_line request.program request.second stop)
 
 abbrev pub words_end : CallEnd
-words_end = record { status = WordsRefused; output = []; error = usage }
+words_end = wrote WordsRefused [] usage
 
 -- ---- phases, the last first
 
@@ -115,6 +119,7 @@ ScheduleEnds s named request program bytes = Phase {X = SchedFault} {Y = List (L
 abbrev pub TextEnds : Work → Request → AffineProgram → List ℕ → CallEnd → Type 0
 TextEnds (judges task) request program bytes = CertificateEnds task request program bytes
 TextEnds (replays s named) request program bytes = ScheduleEnds s named request program bytes
+TextEnds bounds request program bytes = λ end. ⊥
 
 -- a file is missing or too long
 abbrev pub IsAbsent : Option (List ℕ) → ℕ → FileFault → Type 0
@@ -128,11 +133,20 @@ abbrev pub FileEnds : Option (List ℕ) → ℕ → (FileFault → CallEnd) → 
 FileEnds content most ends Onward = Phase (IsAbsent content most) ends
     (λ bytes. (content ≡ Some bytes) × (length bytes ≤ most)) Onward
 
--- the names of the parameters, and the second file
+-- the second file, where there is one
+abbrev pub SecondEnds : FileMap → Work → Request → AffineProgram → CallEnd → Type 0
+SecondEnds map work request program = FileEnds (content_of map request.second) (second_most work) (λ fault. stop_end request (SecondFile fault)) (TextEnds work request program)
+
+abbrev pub WorkEnds : FileMap → Work → Request → AffineProgram → CallEnd → Type 0
+WorkEnds map (judges task) request program end = SecondEnds map (judges task) request program end
+WorkEnds map (replays s named) request program end = SecondEnds map (replays s named) request program end
+WorkEnds map bounds request program end = end ≡ bounded program
+
+-- the names of the parameters, and the work
 abbrev pub NameEnds : FileMap → Request → AffineProgram → CallEnd → Type 0
 NameEnds map request program = Phase {X = ⊤} {Y = ⊤} (λ _. LacksSizes request.work program.parameters) (λ _. stop_end request Words)
     (λ _. HasSizes request.work program.parameters)
-    (λ _. FileEnds (content_of map request.second) (second_most request.work) (λ fault. stop_end request (SecondFile fault)) (TextEnds request.work request program))
+    (λ _. WorkEnds map request.work request program)
 
 -- the program's text
 abbrev pub ProgramEnds : FileMap → Request → List ℕ → CallEnd → Type 0
@@ -211,6 +225,7 @@ text_one : AreExact → (work : Work) (request : Request) (program : AffineProgr
     → TextEnds work request program bytes one → TextEnds work request program bytes other → one ≡ other
 text_one exact (judges task) request program bytes one other ends end = certificate_one exact task request program bytes one other ends end
 text_one exact (replays s named) request program bytes one other ends end = schedule_one exact s named request program bytes one other ends end
+text_one exact bounds request program bytes one other ends end = absurd ends
 
 absent_one : (content : Option (List ℕ)) (most : ℕ) (f g : FileFault) → IsAbsent content most f → IsAbsent content most g → f ≡ g
 absent_one content most Missing Missing absent again = refl
@@ -246,13 +261,24 @@ sizes_apart : (work : Work) (names : List (List ℕ)) → LacksSizes work names 
 sizes_apart (judges checks) names lacks has = lacks
 sizes_apart (judges (evaluates s named)) names lacks has = none_some (values_for names named) has.0 lacks has.1
 sizes_apart (replays s named) names lacks has = none_some (values_for names named) has.0 lacks has.1
+sizes_apart bounds names lacks has = lacks
+
+second_one : AreExact → (map : FileMap) (work : Work) (request : Request) (program : AffineProgram) (one other : CallEnd)
+    → SecondEnds map work request program one → SecondEnds map work request program other → one ≡ other
+second_one exact map work request program =
+    file_one (content_of map request.second) (second_most work) (λ fault. stop_end request (SecondFile fault)) (TextEnds work request program) (text_one exact work request program)
+
+work_one : AreExact → (map : FileMap) (work : Work) (request : Request) (program : AffineProgram) (one other : CallEnd)
+    → WorkEnds map work request program one → WorkEnds map work request program other → one ≡ other
+work_one exact map (judges task) request program one other ends end = second_one exact map (judges task) request program one other ends end
+work_one exact map (replays s named) request program one other ends end = second_one exact map (replays s named) request program one other ends end
+work_one exact map bounds request program one other is does = is ∙ sym does
 
 names_one : AreExact → (map : FileMap) (request : Request) (program : AffineProgram) (one other : CallEnd)
     → NameEnds map request program one → NameEnds map request program other → one ≡ other
 names_one exact map request program = phase_one _ _ _ _ (λ _ _ _ _. refl)
     (λ _ _ lacks has. sizes_apart request.work program.parameters lacks has)
-    (λ _ _ one other _ _. file_one (content_of map request.second) (second_most request.work) (λ fault. stop_end request (SecondFile fault)) (TextEnds request.work request program)
-    (text_one exact request.work request program) one other)
+    (λ _ _ one other _ _. work_one exact map request.work request program one other)
 
 same_fault : (source : List ℕ) (f g : ProgramFault) → HasFault source f → HasFault source g → f ≡ g
 same_fault source f g has again =

@@ -1,5 +1,7 @@
 pub mod Keys
 pub mod Words
+pub mod Notes
+pub mod Made
 pub mod Stops
 pub mod Values
 pub mod Asked

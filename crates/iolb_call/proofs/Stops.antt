@@ -15,7 +15,7 @@ use Rattle.c_grammar.specs.Program.{Means}
 use Rattle.iolb_check.specs.Claims.{CertificateClaim}
 use Rattle.iolb_cert.specs.Texts.{IsTextOf}
 use Rattle.iolb_cert.specs.Read.{WrittenCertificate, IsCertificate}
-use Rattle.command_words.specs.Requests.{Request, Task, checks, evaluates, Work, judges, replays}
+use Rattle.command_words.specs.Requests.{Request, Task, checks, evaluates, Work, judges, replays, bounds}
 use Rattle.command_words.specs.Sizes.{NamedSize, times, value_for, values_for}
 use Rattle.replay_call.specs.Laws.{PlaysAreComplete}
 use Rattle.iolb_check.specs.declared.bound.Value.{Value}
@@ -29,21 +29,23 @@ use Rattle.iolb_call.specs.declared.status.Status.{Status}
 use Rattle.iolb_call.specs.declared.status.Status.TheVariants.{Done, NoMemory, Words as WordsRefused}
 use Rattle.iolb_call.specs.declared.stop.Stop.{Stop}
 use Rattle.iolb_call.specs.declared.stop.Stop.TheVariants.{Words, ProgramFile, ProgramText, SecondFile, CertificateText, Condition, Assumption, Wide, ScheduleText, Unplayed, Memory}
+use Rattle.iolb_call.specs.Bounded.{IsBounded}
 use Rattle.iolb_call.specs.Reading.{IsContent}
 use Rattle.iolb_call.specs.Replays.{moves_at}
 use Rattle.iolb_call.specs.Lines.{out_of_memory}
 use Rattle.iolb_call.specs.Stop.{program_most, certificate_most, HoldsProgram, HoldsCertificate, HoldsValid, IsGoodFor, IsAnswered, IsWorkDone, CertificateStop, SecondStop, TextStop, RequestStop, faults_at, stop_line, stop_status, Call, Stops}
 use Rattle.iolb_call.specs.Task.{IsAnswer, LoadsAtLeast, bound_with}
-use Rattle.iolb_call.specs.Works.{HasSizes, IsReplay}
+use Rattle.iolb_call.specs.Works.{HasSizes}
 use Rattle.iolb_call.specs.Answers.{AnswerStop}
 use Rattle.iolb_call.specs.Judged.{JudgeStop}
-use Rattle.iolb_call.specs.Outcome.{IsBrokenOff, IsDone, IsStopped, Outcome}
+use Rattle.iolb_call.specs.Outcome.{IsBegun, IsBrokenOff, IsDone, IsStopped, Outcome}
 use Rattle.iolb_call.specs.Called.{Finishes}
 use Rattle.iolb_call.specs.Headline.{IsDoneAsAsked, IsPrinted}
-use Rattle.iolb_call.specs.Use.{CallUse, FilesUse, SinkUse, HasOneFaultAtMost, Gains, GainsPart, Stays}
-use Rattle.iolb_call.specs.Written.{HasBegun, IsOfWork, LineWritten, OutputWritten, WantSaid, answer_text}
+use Rattle.iolb_call.specs.Use.{CallUse, FilesUse, SinkUse, FailsWithin, HasOneFaultAtMost, Gains, Stays}
+use Rattle.iolb_call.specs.Written.{HasBegun, HasNote, IsOfWork, LacksNote, LineWritten, OutputWritten, WantSaid, answer_note, answer_text}
 use Rattle.iolb_call.specs.declared.answered.Answer.{Answer}
-use Rattle.iolb_call.specs.declared.answered.Answer.TheVariants.{Text, Lines}
+use Rattle.iolb_call.proofs.Notes.{nothing, nothing_more}
+use Rattle.iolb_call.specs.declared.answered.Answer.TheVariants.{Text, Lines, Bound}
 
 -- ---- requests
 
@@ -69,11 +71,12 @@ stop_result (Err stop) files told request program t there cause =
 
 -- an answer to a request whose program was read
 pub answered_result : (r : Result Answer Stop) (files told : Option FileMap) (request : Request) (program : AffineProgram) → told ≡ files
-    → HoldsProgram files request.program program → IfOk r (λ answer. IsWorkDone told request.second request.work program (answer_text answer)) → IfOk r (λ answer. IsAnswered files request (answer_text answer))
+    → HoldsProgram files request.program program → IfOk r (λ answer. IsWorkDone told request.second request.work program (answer_text answer) (answer_note answer))
+    → IfOk r (λ answer. IsAnswered files request (answer_text answer) (answer_note answer))
 answered_result (Ok answer) files told request program t there good = record {
   program = program;
   holds_program = there;
-  good = subst (λ (o : Option FileMap). IsWorkDone o request.second request.work program (answer_text answer)) t good;
+  good = subst (λ (o : Option FileMap). IsWorkDone o request.second request.work program (answer_text answer) (answer_note answer)) t good;
 }
 answered_result (Err stop) files told request program t there good = tt
 
@@ -84,6 +87,7 @@ text_stop (Ok answer) files request program sizes stop = tt
 text_stop (Err stop) files request program sizes cause = by stop request.work sizes cause where
   by : (stop : Stop) (work : Work) → HasSizes work program.parameters → TextStop files request.second work program stop
       → SecondStop files (record { program = request.program; second = request.second; work = work }) program stop
+  by stop bounds sizes cause = subst (λ (s : Stop). SecondStop files (record { program = request.program; second = request.second; work = bounds }) program s) (sym cause) tt
   by Words (judges task) sizes cause = absurd cause
   by Words (replays s named) sizes cause = absurd cause
   by (ProgramFile fault) (judges task) sizes cause = absurd cause
@@ -106,6 +110,7 @@ pub calm_result : (r : Result Answer Stop) (files : Option FileMap) (name : List
 calm_result (Ok answer) files name work program request faults after same stop = tt
 calm_result (Err stop) files name work program request faults after same cause = by stop work cause where
   by : (stop : Stop) (work : Work) → TextStop files name work program stop → after ≡ faults_at request stop faults
+  by stop bounds cause = subst (λ (s : Stop). after ≡ faults_at request s faults) (sym cause) same
   by Words work cause = same
   by (ProgramFile fault) (judges task) cause = absurd cause
   by (ProgramFile fault) (replays s named) cause = absurd cause
@@ -277,30 +282,50 @@ stopped_outcome call left stop line status stops stays (inr (inl (ends, fails)))
     subst (λ (s : Status). Outcome s call left) (sym ends) (inr (inl (line, inr (stop, stops), stays, fails)))
 stopped_outcome call left stop line status stops stays (inr (inr want)) = wanted call left status stays want
 
--- a replay that was broken off, once the line for want of memory was to be written
+-- an answer that was broken off, once the line for want of memory was to be written
 broken : (call : Call) (left : CallUse) (status : Status) → IsBrokenOff call left.files left.output → WantSaid left.error status → Outcome status call left
 broken call left status off (inl (ends, said)) = subst (λ (s : Status). Outcome s call left) (sym ends) (inr off, said)
-broken call left status off (inr (ends, fails)) = subst (λ (s : Status). Outcome s call left) (sym ends) (inr (inr (off, fails)))
+broken call left status off (inr (ends, fails)) = subst (λ (s : Status). Outcome s call left) (sym ends) (inr (inr (inl (off, fails))))
 
-is_replay : (work : Work) (answer : Answer) (output : SinkUse) → IsOfWork work answer → HasBegun answer output → Stays output ⊎ (IsReplay work × GainsPart output (answer_text answer))
-is_replay (judges task) (Text text) output of begun = inl begun
-is_replay (judges task) (Lines play) output of begun = absurd of
-is_replay (replays s named) (Text text) output of begun = absurd of
-is_replay (replays s named) (Lines play) output of begun = inr (tt, begun)
+begun : (work : Work) (answer : Answer) (output : SinkUse) → IsOfWork work answer → HasBegun answer output → Stays output ⊎ IsBegun work output (answer_text answer)
+begun (judges task) (Text text) output of begins = inl begins
+begun (judges task) (Lines play) output of begins = absurd of
+begun (judges task) (Bound certificate bound) output of begins = absurd of
+begun (replays s named) (Text text) output of begins = absurd of
+begun (replays s named) (Lines play) output of begins = inr begins
+begun (replays s named) (Bound certificate bound) output of begins = absurd of
+begun bounds (Text text) output of begins = absurd of
+begun bounds (Lines play) output of begins = absurd of
+begun bounds (Bound certificate bound) output of begins = begins
 
-begun_outcome : (call : Call) (left : CallUse) (answer : Answer) (status : Status) (done : IsDone call left.files (answer_text answer)) → IsOfWork done.request.work answer
+begun_outcome : (call : Call) (left : CallUse) (answer : Answer) (status : Status) (done : IsDone call left.files (answer_text answer) (answer_note answer)) → IsOfWork done.request.work answer
     → HasBegun answer left.output → WantSaid left.error status → Outcome status call left
-begun_outcome call left answer status done of begun want = by (is_replay done.request.work answer left.output of begun) where
-  by : Stays left.output ⊎ (IsReplay done.request.work × GainsPart left.output (answer_text answer)) → Outcome status call left
+begun_outcome call left answer status done of begins want = by (begun done.request.work answer left.output of begins) where
+  by : Stays left.output ⊎ IsBegun done.request.work left.output (answer_text answer) → Outcome status call left
   by (inl stays) = wanted call left status stays want
-  by (inr (replay, gains)) = broken call left status (record { text = answer_text answer; done = done; replay = replay; begun = gains }) want
+  by (inr gains) = broken call left status (record { text = answer_text answer; note = answer_note answer; done = done; begun = gains }) want
+
+note_gained : (answer : Answer) (error : SinkUse) → HasNote answer error → Gains error (answer_note answer)
+note_gained (Text text) error stays = nothing error stays
+note_gained (Lines play) error stays = nothing error stays
+note_gained (Bound certificate bound) error gains = gains
+
+note_lacks : (answer : Answer) (output error : SinkUse) → LacksNote answer output error → Gains output (answer_text answer) × FailsWithin error (answer_note answer)
+note_lacks (Text text) output error lacks = absurd lacks
+note_lacks (Lines play) output error lacks = absurd lacks
+note_lacks (Bound certificate bound) output error lacks = lacks
 
 -- a call that is done, once its answer was to be written
-pub done_outcome : (call : Call) (left : CallUse) (answer : Answer) (status : Status) (done : IsDone call left.files (answer_text answer)) → IsOfWork done.request.work answer
+pub done_outcome : (call : Call) (left : CallUse) (answer : Answer) (status : Status) (done : IsDone call left.files (answer_text answer) (answer_note answer)) → IsOfWork done.request.work answer
     → OutputWritten left.output left.error answer status → Outcome status call left
-done_outcome call left answer status done of (inl (ends, gains, stays)) = subst (λ (s : Status). Outcome s call left) (sym ends) (answer_text answer, done, gains, stays)
-done_outcome call left answer status done of (inr (inl (ends, fails, stays))) = subst (λ (s : Status). Outcome s call left) (sym ends) (inl (answer_text answer, done, fails, stays))
-done_outcome call left answer status done of (inr (inr (begun, want))) = begun_outcome call left answer status done of begun want
+done_outcome call left answer status done of (inl (ends, gains, noted)) =
+    subst (λ (s : Status). Outcome s call left) (sym ends) (answer_text answer, answer_note answer, done, gains, note_gained answer left.error noted)
+done_outcome call left answer status done of (inr (inl (ends, fails, stays))) =
+    subst (λ (s : Status). Outcome s call left) (sym ends) (inl (answer_text answer, answer_note answer, done, fails, inl stays))
+done_outcome call left answer status done of (inr (inr (inl (ends, lacks)))) =
+    let wrote = note_lacks answer left.output left.error lacks in
+    subst (λ (s : Status). Outcome s call left) (sym ends) (inr (inr (inr (answer_text answer, answer_note answer, done, wrote.0, wrote.1))))
+done_outcome call left answer status done of (inr (inr (inr (begins, want)))) = begun_outcome call left answer status done of begins want
 
 -- ---- status 0
 
@@ -324,9 +349,9 @@ sizes_many names named sizes given =
     (map (λ name. value_for name named) names) sizes given))
     ∙ length-map names (λ name. value_for name named)
 
-printed : PlaysAreComplete → (call : Call) (left : CallUse) (request : Request) (program : AffineProgram) (text : List ℕ) (work : Work) → HoldsProgram call.files request.program program
-    → IsWorkDone call.files request.second work program text → Gains left.output text → IsPrinted call left request work
-printed complete call left request program text (judges task) there good gains = record {
+printed : PlaysAreComplete → (call : Call) (left : CallUse) (request : Request) (program : AffineProgram) (text note : List ℕ) (work : Work) → HoldsProgram call.files request.program program
+    → IsWorkDone call.files request.second work program text note → Gains left.output text → Gains left.error note → IsPrinted call left request work
+printed complete call left request program text note (judges task) there (good, none) gains noted = record {
   program = program;
   holds_program = there;
   certificate = good.valid.certificate;
@@ -337,9 +362,10 @@ printed complete call left request program text (judges task) there good gains =
   text = text;
   answer = good.answer;
   printed = gains;
+  error_stays = nothing_more left.error (subst (λ (n : List ℕ). Gains left.error n) none noted);
   loads_at_least = at_least task program good.values text good.answer good.holds;
 }
-printed complete call left request program text (replays s named) there good gains = record {
+printed complete call left request program text note (replays s named) there (good, none) gains noted = record {
   program = program;
   holds_program = there;
   schedule = good.schedule;
@@ -353,17 +379,29 @@ printed complete call left request program text (replays s named) there good gai
   plays = refl;
   complete = complete program good.schedule good.sizes s good.order good.can;
   printed = subst (λ (t : List ℕ). Gains left.output t) good.printed gains;
+  error_stays = nothing_more left.error (subst (λ (n : List ℕ). Gains left.error n) none noted);
+}
+printed complete call left request program text note bounds there bound gains noted = record {
+  program = program;
+  holds_program = there;
+  certificate = bound.certificate;
+  text = text;
+  text_is = bound.written;
+  values = bound.values;
+  valid = bound.valid;
+  holds = bound.holds;
+  printed = gains;
+  noted = subst (λ (n : List ℕ). Gains left.error n) bound.noted noted;
 }
 
 -- what status 0 says
 pub headline : PlaysAreComplete → (call : Call) (left : CallUse) (status : Status) → Outcome status call left → status ≡ Done → IsDoneAsAsked call left
 headline complete call left status outcome e = said (subst (λ (s : Status). Outcome s call left) e outcome) where
-  said : (text : List ℕ) × IsDone call left.files text × Gains left.output text × Stays left.error → IsDoneAsAsked call left
-  said (text, done, gains, stays) = record {
+  said : Outcome Done call left → IsDoneAsAsked call left
+  said (text, note, done, gains, noted) = record {
     request = done.request;
     asked = done.asked;
-    printed = printed complete call left done.request done.answered.program text done.request.work done.answered.holds_program done.answered.good gains;
-    error_stays = stays;
+    printed = printed complete call left done.request done.answered.program text note done.request.work done.answered.holds_program done.answered.good gains noted;
     read = done.read;
   }
 
@@ -381,14 +419,15 @@ finished_outcome call left status ended faults outcome (inr (done, fails, rose))
     error = left.error;
   }
 
-  cut : (text : List ℕ) × IsDone call left.files text × Gains left.output text × Stays left.error → (after : CallUse) × Outcome ended call after
-  cut (text, is_done, gains, stays) = (
+  cut : Outcome Done call left → (after : CallUse) × Outcome ended call after
+  cut (text, note, is_done, gains, noted) = (
     after,
     subst (λ (s : Status). Outcome s call after) (sym fails)
         (inl (
           text,
+          note,
           is_done,
           (subst (λ (n : ℕ). Rose n faults) gains.1 rose, (length text, gains.0 ∙ ap (append_known left.output.before) (sym (take-length text)))),
-          stays,
+          inr noted,
         )),
   )

@@ -5,9 +5,11 @@ use Rattle.iolb_model.specs.Bound.{IsAdmitted}
 use Rattle.iolb_model.specs.Game.{IsCompletePebbling}
 use Rattle.iolb_model.specs.Graph.{computation_graph}
 use Rattle.iolb_model.specs.Headline.{BoundHolds}
+use Rattle.iolb_model.specs.Printed.{bound_text}
 use Rattle.iolb_model.specs.Program.{AffineProgram}
+use Rattle.iolb_cert.specs.OneCertificate.{HasCertificate}
 use Rattle.iolb_check.specs.Claims.{CertificateClaim}
-use Rattle.command_words.specs.Requests.{Request, Task, Work, judges, replays, request_of}
+use Rattle.command_words.specs.Requests.{Request, Task, Work, judges, replays, bounds, request_of}
 use Rattle.command_words.specs.Sizes.{NamedSize, values_for}
 use Rattle.pebble_replay.specs.Played.{played}
 use Rattle.tile_sched.specs.declared.schedule.Key.{Key}
@@ -39,6 +41,7 @@ pub record IsLowerBoundPrinted (call : Call) (left : CallUse) (request : Request
   pub text : List ℕ
   pub answer : IsAnswer task program values text
   pub printed : Gains left.output text
+  pub error_stays : Stays left.error
   pub loads_at_least : LoadsAtLeast task program values
 
 -- A request to play a schedule. Its first file holds a text that means a program, and the second that of a schedule of it. The
@@ -59,16 +62,32 @@ pub record IsPlayPrinted (call : Call) (left : CallUse) (request : Request) (s :
   pub plays : moves ≡ played (computation_graph program sizes) s order
   pub complete : IsCompletePebbling (computation_graph program sizes) s moves
   pub printed : Gains left.output (play_text moves)
+  pub error_stays : Stays left.error
+
+-- A request for a certificate. Its file holds a text that means a program. The output has gained exactly the text of a
+-- certificate, which meets the conditions for the program, and the standard error exactly the text of its bound, which has the
+-- program's assumptions and for each term the value that the conditions give. The bound holds.
+pub record IsCertificatePrinted (call : Call) (left : CallUse) (request : Request) : Type 0 where
+  pub program : AffineProgram
+  pub holds_program : HoldsProgram call.files request.program program
+  pub certificate : CertificateClaim
+  pub text : List ℕ
+  pub text_is : HasCertificate text certificate
+  pub values : List (List Value)
+  pub valid : MeetsConditions program certificate values
+  pub holds : BoundHolds program (bound_with program values)
+  pub printed : Gains left.output text
+  pub noted : Gains left.error (bound_text program.parameters (bound_with program values))
 
 -- what was asked for
 abbrev pub IsPrinted : Call → CallUse → Request → Work → Type 0
 IsPrinted call left request (judges task) = IsLowerBoundPrinted call left request task
 IsPrinted call left request (replays s named) = IsPlayPrinted call left request s named
+IsPrinted call left request bounds = IsCertificatePrinted call left request
 
--- The words make a request, and what it asks for was printed. Nothing else was written, and no read and no write had a fault.
+-- The words make a request, and what it asks for was printed, with nothing else. No read and no write had a fault.
 pub record IsDoneAsAsked (call : Call) (left : CallUse) : Type 0 where
   pub request : Request
   pub asked : request_of call.words ≡ Some request
   pub printed : IsPrinted call left request request.work
-  pub error_stays : Stays left.error
   pub read : FilesStay left.files

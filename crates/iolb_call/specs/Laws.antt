@@ -5,7 +5,7 @@ use Rattle.iolb_model.specs.Bound.{Bound, IsAdmitted, bound_value}
 use Rattle.iolb_model.specs.Game.{loads}
 use Rattle.iolb_model.specs.Program.{AffineProgram}
 use Rattle.iolb_check.specs.Claims.{CertificateClaim}
-use Rattle.command_words.specs.Requests.{Request, Task, checks, evaluates, judges, replays, request_of}
+use Rattle.command_words.specs.Requests.{Request, Task, checks, evaluates, judges, replays, bounds, request_of}
 use Rattle.command_words.specs.Sizes.{NamedSize, values_for}
 use Rattle.iolb_check.specs.declared.bound.Value.{Value}
 use Rattle.iolb_check.specs.Bounds.{HasWideBranch}
@@ -16,6 +16,7 @@ use Rattle.iolb_call.specs.declared.status.Status.TheVariants.{Done, NoMemory}
 use Rattle.tile_sched.specs.declared.schedule.Key.{Key}
 use Rattle.replay_call.specs.Lines.{play_text}
 use Rattle.replay_call.specs.Plays.{CanBePlayed}
+use Rattle.iolb_call.specs.Bounded.{IsBounded}
 use Rattle.iolb_call.specs.Outcome.{Outcome}
 use Rattle.iolb_call.specs.Replays.{HoldsSchedule}
 use Rattle.iolb_call.specs.Stop.{Call, HoldsCertificate, HoldsProgram}
@@ -33,13 +34,38 @@ pub record IsUndisturbed (left : CallUse) : Type 0 where
 abbrev pub GainSame : SinkUse → SinkUse → Type 0
 GainSame one other = (bytes : List ℕ) × Gains one bytes × Gains other bytes
 
+-- A certificate was printed that meets the conditions for a program: its text to the output, and that of its bound, which holds,
+-- to the standard error.
+pub record PrintsBound (program : AffineProgram) (left : CallUse) : Type 0 where
+  pub text : List ℕ
+  pub note : List ℕ
+  pub bounded : IsBounded program text note
+  pub output : Gains left.output text
+  pub error : Gains left.error note
+
+-- The words ask for a certificate of the program that their file holds, and both times one was printed. (Which one isn't said.)
+pub record BothPrintBounds (call : Call) (one other : CallUse) : Type 0 where
+  pub request : Request
+  pub asked : request_of call.words ≡ Some request
+  pub bounds_it : request.work ≡ bounds
+  pub program : AffineProgram
+  pub holds_program : HoldsProgram call.files request.program program
+  pub first : PrintsBound program one
+  pub second : PrintsBound program other
+
+-- Two calls have written the same bytes, or both are done and have printed certificates of the program of the words.
+abbrev pub WriteAlike : Call → Status → CallUse → CallUse → Type 0
+WriteAlike call status one other =
+    (GainSame one.output other.output × GainSame one.error other.error) ⊎ ((status ≡ Done) × BothPrintBounds call one other)
+
 -- Of a call over files that tell what they hold: two outcomes of which none was disturbed, and none is want of memory, have
--- the same status, and the output and the standard error have gained the same bytes.
+-- the same status, and the output and the standard error have gained the same bytes. Only where a certificate was to be made,
+-- and was, the bytes may differ: both times they are those of a certificate that meets the conditions, and of its bound.
 abbrev pub OutcomesAreOne : Type 0
 OutcomesAreOne = (call : Call) (map : FileMap) (one other : CallUse) (status another : Status) → call.files ≡ Some map
     → Outcome status call one → Outcome another call other → IsUndisturbed one → IsUndisturbed other
     → status ≢ NoMemory → another ≢ NoMemory
-    → (status ≡ another) × GainSame one.output other.output × GainSame one.error other.error
+    → (status ≡ another) × WriteAlike call status one other
 
 -- ---- readable programs and certificates
 
@@ -88,6 +114,14 @@ abbrev pub PlayableSchedulesPass : Type 0
 PlayableSchedulesPass = (call : Call) (request : Request) (s : ℕ) (named : List NamedSize) (program : AffineProgram) (schedule : List (List Key)) (sizes : List ℤ) (order : List ℕ)
     (left : CallUse) (status : Status)
     → ReadsSchedule call request s named program schedule → values_for program.parameters named ≡ Some sizes → CanBePlayed program schedule sizes s order
+    → Outcome status call left → IsUndisturbed left → (status ≡ Done) ⊎ (status ≡ NoMemory)
+
+-- ---- readable programs
+
+-- A call for a certificate of a readable program ends with 0 or for want of memory, where it wasn't disturbed.
+abbrev pub ReadableProgramsHaveCertificates : Type 0
+ReadableProgramsHaveCertificates = (call : Call) (map : FileMap) (request : Request) (program : AffineProgram) (left : CallUse) (status : Status)
+    → call.files ≡ Some map → request_of call.words ≡ Some request → request.work ≡ bounds → HoldsProgram call.files request.program program
     → Outcome status call left → IsUndisturbed left → (status ≡ Done) ⊎ (status ≡ NoMemory)
 
 -- ---- bounds and plays

@@ -9,6 +9,7 @@ pub mod Works
 pub mod Replays
 pub mod Answers
 pub mod Judged
+pub mod Bounded
 pub mod Stop
 pub mod Outcome
 pub mod Written

@@ -3,17 +3,16 @@ use Rattle.std.specs.Prelude.{◌≡◌, ℕ, ◌⊎◌, List, Some}
 use Rattle.iolb_call.specs.declared.status.Status.{Status}
 use Rattle.iolb_call.specs.declared.status.Status.TheVariants.{Done, Refused, Words, ProgramText, OtherText, FileAbsent, ReadFault, WriteFault, Wide, NoMemory}
 use Rattle.iolb_call.specs.declared.stop.Stop.{Stop}
-use Rattle.command_words.specs.Requests.{Request, request_of}
+use Rattle.command_words.specs.Requests.{Request, Work, judges, replays, bounds, request_of}
 use Rattle.iolb_call.specs.Lines.{out_of_memory}
 use Rattle.iolb_call.specs.Stop.{IsAnswered, stop_status, Call, Stops}
 use Rattle.iolb_call.specs.Use.{CallUse, FilesUse, SinkUse, FilesStay, Gains, GainsPart, FailsWithin, Stays}
-use Rattle.iolb_call.specs.Works.{IsReplay}
 
--- the words make a request, this text answers it, and no read had a fault
-pub record IsDone (call : Call) (files : FilesUse) (text : List ℕ) : Type 0 where
+-- the words make a request, this text answers it, with this note for the standard error, and no read had a fault
+pub record IsDone (call : Call) (files : FilesUse) (text note : List ℕ) : Type 0 where
   pub request : Request
   pub asked : request_of call.words ≡ Some request
-  pub answered : IsAnswered call.files request text
+  pub answered : IsAnswered call.files request text note
   pub read : FilesStay files
 
 -- the call stops with this status: its line is written to the standard error, and nothing to the output
@@ -29,22 +28,31 @@ pub record IsStopped (status : Status) (call : Call) (left : CallUse) : Type 0 w
 abbrev pub IsDue : Call → FilesUse → List ℕ → Type 0
 IsDue call files line = (line ≡ out_of_memory) ⊎ ((stop : Stop) × Stops call files stop line)
 
--- A replay was broken off for want of memory: the first of its bytes were written, none, some or all, and no such write failed.
+-- what is written where memory is wanted in mid-answer: of a replay the first bytes, none, some or all, and of the text of a
+-- certificate all, with nothing of its note
+abbrev pub IsBegun : Work → SinkUse → List ℕ → Type 0
+IsBegun (judges task) output text = ⊥
+IsBegun (replays s named) output text = GainsPart output text
+IsBegun bounds output text = Gains output text
+
+-- An answer was broken off for want of memory, and no such write failed.
 pub record IsBrokenOff (call : Call) (files : FilesUse) (output : SinkUse) : Type 0 where
   pub text : List ℕ
-  pub done : IsDone call files text
-  pub replay : IsReplay done.request.work
-  pub begun : GainsPart output text
+  pub note : List ℕ
+  pub done : IsDone call files text note
+  pub begun : IsBegun done.request.work output text
 
--- a write of the answer failed, or one of a line that was due
+-- A write of the answer failed, or handing it on after its note was written; or one of the note behind the whole answer; or one
+-- of a line that was due.
 abbrev pub IsCut : Call → CallUse → Type 0
-IsCut call left = ((text : List ℕ) × IsDone call left.files text × FailsWithin left.output text × Stays left.error)
+IsCut call left = ((text note : List ℕ) × IsDone call left.files text note × FailsWithin left.output text × (Stays left.error ⊎ Gains left.error note))
     ⊎ ((line : List ℕ) × IsDue call left.files line × Stays left.output × FailsWithin left.error line)
     ⊎ (IsBrokenOff call left.files left.output × FailsWithin left.error out_of_memory)
+    ⊎ ((text note : List ℕ) × IsDone call left.files text note × Gains left.output text × FailsWithin left.error note)
 
 -- What each status says. At every other status than that of a failed write no write failed.
 abbrev pub Outcome : Status → Call → CallUse → Type 0
-Outcome Done call left = (text : List ℕ) × IsDone call left.files text × Gains left.output text × Stays left.error
+Outcome Done call left = (text note : List ℕ) × IsDone call left.files text note × Gains left.output text × Gains left.error note
 Outcome Refused call left = IsStopped Refused call left
 Outcome Words call left = IsStopped Words call left
 Outcome ProgramText call left = IsStopped ProgramText call left

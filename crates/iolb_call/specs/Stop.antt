@@ -1,5 +1,5 @@
 -- Why a call of the program stops, with its cause, its line, its status and the fault of a read that it notes.
-use Rattle.std.specs.Prelude.{◌≡◌, ⊤, ℕ, ◌⊎◌, ℤ, List, map, Option, None, Some, String, string_bytes}
+use Rattle.std.specs.Prelude.{◌≡◌, ⊤, ℕ, ◌⊎◌, ℤ, List, [], map, Option, None, Some, String, string_bytes}
 use Rattle.std.specs.Global.{Global}
 use Rattle.iolb_model.specs.Headline.{BoundHolds}
 use Rattle.iolb_model.specs.Program.{AffineProgram}
@@ -8,7 +8,7 @@ use Rattle.affine_c.specs.Meaning.{HasFault}
 use Rattle.iolb_check.specs.Claims.{CertificateClaim}
 use Rattle.iolb_cert.specs.OneCertificate.{HasCertificate}
 use Rattle.iolb_cert.specs.Texts.{IsTextFault}
-use Rattle.command_words.specs.Requests.{Request, Task, Work, judges, replays, request_of}
+use Rattle.command_words.specs.Requests.{Request, Task, Work, judges, replays, bounds, request_of}
 use Rattle.command_words.specs.Sizes.{NamedSize, values_for}
 use Rattle.iolb_check.specs.declared.bound.Value.{Value}
 use Rattle.iolb_host.specs.Faults.{NamedFault, after_fault}
@@ -19,12 +19,13 @@ use Rattle.iolb_call.specs.declared.status.Status.{Status}
 use Rattle.iolb_call.specs.declared.status.Status.TheVariants.{Refused, Words as WordsRefused, ProgramText as ProgramRefused, OtherText, FileAbsent, ReadFault, Wide as WideValue, NoMemory}
 use Rattle.iolb_call.specs.declared.stop.Stop.{Stop}
 use Rattle.iolb_call.specs.declared.stop.Stop.TheVariants.{Words, ProgramFile, ProgramText, SecondFile, CertificateText, Condition, Assumption, Wide, ScheduleText, Unplayed, Memory}
+use Rattle.iolb_call.specs.Bounded.{IsBounded}
 use Rattle.iolb_call.specs.Lines.{usage, out_of_memory, file_line, program_line, certificate_line, schedule_line, condition_line, assumption_line, unplayed_line, wide_line}
 use Rattle.iolb_call.specs.Reading.{IsContent, FaultCause}
 use Rattle.iolb_call.specs.Replays.{HoldsSchedule, IsReplayed, schedule_most}
 use Rattle.iolb_call.specs.Task.{IsAnswer, IsOutside, IsBeyond, bound_with}
 use Rattle.iolb_call.specs.Use.{FilesUse, FilesStay}
-use Rattle.iolb_call.specs.Works.{HasSizes, LacksSizes}
+use Rattle.iolb_call.specs.Works.{HasSecond, HasSizes, LacksSizes}
 use Rattle.iolb_check.specs.Conditions.{MeetsConditions, conditions}
 use Rattle.claims.specs.Claims.{FirstFails}
 use Rattle.tile_sched.specs.declared.schedule.Key.{Key}
@@ -64,21 +65,25 @@ pub record IsGoodFor (files : Option FileMap) (name : List ℕ) (task : Task) (p
   pub answer : IsAnswer task program values text
   pub holds : BoundHolds program (bound_with program values)
 
--- This text answers the work on a program and the file of this name.
-abbrev pub IsWorkDone : Option FileMap → List ℕ → Work → AffineProgram → List ℕ → Type 0
-IsWorkDone files name (judges task) program text = IsGoodFor files name task program text
-IsWorkDone files name (replays s named) program text = IsReplayed files name program s named text
+-- This text answers the work on a program and the file of this name, with this note for the standard error: none but for the
+-- work of making a certificate.
+abbrev pub IsWorkDone : Option FileMap → List ℕ → Work → AffineProgram → List ℕ → List ℕ → Type 0
+IsWorkDone files name (judges task) program text note = IsGoodFor files name task program text × (note ≡ [])
+IsWorkDone files name (replays s named) program text note = IsReplayed files name program s named text × (note ≡ [])
+IsWorkDone files name bounds program text note = IsBounded program text note
 
--- The first file of a request holds a program, and this text answers the request's work on it and the second file.
-pub record IsAnswered (files : Option FileMap) (request : Request) (text : List ℕ) : Type 0 where
+-- The first file of a request holds a program, and this text answers the request's work on it and the second file, with this
+-- note for the standard error.
+pub record IsAnswered (files : Option FileMap) (request : Request) (text note : List ℕ) : Type 0 where
   pub program : AffineProgram
   pub holds_program : HoldsProgram files request.program program
-  pub good : IsWorkDone files request.second request.work program text
+  pub good : IsWorkDone files request.second request.work program text note
 
 -- how many bytes the second file may have
 abbrev pub second_most : Work → ℕ
 second_most (judges task) = certificate_most
 second_most (replays s named) = schedule_most
+second_most bounds = 0
 
 -- Why a certificate in the file of this name isn't answered: its text, then the conditions, then the assumptions, then values
 -- beyond 128 bits.
@@ -115,10 +120,11 @@ ScheduleStop files name s named program (ScheduleText fault) = (bytes : List ℕ
 ScheduleStop files name s named program (Unplayed unplayed) = IsHeldBack files name s named program unplayed
 ScheduleStop files name s named program Memory = ⊤
 
--- why the second file isn't answered once it is read
+-- Why the second file isn't answered once it is read. Where there is none memory alone is wanted.
 abbrev pub TextStop : Option FileMap → List ℕ → Work → AffineProgram → Stop → Type 0
 TextStop files name (judges task) program stop = CertificateStop files name task program stop
 TextStop files name (replays s named) program stop = ScheduleStop files name s named program stop
+TextStop files name bounds program stop = stop ≡ Memory
 
 abbrev pub WorkStop : Option FileMap → Request → AffineProgram → Stop → Type 0
 WorkStop files request program stop = HasSizes request.work program.parameters × TextStop files request.second request.work program stop
@@ -129,7 +135,7 @@ abbrev pub SecondStop : Option FileMap → Request → AffineProgram → Stop �
 SecondStop files request program Words = LacksSizes request.work program.parameters
 SecondStop files request program (ProgramFile fault) = ⊥
 SecondStop files request program (ProgramText fault) = ⊥
-SecondStop files request program (SecondFile fault) = HasSizes request.work program.parameters
+SecondStop files request program (SecondFile fault) = HasSecond request.work × HasSizes request.work program.parameters
     × FaultCause files request.second (second_most request.work) fault
 SecondStop files request program (CertificateText fault) = WorkStop files request program (CertificateText fault)
 SecondStop files request program (Condition failed) = WorkStop files request program (Condition failed)

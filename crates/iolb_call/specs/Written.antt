@@ -1,10 +1,10 @@
 -- What a write at the end of a call leaves.
-use Rattle.std.specs.Prelude.{◌≡◌, ⊤, ℕ, ◌⊎◌, List}
-use Rattle.command_words.specs.Requests.{Work, judges, replays}
+use Rattle.std.specs.Prelude.{◌≡◌, ⊤, ℕ, ◌⊎◌, List, []}
+use Rattle.command_words.specs.Requests.{Work, judges, replays, bounds}
 use Rattle.replay_call.specs.Lines.{play_text}
 use Rattle.replay_call.specs.Plays.{moves_of}
 use Rattle.iolb_call.specs.declared.answered.Answer.{Answer}
-use Rattle.iolb_call.specs.declared.answered.Answer.TheVariants.{Text, Lines}
+use Rattle.iolb_call.specs.declared.answered.Answer.TheVariants.{Text, Lines, Bound}
 use Rattle.iolb_call.specs.declared.status.Status.{Status}
 use Rattle.iolb_call.specs.declared.status.Status.TheVariants.{Done, WriteFault, NoMemory}
 use Rattle.iolb_call.specs.Lines.{out_of_memory}
@@ -14,18 +14,44 @@ use Rattle.iolb_call.specs.Use.{SinkUse, Gains, GainsPart, FailsWithin, Stays}
 abbrev pub answer_text : Answer → List ℕ
 answer_text (Text text) = text.items
 answer_text (Lines play) = play_text (moves_of play)
+answer_text (Bound certificate bound) = certificate.items
 
--- An answer to work is the text for a certificate's task, or the lines of a replay.
+-- what an answer has for the standard error
+abbrev pub answer_note : Answer → List ℕ
+answer_note (Text text) = []
+answer_note (Lines play) = []
+answer_note (Bound certificate bound) = bound.items
+
+-- An answer to work is the text for a certificate's task, the lines of a replay, or the texts of a certificate and its bound.
 abbrev pub IsOfWork : Work → Answer → Type 0
 IsOfWork (judges task) (Text text) = ⊤
 IsOfWork (judges task) (Lines play) = ⊥
+IsOfWork (judges task) (Bound certificate bound) = ⊥
 IsOfWork (replays s named) (Text text) = ⊥
 IsOfWork (replays s named) (Lines play) = ⊤
+IsOfWork (replays s named) (Bound certificate bound) = ⊥
+IsOfWork bounds (Text text) = ⊥
+IsOfWork bounds (Lines play) = ⊥
+IsOfWork bounds (Bound certificate bound) = ⊤
 
--- what is written of an answer where memory is wanted: nothing of a text, and of a play the lines before
+-- What is written of an answer where memory is wanted: nothing of a text, of a play the lines before, and the text of a
+-- certificate or nothing of it.
 abbrev pub HasBegun : Answer → SinkUse → Type 0
 HasBegun (Text text) output = Stays output
 HasBegun (Lines play) output = GainsPart output (play_text (moves_of play))
+HasBegun (Bound certificate bound) output = Stays output ⊎ Gains output certificate.items
+
+-- what is written to the standard error where an answer is written: nothing, or the text of a bound
+abbrev pub HasNote : Answer → SinkUse → Type 0
+HasNote (Text text) error = Stays error
+HasNote (Lines play) error = Stays error
+HasNote (Bound certificate bound) error = Gains error bound.items
+
+-- the write of a bound's text failed, once its certificate was written
+abbrev pub LacksNote : Answer → SinkUse → SinkUse → Type 0
+LacksNote (Text text) output error = ⊥
+LacksNote (Lines play) output error = ⊥
+LacksNote (Bound certificate bound) output error = Gains output certificate.items × FailsWithin error bound.items
 
 -- the line for want of memory was written, or there was no memory for that either, or the write failed
 abbrev pub WantSaid : SinkUse → Status → Type 0
@@ -37,7 +63,9 @@ abbrev pub LineWritten : SinkUse → List ℕ → Status → Status → Type 0
 LineWritten error line wanted status = ((status ≡ wanted) × Gains error line)
     ⊎ ((status ≡ WriteFault) × FailsWithin error line) ⊎ WantSaid error status
 
--- the answer was written to the output, or the write failed, or there was no memory and the standard error says so
+-- The answer was written to the output, and what it has for the standard error; or the first write failed, or the second;
+-- or there was no memory and the standard error says so.
 abbrev pub OutputWritten : SinkUse → SinkUse → Answer → Status → Type 0
-OutputWritten output error answer status = ((status ≡ Done) × Gains output (answer_text answer) × Stays error)
-    ⊎ ((status ≡ WriteFault) × FailsWithin output (answer_text answer) × Stays error) ⊎ (HasBegun answer output × WantSaid error status)
+OutputWritten output error answer status = ((status ≡ Done) × Gains output (answer_text answer) × HasNote answer error)
+    ⊎ ((status ≡ WriteFault) × FailsWithin output (answer_text answer) × Stays error)
+    ⊎ ((status ≡ WriteFault) × LacksNote answer output error) ⊎ (HasBegun answer output × WantSaid error status)

@@ -9,4 +9,9 @@ pub(crate) enum Answer {
     Text(Vec<u8>),
     /// The lines of a play, each by one write.
     Lines(Play),
+    /// The text of a certificate, and for the standard error that of its bound, each by one write.
+    Bound {
+        certificate: Vec<u8>,
+        bound: Vec<u8>,
+    },
 }

@@ -28,7 +28,7 @@ fn stopped<E: Sink>(alloc: Global, program: &str, second: &str, stop: &Stop, err
 }
 
 /// Does what the words after the program's name ask for: `check PROGRAM CERTIFICATE` checks a certificate and prints its
-/// bound, and `eval PROGRAM CERTIFICATE S NAME=NUMBER...` checks it and prints the values of the bound's branches, and its
+/// bound, `bound PROGRAM` makes a certificate and prints it, with its bound on the standard error, and `eval PROGRAM CERTIFICATE S NAME=NUMBER...` checks it and prints the values of the bound's branches, and its
 /// own, with S red pebbles at these sizes of the program's parameters. `replay PROGRAM SCHEDULE S NAME=NUMBER...` plays a
 /// schedule with S red pebbles at these sizes, and prints the moves and how many of them load, store and compute.
 pub fn run<F: Files, O: Sink, E: Sink>(

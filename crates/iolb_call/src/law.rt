@@ -1,6 +1,6 @@
 //! That a call has one outcome, and that bounds are below plays.
 
-ghost use Rattle.iolb_call.specs.Laws.{BoundsAreBelowPlays, OthersNeverPass, OutcomesAreOne, PlayableSchedulesPass, ValidCertificatesPass};
+ghost use Rattle.iolb_call.specs.Laws.{BoundsAreBelowPlays, OthersNeverPass, OutcomesAreOne, PlayableSchedulesPass, ReadableProgramsHaveCertificates, ValidCertificatesPass};
 
 use affine_c::texts_mean_one_program;
 use iolb_cert::{texts_have_one_answer, texts_have_one_certificate};
@@ -10,16 +10,18 @@ use tile_sched::schedules_are_one;
 
 /// A law of `run`'s outcomes, over files that tell what they hold. Two outcomes of one call in which no read and no write
 /// failed, and that aren't want of memory, have the same status, and the output and the standard error have gained the
-/// same bytes. So where the program and the certificate are readable, and the certificate meets the conditions, `check`
+/// same bytes; only where `bound` gives 0 the bytes may be those of another certificate that meets the conditions, and of its
+/// bound. So where the program and the certificate are readable, and the certificate meets the conditions, `check`
 /// gives 0 or 9, and with sizes that meet the assumptions and no wide value `eval` gives 0 or 9; where it doesn't meet
 /// them, neither gives 0. Where the program and the schedule are readable and the schedule can be played at the sizes,
-/// `replay` gives 0 or 9. And where an `eval` and a `replay` about one program, at the same sizes and with as many red pebbles,
+/// `replay` gives 0 or 9. Where the program is readable `bound` gives 0 or 9. And where an `eval` and a `replay` about one program, at the same sizes and with as many red pebbles,
 /// both give 0, the value of the first is at most the loads of the second.
 pub fn outcomes_are_one()
     ensures one { OutcomesAreOne }
     ensures valid { ValidCertificatesPass }
     ensures others { OthersNeverPass }
     ensures playable { PlayableSchedulesPass }
+    ensures bounded { ReadableProgramsHaveCertificates }
     ensures below { BoundsAreBelowPlays }
 {
     texts_mean_one_program();

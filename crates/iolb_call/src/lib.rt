@@ -1,9 +1,10 @@
-//! What `iolb` does when it is called: it checks certificates of lower bounds on the loads of affine loop nests, evaluates
-//! them, and plays schedules of the nests, whose loads are upper bounds.
+//! What `iolb` does when it is called: it makes certificates of lower bounds on the loads of affine loop nests, checks
+//! certificates, evaluates them, and plays schedules of the nests, whose loads are upper bounds.
 #![tactic(auto)]
 
 mod answer;
 mod answered;
+mod bounding;
 mod call;
 mod checking;
 mod law;

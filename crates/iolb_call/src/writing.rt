@@ -21,7 +21,7 @@ pub(crate) fn no_memory<E: Sink>(err: &mut E) -> Status
     }
 }
 
-/// Writes a line to the standard error, and ends with the status.
+/// Writes a line, or lines, to the standard error, and ends with the status.
 pub(crate) fn write_line<E: Sink>(err: &mut E, line: &[u8], status: Status) -> Status
     ensures { LineWritten (sink_use E.written E.faults err.old err.new) line.now status result }
 {
@@ -54,7 +54,23 @@ fn write_play<O: Sink, E: Sink>(alloc: Global, play: Play, out: &mut O, err: &mu
     }
 }
 
-/// Writes an answer to the output.
+/// Writes the text of a certificate to the output, and then that of its bound to the standard error.
+fn write_bound<O: Sink, E: Sink>(
+    out: &mut O,
+    err: &mut E,
+    certificate: Vec<u8>,
+    bound: Vec<u8>,
+) -> Status
+    ensures { OutputWritten (sink_use O.written O.faults out.old out.new) (sink_use E.written E.faults err.old err.new) (Answer.Bound certificate bound) result }
+{
+    match out.put(certificate.as_slice()) {
+        Ok(()) => write_line(err, bound.as_slice(), Status::Done),
+        Err(SinkFault::Failed) => Status::WriteFault,
+        Err(SinkFault::Memory) => no_memory(err),
+    }
+}
+
+/// Writes an answer to the output, and what is due of it to the standard error.
 pub(crate) fn write_answer<O: Sink, E: Sink>(
     alloc: Global,
     answer: Answer,
@@ -66,5 +82,6 @@ pub(crate) fn write_answer<O: Sink, E: Sink>(
     match answer {
         Answer::Text(text) => write_text(out, err, &text),
         Answer::Lines(play) => write_play(alloc, play, out, err),
+        Answer::Bound { certificate, bound } => write_bound(out, err, certificate, bound),
     }
 }

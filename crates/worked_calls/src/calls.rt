@@ -38,14 +38,21 @@ fn last_lines(text: &[u8], count: usize) -> &[u8] {
     text
 }
 
-/// What a call with these words over these files answers: what it wrote to the output and to the standard error, and its
-/// status. Of the output it may have only the last lines.
+/// What a call wrote to the output, and what is printed of it.
+#[derive(Drop)]
+struct Answered {
+    output: Vec<u8>,
+    printed: Vec<u8>,
+}
+
+/// What a call with these words over these files answers. What it wrote to the output is printed, or only the last lines of it,
+/// and what it wrote to the standard error, and its status.
 fn answer(
     alloc: Global,
     scene: &Scene,
     words: &Vec<String>,
     files: BTreeMap<String, Vec<u8>>,
-) -> Result<Vec<u8>, AllocError> {
+) -> Result<Answered, AllocError> {
     let (reads, output, error) = match scene.failing {
         Some(Failing::Read(number)) => (Some(number), None, None),
         Some(Failing::Output(number)) => (None, Some(number), None),
@@ -60,10 +67,11 @@ fn answer(
         Some(count) => last_lines(out.bytes(), count),
         None => out.bytes(),
     };
-    let mut answer = Vec::from_slice(alloc, written)?;
-    answer.extend_from_slice(err.bytes())?;
-    answer.extend_from_slice(format!(in alloc; "status {status}\n")?.as_bytes())?;
-    Ok(answer)
+    let mut printed = Vec::from_slice(alloc, written)?;
+    printed.extend_from_slice(err.bytes())?;
+    printed.extend_from_slice(format!(in alloc; "status {status}\n")?.as_bytes())?;
+    let output = Vec::from_slice(alloc, out.bytes())?;
+    Ok(Answered { output, printed })
 }
 
 /// Writes lengths in a row, and the answer that they have in common.
@@ -96,7 +104,7 @@ fn cut_answer<F: Files>(
     if let Some(bytes) = files.get_mut(name) {
         bytes.truncate(length);
     }
-    answer(alloc, scene, words, files)
+    Ok(answer(alloc, scene, words, files)?.printed)
 }
 
 /// The length of a file without its last byte; 0 where there is none.
@@ -143,7 +151,7 @@ fn call_cut<F: Files>(
 /// Makes the scene's call with the words of a line, and writes what it answers.
 pub(crate) fn call<F: Files>(
     alloc: Global,
-    scene: &Scene,
+    scene: &mut Scene,
     folder: &mut F,
     line: &str,
     transcript: &mut Vec<u8>,
@@ -154,7 +162,8 @@ pub(crate) fn call<F: Files>(
         None => {
             let files = scene.files(folder, words.as_slice())?;
             let answer = answer(alloc, scene, &words, files)?;
-            transcript.extend_from_slice(answer.as_slice())
+            transcript.extend_from_slice(answer.printed.as_slice())?;
+            scene.keep(answer.output)
         }
     }
 }

@@ -128,6 +128,9 @@ fn arrange<F: Files>(
     } else if kind == "last" {
         scene.last = name.parse::<usize>().ok();
         Ok(())
+    } else if kind == "keep" {
+        scene.kept = Some(name.to_string(alloc)?);
+        Ok(())
     } else if kind == "fail" {
         fail(scene, name, rest, transcript)
     } else {

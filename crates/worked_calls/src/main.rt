@@ -18,6 +18,7 @@
 //! - `cut NAME N` cuts a file after N bytes;
 //! - `cuts NAME` repeats the call for each N below the file's length without its last byte, and cuts the file after N bytes;
 //!   lengths in a row with the same answer have it once;
+//! - `keep NAME` makes a file of what the call writes to the output;
 //! - `last N` prints only the last N lines that the call wrote to the output;
 //! - `fail read N`, `fail out N`, `fail err N` let the read or the write of this number fail, counted from 0.
 #![tactic(auto)]

@@ -16,7 +16,8 @@ pub(crate) enum Failing {
 }
 
 /// The files that a script made, and what it arranged for the next call: files as they are edited, the read or the write
-/// that fails, the file that is cut after each of its bytes, and how many lines of the output are printed.
+/// that fails, the file that is cut after each of its bytes, how many lines of the output are printed, and the file that gets
+/// the output.
 #[derive(Drop)]
 pub(crate) struct Scene {
     alloc: Global,
@@ -25,6 +26,7 @@ pub(crate) struct Scene {
     pub(crate) failing: Option<Failing>,
     pub(crate) cuts: Option<String>,
     pub(crate) last: Option<usize>,
+    pub(crate) kept: Option<String>,
 }
 
 impl Scene {
@@ -37,6 +39,7 @@ impl Scene {
             failing: None,
             cuts: None,
             last: None,
+            kept: None,
         }
     }
 
@@ -52,12 +55,24 @@ impl Scene {
         Ok(())
     }
 
+    /// Makes the file that gets the output of a call, where one does.
+    pub(crate) fn keep(&mut self, output: Vec<u8>) -> Result<(), AllocError> {
+        match self.kept.take() {
+            Some(name) => {
+                self.made.insert(name, output)?;
+                Ok(())
+            }
+            None => Ok(()),
+        }
+    }
+
     /// Lets what was arranged for a call go.
     pub(crate) fn clear(&mut self) {
         self.edited = BTreeMap::new(self.alloc);
         self.failing = None;
         self.cuts = None;
         self.last = None;
+        self.kept = None;
     }
 
     /// The bytes of a file, where there is one: as it is edited for the next call, as the script made it, or as it lies in

@@ -1,7 +1,9 @@
 //! Worked cases of what makes certificates: multipliers, counts, source trees, least covers and opening terms that are found, and
-//! projective programs.
+//! projective programs; certificates that are made.
 #![tactic(auto)]
 
+#[cfg(test)]
+mod bound_tests;
 #[cfg(test)]
 mod count_tests;
 #[cfg(test)]

@@ -1,5 +1,5 @@
 use Rattle.iolb_call.proofs.Beside.{bounds_below}
-use Rattle.iolb_call.proofs.One.{outcomes_one, valid_pass, others_never, playable_pass}
+use Rattle.iolb_call.proofs.One.{outcomes_one, valid_pass, others_never, playable_pass, readable_pass}
 use Rattle.iolb_call.proofs.law.outcomes_are_one.Goals as goal
 
 pub returns-clause-one : goal.returns-clause-one
@@ -46,6 +46,20 @@ returns-clause-others c = others_never (record {
 
 pub returns-clause-playable : goal.returns-clause-playable
 returns-clause-playable c = playable_pass (record {
+  one_program = c.texts_mean_one_program.ensures;
+  one_certificate = c.texts_have_one_certificate.ensures;
+  one_answer = c.texts_have_one_answer.ensures;
+  stand = c.answers_are_exact.ensures.stand;
+  one_values = c.answers_are_exact.ensures.one;
+  one_refusal = c.answers_are_exact.ensures.refused;
+  schedules = c.schedules_are_one.ensures.texts;
+  one_order = c.replays_are_one.ensures.orders;
+  one_unplayed = c.replays_are_one.ensures.refusals;
+  played_or_refused = c.replays_are_one.ensures.apart;
+})
+
+pub returns-clause-bounded : goal.returns-clause-bounded
+returns-clause-bounded c = readable_pass (record {
   one_program = c.texts_mean_one_program.ensures;
   one_certificate = c.texts_have_one_certificate.ensures;
   one_answer = c.texts_have_one_answer.ensures;

@@ -1,0 +1,3 @@
+pub mod Trees
+pub mod Accepted
+pub mod Opened
