@@ -11,10 +11,10 @@ mod openings;
 mod outline;
 mod outlined;
 mod outlines;
-mod proposals;
+mod proposed;
 mod undone;
 
 pub use filling::filled;
 pub use openings::opening;
 pub use outline::Outline;
-pub use proposals::candidates;
+pub use proposed::candidates;
