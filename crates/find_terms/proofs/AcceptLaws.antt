@@ -1,55 +1,52 @@
 -- Certificates with the opening branch meet all conditions.
-use Rattle.std.proofs.Common.{◌≡◌, ◌≢◌, refl, sym, ◌∙◌, ap, subst, ℕ, zero, suc, ◌+◌, ◌*◌, ◌<◌, ◌≤◌, Bool, true, false, List, [], ◌∷◌, ◌++◌, length, map, arith, inl, inr}
-use Rattle.std.specs.Prelude.{⊤, ◌==◌, if◌then◌else◌, cond, filter, flat_map, Option, Some, None}
+use Rattle.std.proofs.Common.{◌≡◌, refl, sym, ◌∙◌, ap, subst, ℕ, zero, suc, ◌+◌, ◌<◌, ◌≤◌, Bool, true, false, List, [], ◌∷◌, ◌++◌, length, map, arith}
+use Rattle.std.specs.Prelude.{⊤, ◌==◌, if◌then◌else◌, cond, filter, Option, Some, None}
 use Rattle.std.specs.List.{AllByRecursion}
 use Rattle.std.proofs.lemmas.Bool.{eqb-true, eq-eqb}
 use Rattle.std.proofs.lemmas.List.{length-map}
-use Rattle.base_laws.proofs.Lists.{All-append}
 use Rattle.iolb_model.specs.Form.{AffineForm}
 use Rattle.iolb_model.specs.Program.{AffineProgram}
 use Rattle.affine_form.specs.Rows.{BoundsFit, IsSmallOver}
-use Rattle.affine_program.specs.Parts.{ProgramParts, IsProgram, meaning}
+use Rattle.affine_program.specs.Parts.{ProgramParts, meaning}
 use Rattle.answers.specs.declared.wanted.Wanted.TheVariants.{Short}
 use Rattle.claims.specs.Claims.{AllHold, Claim, numbered}
 use Rattle.claims.specs.declared.place.Step.{Step}
 use Rattle.claims.specs.declared.place.Step.TheVariants.{Key, Index}
-use Rattle.claims.specs.declared.key.TheConstants.{BRANCHES, COLD, DISJOINT, INSIDE, INVERSE, LEAVES, MATRIX, NEST, POINT, READ, SHOWN, STATEMENT, SUMS, TERMS}
+use Rattle.claims.specs.declared.key.TheConstants.{BRANCHES, COLD, LEAVES, NEST, POINT, SUMS, TERMS}
 use Rattle.claims.proofs.Laws.{AllHold-append}
 use Rattle.dep_quast.specs.Claims.{IsFew, pointless_claims}
 use Rattle.dep_quast.specs.Context.{ReadOf, reference_of}
-use Rattle.dep_quast.specs.Tree.{SelectionTree, leaf, blank}
+use Rattle.dep_quast.specs.Tree.{SelectionTree}
 use Rattle.flow_deps.specs.Plain.{IsPlain}
 use Rattle.part_fit.specs.EntryFit.{entry_at}
 use Rattle.part_fit.specs.PartFit.{bounds_at, bounds_fit, form_at, sums_fit}
 use Rattle.part_fit.specs.TreeFit.{trees_fit}
 use Rattle.part_fit.proofs.ReadTrees.{open-many, leaves-many}
 use Rattle.reuse_paths.specs.declared.piece.Target.{Target}
-use Rattle.reuse_paths.specs.declared.piece.Target.TheVariants.{Cell, Instance}
+use Rattle.reuse_paths.specs.declared.piece.Target.TheVariants.{Cell}
 use Rattle.reuse_paths.specs.DisjointClaims.{pairwise_systems, same_target}
-use Rattle.reuse_paths.specs.LeafClaims.{LeafClaim, no_point, stops, is_credited, goes_on, arrives, is_stop, claim_of}
-use Rattle.reuse_paths.specs.OpenLeaves.{OpenLeaf, is_input}
-use Rattle.reuse_paths.specs.Pieces.{FootprintPiece}
+use Rattle.reuse_paths.specs.LeafClaims.{LeafClaim, no_point, stops, is_credited, goes_on, arrives, is_stop}
+use Rattle.reuse_paths.specs.OpenLeaves.{OpenLeaf}
 use Rattle.reuse_paths.specs.Quasts.{tree_at, tree_for, tree_or_blank}
 use Rattle.reuse_paths.specs.TargetPairs.{same_targets, same_in_lists, pairwise_targets}
 use Rattle.reuse_paths.specs.Trees.{rows_claims}
 use Rattle.reuse_paths.proofs.PairCounts.{targets_of}
 use Rattle.wavefront.specs.declared.cold.Cold.{Cold}
-use Rattle.wavefront.specs.ColdPieces.{LeavesAreFew, cold_pieces, leaf_piece, leaves_of, stop_pieces}
+use Rattle.wavefront.specs.ColdPieces.{leaf_piece, leaves_of, stop_pieces}
 use Rattle.wavefront.specs.Leaves.{leaves_claims}
 use Rattle.wavefront.specs.Term.{ColdTerm, instance_point, nest_system, nest_variables}
 use Rattle.wavefront.specs.View.{term_of}
-use Rattle.iolb_check.specs.declared.term.Term.{Term}
 use Rattle.iolb_check.specs.declared.term.Term.TheVariants as terms
 use Rattle.iolb_check.specs.declared.term.Branch.{Branch}
 use Rattle.iolb_check.specs.Claims.{BranchClaim, TermClaim, claim_of_branch, claim_of_term}
 use Rattle.iolb_check.specs.Conditions.{branch_claims, branch_pieces, conditions, disjoint_claims, disjoint_place, term_claims_at, terms_claims, terms_place}
 use Rattle.iolb_check.specs.Fit.{ColdTermFits, HasPieces, TermFits}
-use Rattle.iolb_check.specs.Limits.{IsSmallCold, IsSmallTerm}
-use Rattle.iolb_check.specs.PairFit.{disjoint_fit, term_targets}
+use Rattle.iolb_check.specs.Limits.{IsSmallTerm}
+use Rattle.iolb_check.specs.PairFit.{term_targets}
 use Rattle.iolb_check.specs.TermFit.{branch_fit, cold_back_fit, cold_fit, cold_front_fit, point_fit, term_at}
 use Rattle.iolb_check.proofs.PiecesOf.{pieces-told}
-use Rattle.find_terms.specs.Accepted.{HasPlainTree, OpeningsAreWithinLimits, OpeningsMeetConditions, alone}
-use Rattle.find_terms.specs.Openings.{AreNamed, AreRising, IsFirstOpening, IsOpeningBranch, IsOpeningTerm, array_read, named_loops, opening_outline, reader_of}
+use Rattle.find_terms.specs.Accepted.{HasPlainTree, OpeningsAreWithinLimits, OpeningsMeetConditions}
+use Rattle.find_terms.specs.Openings.{AreNamed, AreRising, IsFirstOpening, IsOpeningTerm, array_read, opening_outline, reader_of}
 use Rattle.find_terms.specs.Outline.{ColdOutline, outline_in}
 use Rattle.find_terms.specs.Entries.{AreEntries}
 use Rattle.find_terms.specs.Shown.{IsShownCold}

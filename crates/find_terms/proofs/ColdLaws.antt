@@ -1,20 +1,18 @@
 -- Cold terms that are shown, by their parts.
-use Rattle.std.proofs.Common.{◌≡◌, refl, sym, ◌∙◌, ap, subst, ℕ, suc, ◌+◌, ◌*◌, ◌<◌, ◌≤◌, List, [], ◌∷◌, ◌++◌, length, map, take, arith, inl, inr}
+use Rattle.std.proofs.Common.{◌≡◌, sym, ◌∙◌, ℕ, suc, ◌*◌, List, [], ◌∷◌, ◌++◌, length, map}
 use Rattle.std.specs.List.{AllByRecursion}
 use Rattle.std.proofs.lemmas.List.{length-map}
-use Rattle.base_laws.proofs.Lists.{All-weaken, All-at}
+use Rattle.base_laws.proofs.Lists.{All-weaken}
 use Rattle.iolb_model.specs.Form.{AffineForm}
 use Rattle.iolb_model.specs.Program.{AffineProgram}
 use Rattle.iolb_model.specs.declared.limits.TheConstants.{NUMBER_SIZE}
 use Rattle.affine_form.specs.Form.{IsSmallForm}
-use Rattle.affine_form.specs.Multipliers.{FarkasMultipliers}
 use Rattle.affine_form.specs.Rows.{BoundsFit, IsSmallOver}
-use Rattle.affine_form.specs.System.{AffineSystem}
 use Rattle.answers.specs.declared.wanted.Wanted.{Wanted}
 use Rattle.answers.specs.declared.wanted.Wanted.TheVariants.{Short}
-use Rattle.answers.specs.Answers.{Answers, AreAnswered, HasShortAnswer, IsAsShort, following}
+use Rattle.answers.specs.Answers.{Answers, HasShortAnswer, following}
 use Rattle.answers.proofs.AnswerLaws.{AreAnswered-length, answers-name, follow-hold, follow-short}
-use Rattle.claims.specs.Claims.{AllHold, Claim, numbered}
+use Rattle.claims.specs.Claims.{AllHold, Claim}
 use Rattle.claims.specs.declared.place.Step.{Step}
 use Rattle.claims.specs.declared.place.Step.TheVariants.{Key}
 use Rattle.claims.specs.declared.key.TheConstants.{INSIDE, LEAVES}
@@ -22,13 +20,12 @@ use Rattle.claims.proofs.Laws.{AllHold-append, AllHold-left, AllHold-right}
 use Rattle.dep_quast.specs.Claims.{IsFew}
 use Rattle.dep_quast.specs.Context.{variables_at}
 use Rattle.dep_quast.specs.Tree.{SelectionTree}
-use Rattle.domain_count.specs.Claims.{SumClaims}
 use Rattle.domain_count.specs.CountClaims.{count_claims}
 use Rattle.domain_count.proofs.Claimed.{claims-count, count-claims}
 use Rattle.flow_deps.proofs.ShownLeaves.{within_rows-length}
 use Rattle.affine_program.specs.Domain.{path_of, depth_of}
 use Rattle.affine_form.specs.Rows.{variables_from}
-use Rattle.part_fit.specs.Limits.{AreSmall, AreSmallBounds, NameRows}
+use Rattle.part_fit.specs.Limits.{AreSmallBounds}
 use Rattle.reuse_paths.specs.LeafClaims.{LeafClaim, claim_of}
 use Rattle.reuse_paths.specs.OpenLeaves.{OpenLeaf, TestsFit}
 use Rattle.wavefront.specs.declared.cold.Cold.{Cold}
@@ -36,11 +33,10 @@ use Rattle.wavefront.specs.ColdClaims.{cold_claims, matrix_claims}
 use Rattle.wavefront.specs.ColdPieces.{leaves_of}
 use Rattle.wavefront.specs.Inverse.{AreUndone}
 use Rattle.wavefront.specs.Leaves.{inside_claims, term_leaves}
-use Rattle.wavefront.specs.Loads.{ColdFits}
 use Rattle.wavefront.specs.Term.{ColdTerm, cell_forms, inside_goals, nest_system, nest_variables}
 use Rattle.wavefront.specs.View.{term_of}
 use Rattle.wavefront.proofs.InverseClaims.{hold-undone, undone-hold}
-use Rattle.find_terms.specs.Counted.{AreCounted, CountPasses}
+use Rattle.find_terms.specs.Counted.{AreCounted}
 use Rattle.find_terms.specs.Entries.{AreClosed}
 use Rattle.find_terms.specs.Outline.{ColdOutline, OutlineFits, bare, outline_in}
 use Rattle.find_terms.specs.Shown.{IsShownCold}

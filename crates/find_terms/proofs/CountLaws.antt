@@ -1,6 +1,6 @@
 -- Counts of nests, as they are found.
-use Rattle.std.proofs.Common.{◌≡◌, refl, sym, ◌∙◌, ap, subst, ℕ, zero, suc, ◌+◌, ◌<◌, ◌≤◌, List, [], ◌∷◌, ◌++◌, length, map, take, get_or, arith, inl, inr}
-use Rattle.std.specs.Prelude.{Option, Some, None}
+use Rattle.std.proofs.Common.{◌≡◌, refl, sym, ◌∙◌, ap, subst, ℕ, suc, ◌+◌, ◌<◌, List, [], ◌∷◌, ◌++◌, length, take, get_or, arith}
+use Rattle.std.specs.Prelude.{None}
 use Rattle.std.specs.List.{AllByRecursion}
 use Rattle.std.proofs.lemmas.List.{length-append, get_or_default}
 use Rattle.base_laws.proofs.Lists.{All-append, All-at}
@@ -9,9 +9,9 @@ use Rattle.iolb_model.specs.Program.{AffineProgram}
 use Rattle.affine_form.specs.Multipliers.{FarkasMultipliers}
 use Rattle.answers.specs.declared.wanted.Wanted.{Wanted}
 use Rattle.answers.specs.declared.wanted.Wanted.TheVariants.{Short}
-use Rattle.answers.specs.Answers.{AreAnswered, Answers, HasNoShort, HasShortAnswer, IsAnswered, IsAsShort, Question, following}
+use Rattle.answers.specs.Answers.{AreAnswered, Answers, HasNoShort, IsAnswered, IsAsShort, Question, following}
 use Rattle.answers.proofs.AnswerLaws.{answers-name}
-use Rattle.claims.specs.Claims.{AllHold, Claim, numbered}
+use Rattle.claims.specs.Claims.{AllHold, numbered}
 use Rattle.claims.specs.declared.place.Step.{Step}
 use Rattle.dep_quast.specs.Claims.{IsFew}
 use Rattle.domain_count.specs.Count.{AreShownBelow, ShowsRange, bounds_at, multipliers_at, range_goal, rows_before}

@@ -1,5 +1,5 @@
 -- Entries that close leaves, and what is claimed at leaves.
-use Rattle.std.proofs.Common.{◌≡◌, refl, sym, ◌∙◌, ap, subst, ℕ, zero, suc, ◌+◌, ◌<◌, ◌≤◌, Bool, true, false, List, [], ◌∷◌, ◌++◌, length, map, take, get_or, arith}
+use Rattle.std.proofs.Common.{◌≡◌, refl, sym, ◌∙◌, ap, subst, ℕ, zero, suc, ◌+◌, ◌<◌, Bool, true, false, List, [], ◌∷◌, ◌++◌, length, map, take, get_or, arith}
 use Rattle.std.specs.List.{AllByRecursion}
 use Rattle.std.proofs.lemmas.List.{map-append, take_more}
 use Rattle.iolb_model.specs.Form.{AffineForm}
@@ -17,7 +17,7 @@ use Rattle.reuse_paths.specs.declared.leaf.Leaf.{Leaf}
 use Rattle.reuse_paths.specs.LeafClaims.{LeafClaim, no_point, stops, is_credited, goes_on, arrives, claim_of}
 use Rattle.reuse_paths.specs.OpenLeaves.{OpenLeaf, is_input}
 use Rattle.wavefront.specs.Leaves.{leaves_claims}
-use Rattle.find_terms.specs.Entries.{AreClosed, AreEntries, Closes, IsEntry, IsEntryAsShort, system_at}
+use Rattle.find_terms.specs.Entries.{AreClosed, AreEntries, Closes, IsEntryAsShort, system_at}
 
 -- ---- one leaf
 

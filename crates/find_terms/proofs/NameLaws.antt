@@ -1,5 +1,5 @@
 -- The loops that subscripts name.
-use Rattle.std.proofs.Common.{◌≡◌, ◌≢◌, refl, sym, ◌∙◌, ap, subst, ℕ, zero, suc, ◌+◌, ◌<◌, ◌≤◌, Bool, true, false, List, [], ◌∷◌, ◌++◌, length, map, filter, take, drop, replicate, get_or, arith, inl, inr}
+use Rattle.std.proofs.Common.{◌≡◌, ◌≢◌, refl, sym, ◌∙◌, ap, subst, ℕ, zero, suc, ◌+◌, ◌<◌, ◌≤◌, Bool, true, false, List, [], ◌∷◌, ◌++◌, length, map, filter, take, replicate, get_or, arith, inl, inr}
 use Rattle.std.specs.Prelude.{◌⊎◌, nat_eq, slice_set, ◌||◌, cond, flat_map, T}
 use Rattle.std.proofs.Math.Dec.{eqb, eqb_refl}
 use Rattle.std.proofs.lemmas.Bool.{eqb-true}
@@ -13,7 +13,6 @@ use Rattle.std.proofs.lemmas.List.FromFn.{length-range_with_len, map-range_with_
 use Rattle.base_laws.proofs.Lists.{All-push, All-read}
 use Rattle.iolb_model.specs.Form.{AffineForm}
 use Rattle.iolb_model.specs.Program.{AffineProgram}
-use Rattle.affine_form.specs.Rows.{variable}
 use Rattle.affine_program.specs.Domain.{depth_of}
 use Rattle.dep_quast.specs.Context.{ReadOf, reference_of, variables_at}
 use Rattle.flow_deps.specs.Candidates.{loop_variable}

@@ -1,10 +1,10 @@
 -- Nests of the loops that are named, loop after loop.
-use Rattle.std.proofs.Common.{◌≡◌, refl, sym, ◌∙◌, ap, subst, ℕ, zero, suc, ◌+◌, ◌*◌, ◌-◌, ◌<◌, ◌≤◌, Bool, true, false, List, [], ◌∷◌, ◌++◌, length, map, filter, drop, replicate, get_or, arith, lit<}
+use Rattle.std.proofs.Common.{◌≡◌, sym, ◌∙◌, ap, subst, ℕ, suc, ◌+◌, ◌*◌, ◌-◌, ◌<◌, ◌≤◌, Bool, true, false, List, [], ◌∷◌, ◌++◌, length, map, filter, drop, replicate, get_or, arith, lit<}
 use Rattle.std.specs.Prelude.{if◌then◌else◌, cond, flat_map, nat_eq}
 use Rattle.std.specs.List.{AllByRecursion, range_with_len}
-use Rattle.std.proofs.Math.IntN.{ℤ, pos}
+use Rattle.std.proofs.Math.IntN.{pos}
 use Rattle.std.proofs.lemmas.List.{length-append, length-map}
-use Rattle.base_laws.proofs.Lists.{All-append, All-map, All-push, All-replicate, All-weaken, rest_at}
+use Rattle.base_laws.proofs.Lists.{All-append, All-push, All-replicate, All-weaken, rest_at}
 use Rattle.iolb_model.specs.Form.{AffineForm}
 use Rattle.iolb_model.specs.Path.{PathStep, rises}
 use Rattle.iolb_model.specs.Program.{AffineProgram}
@@ -14,7 +14,7 @@ use Rattle.affine_form.specs.Rows.{BoundsFit, IsSmallOver, step_of, variable, wi
 use Rattle.affine_form.proofs.RowLemmas.{length-widened}
 use Rattle.answers.proofs.AnswerLaws.{All-left, All-right}
 use Rattle.flow_deps.proofs.PointLaws.{variable-small}
-use Rattle.part_fit.specs.Limits.{AreSmall, AreSmallBounds}
+use Rattle.part_fit.specs.Limits.{AreSmall}
 use Rattle.find_terms.specs.Found.{FarFits, IsSmallNest}
 use Rattle.find_terms.specs.Openings.{NestSoFar, at_values, into_loop, is_named, nest_along, same_loop, width, with_first, with_variable}
 

@@ -1,28 +1,24 @@
 -- Plain trees of one read have the same leaves.
 use Rattle.std.proofs.Common.{◌≡◌, refl, sym, ◌∙◌, ap, subst, inl, inr, ℕ, List, [], ◌∷◌, ◌++◌, length, map}
 use Rattle.std.specs.Prelude.{⊤}
-use Rattle.std.specs.List.{AllByRecursion}
 use Rattle.iolb_model.specs.Form.{AffineForm}
 use Rattle.iolb_model.specs.Program.{AffineProgram}
 use Rattle.iolb_model.specs.declared.limits.TheConstants.{TREE_TESTS}
 use Rattle.answers.specs.declared.wanted.Wanted.{Wanted}
-use Rattle.answers.specs.declared.wanted.Wanted.TheVariants.{Short}
-use Rattle.claims.specs.Claims.{AllHold, Claim}
-use Rattle.claims.specs.declared.place.Step.{Step}
+use Rattle.claims.specs.Claims.{AllHold}
 use Rattle.claims.specs.declared.place.Step.TheVariants.{Key}
 use Rattle.claims.specs.declared.key.TheConstants.{LEAVES}
 use Rattle.dep_quast.specs.Context.{ReadOf, variables_at}
-use Rattle.dep_quast.specs.Tree.{Leaf, source, input, empty, blank, SelectionTree, leaf, test}
+use Rattle.dep_quast.specs.Tree.{source, input, empty, blank, SelectionTree, leaf, test}
 use Rattle.domain_count.specs.CountClaims.{count_claims}
 use Rattle.flow_deps.specs.declared.candidate.Candidate.{Candidate}
 use Rattle.flow_deps.specs.declared.candidate.Candidate.TheVariants.{NoWrite, SameTurn, TurnBefore}
 use Rattle.flow_deps.specs.Candidates.{Shape, shape_of, no_write, last_write, other, split, candidate_shape, candidates}
 use Rattle.flow_deps.specs.Plain.{IsFirstShown, IsPlain, Stands}
-use Rattle.reuse_paths.specs.LeafClaims.{LeafClaim}
 use Rattle.reuse_paths.specs.OpenLeaves.{OpenLeaf, TestsFit, as_input, form_at, no_at, open_leaves, written}
 use Rattle.reuse_paths.proofs.OpenLeaves.{tests-fit}
 use Rattle.wavefront.specs.declared.cold.Cold.{Cold}
-use Rattle.wavefront.specs.ColdClaims.{cold_claims, matrix_claims}
+use Rattle.wavefront.specs.ColdClaims.{matrix_claims}
 use Rattle.wavefront.specs.Leaves.{inside_claims, leaves_claims}
 use Rattle.wavefront.specs.Term.{ColdTerm, instance_point, nest_system, nest_variables}
 use Rattle.wavefront.specs.View.{term_of}

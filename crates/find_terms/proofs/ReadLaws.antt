@@ -1,17 +1,17 @@
 -- Reads in their order, and their arrays.
-use Rattle.std.proofs.Common.{◌≡◌, refl, sym, ◌∙◌, ap, subst, ℕ, zero, suc, ◌+◌, ◌<◌, ◌≤◌, Bool, true, false, List, [], ◌∷◌, ◌++◌, length, map, get_or, arith, inl, inr}
-use Rattle.std.specs.Prelude.{◌⊎◌, Contains, Option, Some, None, IsSomeAnd, slice_get}
+use Rattle.std.proofs.Common.{◌≡◌, refl, sym, ◌∙◌, ap, subst, ℕ, zero, suc, ◌+◌, ◌<◌, ◌≤◌, List, [], ◌∷◌, ◌++◌, length, map, arith, inl, inr}
+use Rattle.std.specs.Prelude.{◌⊎◌, Contains, Option, None, IsSomeAnd, slice_get}
 use Rattle.std.specs.List.{AllByRecursion}
 use Rattle.std.proofs.lemmas.List.{length-append, length-map, map-append}
-use Rattle.base_laws.proofs.Lists.{All-append, All-at, All-push, All-weaken}
-use Rattle.iolb_model.specs.Program.{Access, AccessFits, AffineProgram, Array, IsWellFormed, read_at, statement_at, no_statement}
+use Rattle.base_laws.proofs.Lists.{All-at, All-push, All-weaken}
+use Rattle.iolb_model.specs.Program.{AccessFits, AffineProgram, Array, IsWellFormed, statement_at, no_statement}
 use Rattle.dep_quast.specs.Context.{ReadOf, reference_of}
 use Rattle.dep_quast.specs.Truth.{ReadFits}
 use Rattle.dep_quast.proofs.Fits.{fits-at}
 use Rattle.affine_program.specs.Domain.{depth_of}
 use Rattle.wavefront.specs.declared.cold.Cold.{Cold}
 use Rattle.find_terms.specs.Found.{FindsFirst, HasNoEarlier}
-use Rattle.find_terms.specs.Openings.{AreOpenings, AreRising, HasPlainRead, IsEarlierRead, IsFirstOpening, IsPlainRead, array_read, reader_of}
+use Rattle.find_terms.specs.Openings.{AreOpenings, AreRising, HasPlainRead, IsEarlierRead, IsFirstOpening, IsPlainRead, array_read}
 use Rattle.iolb_model.specs.declared.limits.TheConstants.{TERMS}
 
 -- ---- the order of reads
@@ -132,28 +132,28 @@ module _ (program : AffineProgram) where
     -- or that has a term
     pub openings-more : (cold : Cold) (more : List Cold) → length colds < TERMS → array_read program cold ≡ end → IsFirstOpening program cold → more ≡ colds ++ cold ∷ [] → AreOpeningsTo (end + 1) more
     openings-more cold more room reads first pushed = subst (AreOpeningsTo (end + 1)) (sym pushed) (
-      let arrays : List ℕ = map (array_read program) colds in
-      let pushed_arrays : map (array_read program) (colds ++ cold ∷ []) ≡ arrays ++ array_read program cold ∷ [] = map-append (array_read program) colds (cold ∷ []) in
-      record {
-        each = All-push (IsFirstOpening program) colds cold h.each first;
-        order = subst AreRising (sym pushed_arrays)
-            (rising-push arrays (array_read program cold) h.order (remap colds (subst (λ (n : ℕ). AllByRecursion (λ (c : Cold). array_read program c < n) colds) (sym reads) h.below)));
-        below = All-push (λ (c : Cold). array_read program c < end + 1) colds cold wider (omega (arith, reads));
-        few = omega (arith, length-append colds (cold ∷ []), room);
-        all = λ array less has. inl (subst (λ (ns : List ℕ). Contains ns array) (sym pushed_arrays) (elim (cases array end less) [
-          | inl before ↦ contains-left arrays (array_read program cold ∷ []) array (contained array before has)
-          | inr here ↦ subst (Contains (arrays ++ array_read program cold ∷ [])) (reads ∙ sym here) (contains-last arrays (array_read program cold))
-        ]));
-      }) where
-        remap : (cs : List Cold) → AllByRecursion (λ (c : Cold). array_read program c < array_read program cold) cs → AllByRecursion (λ (m : ℕ). m < array_read program cold) (map (array_read program) cs)
-        remap [] g = tt
-        remap (c ∷ cs) g = (g.0, remap cs g.1)
+        let arrays : List ℕ = map (array_read program) colds in
+        let pushed_arrays : map (array_read program) (colds ++ cold ∷ []) ≡ arrays ++ array_read program cold ∷ [] = map-append (array_read program) colds (cold ∷ []) in
+        record {
+          each = All-push (IsFirstOpening program) colds cold h.each first;
+          order = subst AreRising (sym pushed_arrays)
+              (rising-push arrays (array_read program cold) h.order (remap colds (subst (λ (n : ℕ). AllByRecursion (λ (c : Cold). array_read program c < n) colds) (sym reads) h.below)));
+          below = All-push (λ (c : Cold). array_read program c < end + 1) colds cold wider (omega (arith, reads));
+          few = omega (arith, length-append colds (cold ∷ []), room);
+          all = λ array less has. inl (subst (λ (ns : List ℕ). Contains ns array) (sym pushed_arrays) (elim (cases array end less) [
+            | inl before ↦ contains-left arrays (array_read program cold ∷ []) array (contained array before has)
+            | inr here ↦ subst (Contains (arrays ++ array_read program cold ∷ [])) (reads ∙ sym here) (contains-last arrays (array_read program cold))
+          ]));
+        }) where
+          remap : (cs : List Cold) → AllByRecursion (λ (c : Cold). array_read program c < array_read program cold) cs → AllByRecursion (λ (m : ℕ). m < array_read program cold) (map (array_read program) cs)
+          remap [] g = tt
+          remap (c ∷ cs) g = (g.0, remap cs g.1)
 
-        contained : (array : ℕ) → array < end → HasPlainRead program array → Contains (map (array_read program) colds) array
-        contained array before has = elim (h.all array before has) [
-          | inl there ↦ there
-          | inr full ↦ absurd (omega (arith, room, full.0))
-        ]
+          contained : (array : ℕ) → array < end → HasPlainRead program array → Contains (map (array_read program) colds) array
+          contained array before has = elim (h.all array before has) [
+            | inl there ↦ there
+            | inr full ↦ absurd (omega (arith, room, full.0))
+          ]
 
 -- all arrays
 pub openings-all : (program : AffineProgram) (end : ℕ) (colds : List Cold) → IsWellFormed program → length program.arrays ≤ end → AreOpeningsTo program end colds → AreOpenings program colds

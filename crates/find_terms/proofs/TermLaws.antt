@@ -1,9 +1,8 @@
 -- Opening terms, as they are found.
-use Rattle.std.proofs.Common.{◌≡◌, refl, sym, ◌∙◌, ap, subst, ℕ, ◌+◌, ◌<◌, ◌≤◌, List, [], length, arith, inl, inr}
+use Rattle.std.proofs.Common.{◌≡◌, sym, ◌∙◌, ap, subst, ℕ, ◌+◌, ◌≤◌, List, [], length, arith}
 use Rattle.std.specs.Prelude.{Option, Some, None}
-use Rattle.std.specs.List.{range_with_len}
 use Rattle.iolb_model.specs.Program.{AffineProgram}
-use Rattle.iolb_model.specs.declared.limits.TheConstants.{NEST_VARIABLES, SCALE}
+use Rattle.iolb_model.specs.declared.limits.TheConstants.{NEST_VARIABLES}
 use Rattle.affine_program.specs.Domain.{path_of, depth_of}
 use Rattle.answers.specs.declared.wanted.Wanted.TheVariants.{Short}
 use Rattle.dep_quast.specs.Context.{ReadOf, reference_of, variables_at}
@@ -16,7 +15,7 @@ use Rattle.wavefront.specs.declared.cold.Cold.{Cold}
 use Rattle.wavefront.specs.View.{term_of}
 use Rattle.find_terms.specs.Counted.{CountPasses}
 use Rattle.find_terms.specs.Found.{FarFits, FindsRead, FindsTerm, HasNoEarlier, IsSmallNest}
-use Rattle.find_terms.specs.Openings.{AreNamed, HasOpeningOutline, IsEarlierRead, IsFirstOpening, IsOpeningTerm, IsPlainRead, NestSoFar, array_read, is_named, named_loops, named_nest, opening_outline, reader_of}
+use Rattle.find_terms.specs.Openings.{AreNamed, HasOpeningOutline, IsEarlierRead, IsFirstOpening, IsOpeningTerm, IsPlainRead, array_read, named_loops, named_nest, opening_outline, reader_of}
 use Rattle.find_terms.specs.Outline.{ColdOutline, OutlineFits, outline_in}
 use Rattle.find_terms.specs.Shown.{FindsCold, IsShownCold}
 use Rattle.find_terms.proofs.NameLaws.{named-many, named-same}

@@ -9,14 +9,14 @@ use Rattle.flow_deps.specs.Plain.{IsPlain}
 use Rattle.part_fit.specs.Limits.{IsSmallTree}
 use Rattle.part_fit.specs.TreeFit.{trees_fit}
 use Rattle.reuse_paths.specs.declared.quasts.Quasts.{Quasts}
-use Rattle.reuse_paths.specs.Quasts.{tree_for, trees_of}
+use Rattle.reuse_paths.specs.Quasts.{tree_for}
 use Rattle.reuse_paths.specs.Trees.{rows_claims}
 use Rattle.iolb_check.specs.declared.term.Term.{Term}
 use Rattle.iolb_check.specs.declared.term.Term.TheVariants as terms
 use Rattle.iolb_check.specs.declared.term.Branch.{Branch}
 use Rattle.iolb_check.specs.Claims.{CertificateClaim, claim_of_branch}
 use Rattle.iolb_check.specs.Conditions.{conditions}
-use Rattle.iolb_check.specs.Limits.{CertificateParts, IsWithinLimits}
+use Rattle.iolb_check.specs.Limits.{IsWithinLimits}
 use Rattle.find_terms.specs.Openings.{IsOpeningBranch, reader_of}
 
 -- the tree of a cold term's read is plain

@@ -1,21 +1,19 @@
 -- What is found on the way to opening terms.
-use Rattle.std.specs.Prelude.{◌≡◌, ℕ, suc, ◌+◌, ◌<◌, ◌≤◌, List, length, map, Option, Some, None, Vec}
+use Rattle.std.specs.Prelude.{◌≡◌, ℕ, ◌<◌, ◌≤◌, List, length, Option, Some, None, Vec}
 use Rattle.std.specs.Global.{Global}
 use Rattle.std.specs.List.{AllByRecursion}
 use Rattle.iolb_model.specs.Form.{AffineForm}
-use Rattle.iolb_model.specs.Path.{PathStep}
-use Rattle.iolb_model.specs.Program.{AffineProgram, statement_at}
+use Rattle.iolb_model.specs.Program.{AffineProgram}
 use Rattle.affine_form.specs.Rows.{BoundsFit, IsSmallOver}
-use Rattle.affine_program.specs.Domain.{path_of, depth_of}
+use Rattle.affine_program.specs.Domain.{depth_of}
 use Rattle.dep_quast.specs.Context.{ReadOf, reference_of}
 use Rattle.flow_deps.specs.Candidates.{loop_variable}
 use Rattle.part_fit.specs.Limits.{AreSmall, AreSmallBounds}
 use Rattle.wavefront.specs.declared.cold.Cold.{Cold}
-use Rattle.wavefront.specs.View.{term_of}
 use Rattle.find_terms.specs.declared.nests.SoFar.{SoFar}
 use Rattle.find_terms.specs.declared.outline.Outline.{Outline}
-use Rattle.find_terms.specs.Outline.{ColdOutline, OutlineFits, outline_in, outline_of}
-use Rattle.find_terms.specs.Openings.{AreNamed, HasOpeningOutline, IsEarlierRead, IsFirstOpening, IsOpeningTerm, IsPlainRead, NestSoFar, array_read, into_loop, named_nest, opening_outline, reader_of, width}
+use Rattle.find_terms.specs.Outline.{OutlineFits, outline_of}
+use Rattle.find_terms.specs.Openings.{AreNamed, HasOpeningOutline, IsEarlierRead, IsFirstOpening, IsOpeningTerm, IsPlainRead, NestSoFar, array_read, opening_outline, reader_of, width}
 
 -- ---- loops
 

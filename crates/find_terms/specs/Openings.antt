@@ -16,7 +16,6 @@ use Rattle.flow_deps.specs.Candidates.{loop_variable}
 use Rattle.flow_deps.specs.Plain.{IsPlain}
 use Rattle.wavefront.specs.declared.cold.Cold.{Cold}
 use Rattle.wavefront.specs.View.{term_of}
-use Rattle.iolb_check.specs.declared.term.Term.{Term}
 use Rattle.iolb_check.specs.declared.term.Term.TheVariants as terms
 use Rattle.iolb_check.specs.declared.term.Branch.{Branch}
 use Rattle.find_terms.specs.Counted.{CountPasses}

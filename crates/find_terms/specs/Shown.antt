@@ -1,5 +1,5 @@
 -- Cold terms that are shown over a source tree.
-use Rattle.std.specs.Prelude.{◌≡◌, ℕ, Bool, true, false, ⊤, List, [], ◌∷◌, length, map, Option, Some, None}
+use Rattle.std.specs.Prelude.{◌≡◌, List, length, map, Option, Some, None}
 use Rattle.std.specs.List.{AllByRecursion}
 use Rattle.iolb_model.specs.Program.{AffineProgram}
 use Rattle.answers.specs.declared.wanted.Wanted.{Wanted}

@@ -52,12 +52,7 @@ pub(crate) fn counted(
 
 /// Whether a nest's polynomials are within the limits of certificates, and each uses the parameters and the variables up
 /// to its own.
-fn are_polynomials(
-    alloc: Global,
-    params: usize,
-    nest: &Nest,
-    sums: &[Poly],
-) -> Result<bool, Memory>
+fn are_polynomials(alloc: Global, params: usize, nest: &Nest, sums: &[Poly]) -> Result<bool, Memory>
     requires few { params ≤ PARAMETERS }
     ensures { IfOk result (λ yes. IsTrue yes ↔ ArePolynomials params nest.now sums.now) }
 {

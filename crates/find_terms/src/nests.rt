@@ -41,12 +41,7 @@ fn bounds_at(program: &Program, statement: u16, level: usize) -> &(Form, Form)
 }
 
 /// A bound of the next loop at the values so far.
-fn at_values(
-    alloc: Global,
-    program: &Program,
-    far: &SoFar,
-    bound: &Form,
-) -> Result<Form, Memory>
+fn at_values(alloc: Global, program: &Program, far: &SoFar, bound: &Form) -> Result<Form, Memory>
     requires few { length far.now.values.items < LOOPS }
     requires far { FarFits (meaning program.now) (length far.now.values.items) (so_far far.now) }
     requires bound { IsSmallOver (length program.now.params + length far.now.values.items) bound.now }

@@ -55,12 +55,7 @@ fn instance_of(alloc: Global, program: &Program, outline: &Outline) -> Result<Ve
 }
 
 /// Forms with forms put in for their variables.
-fn put_all(
-    alloc: Global,
-    vars: usize,
-    forms: &[Form],
-    point: &[Form],
-) -> Result<Vec<Form>, Memory>
+fn put_all(alloc: Global, vars: usize, forms: &[Form], point: &[Form]) -> Result<Vec<Form>, Memory>
     requires few { vars ≤ VARIABLES }
     requires few_forms { length point.now ≤ VARIABLES }
     requires over { AllByRecursion (IsSmallOver (length point.now)) forms.now }

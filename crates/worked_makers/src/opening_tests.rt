@@ -93,7 +93,10 @@ fn opening_terms_are_known(rt: HostRuntime) -> Result<(), Fail> {
             b"#pragma scop\nfor (k = 0; k < K; k++) { for (i = 0; i < N; i++) s += x[i]; for (i = 0; i < N; i++) x[i] = x[i] * s; }\n#pragma endscop\n",
             b"0/1 N\n",
         ),
-        (b"#pragma scop\nx = 1; x = 2; y = x;\n#pragma endscop\n", b"none"),
+        (
+            b"#pragma scop\nx = 1; x = 2; y = x;\n#pragma endscop\n",
+            b"none",
+        ),
     ];
     for (lines, wanted) in cases {
         let text = opening_text(alloc, lines)?;

@@ -1,5 +1,4 @@
-use Rattle.std.proofs.Common.{◌≡◌, sym, ◌∙◌, ap, subst, Bool, true, false, ℕ, List, ◌++◌, ◌∷◌, [], length}
-use Rattle.std.specs.Prelude.{Option}
+use Rattle.std.proofs.Common.{◌≡◌, ap, subst, true, false, ℕ, List, ◌++◌, ◌∷◌, [], length}
 use Rattle.claims.specs.Claims.{AllHold, Claim}
 use Rattle.claims.specs.declared.place.Step.{Step}
 use Rattle.claims.specs.declared.place.Step.TheVariants.{Key}

@@ -1,11 +1,9 @@
-use Rattle.std.proofs.Common.{◌≡◌, sym, ◌∙◌, ap, subst, Bool, true, false, ℕ, List, length, inl, inr}
+use Rattle.std.proofs.Common.{◌≡◌, ap, subst, Bool, true, false, List, inl}
 use Rattle.std.specs.Prelude.{None, Err}
 use Rattle.iolb_model.specs.Form.{AffineForm}
 use Rattle.affine_program.specs.Parts.{meaning}
-use Rattle.nest_sums.specs.Made.{AreMade}
-use Rattle.poly_tree.specs.Poly.{Quotient}
-use Rattle.find_terms.specs.Counted.{AreCounted, ArePolynomials, AreRanges, FindsRanges}
-use Rattle.find_terms.proofs.CountLaws.{counted-some, first-none, ranges-none}
+use Rattle.find_terms.specs.Counted.{FindsRanges}
+use Rattle.find_terms.proofs.CountLaws.{first-none, ranges-none}
 use Rattle.find_terms.proofs.counted.counted.Goals as goal
 
 clash : (b : Bool) → b ≡ false → b ≡ true → ⊥

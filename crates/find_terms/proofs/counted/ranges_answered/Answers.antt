@@ -1,11 +1,10 @@
-use Rattle.std.proofs.Common.{◌≡◌, refl, sym, ◌∙◌, ap, subst, ℕ, ◌+◌, ◌<◌, ◌≤◌, List, [], ◌∷◌, length, take, get_or, arith}
+use Rattle.std.proofs.Common.{refl, ℕ, ◌+◌, List, [], ◌∷◌, length, take}
 use Rattle.affine_program.specs.Parts.{meaning}
 use Rattle.answers.specs.Answers.{Answers, HasNoShort, Question, following}
 use Rattle.answers.proofs.AnswerLaws.{found-none, found-some}
 use Rattle.domain_count.specs.Count.{range_goal, rows_before}
 use Rattle.domain_count.proofs.BoundsFit.{BoundsFit-read}
 use Rattle.nest_sums.proofs.RangeLemmas.{BoundsFit-take}
-use Rattle.find_terms.specs.Counted.{AreRanges}
 use Rattle.find_terms.proofs.CountLaws.{range-not, ranges-more}
 use Rattle.find_terms.proofs.counted.ranges_answered.Goals as goal
 

@@ -1,4 +1,4 @@
-use Rattle.std.proofs.Common.{◌≡◌, sym, subst, ℕ, ◌<◌, List, length, map, arith}
+use Rattle.std.proofs.Common.{subst, ℕ, List, map}
 use Rattle.std.proofs.lemmas.List.{take_all}
 use Rattle.answers.specs.declared.wanted.Wanted.TheVariants.{Short}
 use Rattle.iolb_model.specs.Form.{AffineForm}

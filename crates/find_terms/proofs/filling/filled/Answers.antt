@@ -1,4 +1,4 @@
-use Rattle.std.proofs.Common.{◌≡◌, refl, sym, ◌∙◌, ap, subst, Bool, true, false, ℕ, List, length, map}
+use Rattle.std.proofs.Common.{◌≡◌, refl, sym, subst, Bool, true, false, List, length, map}
 use Rattle.affine_program.specs.Parts.{meaning}
 use Rattle.answers.specs.declared.wanted.Wanted.TheVariants.{Short}
 use Rattle.answers.specs.Answers.{Answers, HasNoShort, Question, following}

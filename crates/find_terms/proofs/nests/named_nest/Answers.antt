@@ -1,11 +1,10 @@
-use Rattle.std.proofs.Common.{◌≡◌, refl, sym, ◌∙◌, ap, subst, ℕ, ◌+◌, ◌<◌, Bool, List, length, drop, arith}
+use Rattle.std.proofs.Common.{◌≡◌, refl, sym, ◌∙◌, subst, ℕ, ◌+◌, ◌<◌, Bool, List, length, drop, arith}
 use Rattle.iolb_model.specs.Path.{PathStep}
 use Rattle.affine_form.specs.Rows.{step_of}
 use Rattle.affine_program.specs.Domain.{path_of}
 use Rattle.affine_program.specs.Parts.{meaning}
-use Rattle.dep_quast.specs.Views.{read_of}
 use Rattle.find_terms.specs.Found.{FarFits, FindsNest, IsSmallNest, so_far}
-use Rattle.find_terms.specs.Openings.{NestSoFar, into_loop, is_named, named_nest, nest_along}
+use Rattle.find_terms.specs.Openings.{NestSoFar, into_loop, is_named}
 use Rattle.find_terms.proofs.NestLaws.{along-next, along-small}
 use Rattle.find_terms.proofs.nests.named_nest.Goals as goal
 

@@ -4,7 +4,7 @@ use Rattle.affine_form.specs.Form.{variables, IsSmallForm}
 use Rattle.affine_form.specs.Rows.{variable, widened}
 use Rattle.affine_program.specs.Parts.{meaning}
 use Rattle.find_terms.specs.Found.{FarFits, so_far}
-use Rattle.find_terms.specs.Openings.{NestSoFar, at_values, width, with_variable}
+use Rattle.find_terms.specs.Openings.{NestSoFar, at_values, width}
 use Rattle.find_terms.proofs.NestLaws.{variable-fits, variable-made}
 use Rattle.iolb_model.specs.declared.limits.TheConstants.{NUMBER_SIZE}
 use Rattle.find_terms.proofs.nests.with_variable.Goals as goal

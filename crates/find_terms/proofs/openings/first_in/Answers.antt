@@ -1,4 +1,4 @@
-use Rattle.std.proofs.Common.{◌≡◌, sym, ◌∙◌, ap, subst, ℕ, ◌+◌, ◌<◌, ◌≤◌, List, length, get_or, arith}
+use Rattle.std.proofs.Common.{◌≡◌, sym, ◌∙◌, ap, subst, ℕ, List, length, get_or, arith}
 use Rattle.std.proofs.lemmas.List.{length-map}
 use Rattle.iolb_model.specs.Program.{Statement as ModelStatement, statement_at}
 use Rattle.affine_program.specs.declared.statement.Statement.{Statement}

@@ -1,4 +1,4 @@
-use Rattle.std.proofs.Common.{◌≡◌, sym, ◌∙◌, ap, subst, ℕ, ◌+◌, ◌<◌, ◌≤◌, length, arith}
+use Rattle.std.proofs.Common.{subst, ◌+◌}
 use Rattle.affine_program.specs.Parts.{meaning}
 use Rattle.dep_quast.specs.Context.{ReadOf}
 use Rattle.find_terms.specs.Found.{FindsFirst}

@@ -1,4 +1,4 @@
-use Rattle.std.proofs.Common.{length, arith}
+use Rattle.std.proofs.Common.{arith}
 use Rattle.affine_program.specs.Parts.{meaning}
 use Rattle.find_terms.proofs.ReadLaws.{openings-empty}
 use Rattle.find_terms.proofs.openings.opening.Goals as goal

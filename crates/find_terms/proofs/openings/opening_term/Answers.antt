@@ -1,5 +1,4 @@
-use Rattle.std.proofs.Common.{◌≡◌, sym, subst, ℕ, List}
-use Rattle.std.specs.Prelude.{MatchOption, Option, Some, None, IfOk}
+use Rattle.std.proofs.Common.{subst}
 use Rattle.affine_program.specs.Parts.{meaning}
 use Rattle.answers.specs.declared.wanted.Wanted.TheVariants.{Short}
 use Rattle.answers.proofs.AnswerLaws.{found-none, found-some}
@@ -8,9 +7,8 @@ use Rattle.dep_quast.specs.Context.{ReadOf}
 use Rattle.dep_quast.specs.Tree.{SelectionTree, tree_of}
 use Rattle.dep_quast.specs.Views.{read_of}
 use Rattle.flow_deps.specs.Plain.{IsPlain}
-use Rattle.wavefront.specs.declared.cold.Cold.{Cold}
 use Rattle.find_terms.specs.Found.{FindsOutline, FindsTerm}
-use Rattle.find_terms.specs.Outline.{ColdOutline, outline_of}
+use Rattle.find_terms.specs.Outline.{outline_of}
 use Rattle.find_terms.specs.Shown.{FindsCold}
 use Rattle.find_terms.proofs.TermLaws.{outline-tests, term-found}
 use Rattle.find_terms.proofs.openings.opening_term.Goals as goal

@@ -1,4 +1,4 @@
-use Rattle.std.proofs.Common.{◌≡◌, sym, ◌∙◌, ap, subst, ℕ, ◌+◌, ◌<◌, ◌≤◌, List, length, arith}
+use Rattle.std.proofs.Common.{sym, ◌∙◌, ap, subst, ℕ, ◌+◌, List, length, arith}
 use Rattle.std.proofs.lemmas.List.{length-map}
 use Rattle.affine_program.specs.Parts.{array_of, meaning, statement_of}
 use Rattle.dep_quast.specs.Context.{ReadOf}

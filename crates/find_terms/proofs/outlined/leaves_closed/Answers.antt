@@ -1,4 +1,4 @@
-use Rattle.std.proofs.Common.{◌≡◌, sym, ◌∙◌, ap, subst, ℕ, ◌+◌, ◌≤◌, List, [], ◌++◌, length}
+use Rattle.std.proofs.Common.{◌≡◌, sym, ◌∙◌, ap, subst, ℕ, ◌≤◌, List, [], ◌++◌, length}
 use Rattle.std.specs.Prelude.{IfOk}
 use Rattle.std.specs.List.{AllByRecursion}
 use Rattle.iolb_model.specs.Form.{AffineForm}
@@ -10,7 +10,7 @@ use Rattle.domain_count.specs.Count.{rows_before}
 use Rattle.reuse_paths.specs.OpenLeaves.{OpenLeaf, TestsFit, open_leaves}
 use Rattle.reuse_paths.proofs.OpenLeaves.{reader-few, open-over}
 use Rattle.wavefront.specs.ColdPieces.{leaves_of}
-use Rattle.wavefront.specs.Term.{ColdTerm, instance_point, nest_system, nest_variables}
+use Rattle.wavefront.specs.Term.{ColdTerm, nest_system, nest_variables}
 use Rattle.find_terms.specs.Entries.{FindsEntries}
 use Rattle.find_terms.specs.Outline.{bare, outline_of}
 use Rattle.find_terms.proofs.outlined.leaves_closed.Goals as goal

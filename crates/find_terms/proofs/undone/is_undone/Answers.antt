@@ -16,8 +16,8 @@ returns-then-not-row_agrees c =
     let there : row < c.args.inverse.now.matrix.rows = omega (arith, c.loop-row-test.true, c.requires.rows) in (
       λ is. absurd (clash false refl is),
       λ undone. absurd (clash c.row_agrees.result c.if-not-row_agrees.true (c.row_agrees.ensures.1 (λ col m.
-      ap (λ (l : List ℤ). dot l (coefficients_at (c.args.parameters + col) c.args.forms.now)) c.entries_of-entries.ensures.entries
-      ∙ sym (entry_is c.args.inverse.now.matrix c.args.parameters row col c.args.forms.now there) ∙ undone row col c.loop-row-test.true m))),
+          ap (λ (l : List ℤ). dot l (coefficients_at (c.args.parameters + col) c.args.forms.now)) c.entries_of-entries.ensures.entries
+          ∙ sym (entry_is c.args.inverse.now.matrix c.args.parameters row col c.args.forms.now there) ∙ undone row col c.loop-row-test.true m))),
     )
 
 cases : (r n : ℕ) → r < n + 1 → (r ≡ n) ⊎ (r < n)
