@@ -64,8 +64,7 @@ module _ (program : AffineProgram) (scope : Scope) (well : IsWellFormed program)
         let forms : List Claim = forms_fit (variables_at program reader) (place ++ Key POINT ∷ []) claim.point in
         let last : List Claim = names (place ++ Key STATEMENT ∷ []) claim.statement (length program.statements) ∷ [] in
         let point : AllHold (so_many (place ++ Key POINT ∷ []) (length claim.point) (depth_of program claim.statement) ∷ []) = (h.there.point, tt) in
-        let each : AllHold lists =
-        (
+        let each : AllHold lists = (
           h.lists.before ∙ before-many claim h.there.statement h.there.level h.there.point,
           (
             h.lists.between ∙ between-many program reader (context program reader tests) claim,

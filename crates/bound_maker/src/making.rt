@@ -35,11 +35,7 @@ pub fn made(alloc: Global, program: &Program) -> Result<Accepted, Memory>
 }
 
 /// The same with another number of bytes than 64 MiB.
-pub fn made_within(
-    alloc: Global,
-    program: &Program,
-    most: usize,
-) -> Result<Accepted, Memory>
+pub fn made_within(alloc: Global, program: &Program, most: usize) -> Result<Accepted, Memory>
     ensures accepted { IfOk result (IsAccepted program.now) }
     ensures opening { IfOk result (λ accepted. BeginsWithOpening (meaning program.now) accepted.certificate.branches) }
 {
@@ -55,11 +51,7 @@ pub fn made_within(
 }
 
 /// Source trees, those of written arrays blank but for the ones that the opening branch names.
-fn short_trees(
-    alloc: Global,
-    program: &Program,
-    opening: &Option<Branch>,
-) -> Result<Quasts, Memory>
+fn short_trees(alloc: Global, program: &Program, opening: &Option<Branch>) -> Result<Quasts, Memory>
     ensures { IfOk result (λ quasts. HasTreesFor (meaning program.now) opening.now (trees_of quasts)) }
 {
     match opening {

@@ -73,12 +73,7 @@ fn is_within(program: &Program, reader: Reader, scope: Scope<'_>) -> bool
 }
 
 /// The source tree of a read.
-fn tree(
-    alloc: Global,
-    program: &Program,
-    reader: Reader,
-    scope: Scope<'_>,
-) -> Result<Quast, Memory>
+fn tree(alloc: Global, program: &Program, reader: Reader, scope: Scope<'_>) -> Result<Quast, Memory>
     requires { ReadFits (meaning program.now) (read_of reader) }
     ensures { IfOk result (λ quast. IsSourceTree (meaning program.now) scope.entry (read_of reader) (tree_of quast)) }
 {
