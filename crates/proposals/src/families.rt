@@ -3,7 +3,7 @@
 use crate::affine::Affine;
 use crate::coordinates::Coordinates;
 use crate::entries::{Words, Work};
-use crate::facts::Facts;
+use crate::facts::{Facts, Origin, ReadFacts};
 use crate::labels::{Draft, Way, drafted};
 use crate::numbers::{narrow, short};
 use crate::walks::{Made, begun, family};
@@ -136,8 +136,18 @@ fn draft_of(
     Ok(None)
 }
 
+/// Whether each instance reads an input cell of its own, so that no word is used twice.
+fn is_used_once(depth: usize, read: &ReadFacts, loops: &[u8]) -> bool {
+    let inputs = read
+        .leaves
+        .as_slice()
+        .iter()
+        .all(|leaf| matches!(leaf.origin, Origin::Input));
+    inputs && loops.len() == depth
+}
+
 /// The first read of a statement that has a family with these coordinates, among those whose subscripts are in just these loops,
-/// or among the others.
+/// or among the others. A read of words that are used once has none.
 fn draft_among(
     alloc: Global,
     facts: &Facts,
@@ -157,7 +167,8 @@ fn draft_among(
             own.depth(),
             read.access.subs.as_slice(),
         )?;
-        if (loops.as_slice() == set) == is_named {
+        let is_apt = (loops.as_slice() == set) == is_named;
+        if is_apt && !is_used_once(own.depth(), read, loops.as_slice()) {
             let found = draft_of(
                 alloc,
                 facts,

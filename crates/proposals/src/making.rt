@@ -43,7 +43,33 @@ fn placed(mut all: Vec<Candidate>, candidate: Candidate) -> Result<Vec<Candidate
     Ok(all)
 }
 
-/// What is proposed for each statement in at least two loops, over its loops and over skewed coordinates, strongest first.
+/// What is proposed for a statement, over its loops or over skewed coordinates, whichever is the stronger.
+fn candidate_of(
+    alloc: Global,
+    program: &Program,
+    facts: &Facts,
+    statement: u16,
+) -> Result<Option<Candidate>, Memory> {
+    let mut best: Option<Candidate> = None;
+    for kind in [Coordinates::Loops, Coordinates::Skewed] {
+        if let Some(proposed) = partition(alloc, program, facts, kind, statement, &[])? {
+            let is_stronger = match &best {
+                Some(other) => strength(&proposed) > strength(&other.proposed),
+                None => true,
+            };
+            if is_stronger {
+                best = Some(Candidate {
+                    statement,
+                    kind,
+                    proposed,
+                });
+            }
+        }
+    }
+    Ok(best)
+}
+
+/// What is proposed for each statement in at least two loops, strongest first.
 fn candidates_of(
     alloc: Global,
     program: &Program,
@@ -51,20 +77,9 @@ fn candidates_of(
 ) -> Result<Vec<Candidate>, Memory> {
     let mut all = Vec::new(alloc);
     for (number, statement) in facts.statements.as_slice().iter().enumerate() {
-        let number = short(number);
         if statement.depth() > 1 {
-            for kind in [Coordinates::Loops, Coordinates::Skewed] {
-                let found = partition(alloc, program, facts, kind, number, &[])?;
-                if let Some(proposed) = found {
-                    all = placed(
-                        all,
-                        Candidate {
-                            statement: number,
-                            kind,
-                            proposed,
-                        },
-                    )?;
-                }
+            if let Some(candidate) = candidate_of(alloc, program, facts, short(number))? {
+                all = placed(all, candidate)?;
             }
         }
     }
