@@ -7,17 +7,9 @@ use Rattle.iolb_host.specs.Files.{FileMap}
 use Rattle.command_words.specs.Sizes.{NamedSize, values_for}
 use Rattle.pebble_replay.specs.Played.{played}
 use Rattle.tile_sched.specs.declared.schedule.Key.{Key}
-use Rattle.tile_sched.specs.Texts.{IsTextOf}
 use Rattle.replay_call.specs.Lines.{play_text}
-use Rattle.replay_call.specs.Plays.{IsPlayOf, IsUnplayed, Setting, moves_of}
-use Rattle.replay_call.specs.declared.unplayed.Unplayed.{Unplayed as NoPlay}
-use Rattle.iolb_call.specs.Reading.{IsContent}
-use Rattle.iolb_call.specs.Replays.{HoldsSchedule, IsReplayed, schedule_most}
-use Rattle.iolb_call.specs.Stop.{IsHeldBack}
-
-pub schedule_there : (files : Option FileMap) (name : List ℕ) (program : AffineProgram) (bytes : List ℕ) (schedule : List (List Key)) → IsContent files name schedule_most bytes → IsTextOf program bytes schedule
-    → HoldsSchedule files name program schedule
-schedule_there files name program bytes schedule content has = record { bytes = bytes; content = content; has = has }
+use Rattle.replay_call.specs.Plays.{IsPlayOf, Setting, moves_of}
+use Rattle.iolb_call.specs.Replays.{HoldsSchedule, IsReplayed}
 
 -- a play answers a replay
 pub replayed : (files : Option FileMap) (name : List ℕ) (program : AffineProgram) (s : ℕ) (named : List NamedSize) (schedule : List (List Key)) (sizes : List ℤ) (play : Setting) → HoldsSchedule files name program schedule
@@ -31,8 +23,3 @@ replayed files name program s named schedule sizes play held given is = record {
   can = is.can;
   printed = ap (λ (graph : ComputationGraph). play_text (played graph play.s play.order)) is.graph ∙ ap (λ (n : ℕ). play_text (played (computation_graph program sizes) n play.order)) is.pebbles;
 }
-
--- what keeps it from being played stops one
-pub held_back : (files : Option FileMap) (name : List ℕ) (program : AffineProgram) (s : ℕ) (named : List NamedSize) (schedule : List (List Key)) (sizes : List ℤ) (unplayed : NoPlay) → HoldsSchedule files name program schedule
-    → values_for program.parameters named ≡ Some sizes → IsUnplayed program schedule sizes s unplayed → IsHeldBack files name s named program unplayed
-held_back files name program s named schedule sizes unplayed held given cause = (schedule, held, sizes, given, cause)
