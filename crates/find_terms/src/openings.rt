@@ -74,7 +74,11 @@ fn first_in(
 }
 
 /// The opening term of an array's first plain read. None only where it has none.
-fn first_of(alloc: Global, program: &Program, array: usize) -> Result<Option<Cold>, Memory>
+pub(crate) fn first_of(
+    alloc: Global,
+    program: &Program,
+    array: usize,
+) -> Result<Option<Cold>, Memory>
     ensures { IfOk result (λ found. FindsFirst (meaning program.now) array (record { statement = length program.now.statements; read = 0 }) found) }
 {
     for statement in 0..program.statements().len() {

@@ -1,27 +1,36 @@
 //! The terms of a program.
 
-use crate::apart::apart;
-use crate::coordinates::Coordinates;
-use crate::entries::Words;
-use crate::facts::{Facts, facts_of};
-use crate::numbers::short;
-use crate::terms::{Proposed, partition, strength};
+use affine_facts::facts::{Facts, facts_of};
+use affine_facts::numbers::short;
+use affine_facts::words::{Words, apart, two_apart};
 use affine_form::{Memory, Multipliers};
 use affine_program::Program;
 use iolb_model::limits;
 use k_partition::Partition;
+use partition_proposals::{Coordinates, Proposed, partition, strength};
 use reuse_paths::Quasts;
 use std::alloc::Global;
+use wavefront::Wavefront;
+use wavefront_proposals::wavefronts;
 
-/// Terms for one branch, and multipliers which show that no two of them count a word that the other counts.
-#[derive(Debug, Drop)]
+/// A term that is proposed.
+#[derive(Drop)]
+pub enum ProposedTerm {
+    Partition(Partition),
+    Wavefront(Wavefront),
+}
+
+/// Terms for one branch, multipliers which show that no two of them count a word that the other counts, and the arrays of which
+/// they count cells.
+#[derive(Drop)]
 pub struct Proposal {
-    pub terms: Vec<Partition>,
+    pub terms: Vec<ProposedTerm>,
     pub disjoint: Vec<Multipliers>,
+    pub arrays: Vec<u16>,
 }
 
 /// A proposal of a statement over some coordinates.
-#[derive(Debug, Drop)]
+#[derive(Drop)]
 struct Candidate {
     statement: u16,
     kind: Coordinates,
@@ -86,44 +95,130 @@ fn candidates_of(
     Ok(all)
 }
 
-/// Several terms together, each of another statement and with words of its own, strongest first.
-fn together(
+/// Terms for one branch, and their words.
+#[derive(Drop)]
+struct Gathered {
+    terms: Vec<ProposedTerm>,
+    taken: Vec<Vec<Words>>,
+}
+
+/// Partition terms of different statements with different words, strongest first.
+fn partitions(
     alloc: Global,
     program: &Program,
     facts: &Facts,
     candidates: &[Candidate],
-) -> Result<Option<Proposal>, Memory> {
+) -> Result<Gathered, Memory> {
     let mut terms = Vec::new(alloc);
     let mut taken: Vec<Vec<Words>> = Vec::new(alloc);
-    let mut used: Vec<u16> = Vec::new(alloc);
     for candidate in candidates {
-        let number = candidate.statement;
-        if terms.len() < limits::TERMS && !used.as_slice().contains(&number) {
-            let found = partition(
-                alloc,
-                program,
-                facts,
-                candidate.kind,
-                number,
-                taken.as_slice(),
-            )?;
+        if terms.len() < limits::TERMS {
+            let (kind, number) = (candidate.kind, candidate.statement);
+            let found = partition(alloc, program, facts, kind, number, taken.as_slice())?;
             if let Some(proposed) = found {
-                terms.push(proposed.term)?;
+                terms.push(ProposedTerm::Partition(proposed.term))?;
                 taken.push(proposed.words)?;
-                used.push(number)?;
             }
         }
     }
-    if terms.len() < 2 {
+    Ok(Gathered { terms, taken })
+}
+
+/// Whether words are shown to be none of those that are taken.
+fn is_apart(
+    alloc: Global,
+    facts: &Facts,
+    taken: &[Vec<Words>],
+    words: &[Words],
+) -> Result<bool, Memory> {
+    for some in taken {
+        let none = Vec::new(alloc);
+        if two_apart(alloc, facts, some.as_slice(), words, none)?.is_none() {
+            return Ok(false);
+        }
+    }
+    Ok(true)
+}
+
+/// The wavefront terms whose words aren't taken, behind other terms.
+fn with_wavefronts(
+    alloc: Global,
+    program: &Program,
+    facts: &Facts,
+    gathered: Gathered,
+) -> Result<Gathered, Memory> {
+    let Gathered {
+        mut terms,
+        mut taken,
+    } = gathered;
+    for proposed in wavefronts(alloc, program, facts)? {
+        if terms.len() < limits::TERMS {
+            let words = proposed.words.as_slice();
+            if is_apart(alloc, facts, taken.as_slice(), words)? {
+                terms.push(ProposedTerm::Wavefront(proposed.term))?;
+                taken.push(proposed.words)?;
+            }
+        }
+    }
+    Ok(Gathered { terms, taken })
+}
+
+/// The arrays of which words are cells.
+fn arrays_of(alloc: Global, taken: &[Vec<Words>]) -> Result<Vec<u16>, Memory> {
+    let mut arrays = Vec::new(alloc);
+    for some in taken {
+        for words in some.as_slice() {
+            if words.of_cells {
+                arrays.push(words.target)?;
+            }
+        }
+    }
+    Ok(arrays)
+}
+
+/// Terms as a proposal, where there are some, and their words are shown to differ.
+fn proposal_of(
+    alloc: Global,
+    facts: &Facts,
+    gathered: Gathered,
+) -> Result<Option<Proposal>, Memory> {
+    let Gathered { terms, taken } = gathered;
+    if terms.is_empty() {
         return Ok(None);
     }
     match apart(alloc, facts, taken.as_slice())? {
-        Some(disjoint) => Ok(Some(Proposal { terms, disjoint })),
+        Some(disjoint) => Ok(Some(Proposal {
+            terms,
+            disjoint,
+            arrays: arrays_of(alloc, taken.as_slice())?,
+        })),
         None => Ok(None),
     }
 }
 
-/// Partition terms: several with different words together, where there are such, then each by itself, strongest first.
+/// Wavefront terms with different words together.
+fn fronts(alloc: Global, program: &Program, facts: &Facts) -> Result<Option<Proposal>, Memory> {
+    let none = Gathered {
+        terms: Vec::new(alloc),
+        taken: Vec::new(alloc),
+    };
+    let gathered = with_wavefronts(alloc, program, facts, none)?;
+    proposal_of(alloc, facts, gathered)
+}
+
+/// One term as a proposal.
+fn alone(alloc: Global, proposed: Proposed) -> Result<Proposal, Memory> {
+    let Proposed { term, words } = proposed;
+    let taken = vec![in alloc; words]?;
+    Ok(Proposal {
+        terms: vec![in alloc; ProposedTerm::Partition(term)]?,
+        disjoint: Vec::new(alloc),
+        arrays: arrays_of(alloc, taken.as_slice())?,
+    })
+}
+
+/// Terms for branches: partition terms and then wavefront terms with different words together; wavefront terms alone; then each
+/// partition term by itself, strongest first.
 pub fn proposals(
     alloc: Global,
     program: &Program,
@@ -132,16 +227,19 @@ pub fn proposals(
     let facts = facts_of(alloc, program, quasts)?;
     let candidates = candidates_of(alloc, program, &facts)?;
     let mut all = Vec::new(alloc);
-    if let Some(proposal) = together(alloc, program, &facts, candidates.as_slice())? {
+    let some = partitions(alloc, program, &facts, candidates.as_slice())?;
+    let is_mixed = !some.terms.is_empty();
+    let first = with_wavefronts(alloc, program, &facts, some)?;
+    if let Some(proposal) = proposal_of(alloc, &facts, first)? {
         all.push(proposal)?;
     }
+    if is_mixed {
+        if let Some(proposal) = fronts(alloc, program, &facts)? {
+            all.push(proposal)?;
+        }
+    }
     for candidate in candidates {
-        let Candidate { proposed, .. } = candidate;
-        let Proposed { term, .. } = proposed;
-        all.push(Proposal {
-            terms: vec![in alloc; term]?,
-            disjoint: Vec::new(alloc),
-        })?;
+        all.push(alone(alloc, candidate.proposed)?)?;
     }
     Ok(all)
 }

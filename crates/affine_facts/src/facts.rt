@@ -1,0 +1,190 @@
+//! What a program says of its statements, in affine forms.
+
+use crate::affine::{Affine, copies};
+use crate::numbers::short;
+use affine_form::{Form, Memory};
+use affine_program::{Program, Reference};
+use dep_quast::Quast;
+use reuse_paths::Quasts;
+use std::alloc::Global;
+
+/// Where the source of a read is under the tests of a leaf.
+#[derive(Drop)]
+pub enum Origin {
+    Input,
+    Instance { statement: u16, point: Vec<Affine> },
+    Unknown,
+}
+
+/// A leaf of a source tree that isn't empty: the rows of its tests, and its source.
+#[derive(Drop)]
+pub struct TreeLeaf {
+    pub tests: Vec<Affine>,
+    pub origin: Origin,
+}
+
+/// A reference: the array, and the subscripts.
+#[derive(Drop)]
+pub struct Access {
+    pub array: u16,
+    pub subs: Vec<Affine>,
+}
+
+/// A read: the reference, and the leaves of its source tree.
+#[derive(Drop)]
+pub struct ReadFacts {
+    pub access: Access,
+    pub leaves: Vec<TreeLeaf>,
+}
+
+/// A statement: the bounds of its loops, what it writes, and its reads.
+#[derive(Drop)]
+pub struct StatementFacts {
+    pub bounds: Vec<(Affine, Affine)>,
+    pub writes: Access,
+    pub reads: Vec<ReadFacts>,
+}
+
+/// A program.
+#[derive(Drop)]
+pub struct Facts {
+    pub params: usize,
+    pub arrays: Vec<u8>,
+    pub assumed: Vec<Affine>,
+    pub statements: Vec<StatementFacts>,
+}
+
+impl StatementFacts {
+    /// How many loops are around it.
+    pub fn depth(&self) -> usize {
+        self.bounds.len()
+    }
+}
+
+impl Facts {
+    /// A statement, where there is one.
+    pub fn statement(&self, number: u16) -> Option<&StatementFacts> {
+        self.statements.as_slice().get(usize::from(number))
+    }
+
+    /// How many subscripts an array has.
+    pub fn subscripts(&self, array: usize) -> usize {
+        match self.arrays.as_slice().get(array) {
+            Some(subscripts) => usize::from(*subscripts),
+            None => 0,
+        }
+    }
+
+    /// A read of a statement, where there is one.
+    pub fn read(&self, statement: u16, read: u16) -> Option<&ReadFacts> {
+        self.statement(statement)?
+            .reads
+            .as_slice()
+            .get(usize::from(read))
+    }
+}
+
+/// Forms as affine forms.
+fn all_of(alloc: Global, forms: &[Form]) -> Result<Vec<Affine>, Memory> {
+    let mut all = Vec::new(alloc);
+    for form in forms {
+        all.push(Affine::of(alloc, form)?)?;
+    }
+    Ok(all)
+}
+
+fn access_of(alloc: Global, reference: &Reference) -> Result<Access, Memory> {
+    Ok(Access {
+        array: reference.array,
+        subs: all_of(alloc, reference.subs.as_slice())?,
+    })
+}
+
+/// Rows, and one more.
+pub fn with_row(alloc: Global, rows: &[Affine], row: Affine) -> Result<Vec<Affine>, Memory> {
+    let mut all = copies(alloc, rows)?;
+    all.push(row)?;
+    Ok(all)
+}
+
+/// Puts the leaves of a tree that aren't empty, under these tests, behind others.
+fn put_leaves(
+    alloc: Global,
+    tree: &Quast,
+    tests: &[Affine],
+    mut leaves: Vec<TreeLeaf>,
+) -> Result<Vec<TreeLeaf>, Memory> {
+    let origin = match tree {
+        Quast::Test { form, yes, no } => {
+            let form = Affine::of(alloc, form)?;
+            let opposite = form.negated(alloc)?;
+            let on_yes = with_row(alloc, tests, form)?;
+            let on_no = with_row(alloc, tests, opposite)?;
+            let leaves = put_leaves(alloc, yes, on_yes.as_slice(), leaves)?;
+            return put_leaves(alloc, no, on_no.as_slice(), leaves);
+        }
+        Quast::Empty { .. } => return Ok(leaves),
+        Quast::Input { .. } => Origin::Input,
+        Quast::Source {
+            statement,
+            point,
+            ..
+        } => Origin::Instance {
+            statement: *statement,
+            point: all_of(alloc, point.as_slice())?,
+        },
+        Quast::Blank => Origin::Unknown,
+    };
+    let tests = copies(alloc, tests)?;
+    leaves.push(TreeLeaf { tests, origin })?;
+    Ok(leaves)
+}
+
+fn bounds_of(alloc: Global, bounds: &[(Form, Form)]) -> Result<Vec<(Affine, Affine)>, Memory> {
+    let mut all = Vec::new(alloc);
+    for (lower, upper) in bounds {
+        all.push((Affine::of(alloc, lower)?, Affine::of(alloc, upper)?))?;
+    }
+    Ok(all)
+}
+
+fn reads_of(
+    alloc: Global,
+    quasts: &Quasts,
+    statement: u16,
+    references: &[Reference],
+) -> Result<Vec<ReadFacts>, Memory> {
+    let mut all = Vec::new(alloc);
+    for (read, reference) in references.iter().enumerate() {
+        let access = access_of(alloc, reference)?;
+        let none = Vec::new(alloc);
+        let leaves = match quasts.tree(statement, short(read)) {
+            Some(tree) => put_leaves(alloc, tree, &[], none)?,
+            None => none,
+        };
+        all.push(ReadFacts { access, leaves })?;
+    }
+    Ok(all)
+}
+
+/// The facts of a program with source trees of its reads.
+pub fn facts_of(alloc: Global, program: &Program, quasts: &Quasts) -> Result<Facts, Memory> {
+    let mut statements = Vec::new(alloc);
+    for (number, statement) in program.statements().iter().enumerate() {
+        statements.push(StatementFacts {
+            bounds: bounds_of(alloc, statement.bounds.as_slice())?,
+            writes: access_of(alloc, &statement.writes)?,
+            reads: reads_of(alloc, quasts, short(number), statement.reads.as_slice())?,
+        })?;
+    }
+    let mut arrays = Vec::new(alloc);
+    for (_, subscripts) in program.arrays() {
+        arrays.push(*subscripts)?;
+    }
+    Ok(Facts {
+        params: program.params().len(),
+        arrays,
+        assumed: all_of(alloc, program.assumed().rows())?,
+        statements,
+    })
+}

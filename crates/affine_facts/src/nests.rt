@@ -1,0 +1,192 @@
+//! Nests of instances, and how many they are.
+
+ghost use Rattle.std.specs.Prelude.{◌≡◌, ◌≤◌, length, IfOk, IfSome};
+ghost use Rattle.affine_form.specs.Rows.{BoundsFit};
+ghost use Rattle.iolb_model.specs.declared.limits.TheConstants.{NEST_VARIABLES, PARAMETERS, VARIABLES};
+
+use crate::affine::{Affine, copies, loops};
+use crate::combined::combined;
+use crate::facts::Facts;
+use crate::shown::{Rows, all_shown};
+use affine_form::{Form, Memory};
+use affine_program::Program;
+use domain_count::{Nest, Sums};
+use iolb_model::limits;
+use nest_sums::{CountFault, make_count};
+use std::alloc::Global;
+
+/// Copies of bounds.
+pub fn copied_bounds(
+    alloc: Global,
+    bounds: &[(Affine, Affine)],
+) -> Result<Vec<(Affine, Affine)>, Memory> {
+    let mut all = Vec::new(alloc);
+    for (lower, upper) in bounds {
+        all.push((lower.copied(alloc)?, upper.copied(alloc)?))?;
+    }
+    Ok(all)
+}
+
+/// The bounds of those that meet a row too, where the row bounds one loop by the parameters and the loops around it.
+pub fn tightened(
+    alloc: Global,
+    params: usize,
+    bounds: &[(Affine, Affine)],
+    row: &Affine,
+) -> Result<Option<Vec<(Affine, Affine)>>, Memory> {
+    let mut all = copied_bounds(alloc, bounds)?;
+    if row.width() <= params {
+        return Ok(None);
+    }
+    let mut place = row.width().saturating_sub(1);
+    for _turn in 0..row.width() {
+        if place > params && row.at(place) == 0 {
+            place = place.saturating_sub(1);
+        }
+    }
+    let sign = row.at(place);
+    let mut limit = Affine::number(alloc, 0);
+    limit.add(row, sign.saturating_neg())?;
+    limit.add_variable(place, 1)?;
+    let Some(pair) = all.get_mut(place.saturating_sub(params)) else {
+        return Ok(None);
+    };
+    if sign == 1 {
+        pair.0 = limit;
+    } else if sign == -1 {
+        pair.1 = limit;
+    } else {
+        return Ok(None);
+    }
+    Ok(Some(all))
+}
+
+/// The bounds with those of the loops around tightened, until each range is shown to be whole.
+pub fn ranged(
+    alloc: Global,
+    facts: &Facts,
+    bounds: Vec<(Affine, Affine)>,
+) -> Result<Option<Vec<(Affine, Affine)>>, Memory> {
+    let mut all = bounds;
+    for _turn in 0..8 {
+        let Some(row) = first_open(alloc, facts, all.as_slice())? else {
+            return Ok(Some(all));
+        };
+        match tightened(alloc, facts.params, all.as_slice(), &row)? {
+            Some(bounds) => all = bounds,
+            None => return Ok(None),
+        }
+    }
+    Ok(None)
+}
+
+/// The first range that isn't shown to be whole, as a row.
+fn first_open(
+    alloc: Global,
+    facts: &Facts,
+    bounds: &[(Affine, Affine)],
+) -> Result<Option<Affine>, Memory> {
+    let values = own_values(alloc, facts.params, bounds)?;
+    let mut rows = copies(alloc, facts.assumed.as_slice())?;
+    for (place, ((lower, upper), value)) in bounds.iter().zip(values.iter()).enumerate() {
+        let given = Rows {
+            vars: facts.params.saturating_add(place),
+            rows: copies(alloc, rows.as_slice())?,
+        };
+        let goals = vec![in alloc; upper.less(alloc, lower, 1)?]?;
+        if all_shown(alloc, &given, goals.as_slice())?.is_none() {
+            return Ok(Some(upper.less(alloc, lower, 1)?));
+        }
+        rows.push(value.less(alloc, lower, 0)?)?;
+        rows.push(upper.less(alloc, value, 0)?)?;
+    }
+    Ok(None)
+}
+
+/// How many loops may take many values, since no number bounds how far their bounds are apart.
+pub fn wide_loops(alloc: Global, bounds: &[(Affine, Affine)]) -> Result<usize, Memory> {
+    let mut count: usize = 0;
+    for (lower, upper) in bounds {
+        if !upper.less(alloc, lower, 0)?.is_number() {
+            count = count.saturating_add(1);
+        }
+    }
+    Ok(count)
+}
+
+/// The bounds of a nest that holds the points of a statement in these bounds: a loop value that is a form of those before it is
+/// fixed, each other one is free.
+pub fn image(
+    alloc: Global,
+    params: usize,
+    bounds: &[(Affine, Affine)],
+    point: &[Affine],
+) -> Result<Vec<(Affine, Affine)>, Memory> {
+    let mut all = Vec::new(alloc);
+    let mut free = Vec::new(alloc);
+    for ((lower, upper), value) in bounds.iter().zip(point.iter()) {
+        match combined(alloc, params, value, free.as_slice(), None)? {
+            Some(fixed) => {
+                all.push((fixed.copied(alloc)?, fixed))?;
+                free.push(Affine::number(alloc, 0))?;
+            }
+            None => {
+                all.push((lower.copied(alloc)?, upper.copied(alloc)?))?;
+                free.push(value.copied(alloc)?)?;
+            }
+        }
+    }
+    Ok(all)
+}
+
+/// The values of a nest's variables.
+pub fn own_values(
+    alloc: Global,
+    params: usize,
+    bounds: &[(Affine, Affine)],
+) -> Result<Vec<Affine>, Memory> {
+    loops(alloc, params, bounds.len())
+}
+
+/// The nest of these bounds, where it is within the limits.
+pub fn nest_of(
+    alloc: Global,
+    params: usize,
+    bounds: &[(Affine, Affine)],
+) -> Result<Option<Nest>, Memory>
+    requires { params ≤ PARAMETERS }
+    ensures fit { IfOk result (λ found. IfSome found (λ nest. BoundsFit params nest)) }
+    ensures few { IfOk result (λ found. IfSome found (λ nest. length nest ≤ NEST_VARIABLES)) }
+{
+    if bounds.len() > limits::NEST_VARIABLES {
+        return Ok(None);
+    }
+    let mut all = Vec::new(alloc);
+    for (place, (lower, upper)) in bounds.iter().enumerate() {
+        let Some(lower) = lower.form(alloc, params + place)? else {
+            return Ok(None);
+        };
+        let Some(upper) = upper.form(alloc, params + place)? else {
+            return Ok(None);
+        };
+        all.push((lower, upper))?;
+    }
+    Ok(Some(Nest::new(all)))
+}
+
+/// A nest and its count, where they are within the limits and shown.
+pub fn counted(
+    alloc: Global,
+    program: &Program,
+    bounds: &[(Affine, Affine)],
+) -> Result<Option<(Nest, Sums)>, Memory> {
+    let params = program.params().len();
+    let Some(nest) = nest_of(alloc, params, bounds)? else {
+        return Ok(None);
+    };
+    match make_count(alloc, program, &nest) {
+        Ok(sums) => Ok(Some((nest, sums))),
+        Err(CountFault::Memory) => Err(Memory),
+        Err(_) => Ok(None),
+    }
+}

@@ -1,0 +1,204 @@
+//! Wavefronts, thought out without multipliers.
+
+use crate::ways::{Instance, Step, way_to};
+use affine_facts::affine::Affine;
+use affine_facts::facts::{Facts, Origin, StatementFacts, TreeLeaf};
+use affine_facts::nests::{copied_bounds, ranged, tightened};
+use affine_facts::numbers::short;
+use affine_facts::shown::all_put;
+use affine_form::Memory;
+use std::alloc::Global;
+
+/// A wavefront: the bounds of its nest, and on how many of the first variables the vertex depends; the user of the words, its
+/// reads of the vertex and of the word; the vertex and the word; and a way back from the vertex to the word.
+#[derive(Drop)]
+pub(crate) struct Outline {
+    pub(crate) bounds: Vec<(Affine, Affine)>,
+    pub(crate) outer: usize,
+    pub(crate) user: Instance,
+    pub(crate) back: u16,
+    pub(crate) read: u16,
+    pub(crate) vertex: Instance,
+    pub(crate) word: Instance,
+    pub(crate) steps: Vec<Step>,
+}
+
+/// A source of a read of a statement: the read's number, the tests under which it is the source, and its loop values over
+/// those of the reader.
+#[derive(Clone, Copy)]
+struct Source<'a> {
+    read: u16,
+    tests: &'a [Affine],
+    statement: u16,
+    point: &'a [Affine],
+}
+
+/// The source that a leaf names.
+fn source_at(read: u16, leaf: &TreeLeaf) -> Option<Source> {
+    match &leaf.origin {
+        Origin::Instance { statement, point } => Some(Source {
+            read,
+            tests: leaf.tests.as_slice(),
+            statement: *statement,
+            point: point.as_slice(),
+        }),
+        _ => None,
+    }
+}
+
+/// All sources of a statement's reads.
+fn sources_of(alloc: Global, own: &StatementFacts) -> Result<Vec<Source>, Memory> {
+    let mut all = Vec::new(alloc);
+    for (number, read) in own.reads.as_slice().iter().enumerate() {
+        for leaf in read.leaves.as_slice() {
+            if let Some(source) = source_at(short(number), leaf) {
+                all.push(source)?;
+            }
+        }
+    }
+    Ok(all)
+}
+
+/// Whether a variable stands in forms.
+fn stands_in(forms: &[Affine], place: usize) -> bool {
+    forms.iter().any(|form| form.at(place) != 0)
+}
+
+/// The bounds of a statement's loops that meet rows too, where all ranges are whole.
+fn restricted(
+    alloc: Global,
+    facts: &Facts,
+    own: &StatementFacts,
+    rows: &[Affine],
+) -> Result<Option<Vec<(Affine, Affine)>>, Memory> {
+    let mut bounds = copied_bounds(alloc, own.bounds.as_slice())?;
+    for row in rows {
+        match tightened(alloc, facts.params, bounds.as_slice(), row)? {
+            Some(fewer) => bounds = fewer,
+            None => return Ok(None),
+        }
+    }
+    ranged(alloc, facts, bounds)
+}
+
+/// A nest over some loops of a statement, and the loop values at its points.
+#[derive(Drop)]
+struct PlacedNest {
+    bounds: Vec<(Affine, Affine)>,
+    values: Vec<Affine>,
+}
+
+/// The nest of the loops that stand in forms; each other loop is in its first turn.
+fn nested(
+    alloc: Global,
+    params: usize,
+    bounds: &[(Affine, Affine)],
+    forms: &[Affine],
+) -> Result<PlacedNest, Memory> {
+    let mut all = Vec::new(alloc);
+    let mut values = Vec::new(alloc);
+    for (place, (lower, upper)) in bounds.iter().enumerate() {
+        let least = lower.put(alloc, params, values.as_slice())?;
+        if stands_in(forms, params.saturating_add(place)) {
+            let most = upper.put(alloc, params, values.as_slice())?;
+            values.push(Affine::variable(alloc, params.saturating_add(all.len()))?)?;
+            all.push((least, most))?;
+        } else {
+            values.push(least)?;
+        }
+    }
+    Ok(PlacedNest {
+        bounds: all,
+        values,
+    })
+}
+
+/// On how many of the first variables forms depend at most.
+fn outer_of(params: usize, vars: usize, forms: &[Affine]) -> usize {
+    let mut outer = 0;
+    for place in 0..vars {
+        if stands_in(forms, params.saturating_add(place)) {
+            outer = place.saturating_add(1);
+        }
+    }
+    outer
+}
+
+/// The tests of two sources together.
+fn all_tests(alloc: Global, first: Source, second: Source) -> Result<Vec<Affine>, Memory> {
+    let mut rows = Vec::new(alloc);
+    for row in first.tests.iter().chain(second.tests.iter()) {
+        rows.push(row.copied(alloc)?)?;
+    }
+    Ok(rows)
+}
+
+/// The wavefront of a statement that reads a vertex and a word.
+fn outline_of(
+    alloc: Global,
+    facts: &Facts,
+    statement: u16,
+    own: &StatementFacts,
+    vertex: Source,
+    word: Source,
+) -> Result<Option<Outline>, Memory> {
+    let params = facts.params;
+    let rows = all_tests(alloc, vertex, word)?;
+    let Some(bounds) = restricted(alloc, facts, own, rows.as_slice())? else {
+        return Ok(None);
+    };
+    let PlacedNest { bounds, values } = nested(alloc, params, bounds.as_slice(), word.point)?;
+    let at_vertex = all_put(alloc, params, vertex.point, values.as_slice())?;
+    let at_word = all_put(alloc, params, word.point, values.as_slice())?;
+    let outer = outer_of(params, bounds.len(), at_vertex.as_slice());
+    if outer >= bounds.len() {
+        return Ok(None);
+    }
+    let (back, read) = (vertex.read, word.read);
+    let vertex = Instance {
+        statement: vertex.statement,
+        point: at_vertex,
+    };
+    let word = Instance {
+        statement: word.statement,
+        point: at_word,
+    };
+    let Some(steps) = way_to(alloc, facts, &vertex, &word)? else {
+        return Ok(None);
+    };
+    Ok(Some(Outline {
+        bounds,
+        outer,
+        user: Instance {
+            statement,
+            point: values,
+        },
+        back,
+        read,
+        vertex,
+        word,
+        steps,
+    }))
+}
+
+/// The wavefronts whose words a statement uses, behind others.
+pub(crate) fn outlines_of(
+    alloc: Global,
+    facts: &Facts,
+    statement: u16,
+    own: &StatementFacts,
+) -> Result<Vec<Outline>, Memory> {
+    let mut all = Vec::new(alloc);
+    let sources = sources_of(alloc, own)?;
+    for vertex in sources.as_slice() {
+        for word in sources.as_slice() {
+            if vertex.read != word.read {
+                let found = outline_of(alloc, facts, statement, own, *vertex, *word)?;
+                if let Some(outline) = found {
+                    all.push(outline)?;
+                }
+            }
+        }
+    }
+    Ok(all)
+}
