@@ -16,7 +16,7 @@ use Rattle.iolb_call.specs.Use.{CallUse, Gains}
 use Rattle.iolb_call.specs.declared.status.Status.TheVariants.{Done}
 use Rattle.iolb_call.proofs.Ends.{AreExact}
 use Rattle.iolb_call.proofs.One.{same_program}
-use Rattle.iolb_call.proofs.Stops.{headline}
+use Rattle.iolb_call.proofs.Headline.{headline}
 
 -- what was asked for was printed, at a request that the words are known to make
 printed_at : (call : Call) (left : CallUse) (request : Request) (work : Work) → IsDoneAsAsked call left → request_of call.words ≡ Some request → request.work ≡ work → IsPrinted call left request work

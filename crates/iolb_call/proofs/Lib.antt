@@ -2,11 +2,15 @@ pub mod Keys
 pub mod Words
 pub mod Notes
 pub mod Made
-pub mod Stops
+pub mod Requests
+pub mod Outcomes
+pub mod Headline
 pub mod Values
 pub mod Asked
 pub mod Phases
 pub mod Ends
+pub mod PlainStops
+pub mod Reached
 pub mod One
 pub mod Replayed
 pub mod Beside

@@ -101,19 +101,6 @@ fn side(
     }
 }
 
-/// A walk whose words are those of two sides.
-fn joined_sides(alloc: Global, form: Form, sides: (Walked, Walked)) -> Result<Walked, Memory> {
-    let (Walked::Made(yes, some), Walked::Made(no, more)) = sides else {
-        return Ok(Walked::Fails);
-    };
-    let test = Walk::Test {
-        form,
-        yes: Box::new(alloc, yes)?,
-        no: Box::new(alloc, no)?,
-    };
-    Ok(Walked::Made(test, with_words(some, more)?))
-}
-
 /// A walk that tests a row before it takes a read.
 fn tested(
     alloc: Global,
@@ -130,7 +117,17 @@ fn tested(
     let opposite = row.negated(alloc)?;
     let yes = side(alloc, at, work, given, row, number, read)?;
     let no = side(alloc, at, work, given, opposite, number, read)?;
-    joined_sides(alloc, form, (yes, no))
+    match (yes, no) {
+        (Walked::Made(yes, some), Walked::Made(no, more)) => {
+            let test = Walk::Test {
+                form,
+                yes: Box::new(alloc, yes)?,
+                no: Box::new(alloc, no)?,
+            };
+            Ok(Walked::Made(test, with_words(some, more)?))
+        }
+        _ => Ok(Walked::Fails),
+    }
 }
 
 /// A walk from a reader by a read, and if need be by a test of where its source is.

@@ -80,7 +80,7 @@ fn are_told_apart(params: usize, vars: usize, forms: &[Affine]) -> bool {
 fn inverse(alloc: Global, params: usize, outline: &Outline) -> Result<Option<Inverse>, Memory> {
     let vars = outline.bounds.len();
     let forms = outline.word.point.as_slice();
-    if vars > limits::NEST_VARIABLES || forms.len() > limits::LOOPS {
+    if vars == 0 || vars > limits::NEST_VARIABLES || forms.len() > limits::LOOPS {
         return Ok(None);
     }
     if !are_told_apart(params, vars, forms) {

@@ -6,7 +6,9 @@ use Rattle.iolb_call.specs.Lines.{usage}
 use Rattle.iolb_call.specs.Stop.{call_of, stop_line}
 use Rattle.iolb_call.specs.Use.{files_use, sink_use}
 use Rattle.iolb_call.proofs.Words.{words_are}
-use Rattle.iolb_call.proofs.Stops.{stopped_outcome, done_outcome, headline, one_fault}
+use Rattle.iolb_call.proofs.Headline.{headline}
+use Rattle.iolb_call.proofs.Outcomes.{stopped_outcome, done_outcome}
+use Rattle.iolb_call.proofs.Requests.{one_fault}
 use Rattle.iolb_call.proofs.call.run.Goals as goal
 
 pub returns-in-Ok-None-clause-outcome : goal.returns-in-Ok-None-clause-outcome

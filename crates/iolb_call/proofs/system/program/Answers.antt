@@ -4,7 +4,7 @@ use Rattle.iolb_host.specs.StdSink.{fault_count}
 use Rattle.iolb_call.specs.Called.{words_behind}
 use Rattle.iolb_call.specs.Stop.{Call, call_of}
 use Rattle.iolb_call.specs.Use.{CallUse, files_use, sink_use}
-use Rattle.iolb_call.proofs.Stops.{finished_outcome, wanted}
+use Rattle.iolb_call.proofs.Outcomes.{finished_outcome, wanted}
 use Rattle.iolb_call.proofs.system.program.Goals as goal
 
 pub returns-in_default : goal.returns-in_default

@@ -1,0 +1,187 @@
+-- What a call's outcome is, from what it is stopped or answered by.
+use Rattle.std.proofs.Common.{◌≡◌, refl, sym, ◌∙◌, ap, subst, inl, inr, ℕ, ◌≤◌, Bool, true, false, List, length, map}
+use Rattle.std.specs.Prelude.{ℤ, ◌⊎◌, ◌==◌, ◌&&◌, if◌then◌else◌, bytes_eq, Option, Some, None, Result, Ok, Err, IfOk, IfErr, IfSome, Vec}
+use Rattle.std.specs.Io.KnownBytes.{append_known}
+use Rattle.std.specs.List.{list_all, list_any}
+use Rattle.std.proofs.Math.Seq.{take-length}
+use Rattle.std.proofs.lemmas.List.{length-map}
+use Rattle.std.specs.declared.alloc.Global.{Global}
+use Rattle.iolb_model.specs.Bound.{IsAdmitted}
+use Rattle.iolb_model.specs.Headline.{BoundHolds}
+use Rattle.iolb_model.specs.Program.{AffineProgram}
+use Rattle.affine_form.specs.System.{AffineSystem}
+use Rattle.affine_program.specs.Parts.{ProgramParts, meaning}
+use Rattle.c_grammar.specs.Program.{Means}
+use Rattle.iolb_check.specs.Claims.{CertificateClaim}
+use Rattle.iolb_cert.specs.Texts.{IsTextOf}
+use Rattle.iolb_cert.specs.Read.{WrittenCertificate, IsCertificate}
+use Rattle.command_words.specs.Requests.{Request, Task, checks, evaluates, Work, judges, replays, bounds}
+use Rattle.command_words.specs.Sizes.{NamedSize, times, value_for, values_for}
+use Rattle.replay_call.specs.Laws.{PlaysAreComplete}
+use Rattle.iolb_check.specs.declared.bound.Value.{Value}
+use Rattle.iolb_check.specs.Bounds.{BoundParts, bound_of}
+use Rattle.iolb_check.specs.Conditions.{MeetsConditions}
+use Rattle.iolb_host.specs.declared.files.FileFault.TheVariants.{Missing, TooLong, Failed, Memory as NoMemoryForFile}
+use Rattle.iolb_host.specs.Count.{Rose}
+use Rattle.iolb_host.specs.Faults.{NamedFault}
+use Rattle.iolb_host.specs.Files.{FileMap, content_of, Answers}
+use Rattle.iolb_call.specs.declared.status.Status.{Status}
+use Rattle.iolb_call.specs.declared.status.Status.TheVariants.{Done, NoMemory, Words as WordsRefused}
+use Rattle.iolb_call.specs.declared.stop.Stop.{Stop}
+use Rattle.iolb_call.specs.declared.stop.Stop.TheVariants.{Words, ProgramFile, ProgramText, SecondFile, CertificateText, Condition, Assumption, Wide, ScheduleText, Unplayed, Memory}
+use Rattle.iolb_call.specs.Bounded.{IsBounded}
+use Rattle.iolb_call.specs.Reading.{IsContent}
+use Rattle.iolb_call.specs.Replays.{moves_at}
+use Rattle.iolb_call.specs.Lines.{out_of_memory}
+use Rattle.iolb_call.specs.Stop.{program_most, certificate_most, HoldsProgram, HoldsCertificate, HoldsValid, IsGoodFor, IsAnswered, IsWorkDone, CertificateStop, SecondStop, TextStop, RequestStop, faults_at, stop_line, stop_status, Call, Stops}
+use Rattle.iolb_call.specs.Task.{IsAnswer, LoadsAtLeast, bound_with}
+use Rattle.iolb_call.specs.Works.{HasSizes}
+use Rattle.iolb_call.specs.Answers.{AnswerStop}
+use Rattle.iolb_call.specs.Judged.{JudgeStop}
+use Rattle.iolb_call.specs.Outcome.{IsBegun, IsBrokenOff, IsDone, IsStopped, Outcome}
+use Rattle.iolb_call.specs.Called.{Finishes}
+use Rattle.iolb_call.specs.Headline.{IsDoneAsAsked, IsPrinted}
+use Rattle.iolb_call.specs.Use.{CallUse, FilesUse, SinkUse, FailsWithin, HasOneFaultAtMost, Gains, Stays}
+use Rattle.iolb_call.specs.Written.{HasBegun, HasNote, IsOfWork, LacksNote, LineWritten, OutputWritten, WantSaid, answer_note, answer_text}
+use Rattle.iolb_call.specs.declared.answered.Answer.{Answer}
+use Rattle.iolb_call.proofs.Notes.{nothing, nothing_more}
+use Rattle.iolb_call.specs.declared.answered.Answer.TheVariants.{Text, Lines, Bound}
+
+-- ---- calls
+
+-- the line of a stop for want of memory
+line_of_want : (program second : List ℕ) (stop : Stop) → stop_status stop ≡ NoMemory → stop_line program second stop ≡ out_of_memory
+line_of_want program second Words e = absurd cc
+line_of_want program second (ProgramFile Missing) e = absurd cc
+line_of_want program second (ProgramFile TooLong) e = absurd cc
+line_of_want program second (ProgramFile Failed) e = absurd cc
+line_of_want program second (ProgramFile NoMemoryForFile) e = refl
+line_of_want program second (ProgramText fault) e = absurd cc
+line_of_want program second (SecondFile Missing) e = absurd cc
+line_of_want program second (SecondFile TooLong) e = absurd cc
+line_of_want program second (SecondFile Failed) e = absurd cc
+line_of_want program second (SecondFile NoMemoryForFile) e = refl
+line_of_want program second (CertificateText fault) e = absurd cc
+line_of_want program second (Condition failed) e = absurd cc
+line_of_want program second (Assumption number) e = absurd cc
+line_of_want program second Wide e = absurd cc
+line_of_want program second (ScheduleText fault) e = absurd cc
+line_of_want program second (Unplayed unplayed) e = absurd cc
+line_of_want program second Memory e = refl
+
+want_line : (call : Call) (files : FilesUse) (stop : Stop) (line : List ℕ) → Stops call files stop line → stop_status stop ≡ NoMemory → line ≡ out_of_memory
+want_line call files stop line (inl at_words) e = absurd (differ (ap stop_status (sym at_words.words) ∙ e)) where
+  differ : WordsRefused ≡ NoMemory → ⊥
+  differ same = cc
+want_line call files stop line (inr (inl want)) e = want.says
+want_line call files stop line (inr (inr stops)) e = stops.says ∙ line_of_want stops.request.program stops.request.second stop e
+
+-- a call that stopped and said so
+said_why : (call : Call) (left : CallUse) (stop : Stop) (line : List ℕ) → Stops call left.files stop line → Stays left.output → Gains left.error line → (status : Status) → stop_status stop ≡ status → IsStopped status call left
+said_why call left stop line stops stays gains status e = record { stop = stop; line = line; stops = stops; status_is = e; output_stays = stays; error_gains = gains }
+
+said_want : (call : Call) (left : CallUse) (stop : Stop) (line : List ℕ) → Stops call left.files stop line → stop_status stop ≡ NoMemory → Stays left.output → Gains left.error line → Outcome NoMemory call left
+said_want call left stop line stops e stays gains = (inl stays, inr (subst (λ (l : List ℕ). Gains left.error l) (want_line call left.files stop line stops e) gains))
+
+stopped_at : (call : Call) (left : CallUse) (stop : Stop) (line : List ℕ) → Stops call left.files stop line → Stays left.output → Gains left.error line → Outcome (stop_status stop) call left
+stopped_at call left Words line s o g = said_why call left Words line s o g _ refl
+stopped_at call left (ProgramFile Missing) line s o g = said_why call left (ProgramFile Missing) line s o g _ refl
+stopped_at call left (ProgramFile TooLong) line s o g = said_why call left (ProgramFile TooLong) line s o g _ refl
+stopped_at call left (ProgramFile Failed) line s o g = said_why call left (ProgramFile Failed) line s o g _ refl
+stopped_at call left (ProgramFile NoMemoryForFile) line s o g = said_want call left (ProgramFile NoMemoryForFile) line s refl o g
+stopped_at call left (ProgramText fault) line s o g = said_why call left (ProgramText fault) line s o g _ refl
+stopped_at call left (SecondFile Missing) line s o g = said_why call left (SecondFile Missing) line s o g _ refl
+stopped_at call left (SecondFile TooLong) line s o g = said_why call left (SecondFile TooLong) line s o g _ refl
+stopped_at call left (SecondFile Failed) line s o g = said_why call left (SecondFile Failed) line s o g _ refl
+stopped_at call left (SecondFile NoMemoryForFile) line s o g = said_want call left (SecondFile NoMemoryForFile) line s refl o g
+stopped_at call left (CertificateText fault) line s o g = said_why call left (CertificateText fault) line s o g _ refl
+stopped_at call left (Condition failed) line s o g = said_why call left (Condition failed) line s o g _ refl
+stopped_at call left (Assumption number) line s o g = said_why call left (Assumption number) line s o g _ refl
+stopped_at call left Wide line s o g = said_why call left Wide line s o g _ refl
+stopped_at call left (ScheduleText fault) line s o g = said_why call left (ScheduleText fault) line s o g _ refl
+stopped_at call left (Unplayed unplayed) line s o g = said_why call left (Unplayed unplayed) line s o g _ refl
+stopped_at call left Memory line s o g = said_want call left Memory line s refl o g
+
+-- a call whose output stays, once the line for want of memory was to be written
+pub wanted : (call : Call) (left : CallUse) (status : Status) → Stays left.output → WantSaid left.error status → Outcome status call left
+wanted call left status stays (inl (ends, said)) = subst (λ (s : Status). Outcome s call left) (sym ends) (inl stays, said)
+wanted call left status stays (inr (ends, fails)) = subst (λ (s : Status). Outcome s call left) (sym ends) (inr (inl (out_of_memory, inl refl, stays, fails)))
+
+-- a call that stopped, once its line was to be written
+pub stopped_outcome : (call : Call) (left : CallUse) (stop : Stop) (line : List ℕ) (status : Status) → Stops call left.files stop line → Stays left.output → LineWritten left.error line (stop_status stop) status → Outcome status call left
+stopped_outcome call left stop line status stops stays (inl (ends, gains)) = subst (λ (s : Status). Outcome s call left) (sym ends) (stopped_at call left stop line stops stays gains)
+stopped_outcome call left stop line status stops stays (inr (inl (ends, fails))) =
+    subst (λ (s : Status). Outcome s call left) (sym ends) (inr (inl (line, inr (stop, stops), stays, fails)))
+stopped_outcome call left stop line status stops stays (inr (inr want)) = wanted call left status stays want
+
+-- an answer that was broken off, once the line for want of memory was to be written
+broken : (call : Call) (left : CallUse) (status : Status) → IsBrokenOff call left.files left.output → WantSaid left.error status → Outcome status call left
+broken call left status off (inl (ends, said)) = subst (λ (s : Status). Outcome s call left) (sym ends) (inr off, said)
+broken call left status off (inr (ends, fails)) = subst (λ (s : Status). Outcome s call left) (sym ends) (inr (inr (inl (off, fails))))
+
+begun : (work : Work) (answer : Answer) (output : SinkUse) → IsOfWork work answer → HasBegun answer output → Stays output ⊎ IsBegun work output (answer_text answer)
+begun (judges task) (Text text) output of begins = inl begins
+begun (judges task) (Lines play) output of begins = absurd of
+begun (judges task) (Bound certificate bound) output of begins = absurd of
+begun (replays s named) (Text text) output of begins = absurd of
+begun (replays s named) (Lines play) output of begins = inr begins
+begun (replays s named) (Bound certificate bound) output of begins = absurd of
+begun bounds (Text text) output of begins = absurd of
+begun bounds (Lines play) output of begins = absurd of
+begun bounds (Bound certificate bound) output of begins = begins
+
+begun_outcome : (call : Call) (left : CallUse) (answer : Answer) (status : Status) (done : IsDone call left.files (answer_text answer) (answer_note answer)) → IsOfWork done.request.work answer
+    → HasBegun answer left.output → WantSaid left.error status → Outcome status call left
+begun_outcome call left answer status done of begins want = by (begun done.request.work answer left.output of begins) where
+  by : Stays left.output ⊎ IsBegun done.request.work left.output (answer_text answer) → Outcome status call left
+  by (inl stays) = wanted call left status stays want
+  by (inr gains) = broken call left status (record { text = answer_text answer; note = answer_note answer; done = done; begun = gains }) want
+
+note_gained : (answer : Answer) (error : SinkUse) → HasNote answer error → Gains error (answer_note answer)
+note_gained (Text text) error stays = nothing error stays
+note_gained (Lines play) error stays = nothing error stays
+note_gained (Bound certificate bound) error gains = gains
+
+note_lacks : (answer : Answer) (output error : SinkUse) → LacksNote answer output error → Gains output (answer_text answer) × FailsWithin error (answer_note answer)
+note_lacks (Text text) output error lacks = absurd lacks
+note_lacks (Lines play) output error lacks = absurd lacks
+note_lacks (Bound certificate bound) output error lacks = lacks
+
+-- a call that is done, once its answer was to be written
+pub done_outcome : (call : Call) (left : CallUse) (answer : Answer) (status : Status) (done : IsDone call left.files (answer_text answer) (answer_note answer)) → IsOfWork done.request.work answer
+    → OutputWritten left.output left.error answer status → Outcome status call left
+done_outcome call left answer status done of (inl (ends, gains, noted)) =
+    subst (λ (s : Status). Outcome s call left) (sym ends) (answer_text answer, answer_note answer, done, gains, note_gained answer left.error noted)
+done_outcome call left answer status done of (inr (inl (ends, fails, stays))) =
+    subst (λ (s : Status). Outcome s call left) (sym ends) (inl (answer_text answer, answer_note answer, done, fails, inl stays))
+done_outcome call left answer status done of (inr (inr (inl (ends, lacks)))) =
+    let wrote = note_lacks answer left.output left.error lacks in
+    subst (λ (s : Status). Outcome s call left) (sym ends) (inr (inr (inr (answer_text answer, answer_note answer, done, wrote.0, wrote.1))))
+done_outcome call left answer status done of (inr (inr (inr (begins, want)))) = begun_outcome call left answer status done of begins want
+
+-- ---- the end
+
+-- a call whose last output was handed on, or not
+pub finished_outcome : (call : Call) (left : CallUse) (status ended : Status) (faults : ℕ) → Outcome status call left → Finishes status left.output.faults_after faults ended
+    → (after : CallUse) × Outcome ended call after
+finished_outcome call left status ended faults outcome (inl (same, calm)) = (left, subst (λ (s : Status). Outcome s call left) (sym same) outcome)
+finished_outcome call left status ended faults outcome (inr (done, fails, rose)) = cut (subst (λ (s : Status). Outcome s call left) done outcome) where
+  after : CallUse
+  after = record {
+    files = left.files;
+    output = record { before = left.output.before; after = left.output.after; faults = left.output.faults; faults_after = faults };
+    error = left.error;
+  }
+
+  cut : Outcome Done call left → (after : CallUse) × Outcome ended call after
+  cut (text, note, is_done, gains, noted) = (
+    after,
+    subst (λ (s : Status). Outcome s call after) (sym fails)
+        (inl (
+          text,
+          note,
+          is_done,
+          (subst (λ (n : ℕ). Rose n faults) gains.1 rose, (length text, gains.0 ∙ ap (append_known left.output.before) (sym (take-length text)))),
+          inr noted,
+        )),
+  )

@@ -1,0 +1,86 @@
+-- Stops that are no failure of a read and no want of memory.
+use Rattle.std.proofs.Common.{◌≡◌, ◌≢◌, ◌⊎◌, refl, sym, ◌∙◌, ap, subst, inl, inr, ℕ, ◌+◌, Bool, true, cond, List, [], ◌∷◌, ◌++◌, arith}
+use Rattle.std.specs.Prelude.{⊤, Option, Some, None, count_by}
+use Rattle.std.proofs.lemmas.List.Sums.{sum_by-append}
+use Rattle.iolb_model.specs.Printed.{bound_text}
+use Rattle.iolb_model.specs.Program.{AffineProgram}
+use Rattle.c_grammar.specs.Program.{Means}
+use Rattle.iolb_cert.specs.OneCertificate.{HasCertificate}
+use Rattle.iolb_check.specs.Claims.{CertificateClaim}
+use Rattle.command_words.specs.Requests.{Request, Task, checks, evaluates, Work, judges, replays, bounds, request_of}
+use Rattle.command_words.specs.Sizes.{NamedSize}
+use Rattle.iolb_check.specs.declared.bound.Value.{Value}
+use Rattle.iolb_host.specs.declared.files.FileFault.{FileFault}
+use Rattle.iolb_host.specs.declared.files.FileFault.TheVariants.{Missing, TooLong, Failed, Memory as NoMemoryForFile}
+use Rattle.iolb_host.specs.Faults.{NamedFault, after_fault, failure_count, is_failure}
+use Rattle.iolb_host.specs.Files.{FileMap}
+use Rattle.iolb_call.specs.declared.status.Status.{Status}
+use Rattle.iolb_call.specs.declared.status.Status.TheVariants.{Done, Refused, Words as WordsRefused, ProgramText as ProgramRefused, OtherText, FileAbsent, ReadFault, WriteFault, Wide as WideValue, NoMemory}
+use Rattle.iolb_call.specs.declared.stop.Stop.{Stop}
+use Rattle.iolb_call.specs.declared.stop.Stop.TheVariants.{Words, ProgramFile, ProgramText, SecondFile, CertificateText, Condition, Assumption, Wide, ScheduleText, Unplayed, Memory}
+use Rattle.iolb_call.specs.Laws.{IsUndisturbed, OutcomesAreOne, HasAnswer, PrintsBound, ValidCertificatesPass, OthersNeverPass, PlayableSchedulesPass, ReadableProgramsHaveCertificates, WriteAlike}
+use Rattle.iolb_call.specs.Outcome.{IsStopped, Outcome}
+use Rattle.iolb_call.specs.Reading.{FaultCause, IsContent}
+use Rattle.replay_call.specs.Lines.{play_text}
+use Rattle.replay_call.proofs.Refusals.{same_some}
+use Rattle.iolb_call.specs.Replays.{HoldsSchedule, IsReplayed, moves_at}
+use Rattle.iolb_call.specs.Stop.{HoldsProgram, HoldsCertificate, HoldsValid, IsAnswered, IsGoodFor, IsWorkDone, RequestStop, TextStop, faults_at, second_most, stop_status, Call, Stops}
+use Rattle.iolb_call.specs.Task.{IsAnswer, IsOutside, IsBeyond, bound_with}
+use Rattle.iolb_call.specs.Works.{HasSecond, HasSizes}
+use Rattle.iolb_call.specs.Use.{CallUse, SinkUse, Gains, Stays}
+use Rattle.iolb_check.specs.Conditions.{MeetsConditions}
+use Rattle.iolb_call.specs.Values.{values_text}
+use Rattle.iolb_call.proofs.Asked.{HasPebbles, pebbles}
+use Rattle.iolb_call.proofs.Ends.{AreExact, CallEnd, wrote, bounded, CallEnds, ConditionEnds, NameEnds, RequestEnds, SecondEnds, TaskEnds, TextEnds, WorkEnds, calls_one, done_end, end_status, stop_end, words_end}
+use Rattle.iolb_call.proofs.Notes.{nothing}
+
+-- ---- stops that are no failure of a read and no want of memory
+
+abbrev pub IsPlainFault : FileFault → Type 0
+IsPlainFault Missing = ⊤
+IsPlainFault TooLong = ⊤
+IsPlainFault Failed = ⊥
+IsPlainFault NoMemoryForFile = ⊥
+
+abbrev pub IsPlain : Stop → Type 0
+IsPlain Words = ⊤
+IsPlain (ProgramFile fault) = IsPlainFault fault
+IsPlain (ProgramText fault) = ⊤
+IsPlain (SecondFile fault) = IsPlainFault fault
+IsPlain (CertificateText fault) = ⊤
+IsPlain (Condition failed) = ⊤
+IsPlain (Assumption number) = ⊤
+IsPlain Wide = ⊤
+IsPlain (ScheduleText fault) = ⊤
+IsPlain (Unplayed unplayed) = ⊤
+IsPlain Memory = ⊥
+
+one_more : {X : Type 0} (test : X → Bool) (xs : List X) (x : X) → test x ≡ true → count_by test (xs ++ x ∷ []) ≡ count_by test xs + 1
+one_more test xs x is = sum_by-append (λ y. cond (test y) 1 0) xs (x ∷ []) ∙ ap (λ n. count_by test xs + n) (rw is refl)
+
+no_more : (faults after : List NamedFault) (name : List ℕ) → after ≡ after_fault faults name Failed → failure_count after ≡ failure_count faults → ⊥
+no_more faults after name noted calm =
+    let more = ap failure_count noted ∙ one_more (λ (named : NamedFault). is_failure named.fault) faults (record { name = name; fault = Failed }) refl in omega (arith, more, calm)
+
+plain_fault : (faults after : List NamedFault) (name : List ℕ) (fault : FileFault) → after ≡ after_fault faults name fault → failure_count after ≡ failure_count faults
+    → (fault ≡ NoMemoryForFile → ⊥) → IsPlainFault fault
+plain_fault faults after name Missing noted calm differs = tt
+plain_fault faults after name TooLong noted calm differs = tt
+plain_fault faults after name Failed noted calm differs = no_more faults after name noted calm
+plain_fault faults after name NoMemoryForFile noted calm differs = differs refl
+
+pub plain : (request : Request) (stop : Stop) (faults after : List NamedFault) → after ≡ faults_at request stop faults → failure_count after ≡ failure_count faults
+    → stop_status stop ≢ NoMemory → IsPlain stop
+plain request Words faults after noted calm differs = tt
+plain request (ProgramFile fault) faults after noted calm differs =
+    plain_fault faults after request.program fault noted calm (λ is. differs (ap (λ f. stop_status (ProgramFile f)) is))
+plain request (ProgramText fault) faults after noted calm differs = tt
+plain request (SecondFile fault) faults after noted calm differs =
+    plain_fault faults after request.second fault noted calm (λ is. differs (ap (λ f. stop_status (SecondFile f)) is))
+plain request (CertificateText fault) faults after noted calm differs = tt
+plain request (Condition failed) faults after noted calm differs = tt
+plain request (Assumption number) faults after noted calm differs = tt
+plain request Wide faults after noted calm differs = tt
+plain request (ScheduleText fault) faults after noted calm differs = tt
+plain request (Unplayed unplayed) faults after noted calm differs = tt
+plain request Memory faults after noted calm differs = differs refl
