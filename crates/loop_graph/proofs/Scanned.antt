@@ -1,7 +1,6 @@
 -- What is known at a place of the execution, where the reads of all instances before it were gone through.
 use Rattle.std.proofs.Common.{◌≡◌, refl, sym, ◌∙◌, ap, subst, ℕ, zero, suc, ◌+◌, ◌<◌, ◌≤◌, Bool, true, false, cond, List, [], ◌∷◌, ◌++◌, length, map, drop, get_or, Some, nat_eq, Vec, Global, arith}
 use Rattle.std.specs.Prelude.{ℤ, Option, slice_get, filter_map, flat_map}
-use Rattle.std.specs.HashMap.{Updates}
 use Rattle.std.specs.List.{enumerate_from}
 use Rattle.arrayvec.specs.ArrayVec.{ArrayVec}
 use Rattle.std.specs.Option.{option_map_or}
@@ -16,8 +15,8 @@ use Rattle.iolb_model.specs.Game.{vertices}
 use Rattle.execution_laws.proofs.Cells.{same_cell-equal, same_cell_refl}
 use Rattle.program_runs.specs.Runs.{with_point, run_of}
 use Rattle.program_runs.specs.declared.listed.Run.{Run}
-use Rattle.loop_graph.specs.Cells.{cell_view, is_cell, cell_written, cells_read}
-use Rattle.loop_graph.specs.Known.{vertex_in, AreKnown, ArePreceded, source_by}
+use Rattle.loop_graph.specs.Cells.{cell_view, cell_written, cells_read}
+use Rattle.loop_graph.specs.Known.{vertex_in, AreKnown, ArePreceded, Puts, source_by}
 use Rattle.loop_graph.specs.declared.known.Known.{Known}
 use Rattle.loop_graph.specs.Found.{AreListed}
 use Rattle.loop_graph.specs.declared.limits.TheConstants.{VERTICES}
@@ -98,11 +97,11 @@ module _ (program : AffineProgram) (parameters : List ℤ) where
   -- what is known once an instance has written
   known-more : (i : ℕ) (x : Instance) (met : List Cell) (known new : Known) (written : ℕ × ArrayVec ℤ) → slice_get (execution program parameters) i ≡ Some x
       → AreKnown (length (execution program parameters)) (writer_before program parameters i) met known
-      → cell_view written ≡ written_cell program parameters x → Updates is_cell known.vertices new.vertices written (Some i) → new.inputs ≡ known.inputs
+      → cell_view written ≡ written_cell program parameters x → Puts known new written i → new.inputs ≡ known.inputs
       → AreKnown (length (execution program parameters)) (writer_before program parameters (suc i)) met new
-  known-more i x met known new written here are is updates same = record {
+  known-more i x met known new written here are is puts same = record {
     many = same ∙ are.many;
-    each = λ cell. updates.0 cell
+    each = λ cell. puts cell
         ∙ ap (λ (o : Option ℕ). cond (same_cell (cell_view written) (cell_view cell)) (Some i) o) (are.each cell)
         ∙ ap (λ (c : Cell). cond (same_cell c (cell_view cell)) (Some i) (vertex_in (length (execution program parameters)) (distinct same_cell met) (writer_before program parameters i (cell_view cell)) (cell_view cell))) is
         ∙ later-writer (length (execution program parameters)) (distinct same_cell met) (cell_view cell) i (same_cell (written_cell program parameters x) (cell_view cell)) (writer_before program parameters i (cell_view cell))
@@ -113,11 +112,11 @@ module _ (program : AffineProgram) (parameters : List ℤ) where
   pub scan-step : (i : ℕ) (x : Instance) (known read new : Known) (preds : List (Vec ℕ Global)) (found : Vec ℕ Global) (written : ℕ × ArrayVec ℤ)
       → drop i (execution program parameters) ≡ x ∷ drop (suc i) (execution program parameters) → slice_get (execution program parameters) i ≡ Some x
       → IsScanned program parameters i known preds → Gives program parameters x known read found
-      → cell_view written ≡ written_cell program parameters x → Updates is_cell read.vertices new.vertices written (Some i) → new.inputs ≡ read.inputs
+      → cell_view written ≡ written_cell program parameters x → Puts read new written i → new.inputs ≡ read.inputs
       → IsScanned program parameters (suc i) new (preds ++ found ∷ [])
-  scan-step i x known read new preds found written is here so_far gives wrote updates same = record {
+  scan-step i x known read new preds found written is here so_far gives wrote puts same = record {
     met = so_far.met ++ filter_map input_cell (sources_of program parameters (execution program parameters) (i, x));
-    are = known-more i x (so_far.met ++ filter_map input_cell (sources_of program parameters (execution program parameters) (i, x))) read new written here given.read.met wrote updates same;
+    are = known-more i x (so_far.met ++ filter_map input_cell (sources_of program parameters (execution program parameters) (i, x))) read new written here given.read.met wrote puts same;
     left = whole;
     preds = ap (λ (l : List (List ℕ)). l ++ map (preds_at program parameters) (rest_from (execution program parameters) (suc i))) (map_push items preds found)
         ∙ append_assoc (map items preds) (found.items ∷ []) (map (preds_at program parameters) (rest_from (execution program parameters) (suc i)))
@@ -172,13 +171,13 @@ module _ (program : AffineProgram) (parameters : List ℤ) (runs : List Run) (li
 
   pub scan-run : (i : ℕ) (run : Run) (instances : ℕ) (known read new : Known) (preds : List (Vec ℕ Global)) (found : Vec ℕ Global) (written : ℕ × ArrayVec ℤ)
       → i < length runs → run ≡ get_or runs i run → instances ≡ length runs → IsScanned program parameters i known preds → GivesRun program instances run known read found
-      → cell_view written ≡ cell_written program (run_of run) → Updates is_cell read.vertices new.vertices written (Some i) → new.inputs ≡ read.inputs
+      → cell_view written ≡ cell_written program (run_of run) → Puts read new written i → new.inputs ≡ read.inputs
       → IsScanned program parameters (i + 1) new (preds ++ found ∷ [])
-  scan-run i run instances known read new preds found written below is many so_far gives wrote updates same =
+  scan-run i run instances known read new preds found written below is many so_far gives wrote puts same =
       let at = paired run_of (with_point parameters) runs (execution program parameters) i run listed below is in
       subst (λ (n : ℕ). IsScanned program parameters n new (preds ++ found ∷ [])) (add-one i)
       (scan-step program parameters i at.0 known read new preds found written at.1.0 at.1.1 so_far (gives-run run at.0 instances known read found many at.1.2 gives)
-      (wrote ∙ ap (cell_written program) at.1.2) updates same)
+      (wrote ∙ ap (cell_written program) at.1.2) puts same)
 
   pub stops-run : (i : ℕ) (run : Run) (instances : ℕ) (known read : Known) (preds : List (Vec ℕ Global)) (found : Vec ℕ Global)
       → i < length runs → run ≡ get_or runs i run → instances ≡ length runs → IsScanned program parameters i known preds → GivesRun program instances run known read found

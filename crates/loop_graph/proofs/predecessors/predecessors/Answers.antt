@@ -15,5 +15,5 @@ loop-place-preserved c = record {
   scanned = λ parameters listed. subst (λ (l : List (Vec ℕ Global)). IsScanned (meaning c.args.program.now) parameters (c.loop-place.place + 1) c.write.new.self l) (sym c.in_ok-push.ensures.items)
       (scan-run (meaning c.args.program.now) parameters c.args.runs.now listed c.loop-place.place c.index-runs-place.result (length c.args.runs.now) c.loop-place.known c.predecessors_of.new.known c.write.new.self
       c.loop-place.preds.items c.in_ok-predecessors_of.field-0 c.written_by.result c.loop-place-test.true c.index-runs-place.is refl (c.loop-place.invariant.scanned parameters listed)
-      (λ writer before known. c.in_ok-predecessors_of.ensures.preceded writer before known) c.written_by.ensures c.in_ok-write.ensures.updates c.in_ok-write.ensures.inputs);
+      (λ writer before known. c.in_ok-predecessors_of.ensures.preceded writer before known) c.written_by.ensures c.in_ok-write.ensures.puts c.in_ok-write.ensures.inputs);
 }
