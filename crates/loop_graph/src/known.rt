@@ -121,11 +121,14 @@ impl Known {
         Ok(preds)
     }
 
-    /// The instance at a place writes a cell.
-    pub(crate) fn write(&mut self, cell: Cell, place: u32) -> Result<(), Memory>
+    /// The instance at a place writes a cell: the vertex whose word stood in it, if that is known.
+    pub(crate) fn write(&mut self, cell: Cell, place: u32) -> Result<Option<u32>, Memory>
+        ensures before { IfOk result (λ before. before ≡ known_vertex self.old cell) }
         ensures puts { OnOk result (Puts self.old self.new cell place) }
         ensures inputs { OnOk result (self.new.inputs ≡ self.old.inputs) }
     {
-        self.put(cell, place)
+        let before = self.vertex(&cell);
+        self.put(cell, place)?;
+        Ok(before)
     }
 }
