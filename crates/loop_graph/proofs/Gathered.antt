@@ -1,7 +1,6 @@
 -- What is known of cells, where reads are gone through.
 use Rattle.std.proofs.Common.{◌≡◌, refl, sym, ◌∙◌, ap, subst, ℕ, ◌+◌, ◌<◌, Bool, true, false, cond, List, [], ◌∷◌, ◌++◌, length, map, take, get_or, Some, None, nat_eq, arith}
 use Rattle.std.specs.Prelude.{ℤ, Option, ◌||◌, filter_map}
-use Rattle.std.specs.HashMap.{get, Updates}
 use Rattle.std.specs.List.{list_any, position_or_len}
 use Rattle.arrayvec.specs.ArrayVec.{ArrayVec}
 use Rattle.std.proofs.lemmas.Bool.{cond-true, cond-false, or_left}
@@ -11,8 +10,8 @@ use Rattle.std.proofs.lemmas.List.Folds.{list_any-append}
 use Rattle.iolb_model.specs.Source.{Cell, same_cell, Source, input, source_or}
 use Rattle.iolb_model.specs.Graph.{distinct, input_cell, vertex_of}
 use Rattle.execution_laws.proofs.Cells.{same_cell-equal, same_cell_refl}
-use Rattle.loop_graph.specs.Cells.{cell_view, is_cell}
-use Rattle.loop_graph.specs.Known.{vertex_among, vertex_in, AreKnown, AreRead, ArePreceded, source_by}
+use Rattle.loop_graph.specs.Cells.{cell_view}
+use Rattle.loop_graph.specs.Known.{known_vertex, vertex_among, vertex_in, AreKnown, AreRead, ArePreceded, Puts, source_by}
 use Rattle.loop_graph.specs.declared.known.Known.{Known}
 use Rattle.loop_graph.proofs.Distinct.{flips, distinct-push, distinct-append, distinct-more, position-kept, position-new}
 
@@ -98,7 +97,7 @@ module _ (instances : ℕ) where
       }) (ap (λ (ds : List Cell). vertex_among instances ds cell) same ∙ among)
 
   -- a cell of which something is known
-  pub known-read : (writer : Cell → Option ℕ) (before : List Cell) (cell : ℕ × ArrayVec ℤ) (known : Known) (v : ℕ) → AreKnown instances writer before known → get is_cell known.vertices cell ≡ Some v
+  pub known-read : (writer : Cell → Option ℕ) (before : List Cell) (cell : ℕ × ArrayVec ℤ) (known : Known) (v : ℕ) → AreKnown instances writer before known → known_vertex known cell ≡ Some v
       → AreRead instances writer before (source_by writer (cell_view cell) ∷ []) known (v ∷ [])
   known-read writer before cell known v met is = by (writer (cell_view cell)) (sym (met.each cell) ∙ is) where
     by : (o : Option ℕ) → vertex_in instances (distinct same_cell before) o (cell_view cell) ≡ Some v → AreRead instances writer before (source_or o (cell_view cell) ∷ []) known (v ∷ [])
@@ -111,10 +110,10 @@ module _ (instances : ℕ) where
       same = cc
 
   -- a cell of which nothing is known
-  pub new-read : (writer : Cell → Option ℕ) (before : List Cell) (cell : ℕ × ArrayVec ℤ) (known new : Known) (v : ℕ) → AreKnown instances writer before known → get is_cell known.vertices cell ≡ None
-      → v ≡ instances + known.inputs → Updates is_cell known.vertices new.vertices cell (Some v) → new.inputs ≡ known.inputs + 1
+  pub new-read : (writer : Cell → Option ℕ) (before : List Cell) (cell : ℕ × ArrayVec ℤ) (known new : Known) (v : ℕ) → AreKnown instances writer before known → known_vertex known cell ≡ None
+      → v ≡ instances + known.inputs → Puts known new cell v → new.inputs ≡ known.inputs + 1
       → AreRead instances writer before (source_by writer (cell_view cell) ∷ []) new (v ∷ [])
-  new-read writer before cell known new v met none vertex updates longer =
+  new-read writer before cell known new v met none vertex puts longer =
       subst (λ (o : Option ℕ). AreRead instances writer before (source_or o (cell_view cell) ∷ []) new (v ∷ [])) (sym unwritten)
       (read-input writer before (cell_view cell) new v (record { many = many; each = each }) (ap (λ (ds : List Cell). vertex_among instances ds (cell_view cell)) more ∙ own)) where
         nothing : (o : Option ℕ) → vertex_in instances (distinct same_cell before) o (cell_view cell) ≡ None → (o ≡ None) × (vertex_among instances (distinct same_cell before) (cell_view cell) ≡ None)
@@ -152,9 +151,9 @@ module _ (instances : ℕ) where
             ∙ ap (λ (c : Cell). vertex_in instances (distinct same_cell before ++ cell_view cell ∷ []) (writer c) c) same
         by other false e = stays_in (writer other) other (flips same_cell same_cell-equal same_cell_refl other (cell_view cell) ∙ e)
 
-        each : (other : ℕ × ArrayVec ℤ) → get is_cell new.vertices other ≡ vertex_in instances (distinct same_cell (before ++ cell_view cell ∷ [])) (writer (cell_view other)) (cell_view other)
+        each : (other : ℕ × ArrayVec ℤ) → known_vertex new other ≡ vertex_in instances (distinct same_cell (before ++ cell_view cell ∷ [])) (writer (cell_view other)) (cell_view other)
         each other =
-            updates.0 other
+            puts other
             ∙ ap (λ (o : Option ℕ). cond (same_cell (cell_view cell) (cell_view other)) (Some v) o) (met.each other)
             ∙ by (cell_view other) (same_cell (cell_view cell) (cell_view other)) refl
             ∙ sym (ap (λ (ds : List Cell). vertex_in instances ds (writer (cell_view other)) (cell_view other)) more)

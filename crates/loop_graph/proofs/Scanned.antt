@@ -1,11 +1,12 @@
 -- What is known at a place of the execution, where the reads of all instances before it were gone through.
 use Rattle.std.proofs.Common.{◌≡◌, refl, sym, ◌∙◌, ap, subst, ℕ, zero, suc, ◌+◌, ◌<◌, ◌≤◌, Bool, true, false, cond, List, [], ◌∷◌, ◌++◌, length, map, drop, get_or, Some, nat_eq, Vec, Global, arith}
 use Rattle.std.specs.Prelude.{ℤ, Option, slice_get, filter_map, flat_map}
-use Rattle.std.specs.HashMap.{Updates}
+use Rattle.std.specs.HashMap.{get}
 use Rattle.std.specs.List.{enumerate_from}
+use Rattle.std.specs.Map.{lookup}
 use Rattle.arrayvec.specs.ArrayVec.{ArrayVec}
 use Rattle.std.specs.Option.{option_map_or}
-use Rattle.std.proofs.lemmas.List.{append_assoc, length-append, length-map, map_push}
+use Rattle.std.proofs.lemmas.List.{append-nil, append_assoc, drop_all, length-append, length-map, map_push}
 use Rattle.std.proofs.lemmas.List.Elements.{filter_map-append}
 use Rattle.base_laws.proofs.Lists.{add-one}
 use Rattle.iolb_model.specs.Program.{AffineProgram}
@@ -17,7 +18,7 @@ use Rattle.execution_laws.proofs.Cells.{same_cell-equal, same_cell_refl}
 use Rattle.program_runs.specs.Runs.{with_point, run_of}
 use Rattle.program_runs.specs.declared.listed.Run.{Run}
 use Rattle.loop_graph.specs.Cells.{cell_view, is_cell, cell_written, cells_read}
-use Rattle.loop_graph.specs.Known.{vertex_in, AreKnown, ArePreceded, source_by}
+use Rattle.loop_graph.specs.Known.{newest_or, source_by, vertex_in, AreKnown, ArePreceded, KnowsNothing, Puts}
 use Rattle.loop_graph.specs.declared.known.Known.{Known}
 use Rattle.loop_graph.specs.Found.{AreListed}
 use Rattle.loop_graph.specs.declared.limits.TheConstants.{VERTICES}
@@ -98,11 +99,11 @@ module _ (program : AffineProgram) (parameters : List ℤ) where
   -- what is known once an instance has written
   known-more : (i : ℕ) (x : Instance) (met : List Cell) (known new : Known) (written : ℕ × ArrayVec ℤ) → slice_get (execution program parameters) i ≡ Some x
       → AreKnown (length (execution program parameters)) (writer_before program parameters i) met known
-      → cell_view written ≡ written_cell program parameters x → Updates is_cell known.vertices new.vertices written (Some i) → new.inputs ≡ known.inputs
+      → cell_view written ≡ written_cell program parameters x → Puts known new written i → new.inputs ≡ known.inputs
       → AreKnown (length (execution program parameters)) (writer_before program parameters (suc i)) met new
-  known-more i x met known new written here are is updates same = record {
+  known-more i x met known new written here are is puts same = record {
     many = same ∙ are.many;
-    each = λ cell. updates.0 cell
+    each = λ cell. puts cell
         ∙ ap (λ (o : Option ℕ). cond (same_cell (cell_view written) (cell_view cell)) (Some i) o) (are.each cell)
         ∙ ap (λ (c : Cell). cond (same_cell c (cell_view cell)) (Some i) (vertex_in (length (execution program parameters)) (distinct same_cell met) (writer_before program parameters i (cell_view cell)) (cell_view cell))) is
         ∙ later-writer (length (execution program parameters)) (distinct same_cell met) (cell_view cell) i (same_cell (written_cell program parameters x) (cell_view cell)) (writer_before program parameters i (cell_view cell))
@@ -113,11 +114,11 @@ module _ (program : AffineProgram) (parameters : List ℤ) where
   pub scan-step : (i : ℕ) (x : Instance) (known read new : Known) (preds : List (Vec ℕ Global)) (found : Vec ℕ Global) (written : ℕ × ArrayVec ℤ)
       → drop i (execution program parameters) ≡ x ∷ drop (suc i) (execution program parameters) → slice_get (execution program parameters) i ≡ Some x
       → IsScanned program parameters i known preds → Gives program parameters x known read found
-      → cell_view written ≡ written_cell program parameters x → Updates is_cell read.vertices new.vertices written (Some i) → new.inputs ≡ read.inputs
+      → cell_view written ≡ written_cell program parameters x → Puts read new written i → new.inputs ≡ read.inputs
       → IsScanned program parameters (suc i) new (preds ++ found ∷ [])
-  scan-step i x known read new preds found written is here so_far gives wrote updates same = record {
+  scan-step i x known read new preds found written is here so_far gives wrote puts same = record {
     met = so_far.met ++ filter_map input_cell (sources_of program parameters (execution program parameters) (i, x));
-    are = known-more i x (so_far.met ++ filter_map input_cell (sources_of program parameters (execution program parameters) (i, x))) read new written here given.read.met wrote updates same;
+    are = known-more i x (so_far.met ++ filter_map input_cell (sources_of program parameters (execution program parameters) (i, x))) read new written here given.read.met wrote puts same;
     left = whole;
     preds = ap (λ (l : List (List ℕ)). l ++ map (preds_at program parameters) (rest_from (execution program parameters) (suc i))) (map_push items preds found)
         ∙ append_assoc (map items preds) (found.items ∷ []) (map (preds_at program parameters) (rest_from (execution program parameters) (suc i)))
@@ -150,6 +151,34 @@ module _ (program : AffineProgram) (parameters : List ℤ) where
       read.inputs given.read.met.many (met-more i x so_far.met is so_far.left) in
       omega (arith, few, many, past)
 
+module _ (program : AffineProgram) (parameters : List ℤ) where
+  -- nothing is known before the first instance
+  pub scan-start : (known : Known) (preds : List (Vec ℕ Global)) → KnowsNothing known → preds ≡ [] → IsScanned program parameters 0 known preds
+  scan-start known preds nothing none = record {
+    met = [];
+    are = record {
+      many = nothing.zero_inputs;
+      each = λ cell. ap (λ newest. newest_or newest (get is_cell known.others cell) cell) nothing.none ∙ ap (λ entries. lookup (is_cell cell) entries) nothing.no_others;
+    };
+    left = refl;
+    preds = ap (λ (l : List (Vec ℕ Global)). map items l ++ map (preds_at program parameters) (rest_from (execution program parameters) 0)) none;
+  }
+
+  -- and behind the last all of the graph
+  module _ (i : ℕ) (known : Known) (preds : List (Vec ℕ Global)) (last : i ≡ length (execution program parameters)) (scanned : IsScanned program parameters i known preds) where
+    none-left : rest_from (execution program parameters) i ≡ []
+    none-left = ap (enumerate_from i) (drop_all i (execution program parameters) (omega (arith, last)))
+
+    all-met : scanned.met ≡ cells_of program parameters (placed (execution program parameters))
+    all-met = sym (append-nil scanned.met) ∙ ap (λ (l : List (ℕ × Instance)). scanned.met ++ cells_of program parameters l) (sym none-left) ∙ scanned.left
+
+    pub scan-inputs : known.inputs ≡ (computation_graph program parameters).inputs
+    scan-inputs = scanned.are.many ∙ ap (λ (l : List Cell). length (distinct same_cell l)) all-met
+
+    pub scan-preds : map items preds ≡ (computation_graph program parameters).predecessors
+    scan-preds =
+        sym (append-nil (map items preds)) ∙ ap (λ (l : List (ℕ × Instance)). map items preds ++ map (preds_at program parameters) l) (sym none-left) ∙ scanned.preds
+
 -- ---- the same of runs
 
 pub runs-many : (program : AffineProgram) (parameters : List ℤ) (runs : List Run) → AreListed program parameters runs → length runs ≡ length (execution program parameters)
@@ -170,15 +199,25 @@ module _ (program : AffineProgram) (parameters : List ℤ) (runs : List Run) (li
       (subst (λ (p : ℕ × List ℤ). ArePreceded instances writer before (map (source_by writer) (cells_read program p)) read found.items) at
       (gives writer before (subst (λ (n : ℕ). AreKnown n writer before known) (sym all) met)))
 
+  -- what is known where the reads of the run at a place were gone through
+  pub known-run : (i : ℕ) (run : Run) (instances : ℕ) (known read : Known) (preds : List (Vec ℕ Global)) (found : Vec ℕ Global)
+      → i < length runs → run ≡ get_or runs i run → instances ≡ length runs → IsScanned program parameters i known preds → GivesRun program instances run known read found
+      → (met : List Cell) × AreKnown (length (execution program parameters)) (writer_before program parameters i) met read
+  known-run i run instances known read preds found below is many so_far gives =
+      let at = paired run_of (with_point parameters) runs (execution program parameters) i run listed below is in
+      let given : ArePreceded (length (execution program parameters)) (writer_before program parameters i) so_far.met (sources_of program parameters (execution program parameters) (i, at.0)) read found.items =
+      gives-run run at.0 instances known read found many at.1.2 gives (writer_before program parameters i) so_far.met so_far.are in
+      (so_far.met ++ filter_map input_cell (sources_of program parameters (execution program parameters) (i, at.0)), given.read.met)
+
   pub scan-run : (i : ℕ) (run : Run) (instances : ℕ) (known read new : Known) (preds : List (Vec ℕ Global)) (found : Vec ℕ Global) (written : ℕ × ArrayVec ℤ)
       → i < length runs → run ≡ get_or runs i run → instances ≡ length runs → IsScanned program parameters i known preds → GivesRun program instances run known read found
-      → cell_view written ≡ cell_written program (run_of run) → Updates is_cell read.vertices new.vertices written (Some i) → new.inputs ≡ read.inputs
+      → cell_view written ≡ cell_written program (run_of run) → Puts read new written i → new.inputs ≡ read.inputs
       → IsScanned program parameters (i + 1) new (preds ++ found ∷ [])
-  scan-run i run instances known read new preds found written below is many so_far gives wrote updates same =
+  scan-run i run instances known read new preds found written below is many so_far gives wrote puts same =
       let at = paired run_of (with_point parameters) runs (execution program parameters) i run listed below is in
       subst (λ (n : ℕ). IsScanned program parameters n new (preds ++ found ∷ [])) (add-one i)
       (scan-step program parameters i at.0 known read new preds found written at.1.0 at.1.1 so_far (gives-run run at.0 instances known read found many at.1.2 gives)
-      (wrote ∙ ap (cell_written program) at.1.2) updates same)
+      (wrote ∙ ap (cell_written program) at.1.2) puts same)
 
   pub stops-run : (i : ℕ) (run : Run) (instances : ℕ) (known read : Known) (preds : List (Vec ℕ Global)) (found : Vec ℕ Global)
       → i < length runs → run ≡ get_or runs i run → instances ≡ length runs → IsScanned program parameters i known preds → GivesRun program instances run known read found

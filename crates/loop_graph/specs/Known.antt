@@ -1,5 +1,5 @@
 -- The vertices whose words stand in cells, where the reads of a program are gone through.
-use Rattle.std.specs.Prelude.{◌≡◌, ℕ, nat_eq, if◌then◌else◌, ℤ, List, [], ◌++◌, map, length, filter_map, Option, Some, None}
+use Rattle.std.specs.Prelude.{◌≡◌, ℕ, nat_eq, if◌then◌else◌, Bool, false, cond, ℤ, List, [], ◌++◌, map, length, filter_map, Option, Some, None}
 use Rattle.std.specs.HashMap.{get}
 use Rattle.std.specs.List.{list_any}
 use Rattle.arrayvec.specs.ArrayVec.{ArrayVec}
@@ -17,16 +17,39 @@ abbrev pub vertex_in : ℕ → List Cell → Option ℕ → Cell → Option ℕ
 vertex_in instances cells None cell = vertex_among instances cells cell
 vertex_in instances cells (Some writer) cell = Some writer
 
+-- whether a cell is that of the newest entry
+abbrev pub is_newest : Option ((ℕ × ArrayVec ℤ) × ℕ) → ℕ × ArrayVec ℤ → Bool
+is_newest None cell = false
+is_newest (Some entry) cell = is_cell entry.0 cell
+
+-- what the newest entry says of a cell, or else the others
+abbrev pub newest_or : Option ((ℕ × ArrayVec ℤ) × ℕ) → Option ℕ → ℕ × ArrayVec ℤ → Option ℕ
+newest_or None other cell = other
+newest_or (Some entry) other cell = cond (is_cell entry.0 cell) (Some entry.1) other
+
+-- the vertex whose word stands in a cell, if it is known
+abbrev pub known_vertex : Known → ℕ × ArrayVec ℤ → Option ℕ
+known_vertex known cell = newest_or known.newest (get is_cell known.others cell) cell
+
+-- the same is known
+abbrev pub KnowsSame : Known → Known → Type 0
+KnowsSame old new = (cell : ℕ × ArrayVec ℤ) → known_vertex new cell ≡ known_vertex old cell
+
+-- the word of a vertex was put into a cell, and every other cell has what it had
+abbrev pub Puts : Known → Known → ℕ × ArrayVec ℤ → ℕ → Type 0
+Puts old new cell vertex = (other : ℕ × ArrayVec ℤ) → known_vertex new other ≡ cond (is_cell cell other) (Some vertex) (known_vertex old other)
+
 -- nothing is known
 pub record KnowsNothing (known : Known) : Type 0 where
-  pub none : known.vertices.entries ≡ []
+  pub none : known.newest ≡ None
+  pub no_others : known.others.entries ≡ []
   pub zero_inputs : known.inputs ≡ 0
 
 -- What is known where cells have these last writers, and these input cells were met: how many they are, each counted once,
 -- and the vertex whose word stands in each cell.
 pub record AreKnown (instances : ℕ) (writer : Cell → Option ℕ) (cells : List Cell) (known : Known) : Type 0 where
   pub many : known.inputs ≡ length (distinct same_cell cells)
-  pub each : (cell : ℕ × ArrayVec ℤ) → get is_cell known.vertices cell ≡ vertex_in instances (distinct same_cell cells) (writer (cell_view cell)) (cell_view cell)
+  pub each : (cell : ℕ × ArrayVec ℤ) → known_vertex known cell ≡ vertex_in instances (distinct same_cell cells) (writer (cell_view cell)) (cell_view cell)
 
 -- the source of a read of a cell, where cells have these last writers
 abbrev pub source_by : (Cell → Option ℕ) → Cell → Source

@@ -8,9 +8,8 @@ ghost use Rattle.loop_graph.specs.Builds.{Builds};
 ghost use Rattle.iolb_model.specs.declared.limits.TheConstants.{VALUE_SIZE};
 
 use crate::fault::GraphFault;
-use crate::last::last_writers;
 use crate::limits;
-use crate::predecessors::predecessors;
+use crate::predecessors::{Found, gathered};
 use affine_program::{Program, first_unmet};
 use pebble_game::Graph;
 use program_runs::{Room, has_room, runs, values_of};
@@ -33,10 +32,14 @@ fn graph_at(alloc: Global, program: &Program, values: &[i128]) -> Result<Graph, 
         return Err(GraphFault::TooMany);
     }
     let runs = runs(alloc, program, values)?;
-    let Some((inputs, preds)) = predecessors(alloc, program, runs.as_slice())? else {
+    let Some(found) = gathered(alloc, program, runs.as_slice())? else {
         return Err(GraphFault::TooMany);
     };
-    let last = last_writers(alloc, program, runs.as_slice())?;
+    let Found {
+        inputs,
+        preds,
+        last,
+    } = found;
     Ok(Graph::new(runs.as_slice().len() as u32, inputs, preds, last))
 }
 

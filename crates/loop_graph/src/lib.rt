@@ -6,7 +6,6 @@ mod cells;
 mod fault;
 mod graphs;
 mod known;
-mod last;
 pub mod limits;
 mod predecessors;
 

@@ -7,19 +7,24 @@ use pebble_game::Memory;
 use std::alloc::Global;
 use std::marker::Model;
 
-/// For each vertex its uses, in order, each by how many instances of the order stand from it on. The next use stands last in
-/// its list, so that a use that is past is taken off.
+/// For each vertex its uses, in order, each by how many instances of the order stand from it on. The uses of all vertices
+/// stand in one list, each with the number in it, from 1 on, of the one that follows, and 0 where none does; for each vertex
+/// there is the number of its next use.
 #[derive(Debug, Drop)]
 pub(crate) struct Uses {
-    lists: Vec<Vec<u32>>,
+    firsts: Vec<usize>,
+    all: Vec<(u32, usize)>,
 }
 
 impl Model for Uses {
-    ghost use Rattle.std.specs.Prelude.{List, ℕ, map, reverse};
+    ghost use Rattle.std.specs.Prelude.{List, ℕ, map};
+    ghost use Rattle.pebble_replay.specs.Chains.{uses_from, AreLinked};
 
     ghost Value = { List (List ℕ) };
 
-    ghost view = { λ uses. map (λ list. reverse list.items) uses.lists.items };
+    ghost view = { λ uses. map (uses_from uses.all.items) uses.firsts.items };
+
+    ghost invariant = { λ uses. AreLinked uses.all.items uses.firsts.items };
 }
 
 impl Uses {
@@ -27,11 +32,10 @@ impl Uses {
     pub(crate) fn new(alloc: Global, vertices: usize) -> Result<Uses, Memory>
         ensures { IfOk result (λ uses. uses ≡ replicate vertices []) }
     {
-        let mut lists = Vec::new(alloc);
-        for _u in 0..vertices {
-            lists.push(Vec::new(alloc))?;
-        }
-        Ok(Uses { lists })
+        Ok(Uses {
+            firsts: vec![in alloc; 0; vertices]?,
+            all: Vec::new(alloc),
+        })
     }
 
     /// The next use of a vertex, and 0 where it has none.
@@ -39,7 +43,11 @@ impl Uses {
         requires { u < length self.now }
         ensures { result ≡ first_or_zero (slice_index_or self.now u []) }
     {
-        self.lists[u as usize].last().copied().unwrap_or(0)
+        let first = self.firsts[u as usize];
+        if first == 0 {
+            return 0;
+        }
+        self.all[first - 1].0
     }
 
     /// Puts a use before those of a vertex.
@@ -47,7 +55,9 @@ impl Uses {
         requires { u < length self.old }
         ensures { OnOk result (self.new ≡ slice_set self.old u (left ∷ slice_index_or self.old u [])) }
     {
-        self.lists[u as usize].push(left)?;
+        let first = self.firsts[u as usize];
+        self.all.push((left, first))?;
+        self.firsts[u as usize] = self.all.len();
         Ok(())
     }
 
@@ -56,6 +66,9 @@ impl Uses {
         requires { u < length self.old }
         ensures { self.new ≡ slice_set self.old u (drop 1 (slice_index_or self.old u [])) }
     {
-        self.lists[u as usize].pop();
+        let first = self.firsts[u as usize];
+        if first != 0 {
+            self.firsts[u as usize] = self.all[first - 1].1;
+        }
     }
 }

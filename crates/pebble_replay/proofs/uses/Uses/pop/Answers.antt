@@ -1,10 +1,8 @@
-use Rattle.std.proofs.Common.{◌≡◌, None, length, arith}
-use Rattle.std.proofs.lemmas.Grind.{common_steps}
+use Rattle.std.proofs.Common.{arith}
 use Rattle.pebble_replay.proofs.UseLists.{use-popped}
 use Rattle.pebble_replay.proofs.uses.Uses.pop.Goals as goal
 
-pub returns : goal.returns
-returns c =
-    let none : c.pop.result ≡ None → length c.index_mut.result.now.items ≡ 0 = λ e. grind (arith, common_steps, e) in
-    use-popped c.self.inside.lists.items c.args.self.now c.args.u c.index_mut.result.now c.pop.new.self c.pop.result c.self.view_is c.requires
-    c.index_mut.ensures.value c.pop.ensures.items none
+pub returns-then-first-ne0 : goal.returns-then-first-ne0
+returns-then-first-ne0 c =
+    use-popped c.self.inside.all.items c.self.inside.firsts.items c.args.self.now c.args.u c.index-first.result.now c.self.invariant c.self.view_is c.requires c.index-first.ensures
+    c.index.result.now (omega (arith, c.if-first-ne0.true)) c.index.ensures
