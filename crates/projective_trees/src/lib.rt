@@ -1,0 +1,2 @@
+//! The source trees of projective programs.
+#![tactic(auto)]
