@@ -1,20 +1,14 @@
 -- Points of writers, and forms of candidates.
-use Rattle.std.proofs.Common.{◌≡◌, sym, ◌∙◌, ap, subst, ℕ, zero, suc, ◌+◌, ◌-◌, ◌<◌, Bool, true, false, List, [], ◌∷◌, ◌++◌, length, map, drop, replicate, get_or, arith, lit<}
-use Rattle.std.specs.Prelude.{if◌then◌else◌, Option, Some, None, Vec, slice_set}
+use Rattle.std.proofs.Common.{◌≡◌, sym, ◌∙◌, ap, subst, ℕ, zero, suc, ◌+◌, ◌<◌, Bool, true, false, List, [], ◌∷◌, ◌++◌, length, map, drop, get_or, arith}
+use Rattle.std.specs.Prelude.{if◌then◌else◌, Option, Some, None, Vec}
 use Rattle.std.specs.Global.{Global}
 use Rattle.std.specs.List.{AllByRecursion}
-use Rattle.std.proofs.Math.IntN.{ℤ, pos, negsuc, ◌-ℤ◌}
 use Rattle.std.proofs.lemmas.List.{get_or-map}
-use Rattle.base_laws.proofs.Lists.{All-append, All-replicate, All-weaken, there, rest_at}
+use Rattle.base_laws.proofs.Lists.{there, rest_at}
 use Rattle.iolb_model.specs.Form.{AffineForm}
 use Rattle.iolb_model.specs.Path.{PathStep, rises}
 use Rattle.iolb_model.specs.Program.{AffineProgram}
-use Rattle.iolb_model.specs.declared.limits.TheConstants.{NUMBER_SIZE}
-use Rattle.affine_form.specs.Combination.{add_lists}
-use Rattle.affine_form.specs.Form.{variables, IsSmall}
-use Rattle.affine_form.specs.Rows.{IsSmallOver, BoundsFit, variable, difference, widened, step_of}
-use Rattle.affine_form.proofs.RowLemmas.{variables-over, length-difference}
-use Rattle.affine_form.proofs.Sizes.{size-add}
+use Rattle.affine_form.specs.Rows.{IsSmallOver, BoundsFit, step_of}
 use Rattle.affine_form.specs.declared.form.Form.{Form}
 use Rattle.dep_quast.specs.Context.{ReadOf, variables_at}
 use Rattle.answers.proofs.AnswerLaws.{All-left, All-right}

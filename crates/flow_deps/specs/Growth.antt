@@ -1,12 +1,11 @@
 -- What stands while a tree grows.
-use Rattle.std.specs.Prelude.{◌≡◌, ℕ, ◌≤◌, List, ◌++◌, length}
+use Rattle.std.specs.Prelude.{ℕ, ◌≤◌, List, ◌++◌, length}
 use Rattle.std.specs.List.{AllByRecursion}
 use Rattle.iolb_model.specs.Form.{AffineForm}
 use Rattle.iolb_model.specs.Program.{AffineProgram}
 use Rattle.affine_form.specs.Rows.{IsSmallOver}
 use Rattle.dep_quast.specs.Context.{ReadOf, variables_at}
-use Rattle.dep_quast.specs.Tree.{SelectionTree, leaf_count, tree_of}
-use Rattle.shown_leaves.specs.Shown.{Stands}
+use Rattle.dep_quast.specs.Tree.{tree_of}
 use Rattle.flow_deps.specs.declared.growth.Guarded.{Guarded}
 
 -- a leaf stands under tests and its guards, which are small forms, at most so many

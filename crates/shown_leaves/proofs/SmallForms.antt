@@ -1,24 +1,15 @@
 -- Variables, and variables less 1, are small forms.
-use Rattle.std.proofs.Common.{◌≡◌, sym, ◌∙◌, ap, subst, ℕ, zero, suc, ◌+◌, ◌-◌, ◌<◌, Bool, true, false, List, [], ◌∷◌, ◌++◌, length, map, drop, replicate, get_or, arith, lit<}
-use Rattle.std.specs.Prelude.{if◌then◌else◌, Option, Some, None, Vec, slice_set}
-use Rattle.std.specs.Global.{Global}
+use Rattle.std.proofs.Common.{◌≡◌, ℕ, zero, suc, ◌+◌, ◌-◌, ◌<◌, List, [], ◌∷◌, length, map, replicate, arith, lit<}
+use Rattle.std.specs.Prelude.{slice_set}
 use Rattle.std.specs.List.{AllByRecursion}
 use Rattle.std.proofs.Math.IntN.{ℤ, pos, negsuc, ◌-ℤ◌}
-use Rattle.std.proofs.lemmas.List.{get_or-map}
-use Rattle.base_laws.proofs.Lists.{All-append, All-replicate, All-weaken, there, rest_at}
-use Rattle.iolb_model.specs.Form.{AffineForm}
-use Rattle.iolb_model.specs.Path.{PathStep, rises}
-use Rattle.iolb_model.specs.Program.{AffineProgram}
+use Rattle.base_laws.proofs.Lists.{All-append, All-replicate, All-weaken}
 use Rattle.iolb_model.specs.declared.limits.TheConstants.{NUMBER_SIZE}
 use Rattle.affine_form.specs.Combination.{add_lists}
 use Rattle.affine_form.specs.Form.{variables, IsSmall}
-use Rattle.affine_form.specs.Rows.{IsSmallOver, BoundsFit, variable, difference, widened, step_of}
+use Rattle.affine_form.specs.Rows.{IsSmallOver, variable, difference, widened}
 use Rattle.affine_form.proofs.RowLemmas.{variables-over, length-difference}
 use Rattle.affine_form.proofs.Sizes.{size-add}
-use Rattle.affine_form.specs.declared.form.Form.{Form}
-use Rattle.dep_quast.specs.Context.{ReadOf, variables_at}
-use Rattle.answers.proofs.AnswerLaws.{All-left, All-right}
-use Rattle.flow_deps.specs.Candidates.{subscript_for, is_name, loop_value, values_along, point_from, FindsPoint}
 
 -- a variable is a small form
 pub variable-small : (vars k : ℕ) → IsSmallOver vars (variable vars k)

@@ -1,8 +1,8 @@
 -- Trees that stand: leaves, and tests over trees.
-use Rattle.std.proofs.Common.{◌≡◌, refl, inl, inr, ℕ, suc, ◌+◌, ◌<◌, ◌≤◌, List, [], ◌∷◌, ◌++◌, length, map, arith}
+use Rattle.std.proofs.Common.{refl, ℕ, suc, ◌+◌, ◌<◌, ◌≤◌, List, [], ◌∷◌, ◌++◌, length, map, arith}
 use Rattle.std.proofs.lemmas.List.{length-append, length-map}
 use Rattle.iolb_model.specs.Form.{AffineForm}
-use Rattle.iolb_model.specs.Program.{AffineProgram, IsWellFormed}
+use Rattle.iolb_model.specs.Program.{AffineProgram}
 use Rattle.iolb_model.specs.declared.limits.TheConstants.{TREE_TESTS}
 use Rattle.affine_form.specs.Multipliers.{FarkasMultipliers}
 use Rattle.affine_form.specs.Rows.{IsSmallOver, widened, variables_from}
@@ -15,8 +15,7 @@ use Rattle.claims.specs.declared.key.TheConstants.{NO, YES}
 use Rattle.dep_quast.specs.Context.{ReadOf, variables_at, no_row, context}
 use Rattle.dep_quast.specs.Claims.{IsFew, context_system, claims}
 use Rattle.dep_quast.specs.Tree.{SelectionTree, leaf, test, empty, blank}
-use Rattle.dep_quast.specs.Truth.{IsLevel}
-use Rattle.dep_quast.proofs.Fits.{common-first, common-second, depth-few}
+use Rattle.dep_quast.proofs.Fits.{depth-few}
 use Rattle.answers.specs.Answers.{IsAnswered, pointless}
 use Rattle.shown_leaves.specs.Shown.{IsLeafUnder}
 use Rattle.shown_leaves.specs.Shown.{Stands}
