@@ -1,8 +1,8 @@
 -- What the rows of a nest, of equal cells and of the order of execution are worth.
-use Rattle.std.proofs.Common.{◌≡◌, refl, sym, ◌∙◌, ap, subst, inl, inr, ℕ, zero, suc, ◌+◌, ◌<◌, ◌≤◌, List, [], ◌∷◌, ◌++◌, length, map, get_or, arith}
+use Rattle.std.proofs.Common.{◌≡◌, refl, sym, ◌∙◌, ap, subst, inl, inr, ℕ, zero, suc, ◌+◌, ◌<◌, ◌≤◌, List, [], ◌∷◌, ◌++◌, length, get_or, arith}
 use Rattle.std.specs.Prelude.{◌⊎◌, ⊤}
 use Rattle.std.specs.List.{AllByRecursion}
-use Rattle.std.proofs.Math.IntN.{ℤ, pos, negsuc, ◌+ℤ◌, ◌-ℤ◌, ◌*ℤ◌}
+use Rattle.std.proofs.Math.IntN.{ℤ, pos, negsuc, ◌+ℤ◌, ◌-ℤ◌}
 use Rattle.std.proofs.lemmas.Int.{ints}
 use Rattle.std.proofs.lemmas.List.{length-append, length-map, map-append}
 use Rattle.iolb_model.specs.Form.{AffineForm, form_value}
@@ -13,6 +13,7 @@ use Rattle.affine_form.specs.Substitution.{substitution, values_at}
 use Rattle.affine_form.specs.System.{AllOver}
 use Rattle.affine_form.specs.Rows.{variable, variables_from, difference, within_rows, equality_rows, put_in, order_rows}
 use Rattle.affine_form.proofs.Meaning.{form_value-difference, form_value-variable}
+use Rattle.affine_form.proofs.RowLemmas.{length-variables}
 use Rattle.affine_form.proofs.SubstitutionLemmas.{form_value-substitution}
 use Rattle.projective_trees.proofs.Picked.{Worth, IsWorth, IsPicked, picked-none}
 
@@ -125,7 +126,7 @@ within-each P vars params [] before values ends ws runs keeps worth over low hig
 within-each P vars params (rises lower upper ∷ path) before [] ends ws runs keeps worth over low high = tt
 within-each P vars params (rises lower upper ∷ path) before (v ∷ values) ends ws runs keeps worth over low high = (
   low 0 (omega arith) (difference vars v (substitution lower before) (pos 0)) over.0 (λ point.
-    let h = difference-worth vars v (substitution lower before) (ws 0) (λ p. pos 0) (pos 0) worth.0 (λ p. form_value-substitution lower before p ∙ runs.0.0 (values_at before p)) point in omega (arith, ints)),
+      let h = difference-worth vars v (substitution lower before) (ws 0) (λ p. pos 0) (pos 0) worth.0 (λ p. form_value-substitution lower before p ∙ runs.0.0 (values_at before p)) point in omega (arith, ints)),
   (
     high 0 (omega arith) (difference vars (substitution upper before) v (pos 0)) over.1.0
         (less-worth vars (substitution upper before) v (ends 0) (ws 0) (λ p. form_value-substitution upper before p ∙ runs.0.1 (values_at before p) p (keeps.same p)) worth.0),
@@ -133,6 +134,45 @@ within-each P vars params (rises lower upper ∷ path) before (v ∷ values) end
         (λ j below. low (suc j) (omega (arith, below))) (λ j below. high (suc j) (omega (arith, below))),
   ),
 )
+
+-- ---- forms put in for variables
+
+at_right : (xs ys : List ℤ) (n k : ℕ) → length xs ≡ n → get_or (xs ++ ys) (n + k) (pos 0) ≡ get_or ys k (pos 0)
+at_right [] ys n k e = ap (λ (m : ℕ). get_or ys m (pos 0)) (omega arith)
+at_right (x ∷ xs) ys zero k e = absurd (omega arith)
+at_right (x ∷ xs) ys (suc n) k e = ap (λ (m : ℕ). get_or (x ∷ (xs ++ ys)) m (pos 0)) (moved n k) ∙ at_right xs ys n k (omega arith) where
+  moved : (n k : ℕ) → suc n + k ≡ suc (n + k)
+  moved n k = omega arith
+
+-- a loop's variable with the parameters and loop values put in is worth the loop's value
+pub put-worth : (vars n place : ℕ) (params values : List AffineForm) (ws : ℕ → Worth) → length params ≡ n → AreWorth ws values → place < length values → n + place < vars
+    → IsWorth (substitution (variable vars (n + place)) (params ++ values)) (ws place)
+put-worth vars n place params values ws long worth there below point =
+    form_value-substitution (variable vars (n + place)) (params ++ values) point
+    ∙ form_value-variable vars (n + place) (values_at (params ++ values) point) below
+    ∙ ap (λ (xs : List ℤ). get_or xs (n + place) (pos 0)) (map-append (λ form. form_value form point) params values)
+    ∙ at_right (values_at params point) (values_at values point) n place (length-map params (λ (form : AffineForm). form_value form point) ∙ long)
+    ∙ at_worth ws values place point worth there
+
+-- and with variables put in the variable
+pub same-worth : (vars wide place : ℕ) → place < vars → vars ≤ wide → IsWorth (substitution (variable vars place) (variables_from wide 0 vars)) (at place)
+same-worth vars wide place below more point =
+    form_value-substitution (variable vars place) (variables_from wide 0 vars) point
+    ∙ form_value-variable vars place (values_at (variables_from wide 0 vars) point) below
+    ∙ at_worth (λ j. at (0 + j)) (variables_from wide 0 vars) place point (variables-worth wide 0 vars (omega arith)) (omega (arith, length-variables wide 0 vars))
+    ∙ ap (λ (k : ℕ). get_or point k (pos 0)) none where
+      none : 0 + place ≡ place
+      none = omega arith
+
+-- variables of the parameters keep them
+pub parameters-kept : (vars params : ℕ) → params ≤ vars → KeepsParameters params (variables_from vars 0 params)
+parameters-kept vars params more = record {
+  long = omega (arith, length-variables vars 0 params);
+  same = λ point k less. at_worth (λ j. at (0 + j)) (variables_from vars 0 params) k point (variables-worth vars 0 params (omega arith)) (omega (arith, length-variables vars 0 params))
+      ∙ ap (λ (m : ℕ). get_or point m (pos 0)) (none k);
+} where
+  none : (k : ℕ) → 0 + k ≡ k
+  none k = omega arith
 
 -- ---- equal cells
 
@@ -162,10 +202,10 @@ pub equality-each : (P : AffineForm → Type 0) (vars : ℕ) (here there forms :
 equality-each P vars here there [] over same each = tt
 equality-each P vars here there (f ∷ fs) over same each = (
   each (difference vars (substitution f here) (substitution f there) (pos 0)) over.0 (λ point.
-    let h = form_value-difference vars (substitution f here) (substitution f there) (pos 0) point in let e = same.0 point in omega (arith, ints)),
+      let h = form_value-difference vars (substitution f here) (substitution f there) (pos 0) point in let e = same.0 point in omega (arith, ints)),
   (
     each (difference vars (substitution f there) (substitution f here) (pos 0)) over.1.0 (λ point.
-      let h = form_value-difference vars (substitution f there) (substitution f here) (pos 0) point in let e = same.0 point in omega (arith, ints)),
+        let h = form_value-difference vars (substitution f there) (substitution f here) (pos 0) point in let e = same.0 point in omega (arith, ints)),
     equality-each P vars here there fs over.1.1 same.1 each,
   ),
 )

@@ -1,8 +1,8 @@
 -- Rows that are picked from others, in their order, and what their sum shows.
-use Rattle.std.proofs.Common.{◌≡◌, ◌≢◌, refl, sym, ◌∙◌, ap, subst, inl, inr, ℕ, zero, suc, ◌+◌, ◌<◌, ◌≤◌, List, [], ◌∷◌, ◌++◌, length, map, replicate, get_or, arith, lit<, lit≤}
+use Rattle.std.proofs.Common.{◌≡◌, ◌≢◌, refl, sym, ◌∙◌, ap, subst, inl, inr, ℕ, zero, suc, ◌<◌, ◌≤◌, List, [], ◌∷◌, ◌++◌, length, map, replicate, get_or, arith, lit≤}
 use Rattle.std.specs.Prelude.{◌⊎◌, ⊤, slice_set}
 use Rattle.std.specs.List.{AllByRecursion}
-use Rattle.std.proofs.Math.IntN.{ℤ, pos, negsuc, ◌+ℤ◌, ◌*ℤ◌}
+use Rattle.std.proofs.Math.IntN.{ℤ, pos, ◌+ℤ◌, ◌*ℤ◌}
 use Rattle.std.proofs.lemmas.Int.{ints}
 use Rattle.std.proofs.lemmas.List.{ext_get_or, length-map, length-replicate, length-set}
 use Rattle.base_laws.proofs.Ring.{mul-zero, mul-one, one-mul}
@@ -16,7 +16,7 @@ use Rattle.affine_form.proofs.Combination.{form_value-add, form_value-scale, for
 use Rattle.affine_form.proofs.Meaning.{form_value-widened}
 use Rattle.affine_form.proofs.ShownLemmas.{length-row_sum}
 use Rattle.affine_form.specs.Rows.{widened}
-use Rattle.int_sets.specs.ShortList.{IsShort, IsOnceOrTwice, RowsDiffer, HasShortList}
+use Rattle.int_sets.specs.ShortList.{IsOnceOrTwice, RowsDiffer, HasShortList}
 use Rattle.iolb_model.specs.declared.limits.TheConstants.{MULTIPLIER_SIZE}
 
 -- ---- forms with the same values
@@ -186,10 +186,10 @@ picked-shows system goal picked rest over same is few small sum =
         identity = same-form system.vars (scale_form (pos 1) goal) (combination (weighted_rows system.rows t.weights) (constant_form system.vars (pos rest)))
             (length-map goal.coefficients (λ (x : ℤ). pos 1 *ℤ x) ∙ same) (length-row_sum system.vars system.rows t.weights (pos rest) over t.named)
             (λ point long.
-              let a : form_value (scale_form (pos 1) goal) point ≡ pos 1 *ℤ form_value goal point = form_value-scale (pos 1) goal point in
-              let b : pos 1 *ℤ form_value goal point ≡ form_value goal point = one-mul (form_value goal point) in
-              let c = t.sum (constant_form system.vars (pos rest)) point in
-              let d : form_value (constant_form system.vars (pos rest)) point ≡ pos rest = form_value-constant system.vars (pos rest) point in
-              let e = sum point long in omega (arith, ints));
+            let a : form_value (scale_form (pos 1) goal) point ≡ pos 1 *ℤ form_value goal point = form_value-scale (pos 1) goal point in
+            let b : pos 1 *ℤ form_value goal point ≡ form_value goal point = one-mul (form_value goal point) in
+            let c = t.sum (constant_form system.vars (pos rest)) point in
+            let d : form_value (constant_form system.vars (pos rest)) point ≡ pos rest = form_value-constant system.vars (pos rest) point in
+            let e = sum point long in omega (arith, ints));
       },
     )
