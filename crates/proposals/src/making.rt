@@ -217,8 +217,8 @@ fn alone(alloc: Global, proposed: Proposed) -> Result<Proposal, Memory> {
     })
 }
 
-/// Terms for branches: partition terms and then wavefront terms with different words together; wavefront terms alone; then each
-/// partition term by itself, strongest first.
+/// Terms for branches: partition terms and then wavefront terms with different words together, where they are several;
+/// wavefront terms alone; then each partition term by itself, strongest first.
 pub fn proposals(
     alloc: Global,
     program: &Program,
@@ -230,8 +230,11 @@ pub fn proposals(
     let some = partitions(alloc, program, &facts, candidates.as_slice())?;
     let is_mixed = !some.terms.is_empty();
     let first = with_wavefronts(alloc, program, &facts, some)?;
+    let is_new = first.terms.len() > 1 || !is_mixed;
     if let Some(proposal) = proposal_of(alloc, &facts, first)? {
-        all.push(proposal)?;
+        if is_new {
+            all.push(proposal)?;
+        }
     }
     if is_mixed {
         if let Some(proposal) = fronts(alloc, program, &facts)? {
