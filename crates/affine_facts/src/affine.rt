@@ -226,7 +226,7 @@ impl Affine {
     }
 
     /// Whether it has a variable past so many.
-    fn uses_past(&self, vars: usize) -> bool {
+    pub fn uses_past(&self, vars: usize) -> bool {
         for place in vars..self.width() {
             if self.at(place) != 0 {
                 return true;

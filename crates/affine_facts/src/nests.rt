@@ -139,6 +139,80 @@ pub fn image(
     Ok(all)
 }
 
+/// A bound of the loop of which a value is a turn so many later, where it is, as a form over a nest's variables whose values at
+/// the reader's loop values are these.
+fn moved_bound(
+    alloc: Global,
+    params: usize,
+    reader: &[(Affine, Affine)],
+    values: &[Affine],
+    value: &Affine,
+    is_lower: bool,
+) -> Result<Option<Affine>, Memory> {
+    let Some(place) = value.only_loop(params) else {
+        return Ok(None);
+    };
+    let variable = params.saturating_add(place);
+    let Some((lower, upper)) = reader.get(place) else {
+        return Ok(None);
+    };
+    let bound = if is_lower { lower } else { upper };
+    if value.at(variable) != 1 {
+        return Ok(None);
+    }
+    let mut form = value.copied(alloc)?;
+    form.add_variable(variable, -1)?;
+    form.add(bound, 1)?;
+    combined(alloc, params, &form, values, None)
+}
+
+/// The greater of two bounds, if they differ by a number and the second is over so many variables, and else the first; or the
+/// lesser one.
+fn closer(
+    alloc: Global,
+    bound: Affine,
+    other: Option<Affine>,
+    vars: usize,
+    is_lower: bool,
+) -> Result<Affine, Memory> {
+    let Some(other) = other else {
+        return Ok(bound);
+    };
+    let apart = other.less(alloc, &bound, 0)?;
+    let is_closer = if is_lower {
+        apart.constant() > 0
+    } else {
+        apart.constant() < 0
+    };
+    if apart.is_number() && is_closer && !other.uses_past(vars) {
+        return Ok(other);
+    }
+    Ok(bound)
+}
+
+/// The bounds of a nest that holds a source, narrowed by those of the reader's loops of which its values are turns.
+pub fn narrowed(
+    alloc: Global,
+    params: usize,
+    bounds: Vec<(Affine, Affine)>,
+    values: &[Affine],
+    reader: &[(Affine, Affine)],
+) -> Result<Vec<(Affine, Affine)>, Memory> {
+    let mut all = Vec::new(alloc);
+    for ((lower, upper), value) in bounds.into_iter().zip(values.iter()) {
+        let vars = params.saturating_add(all.len());
+        if lower.is_same(&upper) {
+            all.push((lower, upper))?;
+        } else {
+            let least = moved_bound(alloc, params, reader, values, value, true)?;
+            let most = moved_bound(alloc, params, reader, values, value, false)?;
+            let lower = closer(alloc, lower, least, vars, true)?;
+            all.push((lower, closer(alloc, upper, most, vars, false)?))?;
+        }
+    }
+    Ok(all)
+}
+
 /// The values of a nest's variables.
 pub fn own_values(
     alloc: Global,

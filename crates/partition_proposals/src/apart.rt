@@ -26,6 +26,7 @@ pub(crate) fn words_by_way(
                     statement,
                     tried.as_mut_slice(),
                     &[1],
+                    false,
                 )?,
                 None => None,
             };

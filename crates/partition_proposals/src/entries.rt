@@ -3,7 +3,7 @@
 use crate::labels::{Draft, Way};
 use affine_facts::affine::{Affine, copies};
 use affine_facts::facts::{Facts, Origin, ReadFacts, TreeLeaf};
-use affine_facts::nests::{image, ranged, tightened, wide_loops};
+use affine_facts::nests::{image, narrowed, ranged, tightened, wide_loops};
 use affine_facts::numbers::narrow;
 use affine_facts::shown::{Rows, all_put, all_shown, equalities, followed, no_point, within};
 use affine_facts::words::Words;
@@ -19,11 +19,13 @@ pub(crate) struct Stop {
     pub(crate) bounds: Vec<(Affine, Affine)>,
 }
 
-/// A term as it is made: the statement, the bounds of what is counted, and the nests that are credited so far.
+/// A term as it is made: the statement, the bounds of what is counted, whether nests that are credited are to be as narrow as
+/// their readers leave them, and those that are so far.
 #[derive(Drop)]
 pub(crate) struct Work {
     pub(crate) statement: u16,
     pub(crate) bounds: Vec<(Affine, Affine)>,
+    pub(crate) is_narrow: bool,
     pub(crate) stops: Vec<Stop>,
 }
 
@@ -36,11 +38,12 @@ pub(crate) enum Entry {
     Fails,
 }
 
-/// Where a walk is: the reader's statement, the reader's label, and what is given of the reader.
+/// Where a walk is: the bounds of the reader's loops, and the reader's label.
 #[derive(Clone, Copy)]
 pub(crate) struct At<'a> {
     pub(crate) facts: &'a Facts,
     pub(crate) draft: &'a Draft,
+    pub(crate) bounds: &'a [(Affine, Affine)],
     pub(crate) label: &'a [Affine],
 }
 
@@ -129,20 +132,39 @@ fn stop_bounds(
     }
 }
 
+/// The bounds of a nest that is new, and may hold the source.
+fn new_bounds(
+    alloc: Global,
+    at: &At,
+    is_narrow: bool,
+    source: Source,
+    outside: Option<&Affine>,
+) -> Result<Option<Vec<(Affine, Affine)>>, Memory> {
+    let Some(bounds) = stop_bounds(alloc, at.facts, source, outside)? else {
+        return Ok(None);
+    };
+    if is_narrow {
+        let bounds = narrowed(alloc, at.facts.params, bounds, source.point, at.bounds)?;
+        return ranged(alloc, at.facts, bounds);
+    }
+    Ok(Some(bounds))
+}
+
 /// A nest that holds the source, with what shows it: one that is credited already, or a new one.
 fn credited(
     alloc: Global,
-    facts: &Facts,
+    at: &At,
     work: &mut Work,
     given: &Rows,
     source: Source,
     outside: Option<&Affine>,
 ) -> Result<Option<(u8, Vec<Multipliers>)>, Memory> {
+    let facts = at.facts;
     let known = known_stop(alloc, facts, work.stops.as_slice(), given, source)?;
     if known.is_some() {
         return Ok(known);
     }
-    let Some(bounds) = stop_bounds(alloc, facts, source, outside)? else {
+    let Some(bounds) = new_bounds(alloc, at, work.is_narrow, source, outside)? else {
         return Ok(None);
     };
     let number = work.stops.len();
@@ -210,7 +232,7 @@ fn labelled_entry(
             Side::Outside => outside = Some(row),
         }
     }
-    match credited(alloc, facts, work, given, source, outside)? {
+    match credited(alloc, at, work, given, source, outside)? {
         Some((credit, rows)) => {
             let entry = Leaf::Credit {
                 credit,

@@ -69,8 +69,9 @@ pub(crate) fn families_of(
     statement: u16,
     drafts: &mut [Draft],
     weights: &[u8],
+    is_narrow: bool,
 ) -> Result<Option<Families>, Memory> {
-    let mut work = begun(alloc, facts, statement)?;
+    let mut work = begun(alloc, facts, statement, is_narrow)?;
     for _turn in 0..10 {
         work.stops = Vec::new(alloc);
         let mut families = Vec::new(alloc);
@@ -121,7 +122,7 @@ fn draft_of(
     )?;
     if let Some(draft) = found {
         let mut alone = vec![in alloc; draft]?;
-        if families_of(alloc, facts, statement, alone.as_mut_slice(), &[1])?.is_some() {
+        if families_of(alloc, facts, statement, alone.as_mut_slice(), &[1], false)?.is_some() {
             return drafted(
                 alloc,
                 facts,

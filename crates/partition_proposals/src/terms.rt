@@ -209,25 +209,39 @@ fn chosen_families(
     }))
 }
 
-/// The families by the ways of a code.
+/// The families by the ways of a code, over credited nests that are to be narrow or needn't.
+fn made_over(
+    alloc: Global,
+    facts: &Facts,
+    chosen: &Chosen,
+    code: u32,
+    is_narrow: bool,
+) -> Result<Option<Families>, Memory> {
+    let drafts = chosen.drafts.as_slice();
+    let Some(mut tried) = anew(alloc, facts, chosen.statement, drafts, code)? else {
+        return Ok(None);
+    };
+    let tried = tried.as_mut_slice();
+    let weights = chosen.weights.as_slice();
+    families_of(alloc, facts, chosen.statement, tried, weights, is_narrow)
+}
+
+/// The families by the ways of a code, over credited nests that are narrow, where these are no more than others would be.
 fn made_by(
     alloc: Global,
     facts: &Facts,
     chosen: &Chosen,
     code: u32,
 ) -> Result<Option<Families>, Memory> {
-    let drafts = chosen.drafts.as_slice();
-    let Some(mut tried) = anew(alloc, facts, chosen.statement, drafts, code)? else {
-        return Ok(None);
+    let wide = made_over(alloc, facts, chosen, code, false)?;
+    let most = match &wide {
+        Some(made) => made.work.stops.len(),
+        None => return Ok(None),
     };
-    let weights = chosen.weights.as_slice();
-    families_of(
-        alloc,
-        facts,
-        chosen.statement,
-        tried.as_mut_slice(),
-        weights,
-    )
+    match made_over(alloc, facts, chosen, code, true)? {
+        Some(narrow) if narrow.work.stops.len() <= most => Ok(Some(narrow)),
+        _ => Ok(wide),
+    }
 }
 
 /// The families by the ways of a code, and what shows that they are apart.

@@ -274,6 +274,7 @@ fn onward_from(
     let at = At {
         facts,
         draft,
+        bounds: source.bounds.as_slice(),
         label,
     };
     node_from(alloc, &at, work, statement, source, forms)
@@ -321,6 +322,7 @@ fn start(alloc: Global, facts: &Facts, draft: &Draft, work: &mut Work) -> Result
     let at = At {
         facts,
         draft,
+        bounds: own.bounds.as_slice(),
         label: draft.label.as_slice(),
     };
     walk_by(alloc, &at, work, &given, draft.read, read)
@@ -428,7 +430,12 @@ pub(crate) fn family(
 }
 
 /// A term's work from the beginning.
-pub(crate) fn begun(alloc: Global, facts: &Facts, statement: u16) -> Result<Work, Memory> {
+pub(crate) fn begun(
+    alloc: Global,
+    facts: &Facts,
+    statement: u16,
+    is_narrow: bool,
+) -> Result<Work, Memory> {
     let bounds = match facts.statement(statement) {
         Some(own) => copied_bounds(alloc, own.bounds.as_slice())?,
         None => Vec::new(alloc),
@@ -436,6 +443,7 @@ pub(crate) fn begun(alloc: Global, facts: &Facts, statement: u16) -> Result<Work
     Ok(Work {
         statement,
         bounds,
+        is_narrow,
         stops: Vec::new(alloc),
     })
 }

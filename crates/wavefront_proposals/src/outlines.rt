@@ -133,6 +133,19 @@ fn all_tests(alloc: Global, first: Source, second: Source) -> Result<Vec<Affine>
     Ok(rows)
 }
 
+/// The instance that is a reader's source.
+fn seen_from(
+    alloc: Global,
+    params: usize,
+    source: Source,
+    reader: &Instance,
+) -> Result<Instance, Memory> {
+    Ok(Instance {
+        statement: source.statement,
+        point: all_put(alloc, params, source.point, reader.point.as_slice())?,
+    })
+}
+
 /// The wavefront of a statement that reads a vertex and a word.
 fn outline_of(
     alloc: Global,
@@ -148,31 +161,24 @@ fn outline_of(
         return Ok(None);
     };
     let PlacedNest { bounds, values } = nested(alloc, params, bounds.as_slice(), word.point)?;
-    let at_vertex = all_put(alloc, params, vertex.point, values.as_slice())?;
-    let at_word = all_put(alloc, params, word.point, values.as_slice())?;
-    let outer = outer_of(params, bounds.len(), at_vertex.as_slice());
+    let user = Instance {
+        statement,
+        point: values,
+    };
+    let (back, read) = (vertex.read, word.read);
+    let vertex = seen_from(alloc, params, vertex, &user)?;
+    let word = seen_from(alloc, params, word, &user)?;
+    let outer = outer_of(params, bounds.len(), vertex.point.as_slice());
     if outer >= bounds.len() {
         return Ok(None);
     }
-    let (back, read) = (vertex.read, word.read);
-    let vertex = Instance {
-        statement: vertex.statement,
-        point: at_vertex,
-    };
-    let word = Instance {
-        statement: word.statement,
-        point: at_word,
-    };
     let Some(steps) = way_to(alloc, facts, &vertex, &word)? else {
         return Ok(None);
     };
     Ok(Some(Outline {
         bounds,
         outer,
-        user: Instance {
-            statement,
-            point: values,
-        },
+        user,
         back,
         read,
         vertex,

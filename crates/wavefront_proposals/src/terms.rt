@@ -19,7 +19,7 @@ use affine_program::Program;
 use domain_count::{Nest, Sums};
 use iolb_model::limits;
 use poly_tree::Poly;
-use reuse_paths::{Reach, Spot};
+use reuse_paths::{Leaf, Reach, Spot};
 use std::alloc::Global;
 use wavefront::{Inverse, Wavefront};
 
@@ -120,6 +120,22 @@ fn inside(
         goals = domain_rows(alloc, facts, instance, goals)?;
     }
     all_shown(alloc, given, goals.as_slice())
+}
+
+/// What shows that the user, the vertex and the word are instances, and that the word is what the user reads.
+fn points(
+    alloc: Global,
+    facts: &Facts,
+    given: &Rows,
+    outline: &Outline,
+) -> Result<Option<(Vec<Multipliers>, Vec<Leaf>)>, Memory> {
+    let Some(inside) = inside(alloc, facts, given, outline)? else {
+        return Ok(None);
+    };
+    match edge(alloc, facts, given, outline)? {
+        Some(edge) => Ok(Some((inside, edge))),
+        None => Ok(None),
+    }
 }
 
 /// An instance as a spot, where its forms are within the limits.
@@ -233,10 +249,7 @@ fn term_of(
     let Some(inverse) = inverse(alloc, facts.params, outline)? else {
         return Ok(None);
     };
-    let Some(inside) = inside(alloc, facts, &given, outline)? else {
-        return Ok(None);
-    };
-    let Some(edge) = edge(alloc, facts, &given, outline)? else {
+    let Some((inside, edge)) = points(alloc, facts, &given, outline)? else {
         return Ok(None);
     };
     let Some((back, reach)) = ways(alloc, facts, &given, outline)? else {
