@@ -1,6 +1,6 @@
 -- Bytes that are appended one after the other.
 use Rattle.std.proofs.Common.{◌≡◌, refl, sym, ◌∙◌, ap, ℕ, ◌+◌, List, ◌++◌, length, take, drop, [], append_assoc, append-nil}
-use Rattle.std.specs.Prelude.{Option, Some, None, Result, Ok, Err, OnErr}
+use Rattle.std.specs.Prelude.{Option, Some, None, Result, Ok, Err, OnOk, OnErr}
 use Rattle.std.specs.Io.KnownBytes.{append_known}
 use Rattle.std.proofs.Math.Seq.{take-append-add, take-append_seam, take-length}
 use Rattle.std.proofs.lemmas.List.{take-append-drop}
@@ -46,6 +46,11 @@ on_err P (Err e) p = p
 pub on_err_so : {T E : Type 0} (P Q : Type 0) (r : Result T E) → (P → Q) → OnErr r P → OnErr r Q
 on_err_so P Q (Ok x) f p = tt
 on_err_so P Q (Err e) f p = f p
+
+-- of one that is
+pub on_ok_so : {T E : Type 0} (P Q : Type 0) (r : Result T E) → (P → Q) → OnOk r P → OnOk r Q
+on_ok_so P Q (Ok x) f p = f p
+on_ok_so P Q (Err e) f p = tt
 
 -- the first bytes of the last piece
 pub part_last : (old mid new : Option (List ℕ)) (front piece : List ℕ) → AppendsPiece old mid front → AppendsPart mid new piece → AppendsPart old new (front ++ piece)

@@ -5,3 +5,4 @@ pub mod Fits
 pub mod Once
 pub mod OneSchedule
 pub mod OneOrder
+pub mod AsWritten

@@ -1,5 +1,5 @@
 -- Instances with what is said of them.
-use Rattle.std.specs.Prelude.{ℕ, suc, ◌≤◌, ℤ, List, length, Vec}
+use Rattle.std.specs.Prelude.{◌≡◌, ℕ, suc, ◌≤◌, ℤ, List, [], length, Vec}
 use Rattle.std.specs.Global.{Global}
 use Rattle.std.specs.List.{AllByRecursion}
 use Rattle.affine_form.specs.Form.{IsSmall}
@@ -22,3 +22,7 @@ pub record CanSay (schedule : List (List Key)) (run : Run) : Type 0 where
   pub there : suc run.statement ≤ length schedule
   pub keys : AllByRecursion (IsKey (length run.point.items)) (keys_of schedule run.statement)
   pub small : AllByRecursion (IsSmall VALUE_SIZE) run.point.items
+
+-- no statement has a key
+abbrev pub SaysNothing : List (List Key) → Type 0
+SaysNothing schedule = AllByRecursion (λ keys. keys ≡ []) schedule

@@ -1,7 +1,7 @@
 //! The order of a schedule.
 
-ghost use Rattle.std.specs.Prelude.{◌≡◌, ◌<◌, ◌≤◌, ◌^◌, length, map, IfOk};
-ghost use Rattle.std.specs.List.{AllByRecursion, enumerate_from};
+ghost use Rattle.std.specs.Prelude.{◌≡◌, ◌↔◌, ◌<◌, ◌≤◌, ◌^◌, length, map, IsTrue, IfOk};
+ghost use Rattle.std.specs.List.{AllByRecursion, enumerate_from, range_with_len};
 ghost use Rattle.iolb_model.specs.Graph.{computation_graph};
 ghost use Rattle.affine_form.specs.Form.{IsSmall};
 ghost use Rattle.affine_program.specs.Parts.{meaning};
@@ -9,7 +9,7 @@ ghost use Rattle.pebble_replay.specs.Order.{HoldsEachOnce};
 ghost use Rattle.program_runs.specs.Turns.{turns};
 ghost use Rattle.tile_sched.specs.Schedules.{IsKey, IsSchedule};
 ghost use Rattle.tile_sched.specs.Order.{floor as rounded_down, said_by, said, IsOrder};
-ghost use Rattle.tile_sched.specs.Ranks.{rank_of, said_of_run, CanSay};
+ghost use Rattle.tile_sched.specs.Ranks.{rank_of, said_of_run, CanSay, SaysNothing};
 ghost use Rattle.iolb_model.specs.declared.limits.TheConstants.{VALUE_SIZE};
 
 use crate::schedule::{Key, Schedule};
@@ -66,7 +66,31 @@ fn numbers(alloc: Global, ranks: &[(Vec<i128>, u32)]) -> Result<Vec<u32>, Memory
     Ok(numbers)
 }
 
-/// The order of a schedule: the instances by what the keys of their statements say, then by their numbers.
+/// Whether a schedule says nothing of any instance.
+fn says_nothing(schedule: &Schedule) -> bool
+    ensures { IsTrue result ↔ SaysNothing schedule.now }
+{
+    for keys in schedule.keys() {
+        if !keys.as_slice().is_empty() {
+            return false;
+        }
+    }
+    true
+}
+
+/// The numbers of so many instances, in the order of execution.
+fn counted(alloc: Global, instances: u32) -> Result<Vec<u32>, Memory>
+    ensures { IfOk result (λ numbers. numbers.items ≡ range_with_len 0 instances) }
+{
+    let mut numbers = Vec::with_capacity(alloc, instances as usize)?;
+    for i in 0..instances {
+        numbers.push(i)?;
+    }
+    Ok(numbers)
+}
+
+/// The order of a schedule: the instances by what the keys of their statements say, then by their numbers. Where it says
+/// nothing, they stay as they are.
 pub fn order(
     alloc: Global,
     program: &Program,
@@ -82,7 +106,10 @@ pub fn order(
     ensures order { IfOk result (λ order. IsOrder (said (meaning program.now) sizes.now schedule.now) order.items) }
     ensures each { IfOk result (λ order. HoldsEachOnce graph.now order.items) }
 {
-    let _instances = graph.instances();
+    let instances = graph.instances();
+    if says_nothing(schedule) {
+        return counted(alloc, instances);
+    }
     let values = values_of(alloc, sizes)?;
     let runs = runs(alloc, program, values.as_slice())?;
     let mut ranks = ranks(alloc, runs.as_slice(), schedule)?;
