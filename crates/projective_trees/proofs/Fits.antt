@@ -29,7 +29,7 @@ variable-fits vars place = (variables-over vars place 1).0
 pub shifted-fits : (vars place : ℕ) → IsSmallOver vars (shifted_variable vars place (negsuc 0))
 shifted-fits vars place = record { over = (variable-fits vars place).over; small = ((variable-fits vars place).small.0, lit< tt) }
 
-widened-fits : (many vars : ℕ) (form : AffineForm) → many ≤ vars → IsSmallOver many form → IsSmallOver vars (widened vars form)
+pub widened-fits : (many vars : ℕ) (form : AffineForm) → many ≤ vars → IsSmallOver many form → IsSmallOver vars (widened vars form)
 widened-fits many vars form more h = record {
   over = length-widened vars form (omega (arith, h.over));
   small = (
@@ -64,16 +64,16 @@ module _ (parts : ProgramParts) (is : IsProgram parts) (some : 0 < length parts.
   abbrev wide : ℕ
   wide = width program + d
 
-  abbrev bounds : List (AffineForm × AffineForm)
+  abbrev pub bounds : List (AffineForm × AffineForm)
   bounds = (there parts.statements 0 some).0.bounds.items
 
-  path-steps : path_of program 0 ≡ map step_of bounds
+  pub path-steps : path_of program 0 ≡ map step_of bounds
   path-steps = path-is parts 0 (there parts.statements 0 some).0 is some (there parts.statements 0 some).1
 
-  bounds-over : BoundsFit n bounds
+  pub bounds-over : BoundsFit n bounds
   bounds-over = bounds-fit parts 0 (there parts.statements 0 some).0 is some (there parts.statements 0 some).1
 
-  bounds-many : length bounds ≡ d
+  pub bounds-many : length bounds ≡ d
   bounds-many = sym (length-map bounds step_of) ∙ sym (ap (λ (path : List PathStep). length path) path-steps)
 
   -- a bound that the code reads is over fewer variables
@@ -116,13 +116,13 @@ module _ (parts : ProgramParts) (is : IsProgram parts) (some : 0 < length parts.
 
   -- ---- rows
 
-  within-over : (many : ℕ) (before values : List AffineForm) → length before ≡ n → AllByRecursion (IsSmallOver many) before → AllByRecursion (IsSmallOver many) values
+  pub within-over : (many : ℕ) (before values : List AffineForm) → length before ≡ n → AllByRecursion (IsSmallOver many) before → AllByRecursion (IsSmallOver many) values
       → AllOver many (within_rows many (path_of program 0) before values)
   within-over many before values long p q =
       subst (λ (path : List PathStep). AllOver many (within_rows many path before values)) (sym path-steps)
       (within_rows-over many bounds before values (subst (λ (k : ℕ). BoundsFit k bounds) (sym long) bounds-over) p q)
 
-  within-many : (many : ℕ) (before values : List AffineForm) → length values ≡ d → length (within_rows many (path_of program 0) before values) ≡ 2 * d
+  pub within-many : (many : ℕ) (before values : List AffineForm) → length values ≡ d → length (within_rows many (path_of program 0) before values) ≡ 2 * d
   within-many many before values long =
       ap (λ (path : List PathStep). length (within_rows many path before values)) path-steps ∙ within_rows-many many bounds before values (long ∙ sym bounds-many) ∙ ap (λ (k : ℕ). 2 * k) bounds-many
 
@@ -146,7 +146,7 @@ module _ (parts : ProgramParts) (is : IsProgram parts) (some : 0 < length parts.
       )
 
   -- the subscripts are few
-  rank-few : (arrays : List (List ℕ × ℕ)) (k many : ℕ) → AllByRecursion (λ (array : List ℕ × ℕ). array.1 ≤ SUBSCRIPTS) arrays → IsSomeAnd (slice_get (map array_of arrays) k) (λ (array : Array). many ≡ array.rank) → many ≤ SUBSCRIPTS
+  pub rank-few : (arrays : List (List ℕ × ℕ)) (k many : ℕ) → AllByRecursion (λ (array : List ℕ × ℕ). array.1 ≤ SUBSCRIPTS) arrays → IsSomeAnd (slice_get (map array_of arrays) k) (λ (array : Array). many ≡ array.rank) → many ≤ SUBSCRIPTS
   rank-few [] k many h e = absurd e
   rank-few (a ∷ arrays) zero many h e = omega (arith, h.0, e)
   rank-few (a ∷ arrays) (suc k) many h e = rank-few arrays k many h.1 e

@@ -23,7 +23,7 @@ use Rattle.projective_trees.proofs.Facts.{NestFacts, IsKeptLoop}
 
 -- ---- the loops' bounds
 
-runs-to : (program : AffineProgram) (vars : ℕ) (path : List PathStep) → length program.parameters ≤ vars → AllRun program vars path → RunsTo (length program.parameters) (ends_of path) path
+pub runs-to : (program : AffineProgram) (vars : ℕ) (path : List PathStep) → length program.parameters ≤ vars → AllRun program vars path → RunsTo (length program.parameters) (ends_of path) path
 runs-to program vars [] more h = tt
 runs-to program vars (rises lower upper ∷ path) more h =
     let parameter : ℕ = h.0.0 in
@@ -70,14 +70,14 @@ common-all program nest one =
 
 -- ---- subscripts
 
-abbrev has_it : ℕ → AffineForm → Bool
+abbrev pub has_it : ℕ → AffineForm → Bool
 has_it place form = not (int_eq (get_or form.coefficients place (pos 0)) (pos 0))
 
-has-own : (vars place : ℕ) → place < vars → has_it place (variable vars place) ≡ true
+pub has-own : (vars place : ℕ) → place < vars → has_it place (variable vars place) ≡ true
 has-own vars place below =
     ap (λ (z : ℤ). not (int_eq z (pos 0))) (get_or-set_same (replicate vars (pos 0)) place (pos 1) (pos 0) (omega (arith, length-replicate {A = ℤ} vars (pos 0))))
 
-has-other : (vars place other : ℕ) → other ≢ place → has_it other (variable vars place) ≡ false
+pub has-other : (vars place other : ℕ) → other ≢ place → has_it other (variable vars place) ≡ false
 has-other vars place other apart =
     ap (λ (z : ℤ). not (int_eq z (pos 0))) (get_or-set_other (replicate vars (pos 0)) place other (pos 1) (pos 0) apart ∙ coefficient_of-constant other vars)
 
@@ -93,7 +93,7 @@ or-either : (a b : Bool) → (a || b) ≡ true → (a ≡ true) ⊎ (b ≡ true)
 or-either true b e = inl refl
 or-either false b e = inr e
 
-same-place : (a b : ℕ) → (a ≡ b) ⊎ (a ≢ b)
+pub same-place : (a b : ℕ) → (a ≡ b) ⊎ (a ≢ b)
 same-place a b = elim (cases_lt a b) [
   | inl less ↦ inr (λ e. omega (arith, less, e))
   | inr more ↦ elim (cases_lt b a) [
@@ -133,7 +133,7 @@ all-kept program (f ∷ fs) within all = (
 )
 
 -- what holds of all members holds of the one that is one of them
-all-one : (P : Access → Type 0) (access : Access) (reads : List Access) → AllByRecursion P reads → HoldsOfOne (λ (other : Access). other ≡ access) reads → P access
+pub all-one : (P : Access → Type 0) (access : Access) (reads : List Access) → AllByRecursion P reads → HoldsOfOne (λ (other : Access). other ≡ access) reads → P access
 all-one P access [] all h = absurd h
 all-one P access (r ∷ reads) all (inl e) = subst P e all.0
 all-one P access (r ∷ reads) all (inr h) = all-one P access reads all.1 h
