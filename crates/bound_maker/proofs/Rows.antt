@@ -14,7 +14,7 @@ use Rattle.reuse_paths.specs.Quasts.{row_trees}
 use Rattle.reuse_paths.specs.Trees.{read_of}
 use Rattle.bound_maker.specs.Trees.{HasRow, IsSourceTree, RowStands, RowsStand, is_named}
 use Rattle.bound_maker.specs.declared.trees.Scope.{Scope}
-use Rattle.flow_deps.proofs.GrownLaws.{blank-stands, context-few}
+use Rattle.shown_leaves.proofs.StandingLaws.{blank-stands, context-few}
 use Rattle.iolb_model.specs.declared.limits.TheConstants.{TREE_TESTS}
 use Rattle.bound_maker.proofs.Standing.{row-pushed, rows-pushed}
 

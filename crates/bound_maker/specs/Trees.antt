@@ -4,7 +4,8 @@ use Rattle.std.specs.List.{list_any}
 use Rattle.iolb_model.specs.Program.{AffineProgram, statement_at}
 use Rattle.dep_quast.specs.Context.{ReadOf}
 use Rattle.dep_quast.specs.Tree.{SelectionTree, leaf_count}
-use Rattle.flow_deps.specs.Plain.{IsPlain, Stands}
+use Rattle.flow_deps.specs.Plain.{IsPlain}
+use Rattle.shown_leaves.specs.Shown.{Stands}
 use Rattle.reuse_paths.specs.Trees.{read_of}
 use Rattle.iolb_check.specs.declared.term.Term.{Term}
 use Rattle.iolb_check.specs.declared.term.Term.TheVariants as terms

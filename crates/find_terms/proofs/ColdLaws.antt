@@ -22,7 +22,7 @@ use Rattle.dep_quast.specs.Context.{variables_at}
 use Rattle.dep_quast.specs.Tree.{SelectionTree}
 use Rattle.domain_count.specs.CountClaims.{count_claims}
 use Rattle.domain_count.proofs.Claimed.{claims-count, count-claims}
-use Rattle.flow_deps.proofs.ShownLeaves.{within_rows-length}
+use Rattle.shown_leaves.proofs.ShownLeaves.{within_rows-length}
 use Rattle.affine_program.specs.Domain.{path_of, depth_of}
 use Rattle.affine_form.specs.Rows.{variables_from}
 use Rattle.part_fit.specs.Limits.{AreSmallBounds}

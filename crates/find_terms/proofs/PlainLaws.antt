@@ -13,8 +13,10 @@ use Rattle.dep_quast.specs.Tree.{source, input, empty, blank, SelectionTree, lea
 use Rattle.domain_count.specs.CountClaims.{count_claims}
 use Rattle.flow_deps.specs.declared.candidate.Candidate.{Candidate}
 use Rattle.flow_deps.specs.declared.candidate.Candidate.TheVariants.{NoWrite, SameTurn, TurnBefore}
-use Rattle.flow_deps.specs.Candidates.{Shape, shape_of, no_write, last_write, other, split, candidate_shape, candidates}
-use Rattle.flow_deps.specs.Plain.{IsFirstShown, IsPlain, Stands}
+use Rattle.shown_leaves.specs.Shapes.{Shape, shape_of, no_write, last_write, other, split}
+use Rattle.flow_deps.specs.Candidates.{candidate_shape, candidates}
+use Rattle.flow_deps.specs.Plain.{IsFirstShown, IsPlain}
+use Rattle.shown_leaves.specs.Shown.{Stands}
 use Rattle.reuse_paths.specs.OpenLeaves.{OpenLeaf, TestsFit, as_input, form_at, no_at, open_leaves, written}
 use Rattle.reuse_paths.proofs.OpenLeaves.{tests-fit}
 use Rattle.wavefront.specs.declared.cold.Cold.{Cold}

@@ -15,25 +15,9 @@ use Rattle.affine_form.specs.Substitution.{substitution}
 use Rattle.affine_program.specs.Domain.{path_of, depth_of}
 use Rattle.dep_quast.specs.Context.{ReadOf, reference_of, variables_at, parameter_point}
 use Rattle.dep_quast.specs.Levels.{writers, IsWriter}
-use Rattle.dep_quast.specs.Tree.{SelectionTree, leaf, test, source, input, empty, blank}
+use Rattle.shown_leaves.specs.Shapes.{Shape, no_write, last_write, split}
 use Rattle.flow_deps.specs.declared.candidate.Candidate.{Candidate}
 use Rattle.flow_deps.specs.declared.candidate.Candidate.TheVariants.{NoWrite, SameTurn, TurnBefore}
-
--- A tree without its multipliers: it says that no write is earlier, or names a statement, a level and a point, or tests a
--- form; other leaves have no shape of their own.
-pub data Shape : Type 0 where
-  no_write : Shape
-  last_write : ℕ → ℕ → List AffineForm → Shape
-  other : Shape
-  split : AffineForm → Shape → Shape → Shape
-
--- the shape of a tree
-abbrev pub shape_of : SelectionTree → Shape
-shape_of (leaf (source claim)) = last_write claim.statement claim.level claim.point
-shape_of (leaf (input shown)) = no_write
-shape_of (leaf (empty shown)) = other
-shape_of (leaf blank) = other
-shape_of (test form above below) = split form (shape_of above) (shape_of below)
 
 -- ---- the point of a writer
 

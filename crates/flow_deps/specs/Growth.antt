@@ -1,18 +1,13 @@
 -- What stands while a tree grows.
-use Rattle.std.specs.Prelude.{◌≡◌, ℕ, ◌≤◌, List, ◌++◌, length}
+use Rattle.std.specs.Prelude.{ℕ, ◌≤◌, List, ◌++◌, length}
 use Rattle.std.specs.List.{AllByRecursion}
 use Rattle.iolb_model.specs.Form.{AffineForm}
 use Rattle.iolb_model.specs.Program.{AffineProgram}
 use Rattle.affine_form.specs.Rows.{IsSmallOver}
 use Rattle.dep_quast.specs.Context.{ReadOf, variables_at}
-use Rattle.dep_quast.specs.Tree.{SelectionTree, leaf_count, tree_of}
-use Rattle.flow_deps.specs.Plain.{Stands}
+use Rattle.dep_quast.specs.Tree.{tree_of}
+use Rattle.shown_leaves.specs.Shown.{IsLeafUnder}
 use Rattle.flow_deps.specs.declared.growth.Guarded.{Guarded}
-
--- a leaf stands under tests, however many tests are nested around it
-pub record IsLeafUnder (program : AffineProgram) (reader : ReadOf) (tests : List AffineForm) (tree : SelectionTree) : Type 0 where
-  pub stands : (nested : ℕ) → Stands program reader tests nested tree
-  pub one : leaf_count tree ≡ 1
 
 -- a leaf stands under tests and its guards, which are small forms, at most so many
 pub record IsGuarded (program : AffineProgram) (reader : ReadOf) (tests : List AffineForm) (room : ℕ) (guarded : Guarded) : Type 0 where

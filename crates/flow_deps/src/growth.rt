@@ -12,13 +12,14 @@ ghost use Rattle.dep_quast.specs.Tree.{leaf_count, tree_of};
 ghost use Rattle.dep_quast.specs.Truth.{ReadFits, IsThere};
 ghost use Rattle.dep_quast.specs.Views.{claim_of, read_of};
 ghost use Rattle.flow_deps.specs.Origins.{OriginFits};
-ghost use Rattle.flow_deps.specs.Growth.{IsGuarded, IsLeafUnder};
-ghost use Rattle.flow_deps.specs.Plain.{Stands};
+ghost use Rattle.flow_deps.specs.Growth.{IsGuarded};
+ghost use Rattle.shown_leaves.specs.Shown.{IsLeafUnder};
+ghost use Rattle.shown_leaves.specs.Shown.{Stands};
 ghost use Rattle.iolb_model.specs.declared.limits.TheConstants.{TREE_TESTS, TREE_LEAVES};
 
-use crate::leaves::{has_no_point, source_leaf, sure_leaf, unshown};
+use shown_leaves::leaves::{has_no_point, source_leaf, sure_leaf, unshown};
 use crate::origins::Origin;
-use crate::rows::{
+use shown_leaves::rows::{
     context_rows, precedence_rows, tests_of_no, tests_of_yes, values_of_reader, written_rows,
 };
 use crate::solved::solved_point;

@@ -5,16 +5,12 @@
 pub mod candidate;
 mod candidates;
 mod growth;
-mod leaves;
-mod no_writes;
 mod origins;
 mod plain_trees;
 mod planted;
 mod points;
-mod rows;
 mod solved;
 mod source_trees;
-mod writes;
 
 pub use plain_trees::plain;
 pub use source_trees::quast;

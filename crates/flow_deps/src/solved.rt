@@ -16,7 +16,7 @@ ghost use Rattle.iolb_model.specs.declared.limits.TheConstants.{VARIABLES};
 use crate::origins::Origin;
 use crate::planted::{first_values, turn_before};
 use crate::points::{bounds_at, last_value};
-use crate::rows::written_rows;
+use shown_leaves::rows::written_rows;
 use affine_form::{Form, Memory};
 use affine_program::{Program, is_small_form};
 use dep_quast::lists::followed_by;

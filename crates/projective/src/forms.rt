@@ -30,7 +30,7 @@ pub(crate) fn zero(alloc: Global, vars: usize) -> Result<Form, Memory>
 }
 
 /// The form over so many variables that is one of them less 1.
-pub(crate) fn one_less(alloc: Global, vars: usize, place: usize) -> Result<Form, Memory>
+pub fn one_less(alloc: Global, vars: usize, place: usize) -> Result<Form, Memory>
     requires there { place < vars }
     requires few { vars ≤ VARIABLES }
     ensures { IfOk result (λ form. form ≡ shifted_variable vars place (negsuc 0)) }

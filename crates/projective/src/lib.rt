@@ -2,13 +2,13 @@
 //! coordinate projection of the loops (Dinh and Demmel 2020).
 #![tactic(auto)]
 
-mod forms;
+pub mod forms;
 mod law;
 mod loops;
 mod projective;
 mod recognising;
 mod references;
-mod standing;
+pub mod standing;
 
 pub use law::least_covers_have_least_exponents;
 pub use projective::Projective;

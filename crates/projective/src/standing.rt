@@ -36,7 +36,7 @@ fn is_in_any(place: usize, forms: &[Form]) -> bool
 }
 
 /// Whether a variable stands in a reference.
-fn is_in(place: usize, reference: &Reference) -> bool
+pub fn is_in(place: usize, reference: &Reference) -> bool
     ensures { result ≡ stands_in place (access_of reference.now) }
 {
     is_in_any(place, reference.subs.as_slice())

@@ -9,10 +9,11 @@ use Rattle.dep_quast.specs.Context.{variables_at, no_row}
 use Rattle.dep_quast.specs.Tree.{test, tree_of}
 use Rattle.dep_quast.specs.Views.{read_of}
 use Rattle.dep_quast.specs.declared.quast.Quast.{Quast}
-use Rattle.flow_deps.specs.Plain.{Stands}
-use Rattle.flow_deps.specs.Growth.{IsLeafUnder}
+use Rattle.shown_leaves.specs.Shown.{Stands}
+use Rattle.shown_leaves.specs.Shown.{IsLeafUnder}
 use Rattle.answers.proofs.AnswerLaws.{some-has}
-use Rattle.flow_deps.proofs.GrownLaws.{context-few, blank-stands, test-stands, none-there}
+use Rattle.shown_leaves.proofs.StandingLaws.{context-few, blank-stands, test-stands}
+use Rattle.flow_deps.proofs.GrownLaws.{none-there}
 use Rattle.flow_deps.proofs.growth.+growth.Goals as goal
 
 pub grown-returns-in-Some-clause-stands : goal.grown-returns-in-Some-clause-stands

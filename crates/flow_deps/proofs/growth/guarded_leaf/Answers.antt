@@ -7,10 +7,10 @@ use Rattle.dep_quast.specs.Context.{variables_at}
 use Rattle.dep_quast.specs.Tree.{tree_of}
 use Rattle.dep_quast.specs.Views.{read_of}
 use Rattle.answers.specs.declared.wanted.Wanted.TheVariants.{Any}
-use Rattle.flow_deps.specs.Candidates.{last_write}
-use Rattle.flow_deps.specs.Growth.{IsLeafUnder}
+use Rattle.shown_leaves.specs.Shapes.{last_write}
+use Rattle.shown_leaves.specs.Shown.{IsLeafUnder}
 use Rattle.answers.proofs.AnswerLaws.{some-has}
-use Rattle.flow_deps.proofs.ShownTrees.{leaf-stands}
+use Rattle.shown_leaves.proofs.ShownTrees.{leaf-stands}
 use Rattle.flow_deps.proofs.growth.guarded_leaf.Goals as goal
 
 pub returns : goal.returns

@@ -6,9 +6,9 @@ use Rattle.dep_quast.specs.Tree.{test, tree_of}
 use Rattle.dep_quast.specs.Views.{read_of}
 use Rattle.dep_quast.specs.declared.quast.Quast.{Quast}
 use Rattle.answers.specs.declared.wanted.Wanted.TheVariants.{Short}
-use Rattle.flow_deps.specs.Candidates.{Shape, last_write, no_write, split}
-use Rattle.flow_deps.specs.Plain.{IsShown, IsNotShown}
-use Rattle.flow_deps.proofs.ShownTrees.{split-shown, split-sides, finds-none, finds-some}
+use Rattle.shown_leaves.specs.Shapes.{Shape, last_write, no_write, split}
+use Rattle.shown_leaves.specs.Shown.{IsShown, IsNotShown}
+use Rattle.shown_leaves.proofs.ShownTrees.{split-shown, split-sides, finds-none, finds-some}
 use Rattle.flow_deps.proofs.planted.split_tree.Goals as goal
 
 pub returns-in_default : goal.returns-in_default

@@ -1,0 +1,11 @@
+pub mod Picked
+pub mod NestRows
+pub mod TurnWorths
+pub mod Facts
+pub mod ProjectiveFacts
+pub mod WriteRows
+pub mod LeafGoals
+pub mod Fits
+pub mod LeafLaws
+pub mod Leaves
+pub mod CodeLaws

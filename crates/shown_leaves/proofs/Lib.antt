@@ -1,0 +1,5 @@
+pub mod SmallForms
+pub mod Moved
+pub mod ShownLeaves
+pub mod StandingLaws
+pub mod ShownTrees
