@@ -1,0 +1,11 @@
+pub mod Forms
+pub mod Labels
+pub mod Leaves
+pub mod Family
+pub mod Pieces
+pub mod Identities
+pub mod Covers
+pub mod Readings
+pub mod Walked
+pub mod Held
+pub mod Small
