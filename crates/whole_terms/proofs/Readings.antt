@@ -114,7 +114,7 @@ any-place (f ∷ forms) v e = by (has_variable v f) e (any-place forms v) where
   by false is rest = omega (arith, rest is)
 
 -- what passes a test
-filter-both : (passes : ℕ → Bool) (Q : ℕ → Type 0) (xs : List ℕ) → AllByRecursion Q xs → AllByRecursion (λ (x : ℕ). Q x × (passes x ≡ true)) (filter passes xs)
+pub filter-both : (passes : ℕ → Bool) (Q : ℕ → Type 0) (xs : List ℕ) → AllByRecursion Q xs → AllByRecursion (λ (x : ℕ). Q x × (passes x ≡ true)) (filter passes xs)
 filter-both passes Q [] h = tt
 filter-both passes Q (x ∷ xs) h = by (passes x) refl (filter-both passes Q xs h.1) where
   by : (b : Bool) → b ≡ passes x → AllByRecursion (λ (y : ℕ). Q y × (passes y ≡ true)) (filter passes xs) → AllByRecursion (λ (y : ℕ). Q y × (passes y ≡ true)) (cond b (x ∷ filter passes xs) (filter passes xs))
@@ -128,7 +128,7 @@ filter-few passes (x ∷ xs) = by (passes x) (filter-few passes xs) where
   by true h = omega arith
   by false h = omega arith
 
-range-below : (first count end : ℕ) → first + count ≤ end → AllByRecursion (λ (x : ℕ). x < end) (range_with_len first count)
+pub range-below : (first count end : ℕ) → first + count ≤ end → AllByRecursion (λ (x : ℕ). x < end) (range_with_len first count)
 range-below first zero end le = tt
 range-below first (suc count) end le = (omega arith, range-below (first + 1) count end (omega arith))
 
