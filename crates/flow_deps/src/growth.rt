@@ -17,11 +17,7 @@ ghost use Rattle.shown_leaves.specs.Shown.{IsLeafUnder};
 ghost use Rattle.shown_leaves.specs.Shown.{Stands};
 ghost use Rattle.iolb_model.specs.declared.limits.TheConstants.{TREE_TESTS, TREE_LEAVES};
 
-use shown_leaves::leaves::{has_no_point, source_leaf, sure_leaf, unshown};
 use crate::origins::Origin;
-use shown_leaves::rows::{
-    context_rows, precedence_rows, tests_of_no, tests_of_yes, values_of_reader, written_rows,
-};
 use crate::solved::solved_point;
 use affine_form::{Form, Memory, system_of};
 use affine_program::{Program, is_small_form};
@@ -32,6 +28,10 @@ use dep_quast::lists::followed_by;
 use dep_quast::point_rows::domain_rows;
 use dep_quast::reader::{Reader, variables};
 use iolb_model::limits;
+use shown_leaves::leaves::{has_no_point, source_leaf, sure_leaf, unshown};
+use shown_leaves::rows::{
+    context_rows, precedence_rows, tests_of_no, tests_of_yes, values_of_reader, written_rows,
+};
 use std::alloc::Global;
 
 /// What a source claims of its point: that it is in its statement's domain, comes before the reader and writes the cell.

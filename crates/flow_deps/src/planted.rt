@@ -18,15 +18,15 @@ ghost use Rattle.shown_leaves.specs.Shown.{FindsTree};
 ghost use Rattle.iolb_model.specs.declared.limits.TheConstants.{TREE_TESTS};
 
 use crate::candidate::Candidate;
-use shown_leaves::leaves::{input_leaf, source_leaf, unshown};
 use crate::points::{bounds_at, point_from};
-use shown_leaves::rows::{tests_of_no, tests_of_yes};
 use affine_form::{Form, Memory, difference, variable, variables_from};
 use affine_program::{Program, is_small_form};
 use answers::Wanted;
 use dep_quast::Quast;
 use dep_quast::claimed::Claimed;
 use dep_quast::reader::{Reader, variables};
+use shown_leaves::leaves::{input_leaf, source_leaf, unshown};
+use shown_leaves::rows::{tests_of_no, tests_of_yes};
 use std::alloc::Global;
 
 /// The reader's values of its first loops.
