@@ -24,7 +24,8 @@ use Rattle.iolb_check.specs.declared.term.Branch.{Branch}
 use Rattle.iolb_check.specs.Conditions.{conditions}
 use Rattle.iolb_check.specs.Limits.{CertificateParts, IsWithinLimits}
 use Rattle.find_terms.specs.Accepted.{HasPlainTree, OpeningsAreWithinLimits, OpeningsMeetConditions, alone}
-use Rattle.find_terms.specs.Openings.{FindsOpening, IsFirstOpening, IsOpeningBranch, reader_of}
+use Rattle.find_terms.specs.Openings.{FindsOpening, IsFirstOpening, IsOpeningBranch}
+use Rattle.cold_terms.specs.Held.{reader_of}
 use Rattle.bound_maker.specs.Accepted.{IsRefused}
 use Rattle.bound_maker.specs.declared.accepted.Accepted.{Accepted}
 use Rattle.bound_maker.specs.Opened.{BeginsWithOpening, HasTreesFor, NamesBranch, NamesTerm}

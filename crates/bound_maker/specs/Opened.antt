@@ -7,7 +7,8 @@ use Rattle.dep_quast.specs.Tree.{SelectionTree}
 use Rattle.iolb_check.specs.declared.term.Term.{Term}
 use Rattle.iolb_check.specs.declared.term.Term.TheVariants as terms
 use Rattle.iolb_check.specs.declared.term.Branch.{Branch}
-use Rattle.find_terms.specs.Openings.{IsOpeningBranch, IsPlainRead, reader_of}
+use Rattle.find_terms.specs.Openings.{IsOpeningBranch, IsPlainRead}
+use Rattle.cold_terms.specs.Held.{reader_of}
 use Rattle.bound_maker.specs.Trees.{HasTrees, is_named}
 use Rattle.bound_maker.specs.declared.trees.Scope.{Scope}
 

@@ -23,7 +23,8 @@ use Rattle.part_fit.specs.Limits.{NamesRows}
 use Rattle.part_fit.specs.PartFit.{polynomials_fit, sum_at}
 use Rattle.nest_sums.specs.Made.{AreMade}
 use Rattle.nest_sums.specs.Ranges.{AreRight, IsFirstNotShown}
-use Rattle.find_terms.specs.Counted.{AreCounted, AreRanges, ArePolynomials, CountPasses, FindsRanges, HasShortRange}
+use Rattle.find_terms.specs.Counted.{AreCounted, AreRanges, CountPasses, FindsRanges, HasShortRange}
+use Rattle.cold_terms.specs.Held.{ArePolynomials}
 
 -- ---- ranges
 

@@ -1,4 +1,3 @@
-pub mod EntryLaws
 pub mod ColdLaws
 pub mod NameLaws
 pub mod CountLaws

@@ -24,7 +24,7 @@ use Rattle.wavefront.specs.ColdClaims.{matrix_claims}
 use Rattle.wavefront.specs.Leaves.{inside_claims, leaves_claims}
 use Rattle.wavefront.specs.Term.{ColdTerm, instance_point, nest_system, nest_variables}
 use Rattle.wavefront.specs.View.{term_of}
-use Rattle.find_terms.specs.Entries.{AreEntries}
+use Rattle.cold_terms.specs.Entries.{AreEntries}
 use Rattle.find_terms.specs.Shown.{IsShownCold}
 use Rattle.reuse_paths.specs.LeafClaims.{claim_of}
 

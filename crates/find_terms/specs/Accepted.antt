@@ -17,7 +17,8 @@ use Rattle.iolb_check.specs.declared.term.Branch.{Branch}
 use Rattle.iolb_check.specs.Claims.{CertificateClaim, claim_of_branch}
 use Rattle.iolb_check.specs.Conditions.{conditions}
 use Rattle.iolb_check.specs.Limits.{IsWithinLimits}
-use Rattle.find_terms.specs.Openings.{IsOpeningBranch, reader_of}
+use Rattle.find_terms.specs.Openings.{IsOpeningBranch}
+use Rattle.cold_terms.specs.Held.{reader_of}
 
 -- the tree of a cold term's read is plain
 abbrev pub HasPlainTree : AffineProgram → List (List SelectionTree) → Term → Type 0

@@ -9,15 +9,13 @@ use Rattle.affine_form.specs.Multipliers.{FarkasMultipliers}
 use Rattle.answers.specs.declared.wanted.Wanted.{Wanted}
 use Rattle.answers.specs.declared.wanted.Wanted.TheVariants.{Short}
 use Rattle.answers.specs.Answers.{IsAsShort}
-use Rattle.claims.specs.Claims.{AllHold}
-use Rattle.claims.specs.declared.place.Step.{Step}
 use Rattle.int_sets.specs.ShortList.{HasShortList}
+use Rattle.cold_terms.specs.Held.{ArePolynomials}
 use Rattle.nest_sums.specs.Made.{AreMade, CheckPasses}
 use Rattle.domain_count.specs.Claims.{SumClaims}
 use Rattle.domain_count.specs.Count.{AreShownBelow, IsCount, bounds_at, range_goal, rows_before}
 use Rattle.poly_tree.specs.Poly.{Quotient}
-use Rattle.part_fit.specs.Limits.{IsSmallPolynomial, NameRows}
-use Rattle.part_fit.specs.PartFit.{polynomials_fit}
+use Rattle.part_fit.specs.Limits.{NameRows}
 
 -- ---- ranges
 
@@ -39,11 +37,6 @@ FindsRanges wanted program nest None = (k : ℕ) × (k < length nest) × (¬ Has
 FindsRanges wanted program nest (Some shown) = AreRanges wanted program nest (length nest) shown.items
 
 -- ---- counts
-
--- a nest's polynomials are within the limits of certificates, and each uses the parameters and the variables up to its own
-pub record ArePolynomials (params : ℕ) (nest : List (AffineForm × AffineForm)) (sums : List Quotient) : Type 0 where
-  pub small : AllByRecursion IsSmallPolynomial sums
-  pub uses : (place : List Step) → AllHold (polynomials_fit params place sums (length nest))
 
 -- A count passes a limit: an operation on its polynomials does, or its polynomials do, which are those of the summation.
 abbrev pub CountPasses : AffineProgram → List (AffineForm × AffineForm) → Type 0

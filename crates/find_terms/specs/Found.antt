@@ -11,9 +11,10 @@ use Rattle.flow_deps.specs.Candidates.{loop_variable}
 use Rattle.part_fit.specs.Limits.{AreSmall, AreSmallBounds}
 use Rattle.wavefront.specs.declared.cold.Cold.{Cold}
 use Rattle.find_terms.specs.declared.nests.SoFar.{SoFar}
-use Rattle.find_terms.specs.declared.outline.Outline.{Outline}
-use Rattle.find_terms.specs.Outline.{OutlineFits, outline_of}
-use Rattle.find_terms.specs.Openings.{AreNamed, HasOpeningOutline, IsEarlierRead, IsFirstOpening, IsOpeningTerm, IsPlainRead, NestSoFar, array_read, opening_outline, reader_of, width}
+use Rattle.cold_terms.specs.declared.outline.Outline.{Outline}
+use Rattle.cold_terms.specs.Outline.{OutlineFits, outline_of}
+use Rattle.find_terms.specs.Openings.{AreNamed, HasOpeningOutline, IsEarlierRead, IsFirstOpening, IsOpeningTerm, IsPlainRead, NestSoFar, opening_outline, width}
+use Rattle.cold_terms.specs.Held.{array_read, reader_of}
 
 -- ---- loops
 

@@ -16,9 +16,10 @@ use Rattle.wavefront.specs.ColdPieces.{leaves_of}
 use Rattle.wavefront.specs.Loads.{ColdFits}
 use Rattle.wavefront.specs.View.{term_of}
 use Rattle.iolb_check.specs.Limits.{IsSmallCold}
-use Rattle.find_terms.specs.Counted.{ArePolynomials, CountPasses}
-use Rattle.find_terms.specs.Entries.{AreEntries, IsEntryAsShort}
-use Rattle.find_terms.specs.Outline.{ColdOutline, outline_in}
+use Rattle.cold_terms.specs.Held.{ArePolynomials}
+use Rattle.find_terms.specs.Counted.{CountPasses}
+use Rattle.cold_terms.specs.Entries.{AreEntries, IsEntryAsShort}
+use Rattle.cold_terms.specs.Outline.{ColdOutline, outline_in}
 
 -- the multipliers of a cold term are as short as is wanted
 pub record IsColdAsShort (wanted : Wanted) (cold : Cold) : Type 0 where

@@ -6,7 +6,8 @@ ghost use Rattle.affine_program.specs.Parts.{meaning};
 ghost use Rattle.answers.specs.Answers.{Answers, HasNoShort, following};
 ghost use Rattle.dep_quast.specs.Claims.{IsFew};
 ghost use Rattle.domain_count.specs.Count.{rows_before, range_goal};
-ghost use Rattle.find_terms.specs.Counted.{ArePolynomials, FindsCount, FindsRanges};
+ghost use Rattle.cold_terms.specs.Held.{ArePolynomials};
+ghost use Rattle.find_terms.specs.Counted.{FindsCount, FindsRanges};
 ghost use Rattle.iolb_model.specs.declared.limits.TheConstants.{NEST_VARIABLES, PARAMETERS};
 
 use affine_form::{Form, Memory, Multipliers, difference};

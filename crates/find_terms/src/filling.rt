@@ -5,15 +5,15 @@ ghost use Rattle.affine_program.specs.Parts.{meaning};
 ghost use Rattle.dep_quast.specs.Context.{variables_at};
 ghost use Rattle.dep_quast.specs.Tree.{tree_of};
 ghost use Rattle.reuse_paths.specs.OpenLeaves.{TestsFit};
-ghost use Rattle.find_terms.specs.Outline.{OutlineFits, outline_of};
+ghost use Rattle.cold_terms.specs.Outline.{OutlineFits, outline_of};
 ghost use Rattle.find_terms.specs.Shown.{FindsCold};
 
 use crate::counted::counted;
-use crate::outline::Outline;
-use crate::outlined::{cells_undone, inside_answered, leaves_closed};
 use affine_form::Memory;
 use affine_program::Program;
 use answers::Wanted;
+use cold_terms::Outline;
+use cold_terms::outlined::{cells_undone, inside_answered, leaves_closed};
 use dep_quast::Quast;
 use std::alloc::Global;
 use wavefront::Cold;

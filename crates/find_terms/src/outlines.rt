@@ -11,9 +11,9 @@ ghost use Rattle.iolb_model.specs.declared.limits.TheConstants.{NEST_VARIABLES};
 
 use crate::named::loops_named;
 use crate::nests::named_nest;
-use crate::outline::Outline;
 use affine_form::{Matrix, Memory};
 use affine_program::Program;
+use cold_terms::Outline;
 use dep_quast::reader::{Reader, depth};
 use domain_count::Nest;
 use std::alloc::Global;

@@ -9,9 +9,10 @@ use Rattle.reuse_paths.specs.LeafClaims.{claim_of}
 use Rattle.wavefront.specs.ColdPieces.{leaves_of}
 use Rattle.wavefront.specs.Term.{ColdTerm, inside_goals, nest_system, nest_variables}
 use Rattle.find_terms.specs.Counted.{AreCounted, FindsCount}
-use Rattle.find_terms.specs.Entries.{FindsEntries}
-use Rattle.find_terms.specs.Outline.{ColdOutline, bare, outline_of}
-use Rattle.find_terms.proofs.ColdLaws.{IsClosedBy, IsInside, IsUndone, cold-shown, shown-closed, shown-counted, shown-inside, shown-undone}
+use Rattle.cold_terms.specs.Entries.{FindsEntries}
+use Rattle.cold_terms.specs.Outline.{ColdOutline, bare, outline_of}
+use Rattle.cold_terms.proofs.ColdParts.{IsClosedBy, IsInside, IsUndone}
+use Rattle.find_terms.proofs.ColdLaws.{cold-shown, shown-closed, shown-counted, shown-inside, shown-undone}
 use Rattle.find_terms.proofs.filling.filled.Goals as goal
 
 clash : (b : Bool) → b ≡ false → b ≡ true → ⊥

@@ -8,7 +8,7 @@ use Rattle.dep_quast.specs.Tree.{SelectionTree, tree_of}
 use Rattle.dep_quast.specs.Views.{read_of}
 use Rattle.flow_deps.specs.Plain.{IsPlain}
 use Rattle.find_terms.specs.Found.{FindsOutline, FindsTerm}
-use Rattle.find_terms.specs.Outline.{outline_of}
+use Rattle.cold_terms.specs.Outline.{outline_of}
 use Rattle.find_terms.specs.Shown.{FindsCold}
 use Rattle.find_terms.proofs.TermLaws.{outline-tests, term-found}
 use Rattle.find_terms.proofs.openings.opening_term.Goals as goal

@@ -9,7 +9,7 @@ use Rattle.dep_quast.specs.Views.{read_of}
 use Rattle.dep_quast.proofs.Fits.{depth-few}
 use Rattle.find_terms.specs.Found.{FarFits, FindsLoops, FindsNest, IsSmallNest, so_far}
 use Rattle.find_terms.specs.Openings.{AreNamed, NestSoFar, named_nest, opening_outline, undoing}
-use Rattle.find_terms.specs.Outline.{ColdOutline, OutlineFits}
+use Rattle.cold_terms.specs.Outline.{ColdOutline, OutlineFits}
 use Rattle.find_terms.proofs.TermLaws.{outline-fits, outline-none}
 use Rattle.find_terms.proofs.outlines.opening_outline.Goals as goal
 

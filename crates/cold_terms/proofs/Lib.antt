@@ -1,0 +1,3 @@
+pub mod EntryLaws
+pub mod ColdParts
+pub mod BranchLaws
