@@ -1,22 +1,17 @@
-use Rattle.std.proofs.Common.{◌≡◌, ◌≢◌, refl, sym, ◌∙◌, ap, ℕ, ◌+◌, List, [], ◌∷◌, ◌++◌, length, map, arith, Bool, true, false, Vec}
-use Rattle.std.specs.Prelude.{Option, Some, None, option_map, ◌==◌, if◌then◌else◌}
+use Rattle.std.proofs.Common.{◌≡◌, sym, ◌∙◌, ap, ℕ, ◌+◌, List, [], ◌∷◌, ◌++◌, length, map, arith, Bool, Vec}
+use Rattle.std.specs.Prelude.{Option, Some, None, option_map, if◌then◌else◌}
 use Rattle.std.specs.Global.{Global}
 use Rattle.std.specs.List.{range_with_len}
-use Rattle.std.proofs.lemmas.Bool.{eq-eqb, eqb-true}
+use Rattle.std.proofs.lemmas.Bool.{eq-eqb}
 use Rattle.std.proofs.lemmas.List.{length-map, map-append}
 use Rattle.std.proofs.lemmas.List.FromFn.{map-range_with_len_more}
 use Rattle.iolb_model.specs.Form.{AffineForm}
 use Rattle.affine_program.specs.Parts.{array_of, meaning}
 use Rattle.reuse_paths.specs.Families.{forms_of}
 use Rattle.whole_terms.specs.Families.{array_subscripts, cell_label, label_if}
+use Rattle.projective_terms.proofs.Unequal.{differs}
 use Rattle.projective_terms.proofs.families.inputs.Goals as goal
 use Rattle.projective_terms.proofs.families.inputs.Goals.{then-other-from+in_ok-cells+in_ok-push, else-other-from+in_ok-push-2}
-
-differs : (a b : ℕ) → a ≢ b → (a == b) ≡ false
-differs a b h = by (a == b) refl where
-  by : (c : Bool) → c ≡ (a == b) → (a == b) ≡ false
-  by true e = absurd (h (eqb-true a b (sym e)))
-  by false e = sym e
 
 -- one label more
 label-more : (labels : ℕ → Option (List AffineForm)) (all more : List (Option (Vec AffineForm Global))) (other : ℕ) (last : Option (Vec AffineForm Global))

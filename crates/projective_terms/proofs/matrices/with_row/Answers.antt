@@ -1,18 +1,13 @@
-use Rattle.std.proofs.Common.{◌≡◌, ◌∙◌, sym, ap, ℕ, ◌+◌, List, [], ◌∷◌, ◌++◌, map, append_assoc, arith, Bool, true, false, refl, ◌≢◌, Vec}
-use Rattle.std.specs.Prelude.{ℤ, pos, ◌==◌, if◌then◌else◌}
+use Rattle.std.proofs.Common.{◌≡◌, ◌∙◌, sym, ap, ℕ, ◌+◌, List, [], ◌∷◌, ◌++◌, map, append_assoc, arith, Bool, Vec}
+use Rattle.std.specs.Prelude.{ℤ, pos, if◌then◌else◌}
 use Rattle.std.specs.Global.{Global}
 use Rattle.std.specs.List.{range_with_len}
-use Rattle.std.proofs.lemmas.Bool.{eq-eqb, eqb-true}
+use Rattle.std.proofs.lemmas.Bool.{eq-eqb}
 use Rattle.std.proofs.lemmas.List.FromFn.{map-range_with_len_more}
 use Rattle.execution_laws.specs.Inverse.{scaled_entry}
+use Rattle.projective_terms.proofs.Unequal.{differs}
 use Rattle.projective_terms.proofs.matrices.with_row.Goals as goal
 use Rattle.projective_terms.proofs.matrices.with_row.Goals.{then-row-column+in_ok-push, else-row-column+in_ok-push-2}
-
-differs : (a b : ℕ) → a ≢ b → (a == b) ≡ false
-differs a b h = by (a == b) refl where
-  by : (c : Bool) → c ≡ (a == b) → (a == b) ≡ false
-  by true e = absurd (h (eqb-true a b (sym e)))
-  by false e = sym e
 
 -- one entry more
 entry-more : (cells all more : List ℤ) (row column : ℕ) (x : ℤ) → all ≡ cells ++ map (scaled_entry 1 row) (range_with_len 0 column) → x ≡ scaled_entry 1 row column → more ≡ all ++ x ∷ []
