@@ -2,7 +2,7 @@ pub mod Keys
 pub mod Words
 pub mod Notes
 pub mod Made
-pub mod Requests
+pub mod RequestLaws
 pub mod Outcomes
 pub mod Headline
 pub mod Values

@@ -1,50 +1,23 @@
 -- What a call's outcome is, from what it is stopped or answered by.
-use Rattle.std.proofs.Common.{◌≡◌, refl, sym, ◌∙◌, ap, subst, inl, inr, ℕ, ◌≤◌, Bool, true, false, List, length, map}
-use Rattle.std.specs.Prelude.{ℤ, ◌⊎◌, ◌==◌, ◌&&◌, if◌then◌else◌, bytes_eq, Option, Some, None, Result, Ok, Err, IfOk, IfErr, IfSome, Vec}
+use Rattle.std.proofs.Common.{◌≡◌, refl, sym, ◌∙◌, ap, subst, inl, inr, ℕ, List, length}
+use Rattle.std.specs.Prelude.{◌⊎◌}
 use Rattle.std.specs.Io.KnownBytes.{append_known}
-use Rattle.std.specs.List.{list_all, list_any}
 use Rattle.std.proofs.Math.Seq.{take-length}
-use Rattle.std.proofs.lemmas.List.{length-map}
-use Rattle.std.specs.declared.alloc.Global.{Global}
-use Rattle.iolb_model.specs.Bound.{IsAdmitted}
-use Rattle.iolb_model.specs.Headline.{BoundHolds}
-use Rattle.iolb_model.specs.Program.{AffineProgram}
-use Rattle.affine_form.specs.System.{AffineSystem}
-use Rattle.affine_program.specs.Parts.{ProgramParts, meaning}
-use Rattle.c_grammar.specs.Program.{Means}
-use Rattle.iolb_check.specs.Claims.{CertificateClaim}
-use Rattle.iolb_cert.specs.Texts.{IsTextOf}
-use Rattle.iolb_cert.specs.Read.{WrittenCertificate, IsCertificate}
-use Rattle.command_words.specs.Requests.{Request, Task, checks, evaluates, Work, judges, replays, bounds}
-use Rattle.command_words.specs.Sizes.{NamedSize, times, value_for, values_for}
-use Rattle.replay_call.specs.Laws.{PlaysAreComplete}
-use Rattle.iolb_check.specs.declared.bound.Value.{Value}
-use Rattle.iolb_check.specs.Bounds.{BoundParts, bound_of}
-use Rattle.iolb_check.specs.Conditions.{MeetsConditions}
+use Rattle.command_words.specs.Requests.{Work, judges, replays, bounds}
 use Rattle.iolb_host.specs.declared.files.FileFault.TheVariants.{Missing, TooLong, Failed, Memory as NoMemoryForFile}
 use Rattle.iolb_host.specs.Count.{Rose}
-use Rattle.iolb_host.specs.Faults.{NamedFault}
-use Rattle.iolb_host.specs.Files.{FileMap, content_of, Answers}
 use Rattle.iolb_call.specs.declared.status.Status.{Status}
 use Rattle.iolb_call.specs.declared.status.Status.TheVariants.{Done, NoMemory, Words as WordsRefused}
 use Rattle.iolb_call.specs.declared.stop.Stop.{Stop}
 use Rattle.iolb_call.specs.declared.stop.Stop.TheVariants.{Words, ProgramFile, ProgramText, SecondFile, CertificateText, Condition, Assumption, Wide, ScheduleText, Unplayed, Memory}
-use Rattle.iolb_call.specs.Bounded.{IsBounded}
-use Rattle.iolb_call.specs.Reading.{IsContent}
-use Rattle.iolb_call.specs.Replays.{moves_at}
 use Rattle.iolb_call.specs.Lines.{out_of_memory}
-use Rattle.iolb_call.specs.Stop.{program_most, certificate_most, HoldsProgram, HoldsCertificate, HoldsValid, IsGoodFor, IsAnswered, IsWorkDone, CertificateStop, SecondStop, TextStop, RequestStop, faults_at, stop_line, stop_status, Call, Stops}
-use Rattle.iolb_call.specs.Task.{IsAnswer, LoadsAtLeast, bound_with}
-use Rattle.iolb_call.specs.Works.{HasSizes}
-use Rattle.iolb_call.specs.Answers.{AnswerStop}
-use Rattle.iolb_call.specs.Judged.{JudgeStop}
+use Rattle.iolb_call.specs.Stop.{stop_line, stop_status, Call, Stops}
 use Rattle.iolb_call.specs.Outcome.{IsBegun, IsBrokenOff, IsDone, IsStopped, Outcome}
 use Rattle.iolb_call.specs.Called.{Finishes}
-use Rattle.iolb_call.specs.Headline.{IsDoneAsAsked, IsPrinted}
-use Rattle.iolb_call.specs.Use.{CallUse, FilesUse, SinkUse, FailsWithin, HasOneFaultAtMost, Gains, Stays}
+use Rattle.iolb_call.specs.Use.{CallUse, FilesUse, SinkUse, FailsWithin, Gains, Stays}
 use Rattle.iolb_call.specs.Written.{HasBegun, HasNote, IsOfWork, LacksNote, LineWritten, OutputWritten, WantSaid, answer_note, answer_text}
 use Rattle.iolb_call.specs.declared.answered.Answer.{Answer}
-use Rattle.iolb_call.proofs.Notes.{nothing, nothing_more}
+use Rattle.iolb_call.proofs.Notes.{nothing}
 use Rattle.iolb_call.specs.declared.answered.Answer.TheVariants.{Text, Lines, Bound}
 
 -- ---- calls

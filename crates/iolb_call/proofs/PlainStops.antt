@@ -1,38 +1,15 @@
 -- Stops that are no failure of a read and no want of memory.
-use Rattle.std.proofs.Common.{◌≡◌, ◌≢◌, ◌⊎◌, refl, sym, ◌∙◌, ap, subst, inl, inr, ℕ, ◌+◌, Bool, true, cond, List, [], ◌∷◌, ◌++◌, arith}
-use Rattle.std.specs.Prelude.{⊤, Option, Some, None, count_by}
+use Rattle.std.proofs.Common.{◌≡◌, ◌≢◌, refl, ◌∙◌, ap, ℕ, ◌+◌, Bool, true, cond, List, [], ◌∷◌, ◌++◌, arith}
+use Rattle.std.specs.Prelude.{⊤, count_by}
 use Rattle.std.proofs.lemmas.List.Sums.{sum_by-append}
-use Rattle.iolb_model.specs.Printed.{bound_text}
-use Rattle.iolb_model.specs.Program.{AffineProgram}
-use Rattle.c_grammar.specs.Program.{Means}
-use Rattle.iolb_cert.specs.OneCertificate.{HasCertificate}
-use Rattle.iolb_check.specs.Claims.{CertificateClaim}
-use Rattle.command_words.specs.Requests.{Request, Task, checks, evaluates, Work, judges, replays, bounds, request_of}
-use Rattle.command_words.specs.Sizes.{NamedSize}
-use Rattle.iolb_check.specs.declared.bound.Value.{Value}
+use Rattle.command_words.specs.Requests.{Request}
 use Rattle.iolb_host.specs.declared.files.FileFault.{FileFault}
 use Rattle.iolb_host.specs.declared.files.FileFault.TheVariants.{Missing, TooLong, Failed, Memory as NoMemoryForFile}
 use Rattle.iolb_host.specs.Faults.{NamedFault, after_fault, failure_count, is_failure}
-use Rattle.iolb_host.specs.Files.{FileMap}
-use Rattle.iolb_call.specs.declared.status.Status.{Status}
-use Rattle.iolb_call.specs.declared.status.Status.TheVariants.{Done, Refused, Words as WordsRefused, ProgramText as ProgramRefused, OtherText, FileAbsent, ReadFault, WriteFault, Wide as WideValue, NoMemory}
+use Rattle.iolb_call.specs.declared.status.Status.TheVariants.{NoMemory}
 use Rattle.iolb_call.specs.declared.stop.Stop.{Stop}
 use Rattle.iolb_call.specs.declared.stop.Stop.TheVariants.{Words, ProgramFile, ProgramText, SecondFile, CertificateText, Condition, Assumption, Wide, ScheduleText, Unplayed, Memory}
-use Rattle.iolb_call.specs.Laws.{IsUndisturbed, OutcomesAreOne, HasAnswer, PrintsBound, ValidCertificatesPass, OthersNeverPass, PlayableSchedulesPass, ReadableProgramsHaveCertificates, WriteAlike}
-use Rattle.iolb_call.specs.Outcome.{IsStopped, Outcome}
-use Rattle.iolb_call.specs.Reading.{FaultCause, IsContent}
-use Rattle.replay_call.specs.Lines.{play_text}
-use Rattle.replay_call.proofs.Refusals.{same_some}
-use Rattle.iolb_call.specs.Replays.{HoldsSchedule, IsReplayed, moves_at}
-use Rattle.iolb_call.specs.Stop.{HoldsProgram, HoldsCertificate, HoldsValid, IsAnswered, IsGoodFor, IsWorkDone, RequestStop, TextStop, faults_at, second_most, stop_status, Call, Stops}
-use Rattle.iolb_call.specs.Task.{IsAnswer, IsOutside, IsBeyond, bound_with}
-use Rattle.iolb_call.specs.Works.{HasSecond, HasSizes}
-use Rattle.iolb_call.specs.Use.{CallUse, SinkUse, Gains, Stays}
-use Rattle.iolb_check.specs.Conditions.{MeetsConditions}
-use Rattle.iolb_call.specs.Values.{values_text}
-use Rattle.iolb_call.proofs.Asked.{HasPebbles, pebbles}
-use Rattle.iolb_call.proofs.Ends.{AreExact, CallEnd, wrote, bounded, CallEnds, ConditionEnds, NameEnds, RequestEnds, SecondEnds, TaskEnds, TextEnds, WorkEnds, calls_one, done_end, end_status, stop_end, words_end}
-use Rattle.iolb_call.proofs.Notes.{nothing}
+use Rattle.iolb_call.specs.Stop.{faults_at, stop_status}
 
 -- ---- stops that are no failure of a read and no want of memory
 

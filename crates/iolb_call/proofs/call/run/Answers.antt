@@ -8,7 +8,7 @@ use Rattle.iolb_call.specs.Use.{files_use, sink_use}
 use Rattle.iolb_call.proofs.Words.{words_are}
 use Rattle.iolb_call.proofs.Headline.{headline}
 use Rattle.iolb_call.proofs.Outcomes.{stopped_outcome, done_outcome}
-use Rattle.iolb_call.proofs.Requests.{one_fault}
+use Rattle.iolb_call.proofs.RequestLaws.{one_fault}
 use Rattle.iolb_call.proofs.call.run.Goals as goal
 
 pub returns-in-Ok-None-clause-outcome : goal.returns-in-Ok-None-clause-outcome

@@ -2,7 +2,7 @@ use Rattle.std.proofs.lemmas.Result.{err_from_is_err_and}
 use Rattle.affine_program.specs.Parts.{meaning}
 use Rattle.command_words.specs.Requests.{task_of}
 use Rattle.iolb_check.specs.Claims.{claim_of_certificate}
-use Rattle.iolb_call.proofs.Requests.{certificate_there, good_result, unanswered, refused}
+use Rattle.iolb_call.proofs.RequestLaws.{certificate_there, good_result, unanswered, refused}
 use Rattle.iolb_call.proofs.checking.judged.Goals as goal
 
 pub returns-clause-good : goal.returns-clause-good

@@ -4,7 +4,7 @@ use Rattle.affine_program.specs.Parts.{meaning}
 use Rattle.command_words.specs.Requests.{asked, work_of}
 use Rattle.iolb_call.specs.Reading.{IsContent}
 use Rattle.iolb_call.specs.Works.{GivesAll}
-use Rattle.iolb_call.proofs.Requests.{calm_result, content, text_stop}
+use Rattle.iolb_call.proofs.RequestLaws.{calm_result, content, text_stop}
 use Rattle.iolb_call.proofs.requests.answer_for.Goals as goal
 
 pub returns-clause-good : goal.returns-clause-good

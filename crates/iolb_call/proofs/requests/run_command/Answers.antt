@@ -1,6 +1,6 @@
 use Rattle.affine_program.specs.Parts.{meaning}
 use Rattle.command_words.specs.Requests.{asked}
-use Rattle.iolb_call.proofs.Requests.{answered_result, program_there, stop_result}
+use Rattle.iolb_call.proofs.RequestLaws.{answered_result, program_there, stop_result}
 use Rattle.iolb_call.proofs.requests.run_command.Goals as goal
 
 pub returns-in-Ok-read_program-clause-answered : goal.returns-in-Ok-read_program-clause-answered
