@@ -4,7 +4,7 @@ use Rattle.std.specs.Prelude.{if◌then◌else◌, cond, flat_map, nat_eq}
 use Rattle.std.specs.List.{AllByRecursion, range_with_len}
 use Rattle.std.proofs.Math.IntN.{pos}
 use Rattle.std.proofs.lemmas.List.{length-append, length-map}
-use Rattle.base_laws.proofs.Lists.{All-append, All-push, All-replicate, All-weaken, rest_at}
+use Rattle.base_laws.proofs.Lists.{All-append, All-push, All-replicate, rest_at}
 use Rattle.iolb_model.specs.Form.{AffineForm}
 use Rattle.iolb_model.specs.Path.{PathStep, rises}
 use Rattle.iolb_model.specs.Program.{AffineProgram}
@@ -35,9 +35,6 @@ widened-all : (n vars : ℕ) (forms : List AffineForm) → n ≤ vars → AllByR
 widened-all n vars [] le h = tt
 widened-all n vars (f ∷ forms) le h =
     (record { over = length-widened vars f (omega (arith, le, h.0.over)); small = widened-small vars f h.0.small }, widened-all n vars forms le h.1)
-
-pub values-within : (n vars : ℕ) (forms : List AffineForm) → n ≤ vars → AllByRecursion (IsSmallOver n) forms → AllByRecursion (λ (form : AffineForm). variables form ≤ vars) forms
-values-within n vars forms le h = All-weaken (IsSmallOver n) (λ (form : AffineForm). variables form ≤ vars) forms (λ form small. omega (arith, le, small.over)) h
 
 -- ---- a step
 

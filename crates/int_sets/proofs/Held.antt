@@ -49,15 +49,6 @@ one-counted half v two e = taken half.count half.rows two e where
   taken (suc (suc n)) (x ∷ []) two e = absurd (omega arith)
   taken (suc (suc n)) (x ∷ y ∷ ys) two e = absurd (omega (arith, ap length e))
 
--- a half that isn't of one row has no pairs
-pub pairs-none : (first : Half) (small halves : List Half) → length first.rows ≡ 2 → (first.count ≡ 1 → ⊥) → PairsWith first small halves
-pairs-none first small halves two several v w e less held = absurd (several (one-counted first v two e).0)
-
--- none are behind the first none
-pub pairs-start : (first : Half) (small halves : List Half) → PairsWith first (take 0 small) halves
-pairs-start first [] halves v w e less held = absurd held
-pairs-start first (half ∷ small) halves v w e less held = absurd held
-
 -- one more that makes a pair
 pub pairs-push : (first : Half) (small halves : List Half) (k : ℕ) (d pair : Half) → k < length small
     → weights_of pair ≡ weights_of first ++ weights_of (get_or small k d) → PairsWith first (take k small) halves → PairsWith first (take (k + 1) small) (halves ++ pair ∷ [])

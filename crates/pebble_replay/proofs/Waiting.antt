@@ -228,11 +228,6 @@ pub least-key : (marks : List (Option ℕ)) (heap : List (Reverse (ℕ × ℕ)))
     → (q : ℕ × ℕ) → waits_with marks q ≡ true → is_gt (pair_cmp entry.0 q) ≡ false
 least-key marks heap entry h all q on = none-before entry.0 heap all q (h.covers q on)
 
--- nobody waits where the heap is empty
-pub nobody-waits : (marks : List (Option ℕ)) (heap : List (Reverse (ℕ × ℕ))) → IsCovered marks heap → length heap ≡ 0 → (q : ℕ × ℕ) → waits_with marks q ≡ false
-nobody-waits marks [] h e q = false_from_ne_true (waits_with marks q) (λ on. let there : list_any (is_key q) [] ≡ true = h.covers q on in cc)
-nobody-waits marks (x ∷ heap) h e q = absurd (omega (arith, e))
-
 pub no-keys : (marks : List (Option ℕ)) → ((q : ℕ × ℕ) → waits_with marks q ≡ false) → keys_of marks ≡ []
 no-keys marks h = by (keys_of marks) (λ q. keys-test marks q.0 q.1 ∙ h q) where
   by : (keys : List (ℕ × ℕ)) → ((q : ℕ × ℕ) → list_any (is_at (pair_cmp q)) keys ≡ false) → keys ≡ []

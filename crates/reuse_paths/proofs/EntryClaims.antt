@@ -1,5 +1,5 @@
 -- What is found in the claims of an entry.
-use Rattle.std.proofs.Common.{◌≡◌, refl, sym, subst, ℕ, zero, suc, ◌+◌, ◌*◌, ◌≤◌, inl, inr, List, [], ◌∷◌, ◌++◌, length, map, arith, lit<}
+use Rattle.std.proofs.Common.{◌≡◌, refl, sym, subst, ℕ, zero, suc, ◌+◌, ◌*◌, ◌≤◌, List, [], ◌∷◌, ◌++◌, length, map, arith, lit<}
 use Rattle.std.specs.Prelude.{Option, Some, None, IsSomeAnd}
 use Rattle.std.specs.List.{AllByRecursion}
 use Rattle.std.proofs.Math.IntN.{pos}
@@ -43,12 +43,6 @@ equality_rows-many vars [] [] same = refl
 equality_rows-many vars [] (g ∷ gs) same = absurd (omega (arith, same))
 equality_rows-many vars (f ∷ fs) [] same = absurd (omega (arith, same))
 equality_rows-many vars (f ∷ fs) (g ∷ gs) same = omega (arith, equality_rows-many vars fs gs (omega (arith, same)))
-
--- what is found behind a claim that holds
-pub Finds-rest : (claim : Claim) (later : List Claim) (found : Option No) → claim.statement → Finds (claim ∷ later) found → Finds later found
-Finds-rest claim later None holds h = h.1
-Finds-rest claim later (Some n) holds (inl h) = absurd (h.0 holds)
-Finds-rest claim later (Some n) holds (inr h) = h.1
 
 -- a walk goes on into a region
 pub going-found : (condition : ℕ) (walk : WalkSetting) (place : List Step) (system : AffineSystem) (point : List AffineForm) (writer : ℕ) (values : List AffineForm) (region : WalkRegion)

@@ -1,6 +1,6 @@
 -- The labels that a family's walks keep: what is looked up, that it fits, and what is found in the claims of a label.
-use Rattle.std.proofs.Common.{◌≡◌, refl, sym, ◌∙◌, subst, ℕ, zero, suc, ◌+◌, ◌≤◌, List, [], ◌∷◌, ◌++◌, length, map, arith, lit<}
-use Rattle.std.specs.Prelude.{Option, Some, None, option_map, slice_get, slice_index_or, IsSomeAnd}
+use Rattle.std.proofs.Common.{◌≡◌, sym, ◌∙◌, subst, ℕ, zero, suc, ◌+◌, ◌≤◌, List, [], ◌∷◌, ◌++◌, length, map, arith, lit<}
+use Rattle.std.specs.Prelude.{Option, Some, option_map, slice_get, IsSomeAnd}
 use Rattle.std.specs.List.{AllByRecursion}
 use Rattle.std.proofs.Math.IntN.{pos}
 use Rattle.std.proofs.lemmas.List.{length-append}
@@ -25,22 +25,11 @@ use Rattle.dep_quast.specs.Context.{ReadOf, reference_of}
 use Rattle.dep_quast.specs.Truth.{ReadFits}
 use Rattle.dep_quast.proofs.Fits.{fits-at}
 use Rattle.reuse_paths.specs.EntryClaims.{label_claims}
-use Rattle.reuse_paths.specs.Families.{CreditedNest, NodeForms, label_at, node_label, node_region}
+use Rattle.reuse_paths.specs.Families.{CreditedNest, label_at}
 use Rattle.reuse_paths.specs.WalkFits.{AimFits, AreCellLabels, AreInstanceLabels, CreditFits, IsLabel, IsLabelIf, LabelsFit, ReaderFits}
-use Rattle.reuse_paths.specs.WalkSettings.{KeptLabels, keeps, WalkSetting, forms_behind, region_at, region_variables, spot_variables}
+use Rattle.reuse_paths.specs.WalkSettings.{KeptLabels, keeps, WalkSetting, forms_behind, region_variables, spot_variables}
 use Rattle.reuse_paths.specs.WalkViews.{ReadingFits}
 use Rattle.iolb_model.specs.declared.limits.TheConstants.{PUT_SIZE, SUBSCRIPTS}
-
--- what a list of nodes says of a statement
-pub labels-at : (nodes : List (Option NodeForms)) (s : ℕ) → label_at (map node_label nodes) s ≡ node_label (slice_index_or nodes s None)
-labels-at [] s = refl
-labels-at (node ∷ nodes) zero = refl
-labels-at (node ∷ nodes) (suc s) = labels-at nodes s
-
-pub regions-at : (nodes : List (Option NodeForms)) (s : ℕ) → region_at (map node_region nodes) s ≡ node_region (slice_index_or nodes s None)
-regions-at [] s = refl
-regions-at (node ∷ nodes) zero = refl
-regions-at (node ∷ nodes) (suc s) = regions-at nodes s
 
 module _ (program : AffineProgram) (size : ℕ) where
   -- the label of a statement's instances fits

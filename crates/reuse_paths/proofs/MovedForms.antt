@@ -46,15 +46,6 @@ pub moved-small : (limit place more : ℕ) (forms : List AffineForm) → IsSmall
 moved-small limit place more [] none h = tt
 moved-small limit place more (form ∷ forms) none h = ((moved-numbers limit place more form.coefficients none h.0.0, h.0.1), moved-small limit place more forms none h.1)
 
--- how they can be moved
-pub can-move : (place more own : ℕ) (forms : List AffineForm) → AllOver (place + own) forms → AllByRecursion (λ (form : AffineForm). place ≤ variables form) forms
-can-move place more own [] over = tt
-can-move place more own (form ∷ forms) over = (omega (arith, over.0), can-move place more own forms over.1)
-
-pub has-room : (place more own limit : ℕ) (forms : List AffineForm) → place + more + own ≤ limit → AllOver (place + own) forms → AllByRecursion (λ (form : AffineForm). variables form + more ≤ limit) forms
-has-room place more own limit [] few over = tt
-has-room place more own limit (form ∷ forms) few over = (omega (arith, over.0, few), has-room place more own limit forms few over.1)
-
 pub over-within : (many vars : ℕ) (forms : List AffineForm) → many ≤ vars → AllOver many forms → AllByRecursion (λ (form : AffineForm). variables form ≤ vars) forms
 over-within many vars [] few over = tt
 over-within many vars (form ∷ forms) few over = (omega (arith, over.0, few), over-within many vars forms few over.1)

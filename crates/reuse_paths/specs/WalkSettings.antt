@@ -37,9 +37,6 @@ abbrev pub loops_of_aim : AffineProgram → WalkAim → ℕ
 loops_of_aim program (arrives_at target) = depth_of program target.statement
 loops_of_aim program (keeps kept) = 0
 
-abbrev pub target_loops : WalkSetting → ℕ
-target_loops walk = loops_of_aim walk.program walk.aim
-
 -- how many variables a spot has: the parameters and the nest's
 abbrev pub spot_variables : WalkSetting → ℕ
 spot_variables walk = length walk.program.parameters + length walk.nest
