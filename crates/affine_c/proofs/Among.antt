@@ -1,11 +1,11 @@
 -- Names of some kinds among others.
 use Rattle.std.proofs.Common.{◌≡◌, refl, sym, ap, ◌∙◌, ℕ, zero, suc, Bool, true, false, cond, List, [], ◌∷◌, arith}
-use Rattle.std.specs.Prelude.{bytes_eq, Some, slice_get, map, ◌||◌}
+use Rattle.std.specs.Prelude.{bytes_eq, Some, slice_get, map}
 use Rattle.std.specs.List.{AllByRecursion, list_any}
 use Rattle.std.proofs.lemmas.Bool.{or_parts}
 use Rattle.iolb_model.specs.Program as program
 use Rattle.affine_program.specs.Parts.{array_of}
-use Rattle.affine_program.specs.Printable.{AreDifferent, AreDifferentArrays, is_array_name}
+use Rattle.affine_program.specs.Printable.{AreDifferent, AreDifferentArrays}
 use Rattle.c_reading.specs.declared.named.Kind.{Kind}
 use Rattle.c_reading.specs.declared.named.Kind.TheVariants.{Parameter, OpenLoop, ClosedLoop, Array}
 use Rattle.c_reading.specs.Names.{parameters_among, arrays_among}

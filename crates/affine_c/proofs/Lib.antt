@@ -1,11 +1,8 @@
-pub mod TreeGrows
-pub mod Lists
 pub mod Rows
-pub mod TreeKept
-pub mod Ways
+pub mod TreeGrows
 pub mod StatementsKept
 pub mod Among
 pub mod TreeFits
-pub mod TreeWays
+pub mod Ways
 pub mod Made
 pub mod OneProgram

@@ -15,7 +15,7 @@ use Rattle.c_grammar.specs.Program.{narrowed, row_lines, tree_lines, statements_
 use Rattle.affine_c.proofs.Rows.{narrowed_all_small}
 use Rattle.affine_c.proofs.StatementsKept.{StandsIn}
 use Rattle.affine_c.proofs.TreeFits.{program_fits}
-use Rattle.affine_c.proofs.TreeWays.{statements_counted}
+use Rattle.affine_c.proofs.Ways.{statements_counted}
 use Rattle.iolb_model.specs.declared.limits.TheConstants.{ARRAYS, NUMBER_SIZE, PARAMETERS, SUBSCRIPTS}
 
 pub record Made (r : Reading) (parts : ProgramParts) : Type 0 where

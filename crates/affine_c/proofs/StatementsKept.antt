@@ -19,7 +19,7 @@ use Rattle.affine_program.specs.Parts.{statement_of}
 use Rattle.affine_program.specs.declared.statement.Statement.{Statement}
 use Rattle.c_grammar.specs.Program.{narrowed_statement, statements_among}
 use Rattle.affine_c.specs.Built.{AreRowsOver}
-use Rattle.affine_c.proofs.Lists.{dropped}
+use Rattle.affine_c.proofs.Rows.{dropped}
 
 -- a statement's bounds are those on the way to it in the tree
 abbrev pub StandsIn : Row → ℕ × Statement → Type 0

@@ -1,14 +1,12 @@
 -- The program that a well-read text means is well formed, printable, and its loops are within the limits.
 use Rattle.std.proofs.Common.{◌≡◌, refl, sym, ◌∙◌, ap, subst, ℕ, zero, suc, ◌+◌, ◌-◌, ◌<◌, ◌≤◌, List, [], ◌∷◌, ◌++◌, map, length, drop, append_assoc, arith, length-append}
 use Rattle.std.proofs.lemmas.List.{append-nil, length-map}
-use Rattle.std.specs.Prelude.{◌==◌, if◌then◌else◌, bytes_eq, Bool, true, false, Option, Some, None, option_map, IsSomeAnd, slice_get, slice_index_or}
+use Rattle.std.specs.Prelude.{bytes_eq, true, false, Some, IsSomeAnd, slice_get, slice_index_or}
 use Rattle.std.specs.List.{AllByRecursion, list_any, range_with_len}
 use Rattle.base_laws.proofs.Lists.{All-append}
 use Rattle.iolb_model.specs.Form.{AffineForm}
 use Rattle.iolb_model.specs.Program.{Item, assign, loop, Row, done, next, Array, Statement, AffineProgram, IsOver, AccessFits, StatementFits, ItemFits, RowFits, item_statements, row_statements, no_statement, IsWellFormed}
-use Rattle.iolb_model.specs.Path.{PathStep, rises, first_of, item_path, row_path}
 use Rattle.iolb_model.specs.declared.limits.TheConstants.{LOOPS, PARAMETERS, NUMBER_SIZE}
-use Rattle.execution_laws.proofs.Domains.{way-there}
 use Rattle.c_tokens.specs.Names.{IsName}
 use Rattle.c_reading.specs.Access.{Access as ReadAccess, Statement as ReadStatement}
 use Rattle.c_reading.specs.declared.named.Kind.{Kind}
@@ -20,16 +18,14 @@ use Rattle.c_reading.specs.Text.{Reading}
 use Rattle.affine_form.specs.Form.{IsSmallForm}
 use Rattle.affine_program.specs.Parts.{array_of}
 use Rattle.affine_program.specs.Printable.{AreDifferent, access_numbers, statement_numbers, IsOrdered, IsPrintableHeader, IsPrintableItem, IsPrintableRow, IsPrintable}
-use Rattle.c_grammar.specs.Well.{IsRowOver, AreLinesIn, IsAccessIn, IsStatementIn, IsWellRead, parameters_of, arrays_of, statement_count, numbers_of, line_numbers, Nests, IsLoop, IsLoopLine}
+use Rattle.c_grammar.specs.Well.{IsRowOver, AreLinesIn, IsAccessIn, IsStatementIn, IsWellRead, parameters_of, arrays_of, numbers_of, line_numbers, Nests, IsLoop, IsLoopLine}
 use Rattle.c_grammar.proofs.Dictionary.{bytes_are}
 use Rattle.c_grammar.specs.Program.{TreeLine, begins, does, ends, narrowed, narrowed_access, narrowed_statement, item_lines, row_lines, tree_lines, statements_among, IsReadingOf}
-use Rattle.affine_c.specs.Built.{IsSmallStep, IsShortWay, HasShortWays}
-use Rattle.affine_c.proofs.Lists.{All-mapped}
-use Rattle.affine_c.proofs.Rows.{narrowed_over, narrowed_small, narrowed_all_over}
-use Rattle.c_printing.proofs.MeansRefs.{get_all}
+use Rattle.affine_c.proofs.Rows.{All-mapped, narrowed_over, narrowed_small, narrowed_all_over}
 use Rattle.affine_c.proofs.Among.{among, is_parameter, is_array, parameters-among, arrays-among, distinct-different, among_differs, among_all, among_none, Found, among_found, different_arrays, all_named}
 use Rattle.c_printing.proofs.Roles.{names_of}
 use Rattle.c_printing.proofs.Readable.{array_names}
+use Rattle.c_grammar.proofs.NameKinds.{All-get}
 
 range_more : (first m n : ℕ) → range_with_len first m ++ range_with_len (first + m) n ≡ range_with_len first (m + n)
 range_more first zero n = ap (λ (k : ℕ). range_with_len k n) none ∙ ap (range_with_len first) some where
@@ -164,7 +160,7 @@ module _ (r : Reading) (program : AffineProgram) (well : IsWellRead r) (says : I
   none_around stack at name (n ∷ around) h apart e = elim (bytes_eq name n) as (λ v. bytes_eq name n ≡ v → list_any (bytes_eq name) (n ∷ around) ≡ false) [
     | true ↦ λ g.
         let same : h.0.0 ≡ at = well.distinct h.0.0 at name (h.0.2 ∙ ap Some (sym (bytes_are name n g))) e in
-        absurd (get_all (λ m. m ≡ at → ⊥) stack h.0.1 h.0.0 apart h.0.3 same)
+        absurd (All-get (λ m. m ≡ at → ⊥) stack h.0.1 h.0.0 apart h.0.3 same)
     | false ↦ λ g. rw g (none_around stack at name around h.1 apart e)
   ] refl
 
@@ -259,7 +255,7 @@ module _ (r : Reading) (program : AffineProgram) (well : IsWellRead r) (says : I
         );
         header = record {
           depth = omega (arith, e, fine.1);
-          is_name = get_all IsName r.names l.name name well.names there;
+          is_name = All-get IsName r.names l.name name well.names there;
           no_parameter = ap (list_any (bytes_eq name)) parameters_are ∙ among_none is_parameter r.names r.kinds l.name name loops.0.0 differ there loops.0.1 neither.0;
           no_array = array_names name program.arrays ∙ ap (list_any (bytes_eq name)) arrays_are ∙ among_none is_array r.names r.kinds l.name name loops.0.0 differ there loops.0.1 neither.1;
           is_new = none_around stack l.name name around names nests.0 there;
@@ -358,7 +354,7 @@ program_fits r program well says =
     let found : (k : ℕ) (name : List ℕ) → slice_get (names_of program.arrays) k ≡ Some name → IsName name × (list_any (bytes_eq name) program.parameters ≡ false) =
     λ (k : ℕ) (name : List ℕ) (e : slice_get (names_of program.arrays) k ≡ Some name).
     let f : Found is_array r.names r.kinds name = among_found is_array r.names r.kinds k name (ap (λ ns. slice_get ns k) (sym arrays) ∙ e) in
-    (get_all IsName r.names f.at name well.names f.name_is, ap (list_any (bytes_eq name)) names ∙ among_none is_parameter r.names r.kinds f.at name f.kind differs f.name_is f.kind_is (array_no_parameter f.kind f.so)) in
+    (All-get IsName r.names f.at name well.names f.name_is, ap (list_any (bytes_eq name)) names ∙ among_none is_parameter r.names r.kinds f.at name f.kind differs f.name_is f.kind_is (array_no_parameter f.kind f.so)) in
     let ranked : length program.arrays ≡ length (arrays_of r) = ap (λ (l : List Array). length l) says.arrays ∙ length-map (arrays_of r) array_of in (
       record {
         numbered = taken.numbers ∙ ap (range_with_len 0) many;

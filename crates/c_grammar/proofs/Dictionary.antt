@@ -9,7 +9,7 @@ use Rattle.c_reading.specs.declared.named.Kind.{Kind}
 use Rattle.c_reading.specs.declared.named.Kind.TheVariants.{Parameter, OpenLoop, ClosedLoop, Array}
 use Rattle.c_reading.specs.Input.{Input}
 use Rattle.c_reading.specs.Names.{if_parameter, if_array, parameters_among, arrays_among}
-use Rattle.c_reading.specs.Affine.{number_of, kind_of}
+use Rattle.c_reading.specs.Affine.{kind_of}
 
 -- the place of a name among these
 abbrev pub place_of : List ℕ → List (List ℕ) → Option ℕ
@@ -24,16 +24,12 @@ lookup name (n ∷ names) (k ∷ kinds) = cond (bytes_eq name n) (Some k) (looku
 
 -- ---- these are what the reader looks up
 
--- 0 is below any count
-pub first_below : (n : ℕ) → nat_lt 0 (suc n) ≡ true
-first_below n = grind (arith, nat_tests)
-
 -- one more on both sides
-pub same_below : (m n : ℕ) → nat_lt (1 + m) (suc n) ≡ nat_lt m n
+same_below : (m n : ℕ) → nat_lt (1 + m) (suc n) ≡ nat_lt m n
 same_below m n = elim (nat_lt m n) as (λ v. nat_lt m n ≡ v → nat_lt (1 + m) (suc n) ≡ v) [ true ↦ λ e. grind (arith, nat_tests) | false ↦ λ e. grind (arith, nat_tests) ] refl
 
 -- one more, where a test holds
-pub one_more : (b : Bool) (m : ℕ) → cond b (Some (1 + m)) None ≡ option_map suc (cond b (Some m) None)
+one_more : (b : Bool) (m : ℕ) → cond b (Some (1 + m)) None ≡ option_map suc (cond b (Some m) None)
 one_more true m = ap Some (omega arith)
 one_more false m = refl
 
@@ -41,7 +37,7 @@ one_more false m = refl
 position-more : (t : List ℕ → Bool) (n : List ℕ) (names : List (List ℕ)) → position t (n ∷ names) ≡ cond (t n) (Some 0) (option_map suc (position t names))
 position-more t n names =
     let m : ℕ = position_or_len t names in
-    let below : nat_lt 0 (suc (length names)) ≡ true = first_below (length names) in
+    let below : nat_lt 0 (suc (length names)) ≡ true = grind (arith, nat_tests) in
     let same : nat_lt (1 + m) (suc (length names)) ≡ nat_lt m (length names) = same_below m (length names) in
     elim (t n) as (λ v. t n ≡ v → position t (n ∷ names) ≡ cond (t n) (Some 0) (option_map suc (position t names))) [
       | true ↦ λ e. rw (e, below) refl
@@ -67,10 +63,6 @@ place-lookup name (n ∷ names) (k ∷ kinds) same =
       | true ↦ λ e. rw e refl
       | false ↦ λ e. rw e (get_next (place_of name names) k kinds ∙ place-lookup name names kinds (omega arith))
     ] refl
-
--- the number of a name is its place
-pub number_of-place : (name : List ℕ) (i : Input) → number_of name i ≡ place_of name i.names
-number_of-place name i = position-place name i.names
 
 -- the reader's kind of a name is its kind
 pub kind_of-lookup : (name : List ℕ) (i : Input) → length i.kinds ≡ length i.names → kind_of name i ≡ lookup name i.names i.kinds

@@ -1,23 +1,27 @@
 -- What the names and lines so far keep, and what a meaning adds to them.
-use Rattle.std.proofs.Common.{◌≡◌, refl, sym, ◌∙◌, ap, subst, cond, ℕ, zero, suc, ◌+◌, ◌≤◌, List, [], ◌∷◌, ◌++◌, length, arith, append_assoc, append-nil, Bool, true, false, ⊎_elim, inl, inr, length-append, leb-true}
+use Rattle.std.proofs.Common.{◌≡◌, refl, sym, ◌∙◌, ap, subst, cond, ℕ, zero, suc, ◌+◌, ◌≤◌, List, [], ◌∷◌, ◌++◌, length, arith, append_assoc, append-nil, Bool, true, false, ⊎_elim, inl, inr, length-append, leb-true, ◌<◌}
 use Rattle.std.specs.Prelude.{⊤, ◌⊎◌, ℤ, bytes_eq, slice_get, option_and_then, Option, Some, None, if◌then◌else◌, nat_le}
 use Rattle.std.specs.List.{AllByRecursion}
 use Rattle.std.proofs.lemmas.Bool.{and_parts}
 use Rattle.base_laws.proofs.Lists.{All-append, All-weaken}
-use Rattle.iolb_model.specs.declared.limits.TheConstants.{PARAMETERS, STATEMENTS, ARRAYS, NAME_BYTES}
+use Rattle.iolb_model.specs.declared.limits.TheConstants.{PARAMETERS, STATEMENTS, ARRAYS, NAME_BYTES, LOOPS, READS}
 use Rattle.c_tokens.specs.declared.token.TokenKind.TheVariants as token
 use Rattle.c_reading.specs.declared.named.Kind.{Kind}
-use Rattle.c_reading.specs.declared.named.Kind.TheVariants.{Array}
+use Rattle.c_reading.specs.declared.named.Kind.TheVariants.{OpenLoop}
 use Rattle.c_reading.specs.Affine.{kind_of, number_of, is_short}
-use Rattle.c_reading.specs.Access.{Access}
+use Rattle.c_reading.specs.Access.{Access, Statement}
 use Rattle.c_grammar.specs.Words.{Word}
 use Rattle.c_tokens.specs.Names.{IsWord, IsName}
 use Rattle.affine_program.specs.Printable.{IsOrdered, next_seen}
-use Rattle.c_grammar.specs.Well.{AreDistinct}
-use Rattle.c_grammar.specs.Meaning.{Names, Meaning, then_in, given}
+use Rattle.c_grammar.specs.Well.{AreDistinct, numbers_of, line_numbers, Nests, IsLoopAt, IsLoopLine, statement_count}
+use Rattle.c_grammar.specs.Meaning.{Names, Meaning, then_in, given, end}
+use Rattle.c_grammar.proofs.Lists.{All-first, All-second}
 use Rattle.c_grammar.proofs.Rows.{IsWhereSome, IsRow, more_row}
-use Rattle.c_grammar.proofs.NameKinds.{KindFits, parameter_count, ranks, AreNumbered, more_fits, count-append, ranks-append, numbered-append, All-get, get-append, rank_at}
+use Rattle.c_grammar.proofs.NameKinds.{KindFits, parameter_count, ranks, AreNumbered, more_fits, count-append, ranks-append, numbered-append, All-get, get-append}
 use Rattle.c_grammar.proofs.Dictionary.{lookup, kind_of-lookup, bytes_same}
+use Rattle.c_reading.specs.declared.lines.Loop.{Loop}
+use Rattle.c_reading.specs.declared.lines.Line.{Line}
+use Rattle.c_reading.specs.declared.lines.Line.TheVariants.{Begin, Does, End}
 
 -- ---- words that are names
 
@@ -29,15 +33,12 @@ IsNamed w = w.kind ≡ token.Name → IsWord w.bytes
 abbrev pub AreNamed : List Word → Type 0
 AreNamed ws = AllByRecursion IsNamed ws
 
--- the names among the first of both lists
+-- the names among the first of both lists, and among the second
 pub first_named : (xs ys : List Word) → AreNamed (xs ++ ys) → AreNamed xs
-first_named [] ys h = tt
-first_named (x ∷ xs) ys h = (h.0, first_named xs ys h.1)
+first_named xs ys h = All-first IsNamed xs ys h
 
--- and among the second
 pub second_named : (xs ys : List Word) → AreNamed (xs ++ ys) → AreNamed ys
-second_named [] ys h = h
-second_named (x ∷ xs) ys h = second_named xs ys h.1
+second_named xs ys h = All-second IsNamed xs ys h
 
 -- a short word is a name
 pub short_word : (name : List ℕ) → IsWord name → is_short name ≡ true → IsName name
@@ -166,10 +167,6 @@ kind_found name i k e = found (number_of name i) refl e where
 pub kind_fits : {depth : ℕ} (name : List ℕ) (i : Names) (k : Kind) → State depth i → kind_of name i ≡ Some k → KindFits i.parameters depth k
 kind_fits {depth} name i k s e = (let found = kind_found name i k e in All-get (KindFits i.parameters depth) i.kinds found.0 k s.fit found.2)
 
--- a name of an array has its number of subscripts
-pub kind_rank : {depth : ℕ} (name : List ℕ) (i : Names) (n r : ℕ) → State depth i → kind_of name i ≡ Some (Array n r) → slice_get (ranks i.kinds) n ≡ Some r
-kind_rank name i n r s e = (let found = kind_found name i (Array n r) e in rank_at i.kinds found.0 n r s.numbered found.2)
-
 -- ---- one name more
 
 -- a name without a kind stands nowhere
@@ -296,3 +293,81 @@ stays {i = i} s q = ok (record { state = s; kept = kept_self i; value = q })
 pub gives : {A : Type 0} {depth : ℕ} {i : Names} (o : Option A) {Q : A → Names → Type 0} → State depth i → IsWhereSome (λ a. Q a i) o → Reads depth i (given o i) Q
 gives (Some a) s q = stays s q
 gives None s q = nothing
+
+-- ---- lines
+
+-- a loop that begins inside so many others
+pub record BeginsIn (depth : ℕ) (i : Names) (l : Loop) : Type 0 where
+  pub name : l.name < length i.names
+  pub few : depth < LOOPS
+  pub lower : IsRow i.parameters depth l.lower
+  pub upper : IsRow i.parameters depth l.upper
+
+-- a statement inside so many loops
+pub record StatementIn (depth : ℕ) (i : Names) (statement : Statement) : Type 0 where
+  pub writes : AccessIn depth i statement.writes
+  pub few : length statement.reads ≤ READS
+  pub reads : AllByRecursion (AccessIn depth i) statement.reads
+
+-- lines from one depth to another
+abbrev pub Goes : ℕ → Names → List Line → ℕ → Type 0
+Goes depth i [] end = depth ≡ end
+Goes depth i (Begin l ∷ lines) end = BeginsIn depth i l × Goes (suc depth) i lines end
+Goes depth i (Does statement ∷ lines) end = StatementIn depth i statement × Goes depth i lines end
+Goes zero i (End ∷ lines) end = ⊥
+Goes (suc depth) i (End ∷ lines) end = Goes depth i lines end
+
+-- lines go where there is more
+pub goes-wider : (depth : ℕ) {i j : Names} (lines : List Line) (end : ℕ) → Wider i j → Goes depth i lines end → Goes depth j lines end
+goes-wider depth [] end w h = h
+goes-wider depth (Begin l ∷ lines) end w h =
+    (record { name = omega (arith, h.0.name, w.names); few = h.0.few; lower = more_row w.parameters (omega arith) h.0.lower; upper = more_row w.parameters (omega arith) h.0.upper }, goes-wider (suc depth) lines end w h.1)
+goes-wider depth {i} {j} (Does statement ∷ lines) end w h =
+    (record { writes = access-wider w h.0.writes; few = h.0.few; reads = All-weaken (AccessIn depth i) (AccessIn depth j) statement.reads (λ a r. access-wider w r) h.0.reads }, goes-wider depth lines end w h.1)
+goes-wider zero (End ∷ lines) end w h = h
+goes-wider (suc depth) (End ∷ lines) end w h = goes-wider depth lines end w h
+
+-- lines behind lines
+pub goes-append : (depth : ℕ) (i : Names) (xs ys : List Line) (middle end : ℕ) → Goes depth i xs middle → Goes middle i ys end → Goes depth i (xs ++ ys) end
+goes-append depth i [] ys middle end h g = subst (λ d. Goes d i ys end) (sym h) g
+goes-append depth i (Begin l ∷ xs) ys middle end h g = (h.0, goes-append (suc depth) i xs ys middle end h.1 g)
+goes-append depth i (Does statement ∷ xs) ys middle end h g = (h.0, goes-append depth i xs ys middle end h.1 g)
+goes-append zero i (End ∷ xs) ys middle end h g = h
+goes-append (suc depth) i (End ∷ xs) ys middle end h g = goes-append depth i xs ys middle end h g
+
+-- the statements of lines behind lines
+pub count-lines : (xs ys : List Line) → statement_count (xs ++ ys) ≡ statement_count xs + statement_count ys
+count-lines [] ys = omega arith
+count-lines (Begin l ∷ xs) ys = count-lines xs ys
+count-lines (Does statement ∷ xs) ys = ap suc (count-lines xs ys) ∙ omega arith
+count-lines (End ∷ xs) ys = count-lines xs ys
+
+-- the arrays of lines behind lines
+pub lines_both : (xs ys : List Line) → line_numbers (xs ++ ys) ≡ line_numbers xs ++ line_numbers ys
+lines_both [] ys = refl
+lines_both (Begin l ∷ xs) ys = lines_both xs ys
+lines_both (Does s ∷ xs) ys = ap (λ ns. s.writes.array ∷ ns) (ap (λ ns. numbers_of s.reads ++ ns) (lines_both xs ys) ∙ sym (append_assoc (numbers_of s.reads) (line_numbers xs) (line_numbers ys)))
+lines_both (End ∷ xs) ys = lines_both xs ys
+
+-- lines behind lines nest
+pub nests_both : (around middle last : List ℕ) (xs ys : List Line) → Nests around xs middle → Nests middle ys last → Nests around (xs ++ ys) last
+nests_both around middle last [] ys h g = subst (λ a. Nests a ys last) (sym h) g
+nests_both around middle last (Begin l ∷ xs) ys h g = (h.0, nests_both (l.name ∷ around) middle last xs ys h.1 g)
+nests_both around middle last (Does s ∷ xs) ys h g = nests_both around middle last xs ys h g
+nests_both [] middle last (End ∷ xs) ys h g = absurd h
+nests_both (n ∷ around) middle last (End ∷ xs) ys h g = nests_both around middle last xs ys h g
+
+-- lines' loops stay loops
+pub loop_lines_more : (old new : List Kind) → ((at : ℕ) → IsLoopAt old at → IsLoopAt new at) → (lines : List Line) → AllByRecursion (IsLoopLine old) lines → AllByRecursion (IsLoopLine new) lines
+loop_lines_more old new f [] h = tt
+loop_lines_more old new f (Begin l ∷ lines) h = (f l.name h.0, loop_lines_more old new f lines h.1)
+loop_lines_more old new f (Does s ∷ lines) h = (tt, loop_lines_more old new f lines h.1)
+loop_lines_more old new f (End ∷ lines) h = (tt, loop_lines_more old new f lines h.1)
+
+-- a place of the name of an open loop
+abbrev pub IsOpenAt : List Kind → ℕ → Type 0
+IsOpenAt kinds at = (depth : ℕ) × (slice_get kinds at ≡ Some (OpenLoop depth))
+
+-- open loops stay open where names are added
+pub opens_stay : {i j : Names} → Grown i j → (around : List ℕ) → AllByRecursion (IsOpenAt i.kinds) around → AllByRecursion (IsOpenAt j.kinds) around
+opens_stay {i} {j} g around h = All-weaken (IsOpenAt i.kinds) (IsOpenAt j.kinds) around (λ at o. subst (λ ks. IsOpenAt ks at) (sym g.kinds) (o.0, get-append i.kinds g.more at (OpenLoop o.0) o.1)) h

@@ -1,18 +1,18 @@
 -- Items add lines that end at the depth at which they begin, over names that are there.
-use Rattle.std.proofs.Common.{◌≡◌, refl, sym, ◌∙◌, ap, subst, ℕ, zero, suc, ◌+◌, ◌-◌, ◌<◌, ◌≤◌, List, [], ◌∷◌, ◌++◌, length, arith, append_assoc, append-nil, Bool, true, false, length-set, leb-false}
+use Rattle.std.proofs.Common.{◌≡◌, refl, sym, ◌∙◌, ap, subst, ℕ, zero, suc, ◌+◌, ◌-◌, ◌<◌, List, [], ◌∷◌, ◌++◌, length, arith, append_assoc, append-nil, Bool, true, false, length-set, leb-false}
 use Rattle.std.specs.Prelude.{ℤ, pos, slice_get, slice_set, nat_lt, nat_le, not, Option, Some, None, ◌||◌, codes}
 use Rattle.std.specs.List.{AllByRecursion}
 use Rattle.std.proofs.lemmas.Bool.{or_parts}
 use Rattle.std.proofs.lemmas.Bool.Decides.{nat_tests}
 use Rattle.std.proofs.lemmas.Option.{slice_get_within}
 use Rattle.base_laws.proofs.Lists.{All-append, All-weaken}
-use Rattle.iolb_model.specs.declared.limits.TheConstants.{LOOPS, STATEMENTS, READS}
+use Rattle.iolb_model.specs.declared.limits.TheConstants.{LOOPS, STATEMENTS}
 use Rattle.c_reading.specs.declared.named.Kind.{Kind}
 use Rattle.c_reading.specs.declared.named.Kind.TheVariants.{Parameter, OpenLoop, ClosedLoop, Array}
 use Rattle.c_reading.specs.declared.lines.Loop.{Loop}
 use Rattle.c_reading.specs.declared.lines.Line.{Line}
 use Rattle.c_reading.specs.declared.lines.Line.TheVariants.{Begin, Does, End}
-use Rattle.c_reading.specs.Access.{Access, Statement}
+use Rattle.c_reading.specs.Access.{Access}
 use Rattle.c_reading.specs.Affine.{kind_of, number_of, with_name, is_short}
 use Rattle.c_reading.specs.Items.{with_line, first_reads, is_array, most_statements}
 use Rattle.c_reading.specs.Numbers.{most_loops, zeros}
@@ -24,15 +24,13 @@ use Rattle.c_grammar.specs.Well.{numbers_of, line_numbers, Nests, IsLoop, IsLoop
 use Rattle.c_grammar.specs.Affine.{affine_words, reference_words}
 use Rattle.c_grammar.specs.Value.{value_words}
 use Rattle.c_grammar.specs.Item as item
-use Rattle.c_grammar.specs.Item.{assigner_word, assign_words, int_words, bound_word, step_words, bounds_words, header_words, item_words, items_words}
+use Rattle.c_grammar.specs.Item.{assigner_word, assign_words, int_words, bounds_words, header_words, item_words, items_words}
 use Rattle.c_grammar.specs.Meaning as mean
 use Rattle.c_grammar.specs.Meaning.{Names, Meaning, then_in, affine_means, reference_means, value_means, updates, assign_means, statement_means, loop_by, header_means, begin, end, item_means, items_means}
 use Rattle.c_grammar.proofs.Rows.{IsWhereSome, IsRow, more_row, combined_row, zeros_row}
 use Rattle.c_grammar.proofs.NameKinds.{KindFits, more_fits, get-append, loop-set, All-set, get-set, set-back}
-use Rattle.c_grammar.proofs.Kept.{AreNamed, first_named, second_named, short_word, State, Grown, grown-same, grown-trans, Kept, kept-trans, kept_self, ordered_both, row-grown, AccessIn, accesses-grown, Wider, wider, access-wider, kind_found, new_state, new_grown, Gives, nothing, ok, chained, weaken, either, Reads, stays}
-use Rattle.c_grammar.proofs.KeptForms.{affine_form}
-use Rattle.c_grammar.proofs.KeptRefs.{reference_in, AreReads, value_read}
-use Rattle.c_grammar.proofs.KeptLines.{BeginsIn, Goes, goes-wider, goes-append, count-lines, lines_both, nests_both, loop_lines_more, IsOpenAt, loop_stays, opens_stay}
+use Rattle.c_grammar.proofs.Kept.{AreNamed, first_named, second_named, short_word, State, Grown, grown-same, grown-trans, Kept, kept-trans, kept_self, ordered_both, row-grown, AccessIn, accesses-grown, Wider, wider, access-wider, kind_found, new_state, new_grown, Gives, nothing, ok, chained, weaken, either, Reads, stays, BeginsIn, Goes, goes-wider, goes-append, count-lines, lines_both, nests_both, loop_lines_more, IsOpenAt, opens_stay}
+use Rattle.c_grammar.proofs.KeptRefs.{affine_form, reference_in, AreReads, value_read}
 
 -- ---- meanings that add lines
 
@@ -62,7 +60,7 @@ adds_both depth {i} {j} {k} g h = record {
   goes = goes-append depth k g.new h.new depth depth (goes-wider depth g.new depth (wider h.grown) g.goes) h.goes;
   statements = omega (arith, count-lines g.new h.new, g.statements, h.statements);
   nested = λ around o. nests_both around around around g.new h.new (g.nested around o) (h.nested around (opens_stay g.grown around o));
-  loops = All-append (IsLoopLine k.kinds) g.new h.new (loop_lines_more j.kinds k.kinds (loop_stays h.grown) g.new g.loops) h.loops;
+  loops = All-append (IsLoopLine k.kinds) g.new h.new (loop_lines_more j.kinds k.kinds (λ at l. subst (λ ks. IsLoopAt ks at) (sym h.grown.kinds) (l.0, get-append j.kinds h.grown.more at l.0 l.1, l.2)) g.new g.loops) h.loops;
   order = subst (λ ns. IsOrdered i.arrays ns k.arrays) (sym (lines_both g.new h.new)) (ordered_both i.arrays j.arrays k.arrays (line_numbers g.new) (line_numbers h.new) g.order h.order);
 }
 
@@ -195,10 +193,6 @@ loop_set (x ∷ kinds) (suc at) k (suc other) is l = loop_set kinds at k other i
 open_apart : (kinds : List Kind) (at other : ℕ) → slice_get kinds at ≡ Some ClosedLoop → IsOpenAt kinds other → other ≡ at → ⊥
 open_apart kinds at other closed o same = let both : Some (OpenLoop o.0) ≡ Some ClosedLoop = sym o.1 ∙ ap (slice_get kinds) same ∙ closed in cc
 
--- open loops stay open where another opens
-opens_other : (kinds : List Kind) (at : ℕ) (k : Kind) → slice_get kinds at ≡ Some ClosedLoop → (around : List ℕ) → AllByRecursion (IsOpenAt kinds) around → AllByRecursion (IsOpenAt (slice_set kinds at k)) around
-opens_other kinds at k closed around h = All-weaken (IsOpenAt kinds) (IsOpenAt (slice_set kinds at k)) around (λ n o. (o.0, get_other kinds at n (OpenLoop o.0) k (open_apart kinds at n closed o) o.1)) h
-
 -- where a loop is open, and where it ended
 abbrev opened_at : ℕ → Loop → Names → Names
 opened_at depth h j = record j { kinds = slice_set j.kinds h.name (OpenLoop depth); lines = j.lines ++ Begin h ∷ [] }
@@ -293,7 +287,7 @@ module _ (depth : ℕ) (h : Loop) (i j l : Names) (few : depth < LOOPS) (f : Hea
         let opens : AllByRecursion (IsOpenAt j.kinds) around = opens_stay f.kept.grown around o in (
           All-weaken (IsOpenAt j.kinds) (λ n. n ≡ h.name → ⊥) around (λ n p. open_apart j.kinds h.name n f.closed p) opens,
           nests_both (h.name ∷ around) (h.name ∷ around) around b.new (End ∷ [])
-              (b.nested (h.name ∷ around) ((depth, opened), opens_other j.kinds h.name (OpenLoop depth) f.closed around opens)) refl,
+              (b.nested (h.name ∷ around) ((depth, opened), All-weaken (IsOpenAt j.kinds) (IsOpenAt (slice_set j.kinds h.name (OpenLoop depth))) around (λ n o. (o.0, get_other j.kinds h.name n (OpenLoop o.0) (OpenLoop depth) (open_apart j.kinds h.name n f.closed o) o.1)) opens)) refl,
         );
     loops = (
       (ClosedLoop, closed_there, tt),

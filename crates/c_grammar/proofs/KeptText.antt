@@ -23,19 +23,17 @@ use Rattle.c_grammar.specs.Item.{items_words}
 use Rattle.c_grammar.specs.Text as text
 use Rattle.c_grammar.specs.Text.{Text, compares_words, lines_words, text_words}
 use Rattle.c_grammar.specs.Meaning as mean
-use Rattle.c_grammar.specs.Meaning.{Names, then_in, affine_means, with_compare, row_count, if_rows, compare_means, slot, items_means, parameters_mean, compares_mean, lines_mean, whole_means, text_means}
+use Rattle.c_grammar.specs.Meaning.{Names, affine_means, with_compare, row_count, compare_means, slot, items_means, parameters_mean, compares_mean, lines_mean, whole_means, text_means}
 use Rattle.affine_program.specs.Printable.{IsOrdered}
 use Rattle.c_grammar.specs.Well.{IsRowOver, parameters_of, arrays_of, IsAccessIn, AreLinesIn, statement_count, Nests, IsLoopLine, line_numbers, IsWellRead, ReadingsAreWellRead}
-use Rattle.c_grammar.proofs.Steps.{AreLexical}
-use Rattle.c_grammar.proofs.Plain.{text_named}
+use Rattle.c_grammar.proofs.Steps.{AreLexical, IsSpelled, all_spelled, named_word}
 use Rattle.c_grammar.proofs.Lexical.{text_lexical}
-use Rattle.c_grammar.proofs.SoundText.{accepted}
+use Rattle.c_grammar.proofs.SoundItems.{accepted}
 use Rattle.c_grammar.proofs.Rows.{IsWhereSome, IsRow, combined_row, stated_row, all_rows}
 use Rattle.c_grammar.proofs.NameKinds.{ranks, AreNumbered, parameters-length}
-use Rattle.c_grammar.proofs.Kept.{AreNamed, first_named, second_named, State, Kept, kept-trans, rows-grown, AccessIn, Gives, nothing, ok, chained, Reads, bind, stays}
-use Rattle.c_grammar.proofs.KeptForms.{slot_there, affine_form}
+use Rattle.c_grammar.proofs.Kept.{IsNamed, AreNamed, first_named, second_named, State, Kept, kept-trans, rows-grown, AccessIn, Gives, nothing, ok, chained, Reads, bind, stays, Goes}
+use Rattle.c_grammar.proofs.KeptRefs.{slot_there, affine_form}
 use Rattle.c_grammar.proofs.KeptItems.{Adds, items_add}
-use Rattle.c_grammar.proofs.KeptLines.{Goes}
 
 -- ---- compares
 
@@ -222,10 +220,6 @@ assumed_few h i s e = which h.assumed refl where
     λ some. omega (arith, rows-length i.parameters),
   )
 
--- the state in front of a text
-start_state : State 0 (start_of [] [])
-start_state = record { kinds = refl; fit = tt; parameters = refl; few_parameters = omega arith; numbered = tt; arrays = refl; few_arrays = omega arith; few_statements = omega arith; names = tt; distinct = λ a b name e f. cc }
-
 -- what is meant is well read
 module _ (h : Head) (j k : Names) (g : IsHead h j) (lines : j.lines ≡ []) (counts : j.statements ≡ 0) (arrays : j.arrays ≡ 0) (a : Adds 0 j k) where
   meant_well : IsWellRead (reading_at (assumptions_of h k) k)
@@ -260,7 +254,7 @@ unfolding whole_means
 whole_well t n =
     let ws = items_words t.items ++ (program_end ∷ []) in
     chained (lines_mean (record { assumed = false; rows = [] }) t.lines (start_of [] []))
-    (lines_kept (record { assumed = false; rows = [] }) t.lines (start_of [] []) (first_named (lines_words t.lines) ws n) start_state (record { few = record { few = omega arith; each = tt }; some = λ e. cc })) (λ h j q.
+    (lines_kept (record { assumed = false; rows = [] }) t.lines (start_of [] []) (first_named (lines_words t.lines) ws n) (record { kinds = refl; fit = tt; parameters = refl; few_parameters = omega arith; numbered = tt; arrays = refl; few_arrays = omega arith; few_statements = omega arith; names = tt; distinct = λ a b name e f. cc }) (record { few = record { few = omega arith; each = tt }; some = λ e. cc })) (λ h j q.
     chained (items_means most_loops most_brackets t.items j) (items_add most_loops 0 most_brackets t.items j refl (first_named (items_words t.items) (program_end ∷ []) (second_named (lines_words t.lines) ws n)) q.state) (λ _ k a.
     ok (meant_well h j k q.value q.kept.lines q.kept.statements (sym q.kept.order) a)))
 
@@ -278,4 +272,4 @@ readings_are_well_read bytes r e = by_tree (tokens_of bytes) (text_lexical bytes
   by_tree None lexical t = cc
   by_tree (Some tokens) lexical t =
       let same : map (word_of bytes) tokens ≡ text_words t.0 = cc in
-      text_well t.0 r (text_named t.0 (subst AreLexical same (lexical tokens refl))) t.2
+      text_well t.0 r (All-weaken IsSpelled IsNamed (text_words t.0) named_word (all_spelled (text_words t.0) (subst AreLexical same (lexical tokens refl)))) t.2

@@ -1,7 +1,8 @@
 -- Kinds of names: how many are parameters, and the arrays with their numbers of subscripts.
-use Rattle.std.proofs.Common.{◌≡◌, refl, sym, ◌∙◌, ap, subst, ℕ, zero, suc, ◌+◌, ◌<◌, ◌≤◌, List, [], ◌∷◌, ◌++◌, length, arith}
-use Rattle.std.specs.Prelude.{⊤, slice_get, slice_set, Some}
+use Rattle.std.proofs.Common.{◌≡◌, refl, sym, ◌∙◌, ap, subst, ℕ, zero, suc, ◌+◌, ◌<◌, ◌≤◌, List, [], ◌∷◌, ◌++◌, length, length-append, arith}
+use Rattle.std.specs.Prelude.{⊤, slice_get, slice_set, Some, flat_map}
 use Rattle.std.specs.List.{AllByRecursion}
+use Rattle.std.proofs.lemmas.Grind.{flat_map-append}
 use Rattle.c_reading.specs.declared.named.Kind.{Kind}
 use Rattle.c_reading.specs.declared.named.Kind.TheVariants.{Parameter, OpenLoop, ClosedLoop, Array}
 use Rattle.c_reading.specs.Names.{parameters_among}
@@ -15,21 +16,27 @@ KindFits parameters depth (OpenLoop d) = d < depth
 KindFits parameters depth ClosedLoop = ⊤
 KindFits parameters depth (Array n s) = ⊤
 
+-- a parameter counts once
+abbrev pub parameter_of : Kind → List ℕ
+parameter_of (Parameter k) = k ∷ []
+parameter_of (OpenLoop d) = []
+parameter_of ClosedLoop = []
+parameter_of (Array n s) = []
+
 -- how many are parameters
 abbrev pub parameter_count : List Kind → ℕ
-parameter_count [] = 0
-parameter_count (Parameter k ∷ kinds) = suc (parameter_count kinds)
-parameter_count (OpenLoop d ∷ kinds) = parameter_count kinds
-parameter_count (ClosedLoop ∷ kinds) = parameter_count kinds
-parameter_count (Array n s ∷ kinds) = parameter_count kinds
+parameter_count kinds = length (flat_map parameter_of kinds)
+
+-- an array's number of subscripts
+abbrev pub rank_of : Kind → List ℕ
+rank_of (Parameter k) = []
+rank_of (OpenLoop d) = []
+rank_of ClosedLoop = []
+rank_of (Array n s) = s ∷ []
 
 -- the arrays' numbers of subscripts
 abbrev pub ranks : List Kind → List ℕ
-ranks [] = []
-ranks (Parameter k ∷ kinds) = ranks kinds
-ranks (OpenLoop d ∷ kinds) = ranks kinds
-ranks (ClosedLoop ∷ kinds) = ranks kinds
-ranks (Array n s ∷ kinds) = s ∷ ranks kinds
+ranks kinds = flat_map rank_of kinds
 
 -- the arrays are numbered in order from this number on, and have few subscripts
 abbrev pub AreNumbered : ℕ → List Kind → Type 0
@@ -50,19 +57,11 @@ more_fits parameters depth wider deeper p q (Array n s) h = tt
 
 -- the parameters of both lists
 pub count-append : (xs ys : List Kind) → parameter_count (xs ++ ys) ≡ parameter_count xs + parameter_count ys
-count-append [] ys = omega arith
-count-append (Parameter k ∷ xs) ys = ap suc (count-append xs ys) ∙ omega arith
-count-append (OpenLoop d ∷ xs) ys = count-append xs ys
-count-append (ClosedLoop ∷ xs) ys = count-append xs ys
-count-append (Array n s ∷ xs) ys = count-append xs ys
+count-append xs ys = ap length (flat_map-append parameter_of xs ys) ∙ length-append (flat_map parameter_of xs) (flat_map parameter_of ys)
 
 -- the arrays of both lists
 pub ranks-append : (xs ys : List Kind) → ranks (xs ++ ys) ≡ ranks xs ++ ranks ys
-ranks-append [] ys = refl
-ranks-append (Parameter k ∷ xs) ys = ranks-append xs ys
-ranks-append (OpenLoop d ∷ xs) ys = ranks-append xs ys
-ranks-append (ClosedLoop ∷ xs) ys = ranks-append xs ys
-ranks-append (Array n s ∷ xs) ys = ap (λ (l : List ℕ). s ∷ l) (ranks-append xs ys)
+ranks-append xs ys = flat_map-append rank_of xs ys
 
 -- arrays that are numbered on from those before
 pub numbered-append : (at : ℕ) (xs ys : List Kind) → AreNumbered at xs → AreNumbered (at + length (ranks xs)) ys → AreNumbered at (xs ++ ys)
@@ -121,21 +120,14 @@ set-behind (z ∷ xs) ys x y = ap (λ l. z ∷ l) (set-behind xs ys x y)
 
 -- ---- an array's rank is changed
 
--- the parameters stay
-pub count-rank : (xs ys : List Kind) (n r s : ℕ) → parameter_count ((xs ++ Array n s ∷ []) ++ ys) ≡ parameter_count ((xs ++ Array n r ∷ []) ++ ys)
-count-rank [] ys n r s = refl
-count-rank (Parameter k ∷ xs) ys n r s = ap suc (count-rank xs ys n r s)
-count-rank (OpenLoop d ∷ xs) ys n r s = count-rank xs ys n r s
-count-rank (ClosedLoop ∷ xs) ys n r s = count-rank xs ys n r s
-count-rank (Array m t ∷ xs) ys n r s = count-rank xs ys n r s
+-- another kind that counts as much
+as_many : (f : Kind → List ℕ) (xs ys : List Kind) (x y : Kind) → length (f x) ≡ length (f y) → length (flat_map f ((xs ++ x ∷ []) ++ ys)) ≡ length (flat_map f ((xs ++ y ∷ []) ++ ys))
+as_many f [] ys x y e = omega (arith, e, length-append (f x) (flat_map f ys), length-append (f y) (flat_map f ys))
+as_many f (z ∷ xs) ys x y e = omega (arith, as_many f xs ys x y e, length-append (f z) (flat_map f ((xs ++ x ∷ []) ++ ys)), length-append (f z) (flat_map f ((xs ++ y ∷ []) ++ ys)))
 
--- as many arrays stay
-pub ranks-rank : (xs ys : List Kind) (n r s : ℕ) → length (ranks ((xs ++ Array n s ∷ []) ++ ys)) ≡ length (ranks ((xs ++ Array n r ∷ []) ++ ys))
-ranks-rank [] ys n r s = refl
-ranks-rank (Parameter k ∷ xs) ys n r s = ranks-rank xs ys n r s
-ranks-rank (OpenLoop d ∷ xs) ys n r s = ranks-rank xs ys n r s
-ranks-rank (ClosedLoop ∷ xs) ys n r s = ranks-rank xs ys n r s
-ranks-rank (Array m t ∷ xs) ys n r s = ap suc (ranks-rank xs ys n r s)
+-- the parameters and the arrays stay
+pub rank-counts : (xs ys : List Kind) (n r s : ℕ) → (parameter_count ((xs ++ Array n s ∷ []) ++ ys) ≡ parameter_count ((xs ++ Array n r ∷ []) ++ ys)) × (length (ranks ((xs ++ Array n s ∷ []) ++ ys)) ≡ length (ranks ((xs ++ Array n r ∷ []) ++ ys)))
+rank-counts xs ys n r s = (as_many parameter_of xs ys (Array n s) (Array n r) refl, as_many rank_of xs ys (Array n s) (Array n r) refl)
 
 -- the arrays stay numbered
 pub numbered-rank : (at : ℕ) (xs ys : List Kind) (n r s : ℕ) → s ≤ SUBSCRIPTS → AreNumbered at ((xs ++ Array n r ∷ []) ++ ys)

@@ -139,10 +139,6 @@ first_there parameters depth a = elim a [ inl b ↦ omega arith | inr b ↦ omeg
 pub parameter_there : (parameters depth k : ℕ) → k < parameters → parameters ≤ PARAMETERS → IsAbsent parameters depth (1 + k) → ⊥
 parameter_there parameters depth k h few a = elim a [ inl b ↦ omega arith | inr b ↦ omega arith ]
 
--- the place of a loop has one
-pub loop_there : (parameters depth d : ℕ) → d < depth → IsAbsent parameters depth (1 + PARAMETERS + d) → ⊥
-loop_there parameters depth d h a = elim a [ inl b ↦ omega arith | inr b ↦ omega arith ]
-
 -- ---- more parameters, and more loops
 
 -- numbers fit where there is more
@@ -160,18 +156,15 @@ more_row {parameters} {depth} {wider} {deeper} {row} p q h = record { width = h.
 
 -- ---- rows of parameters less 1
 
--- the row of a parameter less 1
-pub at_least_one_row : (parameters k : ℕ) → k < parameters → parameters ≤ PARAMETERS → IsRow parameters 0 (at_least_one k)
-at_least_one_row parameters k h few =
-    set_row parameters 0 (single 0 (negsuc 0)) (1 + k) (pos 1) (single_row parameters 0 0 (negsuc 0) (lit< tt) (first_there parameters 0)) (lit< tt)
-    (parameter_there parameters 0 k h few)
-
 -- the rows of so many parameters less 1
 pub all_rows : (parameters k : ℕ) → k ≤ parameters → parameters ≤ PARAMETERS → AllByRecursion (IsRow parameters 0) (all_at_least_one k)
 all_rows parameters zero h few = tt
 all_rows parameters (suc k) h few =
-    All-append (IsRow parameters 0) (all_at_least_one k) (at_least_one k ∷ []) (all_rows parameters k (omega arith) few)
-    (at_least_one_row parameters k (omega arith) few, tt)
+    All-append (IsRow parameters 0) (all_at_least_one k) (at_least_one k ∷ []) (all_rows parameters k (omega arith) few) (
+      set_row parameters 0 (single 0 (negsuc 0)) (1 + k) (pos 1) (single_row parameters 0 0 (negsuc 0) (lit< tt) (first_there parameters 0)) (lit< tt)
+          (parameter_there parameters 0 k (omega arith) few),
+      tt,
+    )
 
 -- ---- rows as they are stated
 

@@ -2,11 +2,10 @@
 use Rattle.std.proofs.Common.{◌≡◌, ℕ, zero, suc, ◌≤◌, Bool, true, false, not, List, [], ◌∷◌, ◌++◌, refl, sym, ap, ◌∙◌, Option, Some, None, subst, arith}
 use Rattle.std.specs.Prelude.{◌&&◌, ◌||◌, if◌then◌else◌, ℤ, pos, Result, Ok, bytes_eq, codes}
 use Rattle.std.proofs.lemmas.Bool.{and_parts}
-use Rattle.c_tokens.specs.declared.token.TokenKind.TheVariants as token
 use Rattle.c_reading.specs.declared.named.Kind.{Kind}
 use Rattle.c_reading.specs.declared.named.Kind.TheVariants.{Parameter, OpenLoop, ClosedLoop, Array}
 use Rattle.c_reading.specs.declared.error.ReadFault.{ReadFault}
-use Rattle.c_reading.specs.Input.{Input, Rule, Outcome, and_then, given as rule_given, kind, spelling, next, sees, left, place}
+use Rattle.c_reading.specs.Input.{Input, Rule, Outcome, given as rule_given, spelling, next, sees, left, place}
 use Rattle.c_reading.specs.Numbers.{single, is_integer}
 use Rattle.c_reading.specs.Affine as rule
 use Rattle.c_reading.specs.Affine.{Affine, kind_of, with_name, star_of, small, one_name, one_number}
@@ -14,20 +13,11 @@ use Rattle.c_grammar.specs.Words.{Word, a_name, a_number, a_symbol}
 use Rattle.c_grammar.specs.Affine as tree
 use Rattle.c_grammar.specs.Affine.{Factor, factor_words, products_words, term_words, sums_words, affine_words}
 use Rattle.c_grammar.specs.Meaning as mean
-use Rattle.c_grammar.specs.Meaning.{Names, Form, form, given, factor_means, products_means, term_means, sums_means, affine_means}
-use Rattle.c_grammar.proofs.Steps.{bare, first, spelled_kind, next_is}
+use Rattle.c_grammar.specs.Meaning.{Names, Form, form, factor_means, products_means, term_means, sums_means, affine_means}
+use Rattle.c_grammar.proofs.Steps.{bare, first, spelled_kind}
 use Rattle.c_grammar.proofs.SoundAffine.{form_of, Allowed}
-use Rattle.c_grammar.proofs.Small.{AreSmall, flipped, flipped_negative}
-use Rattle.c_grammar.proofs.Forms.{affine_are, factor_are, flip, negated_is, signed_is}
-use Rattle.c_grammar.proofs.Spelled.{same_some, At, at_kind, at_spelling, at_sees, at_next, at_as, at_assoc, at_front, some_left, fewer, one_fewer, name_not_symbol, number_not_symbol, then_some, given_some, given_last, then_ok, then_given, some_if}
-
--- the rule gives this, and these words are left
-abbrev pub AffineRan : Outcome Affine → List Word → Form × Names → Type 0
-AffineRan o rest x = (q : Affine × Input) × (o ≡ Ok q) × At q.1 rest × ◌≡◌ {A = Form × Names} (form_of q.0, bare q.1) x
-
--- the rule gives this place, and these words are left
-abbrev pub SlotRan : Outcome ℕ → List Word → ℕ × Names → Type 0
-SlotRan o rest x = (q : ℕ × Input) × (o ≡ Ok q) × At q.1 rest × ◌≡◌ {A = ℕ × Names} (q.0, bare q.1) x
+use Rattle.c_grammar.proofs.Forms.{AreSmall, flipped, flipped_negative, affine_are, factor_are, flip, negated_is, signed_is}
+use Rattle.c_grammar.proofs.Spelled.{same_some, At, at_kind, at_spelling, at_sees, at_next, at_as, at_assoc, Ran, Gave, some_left, longer, fewer, name_not_symbol, number_not_symbol, then_some, given_some, given_last, then_ok, then_given, some_if}
 
 -- ---- what follows
 
@@ -50,16 +40,16 @@ no_star (tree.minus t ss) rest ends = refl
 -- ---- names and numbers
 
 -- a name gives its place, by its kind
-slot_by_run : (i : Input) (rest : List Word) (k : Option Kind) (x : ℕ × Names) → At i (a_name (spelling i) ∷ rest) → mean.slot_by (spelling i) k (bare i) ≡ Some x → SlotRan (rule.slot_by k i) rest x
+slot_by_run : (i : Input) (rest : List Word) (k : Option Kind) (x : ℕ × Names) → At i (a_name (spelling i) ∷ rest) → mean.slot_by (spelling i) k (bare i) ≡ Some x → Gave (rule.slot_by k i) rest x
 unfolding rule.new_parameter with_name next
-slot_by_run i rest None x at e = some_if _ _ e (λ few same. ((_, _), rw few refl, at_as _ refl (at_next at refl), same))
-slot_by_run i rest (Some (Parameter k)) x at e = ((_, _), refl, at_next at refl, cc)
-slot_by_run i rest (Some (OpenLoop depth)) x at e = ((_, _), refl, at_next at refl, cc)
+slot_by_run i rest None x at e = some_if _ _ e (λ few same. ((_, _), rw few refl, at_as _ refl (at_next at), same))
+slot_by_run i rest (Some (Parameter k)) x at e = ((_, _), refl, at_next at, cc)
+slot_by_run i rest (Some (OpenLoop depth)) x at e = ((_, _), refl, at_next at, cc)
 slot_by_run i rest (Some ClosedLoop) x at e = absurd cc
 slot_by_run i rest (Some (Array number subscripts)) x at e = absurd cc
 
 -- a name that is spelled gives its place
-pub slot_run : (i : Input) (name : List ℕ) (rest : List Word) (x : ℕ × Names) → At i (a_name name ∷ rest) → mean.slot name (bare i) ≡ Some x → SlotRan (rule.slot i) rest x
+pub slot_run : (i : Input) (name : List ℕ) (rest : List Word) (x : ℕ × Names) → At i (a_name name ∷ rest) → mean.slot name (bare i) ≡ Some x → Gave (rule.slot i) rest x
 unfolding rule.slot mean.slot kind_of
 slot_run i name rest x at e =
     let same : spelling i ≡ name = at_spelling at in
@@ -163,21 +153,6 @@ pub plus_sign : (n : ℕ) (sign : Bool) (i : Input) → sees (codes "-") i ≡ f
 unfolding rule.signs
 plus_sign n sign i minus plus = rw (minus, plus) refl
 
--- a name is read as one
-atom_name : (br : Option ℕ → Rule Affine) (star : Option ℕ) (i : Input) → kind i ≡ token.Name → rule.atom br star i ≡ rule.name_by star i
-unfolding rule.atom
-atom_name br star i is = rw is refl
-
--- a number is read as one
-atom_number : (br : Option ℕ → Rule Affine) (star : Option ℕ) (i : Input) → kind i ≡ token.Number → rule.atom br star i ≡ rule.number i
-unfolding rule.atom
-atom_number br star i is = rw is refl
-
--- a bracket is read as one
-atom_bracket : (br : Option ℕ → Rule Affine) (star : Option ℕ) (i : Input) → kind i ≡ token.Symbol → sees (codes "(") i ≡ true → rule.atom br star i ≡ br star i
-unfolding rule.atom
-atom_bracket br star i is seen = rw (is, seen) refl
-
 -- a name stands where it may
 name_run : (star : Option ℕ) (i : Input) (name : List ℕ) (rest : List Word) (x : ℕ × Names) → Allowed star true → At i (a_name name ∷ rest) → mean.slot name (bare i) ≡ Some x
     → (q : Affine × Input) × (rule.name_by star i ≡ Ok q) × At q.1 rest × ◌≡◌ {A = Form × Names} (form_of q.0, bare q.1) (record { numbers = single x.0 (pos 1); has_name = true }, x.1)
@@ -191,50 +166,14 @@ pub closed_by_run : (word : List ℕ) (a : Affine) (i : Input) → sees word i �
 unfolding rule.closed_by
 closed_by_run word a i seen = rw seen refl
 
--- a product ends where no `*` is seen
-products_end : (br : Option ℕ → Rule Affine) (start : ℕ) (star : Option ℕ) (n : ℕ) (a : Affine) (i : Input) → 1 ≤ n → sees (codes "*") i ≡ false → rule.products br start star n a i ≡ Ok (a, i)
-unfolding rule.products
-products_end br start star zero a i some other = absurd (omega arith)
-products_end br start star (suc n) a i some other = rw other refl
-
--- a `*` and a factor are taken
-products_more : (br : Option ℕ → Rule Affine) (start : ℕ) (star : Option ℕ) (n : ℕ) (a : Affine) (i : Input) → sees (codes "*") i ≡ true
-    → rule.products br start star (suc n) a i
-    ≡ and_then (rule.factor br start (star_of star a.has_name (place i)) (next i)) (λ b. λ j. and_then (rule_given (rule.product start a b) j) (rule.products br start star n))
-unfolding rule.products
-products_more br start star n a i seen = rw seen refl
-
--- a product with a factor more
-products_joined : (br : Option ℕ → Rule Affine) (start : ℕ) (star : Option ℕ) (n : ℕ) (a c : Affine) (i : Input) (b : Affine × Input) (o : Outcome Affine) → sees (codes "*") i ≡ true
-    → rule.factor br start (star_of star a.has_name (place i)) (next i) ≡ Ok b → rule.product start a b.0 ≡ Ok c → rule.products br start star n c b.1 ≡ o → rule.products br start star (suc n) a i ≡ o
-products_joined br start star n a c i b o seen e1 e2 e3 = products_more br start star n a i seen ∙ then_ok _ _ e1 (then_given _ _ b.1 e2 e3)
-
--- a sum ends where no sign is seen
-sums_end : (br : Option ℕ → Rule Affine) (start : ℕ) (star : Option ℕ) (n : ℕ) (a : Affine) (i : Input) → 1 ≤ n → sees (codes "-") i ≡ false → sees (codes "+") i ≡ false → rule.sums br start star n a i ≡ Ok (a, i)
-unfolding rule.sums
-sums_end br start star zero a i some minus plus = absurd (omega arith)
-sums_end br start star (suc n) a i some minus plus = rw (minus, plus) refl
-
--- a sign and a term are taken
-sums_more : (br : Option ℕ → Rule Affine) (start : ℕ) (star : Option ℕ) (n : ℕ) (a : Affine) (i : Input) (sign other : Bool) → sees (codes "-") i ≡ sign → sees (codes "+") i ≡ other → (not sign && not other) ≡ false
-    → rule.sums br start star (suc n) a i
-    ≡ and_then (rule.term br start star (next i)) (λ b. λ j. and_then (rule_given (rule.sum start sign a b) j) (rule.sums br start star n))
-unfolding rule.sums
-sums_more br start star n a i sign other minus plus some = rw (minus, plus, some) refl
-
--- a sum with a term more
-sums_joined : (br : Option ℕ → Rule Affine) (start : ℕ) (star : Option ℕ) (n : ℕ) (a c : Affine) (i : Input) (sign other : Bool) (b : Affine × Input) (o : Outcome Affine) → sees (codes "-") i ≡ sign → sees (codes "+") i ≡ other
-    → (not sign && not other) ≡ false → rule.term br start star (next i) ≡ Ok b → rule.sum start sign a b.0 ≡ Ok c → rule.sums br start star n c b.1 ≡ o → rule.sums br start star (suc n) a i ≡ o
-sums_joined br start star n a c i sign other b o minus plus some e1 e2 e3 = sums_more br start star n a i sign other minus plus some ∙ then_ok _ _ e1 (then_given _ _ b.1 e2 e3)
-
 -- a factor is its signs and what stands behind them
 factor_joined : (br : Option ℕ → Rule Affine) (start : ℕ) (star : Option ℕ) (i : Input) (rest : List Word) (x : Form × Names)
-    → FactorRan (rule.signs (left i) false i) (rule.atom br star) start false rest x → AffineRan (rule.factor br start star i) rest x
+    → FactorRan (rule.signs (left i) false i) (rule.atom br star) start false rest x → Ran form_of (rule.factor br start star i) rest x
 unfolding rule.factor rule.all_signs FactorRan
 factor_joined br start star i rest x r = ((r.2, r.1.1), then_ok _ _ r.3 (then_ok _ _ r.4 (ap (λ (o : Result Affine ReadFault). rule_given o r.1.1) r.5)), r.6, r.7)
 
 -- what stands behind no signs
-unsigned_run : (atom : Rule Affine) (start n : ℕ) (sign : Bool) (rest : List Word) (i : Input) (x : Form × Names) → AreSmall x.0.numbers → rule.signs n sign i ≡ Ok (sign, i) → AffineRan (atom i) rest x
+unsigned_run : (atom : Rule Affine) (start n : ℕ) (sign : Bool) (rest : List Word) (i : Input) (x : Form × Names) → AreSmall x.0.numbers → rule.signs n sign i ≡ Ok (sign, i) → Ran form_of (atom i) rest x
     → FactorRan (rule.signs n sign i) atom start sign rest x
 unfolding FactorRan
 unsigned_run atom start n sign rest i x are none r =
@@ -252,39 +191,39 @@ unsigned_run atom start n sign rest i x are none r =
 -- an integer is read as a factor
 integer_run : (br : Option ℕ → Rule Affine) (b : ℕ) (star : Option ℕ) (start n : ℕ) (sign : Bool) (bytes : List ℕ) (rest : List Word) (i : Input) (x : Form × Names) → At i (a_number bytes ∷ rest)
     → factor_means b (tree.integer bytes) (bare i) ≡ Some x → left i ≤ n → FactorRan (rule.signs n sign i) (rule.atom br star) start sign rest x
-unfolding factor_means next spelled_kind
+unfolding factor_means rule.atom next spelled_kind
 integer_run br b star start n sign bytes rest i x at e few =
     given_some (mean.integer_means bytes) _ (bare i) e (λ m e1 e2.
-    let some = some_left (a_number bytes ∷ rest) at in
+    let some = some_left at in
     unsigned_run (rule.atom br star) start n sign rest i x (factor_are b (tree.integer bytes) (bare i) x e)
     (no_signs n sign i (omega arith) (number_not_symbol (codes "-") refl at) (number_not_symbol (codes "+") refl at))
-    ((one_number m, next i), atom_number br star i (at_kind at) ∙ integer_read i m (ap mean.integer_means (at_spelling at) ∙ e1), at_next at refl, same_some e2))
+    ((one_number m, next i), rw (at_kind at) (integer_read i m (ap mean.integer_means (at_spelling at) ∙ e1)), at_next at, same_some e2))
 
 -- a name is read as a factor
 name_factor_run : (br : Option ℕ → Rule Affine) (b : ℕ) (star : Option ℕ) (start n : ℕ) (sign : Bool) (name : List ℕ) (rest : List Word) (i : Input) (x : Form × Names) → At i (a_name name ∷ rest)
     → factor_means b (tree.name name) (bare i) ≡ Some x → Allowed star x.0.has_name → left i ≤ n → FactorRan (rule.signs n sign i) (rule.atom br star) start sign rest x
-unfolding factor_means spelled_kind
+unfolding factor_means rule.atom spelled_kind
 name_factor_run br b star start n sign name rest i x at e h few =
     then_some _ (mean.slot name (bare i)) e (λ p e1 e2.
-    let some = some_left (a_name name ∷ rest) at in
+    let some = some_left at in
     let has : true ≡ x.0.has_name = ap (λ (y : Form × Names). y.0.has_name) (same_some e2) in
     let r = name_run star i name rest p (subst (Allowed star) (sym has) h) at e1 in
     unsigned_run (rule.atom br star) start n sign rest i x (factor_are b (tree.name name) (bare i) x e)
     (no_signs n sign i (omega arith) (name_not_symbol (codes "-") refl at) (name_not_symbol (codes "+") refl at))
-    (r.0, atom_name br star i (at_kind at) ∙ r.1, r.2, r.3 ∙ same_some e2))
+    (r.0, rw (at_kind at) r.1, r.2, r.3 ∙ same_some e2))
 
 -- an expression in brackets
 group_run : (b : ℕ) (star : Option ℕ) (start n : ℕ) (sign : Bool) (ws rest : List Word) (i : Input) (x : Form × Names) → At i (a_symbol (codes "(") ∷ ws) → AreSmall x.0.numbers
-    → AffineRan (rule.affine_by (rule.bracketed b) star (next i)) (a_symbol (codes ")") ∷ rest) x → left i ≤ n
+    → Ran form_of (rule.affine_by (rule.bracketed b) star (next i)) (a_symbol (codes ")") ∷ rest) x → left i ≤ n
     → FactorRan (rule.signs n sign i) (rule.atom (rule.bracketed (suc b)) star) start sign rest x
-unfolding rule.bracketed next
+unfolding rule.atom rule.bracketed next
 group_run b star start n sign ws rest i x at are r few =
-    let some = some_left (a_symbol (codes "(") ∷ ws) at in
+    let some = some_left at in
     unsigned_run (rule.atom (rule.bracketed (suc b)) star) start n sign rest i x are
     (no_signs n sign i (omega arith) (at_sees (codes "-") at) (at_sees (codes "+") at)) (
       (record r.0.0 { ends_in_name = false }, next r.0.1),
-      atom_bracket (rule.bracketed (suc b)) star i (at_kind at) (at_sees (codes "(") at) ∙ then_ok _ _ r.1 (closed_by_run (codes ")") r.0.0 r.0.1 (at_sees (codes ")") r.2)),
-      at_next r.2 refl,
+      rw (at_kind at, at_sees (codes "(") at) (then_ok _ _ r.1 (closed_by_run (codes ")") r.0.0 r.0.1 (at_sees (codes ")") r.2))),
+      at_next r.2,
       r.3,
     )
 
@@ -306,12 +245,6 @@ negative_run b star start n sign rest i y x c seen are e same r =
           ∙ ap (λ (f : Form). (flip sign f, y.1)) negative ∙ ap (λ (z : Form × Names). (flip sign z.0, z.1)) same,
     )
 
--- a `+` in front changes nothing
-positive_run : (b : ℕ) (star : Option ℕ) (start n : ℕ) (sign : Bool) (rest : List Word) (i : Input) (x : Form × Names) → sees (codes "-") i ≡ false → sees (codes "+") i ≡ true
-    → FactorRan (rule.signs n sign (next i)) (rule.atom (rule.bracketed b) star) start sign rest x → FactorRan (rule.signs (suc n) sign i) (rule.atom (rule.bracketed b) star) start sign rest x
-unfolding FactorRan
-positive_run b star start n sign rest i x unseen seen r = (r.0, r.1, r.2, plus_sign n sign i unseen seen ∙ r.3, r.4, r.5, r.6, r.7)
-
 -- where no name may stand, none stands in a factor whose negative has none
 allowed_inside : (star : Option ℕ) (p c : Form) (s : Names) (x : Form × Names) → mean.negated p ≡ Some c → ◌≡◌ {A = Form × Names} (c, s) x → Allowed star x.0.has_name → Allowed star p.has_name
 allowed_inside star p c s x e3 e4 h =
@@ -321,39 +254,36 @@ allowed_inside star p c s x e3 e4 h =
 -- ---- expressions
 
 mutual
-  unfolding affine_means sums_means term_means products_means factor_means rule.affine_by rule.term rule.bracketed next
+  unfolding affine_means sums_means term_means products_means factor_means rule.affine_by rule.term rule.sums rule.products rule.bracketed next FactorRan
 
   affine_run : (b : ℕ) (star : Option ℕ) (t : tree.Affine) (rest : List Word) (i : Input) (x : Form × Names) → At i (affine_words t ++ rest) → Ends rest → affine_means b t (bare i) ≡ Some x
-      → Allowed star x.0.has_name → AffineRan (rule.affine_by (rule.bracketed b) star i) rest x
+      → Allowed star x.0.has_name → Ran form_of (rule.affine_by (rule.bracketed b) star i) rest x
   affine_run b star (tree.sum t ss) rest i x at ends e h = then_some _ (term_means b t (bare i)) e (λ p e1 e2.
       let r = term_run b star (place i) t (sums_words ss ++ rest) i p (at_assoc (term_words t) (sums_words ss) rest at) (no_star ss rest ends) e1 (sums_allowed star b ss p.0 p.1 x e2 h) in
       let s = sums_run b star (place i) ss rest (left r.0.1) r.0.0 r.0.1 x r.2 ends (ap (λ (y : Form × Names). sums_means b y.0 ss y.1) r.3 ∙ e2) h (omega arith) in
       (s.0, then_ok _ _ r.1 s.1, s.2, s.3))
 
   sums_run : (b : ℕ) (star : Option ℕ) (start : ℕ) (ss : tree.Sums) (rest : List Word) (n : ℕ) (a : Affine) (i : Input) (x : Form × Names) → At i (sums_words ss ++ rest) → Ends rest
-      → sums_means b (form_of a) ss (bare i) ≡ Some x → Allowed star x.0.has_name → left i ≤ n → AffineRan (rule.sums (rule.bracketed b) start star n a i) rest x
-  sums_run b star start tree.sum_end rest n a i x at ends e h few =
-      let some = some_left rest at in
-      ((a, i), sums_end (rule.bracketed b) start star n a i (omega arith) (at_sees (codes "-") at ∙ ends.minus) (at_sees (codes "+") at ∙ ends.plus), at, cc)
-  sums_run b star start (tree.plus t ss) rest zero a i x at ends e h few = let some = some_left _ at in absurd (omega arith)
+      → sums_means b (form_of a) ss (bare i) ≡ Some x → Allowed star x.0.has_name → left i ≤ n → Ran form_of (rule.sums (rule.bracketed b) start star n a i) rest x
+  sums_run b star start ss rest zero a i x at ends e h few = let some = some_left at in absurd (omega arith)
+  sums_run b star start tree.sum_end rest (suc n) a i x at ends e h few = ((a, i), rw (at_sees (codes "-") at ∙ ends.minus, at_sees (codes "+") at ∙ ends.plus) refl, at, cc)
   sums_run b star start (tree.plus t ss) rest (suc n) a i x at ends e h few = then_some _ (term_means b t (bare i)) e (λ p e1 e2. given_some (mean.plus false (form_of a) p.0) _ p.1 e2 (λ c e3 e4.
       let hc = sums_allowed star b ss c p.1 x e4 h in
-      let after = at_assoc (term_words t) (sums_words ss) rest (at_next at refl) in
+      let after = at_assoc (term_words t) (sums_words ss) rest (at_next at) in
       let r = term_run b star start t (sums_words ss ++ rest) (next i) p after (no_star ss rest ends) e1 (plus_allowed star false (form_of a) p.0 c e3 hc).1 in
       let m = sum_run start false a r.0.0 c (ap (λ (y : Form × Names). mean.plus false (form_of a) y.0) r.3 ∙ e3) in
-      let s = sums_run b star start ss rest n m.0 r.0.1 x r.2 ends (ap (λ (f : Form). sums_means b f ss (bare r.0.1)) m.2 ∙ ap (λ (y : Form × Names). sums_means b c ss y.1) r.3 ∙ e4) h (fewer _ (term_words t) (sums_words ss ++ rest) n (at_front at after (next_is i)) r.2 few) in
-      (s.0, sums_joined (rule.bracketed b) start star n a m.0 i false true r.0 (Ok s.0) (at_sees (codes "-") at) (at_sees (codes "+") at) refl r.1 m.1 s.1, s.2, s.3)))
-  sums_run b star start (tree.minus t ss) rest zero a i x at ends e h few = let some = some_left _ at in absurd (omega arith)
+      let s = sums_run b star start ss rest n m.0 r.0.1 x r.2 ends (ap (λ (f : Form). sums_means b f ss (bare r.0.1)) m.2 ∙ ap (λ (y : Form × Names). sums_means b c ss y.1) r.3 ∙ e4) h (fewer at r.2 few (omega (arith, longer (term_words t) (sums_words ss) rest))) in
+      (s.0, rw (at_sees (codes "-") at, at_sees (codes "+") at) (then_ok _ _ r.1 (then_given _ _ r.0.1 m.1 s.1)), s.2, s.3)))
   sums_run b star start (tree.minus t ss) rest (suc n) a i x at ends e h few = then_some _ (term_means b t (bare i)) e (λ p e1 e2. given_some (mean.plus true (form_of a) p.0) _ p.1 e2 (λ c e3 e4.
       let hc = sums_allowed star b ss c p.1 x e4 h in
-      let after = at_assoc (term_words t) (sums_words ss) rest (at_next at refl) in
+      let after = at_assoc (term_words t) (sums_words ss) rest (at_next at) in
       let r = term_run b star start t (sums_words ss ++ rest) (next i) p after (no_star ss rest ends) e1 (plus_allowed star true (form_of a) p.0 c e3 hc).1 in
       let m = sum_run start true a r.0.0 c (ap (λ (y : Form × Names). mean.plus true (form_of a) y.0) r.3 ∙ e3) in
-      let s = sums_run b star start ss rest n m.0 r.0.1 x r.2 ends (ap (λ (f : Form). sums_means b f ss (bare r.0.1)) m.2 ∙ ap (λ (y : Form × Names). sums_means b c ss y.1) r.3 ∙ e4) h (fewer _ (term_words t) (sums_words ss ++ rest) n (at_front at after (next_is i)) r.2 few) in
-      (s.0, sums_joined (rule.bracketed b) start star n a m.0 i true false r.0 (Ok s.0) (at_sees (codes "-") at) (at_sees (codes "+") at) refl r.1 m.1 s.1, s.2, s.3)))
+      let s = sums_run b star start ss rest n m.0 r.0.1 x r.2 ends (ap (λ (f : Form). sums_means b f ss (bare r.0.1)) m.2 ∙ ap (λ (y : Form × Names). sums_means b c ss y.1) r.3 ∙ e4) h (fewer at r.2 few (omega (arith, longer (term_words t) (sums_words ss) rest))) in
+      (s.0, rw (at_sees (codes "-") at) (then_ok _ _ r.1 (then_given _ _ r.0.1 m.1 s.1)), s.2, s.3)))
 
   term_run : (b : ℕ) (star : Option ℕ) (start : ℕ) (t : tree.Term) (rest : List Word) (i : Input) (x : Form × Names) → At i (term_words t ++ rest) → NoStar rest → term_means b t (bare i) ≡ Some x
-      → Allowed star x.0.has_name → AffineRan (rule.term (rule.bracketed b) start star i) rest x
+      → Allowed star x.0.has_name → Ran form_of (rule.term (rule.bracketed b) start star i) rest x
   term_run b star start (tree.product f ps) rest i x at ends e h = then_some _ (factor_means b f (bare i)) e (λ p e1 e2.
       let r = factor_joined (rule.bracketed b) start star i (products_words ps ++ rest) p
       (factor_run b star start f (left i) false (products_words ps ++ rest) i p (at_assoc (factor_words f) (products_words ps) rest at) e1 (products_allowed star b ps p.0 p.1 x e2 h) (omega arith)) in
@@ -361,20 +291,18 @@ mutual
       (s.0, then_ok _ _ r.1 s.1, s.2, s.3))
 
   products_run : (b : ℕ) (star : Option ℕ) (start : ℕ) (ps : tree.Products) (rest : List Word) (n : ℕ) (a : Affine) (i : Input) (x : Form × Names) → At i (products_words ps ++ rest) → NoStar rest
-      → products_means b (form_of a) ps (bare i) ≡ Some x → Allowed star x.0.has_name → left i ≤ n → AffineRan (rule.products (rule.bracketed b) start star n a i) rest x
-  products_run b star start tree.product_end rest n a i x at ends e h few =
-      let some = some_left rest at in
-      ((a, i), products_end (rule.bracketed b) start star n a i (omega arith) (at_sees (codes "*") at ∙ ends), at, cc)
-  products_run b star start (tree.times f ps) rest zero a i x at ends e h few = let some = some_left _ at in absurd (omega arith)
+      → products_means b (form_of a) ps (bare i) ≡ Some x → Allowed star x.0.has_name → left i ≤ n → Ran form_of (rule.products (rule.bracketed b) start star n a i) rest x
+  products_run b star start ps rest zero a i x at ends e h few = let some = some_left at in absurd (omega arith)
+  products_run b star start tree.product_end rest (suc n) a i x at ends e h few = ((a, i), rw (at_sees (codes "*") at ∙ ends) refl, at, cc)
   products_run b star start (tree.times f ps) rest (suc n) a i x at ends e h few = then_some _ (factor_means b f (bare i)) e (λ p e1 e2. given_some (mean.times (form_of a) p.0) _ p.1 e2 (λ c e3 e4.
       let hc = products_allowed star b ps c p.1 x e4 h in
-      let after = at_assoc (factor_words f) (products_words ps) rest (at_next at refl) in
+      let after = at_assoc (factor_words f) (products_words ps) rest (at_next at) in
       let r = factor_joined (rule.bracketed b) start (star_of star a.has_name (place i)) (next i) (products_words ps ++ rest) p
       (factor_run b (star_of star a.has_name (place i)) start f (left (next i)) false (products_words ps ++ rest) (next i) p after e1
       (times_allowed star (place i) (form_of a) p.0 c e3 hc).1 (omega arith)) in
       let m = product_run start a r.0.0 c (ap (λ (y : Form × Names). mean.times (form_of a) y.0) r.3 ∙ e3) in
-      let s = products_run b star start ps rest n m.0 r.0.1 x r.2 ends (ap (λ (f : Form). products_means b f ps (bare r.0.1)) m.2 ∙ ap (λ (y : Form × Names). products_means b c ps y.1) r.3 ∙ e4) h (fewer _ (factor_words f) (products_words ps ++ rest) n (at_front at after (next_is i)) r.2 few) in
-      (s.0, products_joined (rule.bracketed b) start star n a m.0 i r.0 (Ok s.0) (at_sees (codes "*") at) r.1 m.1 s.1, s.2, s.3)))
+      let s = products_run b star start ps rest n m.0 r.0.1 x r.2 ends (ap (λ (f : Form). products_means b f ps (bare r.0.1)) m.2 ∙ ap (λ (y : Form × Names). products_means b c ps y.1) r.3 ∙ e4) h (fewer at r.2 few (omega (arith, longer (factor_words f) (products_words ps) rest))) in
+      (s.0, rw (at_sees (codes "*") at) (then_ok _ _ r.1 (then_given _ _ r.0.1 m.1 s.1)), s.2, s.3)))
 
   factor_run : (b : ℕ) (star : Option ℕ) (start : ℕ) (f : Factor) (n : ℕ) (sign : Bool) (rest : List Word) (i : Input) (x : Form × Names) → At i (factor_words f ++ rest)
       → factor_means b f (bare i) ≡ Some x → Allowed star x.0.has_name → left i ≤ n → FactorRan (rule.signs n sign i) (rule.atom (rule.bracketed b) star) start sign rest x
@@ -382,18 +310,18 @@ mutual
   factor_run b star start (tree.name name) n sign rest i x at e h few = name_factor_run (rule.bracketed b) b star start n sign name rest i x at e h few
   factor_run zero star start (tree.in_brackets a) n sign rest i x at e h few = absurd cc
   factor_run (suc b) star start (tree.in_brackets a) n sign rest i x at e h few =
-      let r = affine_run b star a (a_symbol (codes ")") ∷ rest) (next i) x (at_assoc (affine_words a) (a_symbol (codes ")") ∷ []) rest (at_next at refl)) (record { times = refl; plus = refl; minus = refl }) e h in
+      let r = affine_run b star a (a_symbol (codes ")") ∷ rest) (next i) x (at_assoc (affine_words a) (a_symbol (codes ")") ∷ []) rest (at_next at)) (record { times = refl; plus = refl; minus = refl }) e h in
       group_run b star start n sign ((affine_words a ++ (a_symbol (codes ")") ∷ [])) ++ rest) rest i x at (affine_are b a (bare i) x e) r few
-  factor_run b star start (tree.negative f) zero sign rest i x at e h few = let some = some_left _ at in absurd (omega arith)
+  factor_run b star start (tree.negative f) zero sign rest i x at e h few = let some = some_left at in absurd (omega arith)
   factor_run b star start (tree.negative f) (suc n) sign rest i x at e h few = then_some _ (factor_means b f (bare i)) e (λ y e1 e2. given_last (mean.negated y.0) y.1 e2 (λ c e3 e4.
-      let r = factor_run b star start f n (not sign) rest (next i) y (at_next at refl) e1 (allowed_inside star y.0 c y.1 x e3 e4 h) (one_fewer _ (factor_words f ++ rest) n at (at_next at refl) few) in
+      let r = factor_run b star start f n (not sign) rest (next i) y (at_next at) e1 (allowed_inside star y.0 c y.1 x e3 e4 h) (fewer at (at_next at) few (omega arith)) in
       negative_run b star start n sign rest i y x c (at_sees (codes "-") at) (factor_are b f (bare i) y e1) e3 e4 r))
-  factor_run b star start (tree.positive f) zero sign rest i x at e h few = let some = some_left _ at in absurd (omega arith)
+  factor_run b star start (tree.positive f) zero sign rest i x at e h few = let some = some_left at in absurd (omega arith)
   factor_run b star start (tree.positive f) (suc n) sign rest i x at e h few =
-      let r = factor_run b star start f n sign rest (next i) x (at_next at refl) e h (one_fewer _ (factor_words f ++ rest) n at (at_next at refl) few) in
-      positive_run b star start n sign rest i x (at_sees (codes "-") at) (at_sees (codes "+") at) r
+      let r = factor_run b star start f n sign rest (next i) x (at_next at) e h (fewer at (at_next at) few (omega arith)) in
+      (r.0, r.1, r.2, plus_sign n sign i (at_sees (codes "-") at) (at_sees (codes "+") at) ∙ r.3, r.4, r.5, r.6, r.7)
 
 -- an affine expression, where so many brackets may still be opened
-pub affine_read : (b : ℕ) (t : tree.Affine) (rest : List Word) (i : Input) (x : Form × Names) → At i (affine_words t ++ rest) → Ends rest → affine_means b t (bare i) ≡ Some x → AffineRan (rule.affine b None i) rest x
+pub affine_read : (b : ℕ) (t : tree.Affine) (rest : List Word) (i : Input) (x : Form × Names) → At i (affine_words t ++ rest) → Ends rest → affine_means b t (bare i) ≡ Some x → Ran form_of (rule.affine b None i) rest x
 unfolding rule.affine
 affine_read b t rest i x at ends e = affine_run b None t rest i x at ends e tt

@@ -7,14 +7,13 @@ use Rattle.c_reading.specs.declared.named.Kind.TheVariants.{Parameter, OpenLoop,
 use Rattle.c_reading.specs.Input.{Input, Rule, kind, spelling, next, sees, left, place, is_name_kind, is_number_kind}
 use Rattle.c_reading.specs.Numbers.{is_integer, value_from, combined, constant_of, zeros}
 use Rattle.c_reading.specs.Affine as rule
-use Rattle.c_reading.specs.Affine.{Affine, kind_of, with_name, star_of, small, one_name, one_number}
+use Rattle.c_reading.specs.Affine.{Affine, kind_of, with_name, star_of, small}
 use Rattle.c_grammar.specs.Words.{Word, a_name, a_symbol}
 use Rattle.c_grammar.specs.Affine as tree
 use Rattle.c_grammar.specs.Affine.{Factor, factor_words, products_words, term_words, sums_words, affine_words}
 use Rattle.c_grammar.specs.Meaning as mean
 use Rattle.c_grammar.specs.Meaning.{Names, Form, form, given, factor_means, products_means, term_means, sums_means, affine_means}
-use Rattle.c_grammar.proofs.Small.{AreSmall, flipped_are, flipped_not}
-use Rattle.c_grammar.proofs.Forms.{factor_are, flip, negated_is, signed_is}
+use Rattle.c_grammar.proofs.Forms.{AreSmall, flipped_are, flipped_not, factor_are, flip, negated_is, signed_is}
 use Rattle.c_grammar.proofs.Steps.{same_ok, words, bare, spelled_kind, AreLexical, Took, took_then, took_none, took_symbol, took_name, took_number, took_as, and_then_ok, given_ok, given_end, if_ok, ok_is, ok_if, means_then, means_given}
 use Rattle.iolb_model.specs.declared.limits.TheConstants.{NUMBER_SIZE}
 

@@ -1,24 +1,25 @@
 -- Headers of loops that are read spell a header of the grammar, and mean what it means.
-use Rattle.std.proofs.Common.{◌≡◌, ℕ, suc, ◌-◌, Bool, true, false, List, [], ◌∷◌, refl, sym, ap, ◌∙◌, Option, Some, None, subst}
-use Rattle.std.specs.Prelude.{◌||◌, ℤ, Ok, codes}
+use Rattle.std.proofs.Common.{◌≡◌, ℕ, suc, ◌-◌, Bool, true, false, List, [], ◌∷◌, ◌++◌, refl, sym, ap, ◌∙◌, Option, Some, None, subst}
+use Rattle.std.specs.Prelude.{◌||◌, ℤ, pos, Ok, codes}
 use Rattle.c_tokens.specs.declared.token.TokenKind.{TokenKind}
 use Rattle.c_tokens.specs.declared.token.TokenKind.TheVariants as token
 use Rattle.c_reading.specs.declared.named.Kind.{Kind}
 use Rattle.c_reading.specs.declared.named.Kind.TheVariants.{Parameter, OpenLoop, ClosedLoop, Array}
 use Rattle.c_reading.specs.declared.lines.Loop.{Loop}
 use Rattle.c_reading.specs.Input.{Input, kind, spelling, next, sees, place, is_name_kind}
+use Rattle.std.proofs.lemmas.List.{append_assoc}
+use Rattle.c_reading.specs.Numbers.{combined, zeros}
 use Rattle.c_reading.specs.Affine.{kind_of, number_of, with_name, affine, closed_by}
 use Rattle.c_reading.specs.Values.{expect}
 use Rattle.c_reading.specs.Items as rule
-use Rattle.c_reading.specs.Items.{most_statements, first_reads, is_array, with_line, is_end}
 use Rattle.c_reading.proofs.TokenKinds.{name_kind_is}
 use Rattle.c_grammar.specs.Words.{Word, a_name, a_number, a_symbol, a_keyword}
 use Rattle.c_grammar.specs.Affine.{affine_words}
 use Rattle.c_grammar.specs.Affine as affine_tree
 use Rattle.c_grammar.specs.Item as tree
-use Rattle.c_grammar.specs.Item.{assigner_word, assign_words, step_words, bound_word, bounds_words, header_words, item_words, items_words}
+use Rattle.c_grammar.specs.Item.{step_words, bound_word, bounds_words, header_words}
 use Rattle.c_grammar.specs.Meaning as mean
-use Rattle.c_grammar.specs.Meaning.{Names, Form, affine_means, reference_means, assign_means, statement_means, header_means, item_means, items_means}
+use Rattle.c_grammar.specs.Meaning.{Names, Form, affine_means, header_means}
 use Rattle.c_grammar.proofs.Steps.{one_less, words, bare, spelled_kind, AreLexical, Took, IsPlain, names, numbers, keywords, symbols, took_then, took_symbol, took_word, took_name, took_as, kind_spelled, and_then_ok, given_ok, if_ok, ok_is, ok_if, bool_cases, means_then, means_given, class}
 use Rattle.c_grammar.proofs.SoundAffine.{form_of, affine_sound, closed_by_sound}
 use Rattle.c_grammar.proofs.SoundValues.{expect_sound, open_bracket_sound}
@@ -123,14 +124,18 @@ step_sound name i q named g e = if_ok _ _ (sees name i) e
     (tree.plus_plus_name, took_then t n.0, n.1))
     (λ _ e1. absurd cc))
 
--- a lower bound: the expression, where it begins and where it ends
-LowerSound : ℕ → Input → List ℤ × Input → Type 0
-LowerSound b i q = (a : affine_tree.Affine) × (f : Form) × (j : Input) × (k : Input) × Took i (a_symbol (codes "=") ∷ []) j × Took j (affine_words a) k × Took k (a_symbol (codes ";") ∷ []) q.1
-    × (affine_means b a (bare i) ≡ Some (f, bare q.1)) × (f.numbers ≡ q.0)
+-- a bound with small numbers was given
+bound_sound : (start : ℕ) (o : Option (List ℤ)) (numbers : List ℤ) → rule.bound_of start o ≡ Ok numbers → o ≡ Some numbers
+bound_sound start None numbers e = absurd cc
+bound_sound start (Some ns) numbers e = cc
+
+-- a bound, up to its `;`
+BoundSound : ℕ → List Word → (List ℤ → List ℤ → Type 0) → Input → List ℤ × Input → Type 0
+BoundSound b ws gives i q = (a : affine_tree.Affine) × (f : Form) × Took i (ws ++ (affine_words a ++ (a_symbol (codes ";") ∷ []))) q.1 × (affine_means b a (bare i) ≡ Some (f, bare q.1)) × gives f.numbers q.0
 
 -- a lower bound that was read is spelled
-lower_sound : (b : ℕ) (i : Input) (q : List ℤ × Input) → AreLexical (words i) → rule.lower_bound b i ≡ Ok q → LowerSound b i q
-unfolding rule.lower_bound LowerSound spelled_kind
+lower_sound : (b : ℕ) (i : Input) (q : List ℤ × Input) → AreLexical (words i) → rule.lower_bound b i ≡ Ok q → BoundSound b (a_symbol (codes "=") ∷ []) (λ ns row. ns ≡ row) i q
+unfolding rule.lower_bound BoundSound spelled_kind
 lower_sound b i q g e =
     and_then_ok _ (expect (codes "=") i) e (λ x e1 e2.
     let s = expect_sound (codes "=") i x refl g e1 in
@@ -138,63 +143,33 @@ lower_sound b i q g e =
     let a = affine_sound b None x.1 p s.0.lexical e3 in
     and_then_ok _ (closed_by (codes ";") p.0 p.1) e4 (λ r e5 e6.
     let c = closed_by_sound (codes ";") p.0 p.1 r refl a.1.lexical e5 in
-    ok_is (LowerSound b i) q e6 (
+    ok_is (BoundSound b (a_symbol (codes "=") ∷ []) (λ ns row. ns ≡ row) i) q e6 (
       a.0,
       form_of p.0,
-      x.1,
-      p.1,
-      s.0,
-      a.1,
-      c.0,
+      took_then s.0 (took_then a.1 c.0),
       ap (affine_means b a.0) (sym s.1) ∙ a.2 ∙ ap (λ (s : Names). Some (form_of p.0, s)) (sym c.2),
       ap (λ (f : Form). f.numbers) (sym c.1),
     ))))
 
--- an upper bound behind its comparison
-UpperFromSound : ℕ → Bool → Input → List ℤ × Input → Type 0
-UpperFromSound b x i q = (a : affine_tree.Affine) × (f : Form) × (j : Input) × Took i (affine_words a) j × Took j (a_symbol (codes ";") ∷ []) q.1
-    × (affine_means b a (bare i) ≡ Some (f, bare q.1)) × (mean.upper_bound x f.numbers ≡ Some q.0)
-
--- a bound with small numbers was given
-bound_sound : (start : ℕ) (o : Option (List ℤ)) (numbers : List ℤ) → rule.bound_of start o ≡ Ok numbers → o ≡ Some numbers
-bound_sound start None numbers e = absurd cc
-bound_sound start (Some ns) numbers e = cc
-
--- an upper bound that was read is spelled, behind its comparison
-upper_from_sound : (b start : ℕ) (x : Bool) (i : Input) (q : List ℤ × Input) → AreLexical (words i) → rule.upper_from b start (mean.excluded x) i ≡ Ok q → UpperFromSound b x i q
-unfolding rule.upper_from rule.bound UpperFromSound spelled_kind
-upper_from_sound b start x i q g e =
-    and_then_ok _ (affine b None i) e (λ p e1 e2.
-    let a = affine_sound b None i p g e1 in
-    given_ok (rule.bound start (mean.excluded x) p.0.numbers) _ p.1 e2 (λ numbers e3 e4.
-    and_then_ok _ (closed_by (codes ";") p.0 p.1) e4 (λ r e5 e6.
-    let c = closed_by_sound (codes ";") p.0 p.1 r refl a.1.lexical e5 in
-    ok_is (UpperFromSound b x i) q e6 (
-      a.0,
-      form_of p.0,
-      p.1,
-      a.1,
-      c.0,
-      a.2 ∙ ap (λ (s : Names). Some (form_of p.0, s)) (sym c.2),
-      bound_sound start _ numbers e3,
-    ))))
-
--- an upper bound: its comparison, its expression, and where they end
-UpperSound : ℕ → List ℕ → Input → List ℤ × Input → Type 0
-UpperSound b name i q = (x : Bool) × (a : affine_tree.Affine) × (f : Form) × (j : Input) × (k : Input)
-    × Took i (a_name name ∷ bound_word x ∷ []) j × Took j (affine_words a) k × Took k (a_symbol (codes ";") ∷ []) q.1
-    × (affine_means b a (bare i) ≡ Some (f, bare q.1)) × (mean.upper_bound x f.numbers ≡ Some q.0)
-
 -- an upper bound that was read is spelled
-upper_sound : (b : ℕ) (name : List ℕ) (i : Input) (q : List ℤ × Input) → spelled_kind name ≡ token.Name → AreLexical (words i) → rule.upper_bound b name i ≡ Ok q → UpperSound b name i q
-unfolding rule.upper_bound UpperSound UpperFromSound
+upper_sound : (b : ℕ) (name : List ℕ) (i : Input) (q : List ℤ × Input) → spelled_kind name ≡ token.Name → AreLexical (words i) → rule.upper_bound b name i ≡ Ok q
+    → (x : Bool) × BoundSound b (a_name name ∷ bound_word x ∷ []) (λ ns row. mean.upper_bound x ns ≡ Some row) i q
+unfolding rule.upper_bound rule.upper_from rule.bound BoundSound spelled_kind
 upper_sound b name i q named g e =
-    and_then_ok _ (expect name i) e (λ p e1 e2.
-    let n = word_sound token.Name names name named i p g e1 in
-    and_then_ok _ (rule.comparison p.1) e2 (λ r e3 e4.
-    let c = comparison_sound p.1 r n.0.lexical e3 in
-    let u = upper_from_sound b (place r.1) c.0 r.1 q c.1.lexical (ap (λ (z : ℤ). rule.upper_from b (place r.1) z r.1) (sym c.3) ∙ e4) in
-    (c.0, u.0, u.1, r.1, u.2, took_then n.0 c.1, u.3, u.4, ap (affine_means b u.0) (sym n.1) ∙ ap (affine_means b u.0) (sym c.2) ∙ u.5, u.6)))
+    and_then_ok _ (expect name i) e (λ n e1 e2.
+    let s = word_sound token.Name names name named i n g e1 in
+    and_then_ok _ (rule.comparison n.1) e2 (λ r e3 e4.
+    let c = comparison_sound n.1 r s.0.lexical e3 in
+    and_then_ok _ (affine b None r.1) e4 (λ p e5 e6.
+    let a = affine_sound b None r.1 p c.1.lexical e5 in
+    given_ok (rule.bound (place r.1) r.0 p.0.numbers) _ p.1 e6 (λ numbers e7 e8.
+    and_then_ok _ (closed_by (codes ";") p.0 p.1) e8 (λ k e9 e10.
+    let d = closed_by_sound (codes ";") p.0 p.1 k refl a.1.lexical e9 in
+    let given_is : mean.upper_bound c.0 p.0.numbers ≡ Some numbers = ap (λ (z : ℤ). combined (pos 1) z zeros p.0.numbers) (sym c.3) ∙ bound_sound (place r.1) _ numbers e7 in
+    ok_is (λ (q : List ℤ × Input). (x : Bool) × BoundSound b (a_name name ∷ bound_word x ∷ []) (λ ns row. mean.upper_bound x ns ≡ Some row) i q) q e10 (
+      c.0,
+      (a.0, form_of p.0, took_then (took_then s.0 c.1) (took_then a.1 d.0), ap (affine_means b a.0) (sym s.1 ∙ sym c.2) ∙ a.2 ∙ ap (λ (s : Names). Some (form_of p.0, s)) (sym d.2), given_is),
+    ))))))
 
 -- a header was taken behind its bracket and its `int`
 HeaderOfSound : ℕ → Bool → Input → Loop × Input → Type 0
@@ -202,7 +177,7 @@ HeaderOfSound b has_int i q = (h : tree.Header) × (h.has_int ≡ has_int) × To
 
 -- a header that was read is spelled, behind its bracket and its `int`
 header_of_sound : (b : ℕ) (has_int : Bool) (i : Input) (q : Loop × Input) → AreLexical (words i) → rule.header_of b (spelling i) i ≡ Ok q → HeaderOfSound b has_int i q
-unfolding rule.header_of LowerSound UpperSound HeaderOfSound header_means spelled_kind
+unfolding rule.header_of BoundSound HeaderOfSound header_means spelled_kind
 header_of_sound b has_int i q g e =
     and_then_ok _ (rule.loop_name i) e (λ p e1 e2.
     let n = loop_name_sound i p g e1 in
@@ -210,17 +185,17 @@ header_of_sound b has_int i q g e =
     and_then_ok _ (rule.lower_bound b p.1) e2 (λ lower e3 e4.
     let l = lower_sound b p.1 lower n.0.lexical e3 in
     and_then_ok _ (rule.upper_bound b (spelling i) lower.1) e4 (λ upper e5 e6.
-    let u = upper_sound b (spelling i) lower.1 upper named l.6.lexical e5 in
+    let u = upper_sound b (spelling i) lower.1 upper named l.2.lexical e5 in
     and_then_ok _ (rule.step (spelling i) upper.1) e6 (λ r e7 e8.
-    let s = step_sound (spelling i) upper.1 r named u.7.lexical e7 in
+    let s = step_sound (spelling i) upper.1 r named u.1.2.lexical e7 in
     and_then_ok _ (expect (codes ")") r.1) e8 (λ c e9 e10.
     let x = expect_sound (codes ")") r.1 c refl s.1.lexical e9 in
     ok_is (HeaderOfSound b has_int i) q e10 (
-      record { has_int = has_int; name = spelling i; lower = l.0; excludes = u.0; upper = u.1; step = s.0 },
+      record { has_int = has_int; name = spelling i; lower = l.0; excludes = u.0; upper = u.1.0; step = s.0 },
       refl,
-      took_then n.0 (took_then l.4 (took_then l.5 (took_then l.6 (took_then u.5 (took_then u.6 (took_then u.7 (took_then s.1 x.0))))))),
-      means_then _ _ n.1 (means_then _ _ l.7 (means_then _ _ u.8 (means_given _ _ _ u.9
-          (ap (λ (ns : List ℤ). Some (record { name = p.0; lower = ns; upper = upper.0 }, bare upper.1)) l.8
+      subst (λ (ws : List Word). Took i ws c.1) (simp append_assoc) (took_then n.0 (took_then l.2 (took_then u.1.2 (took_then s.1 x.0)))),
+      means_then _ _ n.1 (means_then _ _ l.3 (means_then _ _ u.1.3 (means_given _ _ _ u.1.4
+          (ap (λ (ns : List ℤ). Some (record { name = p.0; lower = ns; upper = upper.0 }, bare upper.1)) l.4
           ∙ ap (λ (s : Names). Some (record { name = p.0; lower = lower.0; upper = upper.0 }, s)) (sym (x.1 ∙ s.2)))))),
     ))))))
 

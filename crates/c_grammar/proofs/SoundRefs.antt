@@ -1,10 +1,11 @@
 -- Comparisons and references that are read spell the grammar, and mean what was read.
-use Rattle.std.proofs.Common.{◌≡◌, ℕ, zero, suc, ◌+◌, ◌-◌, true, List, [], ◌∷◌, ◌++◌, length, refl, sym, ap, ◌∙◌, Option, Some, None}
-use Rattle.std.specs.Prelude.{◌==◌, nat_le, if◌then◌else◌, ℤ, pos, option_and_then, Result, Ok, Err, codes}
+use Rattle.std.proofs.Common.{◌≡◌, ℕ, zero, suc, ◌+◌, ◌-◌, true, List, [], ◌∷◌, ◌++◌, length, refl, sym, ap, ◌∙◌, Option, Some, None, subst}
+use Rattle.std.specs.Prelude.{◌==◌, nat_le, if◌then◌else◌, ℤ, pos, negsuc, option_and_then, Result, Ok, Err, codes}
 use Rattle.c_reading.specs.declared.error.ReadFault.{ReadFault}
 use Rattle.c_reading.specs.declared.named.Kind.{Kind}
 use Rattle.c_reading.specs.declared.named.Kind.TheVariants.{Parameter, OpenLoop, ClosedLoop, Array}
 use Rattle.c_reading.specs.Access.{Access}
+use Rattle.c_reading.specs.Numbers.{combined}
 use Rattle.c_reading.specs.Input.{Input, Rule, Outcome, and_then, kind, spelling, next, sees, left, place, is_name_kind, fault_at}
 use Rattle.c_reading.specs.Affine.{Affine, kind_of, with_name, closed_by, affine}
 use Rattle.c_reading.specs.Compare as rule
@@ -15,63 +16,66 @@ use Rattle.c_grammar.specs.Words.{a_name, a_symbol}
 use Rattle.c_grammar.specs.Affine as tree
 use Rattle.c_grammar.specs.Affine.{affine_words, comparison_word, compare_words, subscripts_words, reference_words}
 use Rattle.c_grammar.specs.Meaning as mean
-use Rattle.c_grammar.specs.Meaning.{Names, Form, Seen, affine_means, compare_means, subscripts_means, access_from, reference_means}
-use Rattle.c_grammar.proofs.Steps.{suc_not_zero, one_less, words, bare, spelled_kind, AreLexical, Took, took_then, took_none, took_symbol, took_name, took_as, plus_none, and_then_ok, given_ok, ok_is, ok_if, bool_cases, means_then}
+use Rattle.c_grammar.specs.Meaning.{Names, Form, affine_means, compare_means, subscripts_means, access_from, reference_means}
+use Rattle.c_grammar.proofs.Steps.{Spells, domain, suc_not_zero, one_less, words, bare, spelled_kind, AreLexical, Took, took_then, took_none, took_symbol, took_name, took_as, plus_none, and_then_ok, given_ok, same_ok, if_ok, ok_is, ok_if, bool_cases, means_then}
 use Rattle.c_grammar.proofs.SoundAffine.{form_of, affine_sound, closed_by_sound}
 
 -- ---- comparisons
 
--- a row with small numbers was given
-row_sound : (start : ℕ) (rows all : Rows) (o : Option (List ℤ)) → if_row start rows o ≡ Ok all → mean.row_behind rows o ≡ Some all
-row_sound start rows all None e = absurd cc
-row_sound start rows all (Some row) e = ok_is (λ (all : Rows). mean.row_behind rows (Some row) ≡ Some all) all e refl
+-- what is there, or fault 11 at this place
+abbrev pub or_large : {A : Type 0} → ℕ → Option A → Result A ReadFault
+or_large start None = Err (record { number = 11; place = start })
+or_large start (Some a) = Ok a
 
--- a comparison's row was given
-with_row_sound : (start : ℕ) (rows all : Rows) (less : ℤ) (a b : List ℤ) → rule.with_row start rows less a b ≡ Ok all → mean.with_row rows less a b ≡ Some all
+-- what was given was there
+or_large_ok : {A : Type 0} (start : ℕ) (o : Option A) (a : A) → or_large start o ≡ Ok a → o ≡ Some a
+or_large_ok start None a e = absurd cc
+or_large_ok start (Some b) a e = ap Some (same_ok e)
+
+-- a comparison's row is given where it is meant
+pub with_row_is : (start : ℕ) (rows : Rows) (less : ℤ) (a b : List ℤ) → rule.with_row start rows less a b ≡ or_large start (mean.with_row rows less a b)
 unfolding rule.with_row
-with_row_sound start rows all less a b e = row_sound start rows all _ e
+with_row_is start rows less a b = by (combined (negsuc 0) less a b) where
+  by : (o : Option (List ℤ)) → if_row start rows o ≡ or_large start (mean.row_behind rows o)
+  by None = refl
+  by (Some row) = refl
 
--- the rows of an equation were given
-both_sound : (start : ℕ) (all : Rows) (a b : List ℤ) (r : Result Rows ReadFault) (o : Option Rows) → ((more : Rows) → r ≡ Ok more → o ≡ Some more) → rule.with_both start a b r ≡ Ok all
-    → option_and_then (λ more. mean.with_row more (pos 0) b a) o ≡ Some all
-both_sound start all a b (Err x) o k e = absurd cc
-both_sound start all a b (Ok more) o k e = rw (k more refl) (with_row_sound start more all (pos 0) b a e)
+-- the rows of an equation are given where they are meant
+pub with_both_is : (start : ℕ) (rows : Rows) (a b : List ℤ) → rule.with_both start a b (rule.with_row start rows (pos 0) a b) ≡ or_large start (mean.with_compare rows tree.equal a b)
+with_both_is start rows a b = ap (rule.with_both start a b) (with_row_is start rows (pos 0) a b) ∙ both (mean.with_row rows (pos 0) a b) where
+  both : (o : Option Rows) → rule.with_both start a b (or_large start o) ≡ or_large start (option_and_then (λ more. mean.with_row more (pos 0) b a) o)
+  both None = refl
+  both (Some more) = with_row_is start more (pos 0) b a
+
+-- what the reader takes a comparison for
+abbrev pub Taken : Type 0
+Taken = domain rule.row_count
+
+-- it gives the rows that the comparison means
+pub record Stands (c : tree.Comparison) (taken : Taken) : Type 0 where
+  pub count : rule.row_count taken ≡ mean.row_count c
+  pub rows : (start : ℕ) (rows : Rows) (a b : List ℤ) → rule.with_compare start rows taken a b ≡ or_large start (mean.with_compare rows c a b)
+
+-- the same, of what is there
+pub as_taken : {c : tree.Comparison} {x taken : Taken} → ◌≡◌ {A = Option Taken} (Some x) (Some taken) → Stands c x → Stands c taken
+as_taken {c} {x} {taken} e s = let same : x ≡ taken = cc in subst (Stands c) same s
 
 -- a comparison that was taken, where its rows aren't too many
-taken : {B P : Type 0} (start count : ℕ) (a : Affine) (j : Input) (f : _ → Rule B) (q : B × Input) (c : _) → and_then (rule.comparison_by start count a (Some c) j) f ≡ Ok q
-    → (nat_le (count + rule.row_count c) most_rows ≡ true → f c j ≡ Ok q → P) → P
+taken : {B P : Type 0} (start count : ℕ) (a : Affine) (j : Input) (f : Taken → Rule B) (q : B × Input) (o : Option Taken) → and_then (rule.comparison_by start count a o j) f ≡ Ok q
+    → ((c : Taken) → o ≡ Some c → nat_le (count + rule.row_count c) most_rows ≡ true → f c j ≡ Ok q → P) → P
 unfolding rule.comparison_by
-taken {B} {P} start count a j f q c e k = and_then_ok f _ e (λ p d e1. ok_if (λ (p : _ × Input). f p.0 p.1 ≡ Ok q → P) p _ _ d k e1)
+taken start count a j f q None e k = absurd cc
+taken {P = P} start count a j f q (Some c) e k = and_then_ok f _ e (λ p d e1. ok_if (λ (p : Taken × Input). f p.0 p.1 ≡ Ok q → P) p _ _ d (k c refl) e1)
 
--- without a comparison nothing was taken
-no_comparison : {B P : Type 0} (start count : ℕ) (a : Affine) (j : Input) (f : _ → Rule B) (q : B × Input) → and_then (rule.comparison_by start count a None j) f ≡ Ok q → P
-unfolding rule.comparison_by
-no_comparison start count a j f q e = absurd cc
-
--- the comparison that was taken, and its rows
-comparison_sound : {B P : Type 0} (start count : ℕ) (a : Affine) (j : Input) (f : _ → Rule B) (q : B × Input) → and_then (rule.comparison_by start count a (rule.comparison j) j) f ≡ Ok q
-    → AreLexical (words j)
-    → ((c : tree.Comparison) (other : _) → f other j ≡ Ok q → Took j (comparison_word c ∷ []) (next j) → nat_le (count + mean.row_count c) most_rows ≡ true
-    → ((start : ℕ) (rows all : Rows) (a b : List ℤ) → rule.with_compare start rows other a b ≡ Ok all → mean.with_compare rows c a b ≡ Some all) → P)
-    → P
+-- the comparison that is seen
+comparison_sound : (j : Input) (taken : Taken) → AreLexical (words j) → rule.comparison j ≡ Some taken → (c : tree.Comparison) × Took j (comparison_word c ∷ []) (next j) × Stands c taken
 unfolding rule.comparison rule.with_compare spelled_kind
-comparison_sound start count a j f q e g k =
-    bool_cases (sees (codes ">=") j) (λ is. let e1 = rw is at e in taken start count a j f q _ e1 (λ few e2.
-    k tree.at_least _ e2 (took_symbol (codes ">=") refl j g is) few (λ start rows all a b h. with_row_sound start rows all (pos 0) a b h)))
-    (λ no. let e0 = rw no at e in
-    bool_cases (sees (codes ">") j) (λ is. let e1 = rw is at e0 in taken start count a j f q _ e1 (λ few e2.
-    k tree.above _ e2 (took_symbol (codes ">") refl j g is) few (λ start rows all a b h. with_row_sound start rows all (pos 1) a b h)))
-    (λ no. let e3 = rw no at e0 in
-    bool_cases (sees (codes "<=") j) (λ is. let e1 = rw is at e3 in taken start count a j f q _ e1 (λ few e2.
-    k tree.at_most _ e2 (took_symbol (codes "<=") refl j g is) few (λ start rows all a b h. with_row_sound start rows all (pos 0) b a h)))
-    (λ no. let e4 = rw no at e3 in
-    bool_cases (sees (codes "<") j) (λ is. let e1 = rw is at e4 in taken start count a j f q _ e1 (λ few e2.
-    k tree.below _ e2 (took_symbol (codes "<") refl j g is) few (λ start rows all a b h. with_row_sound start rows all (pos 1) b a h)))
-    (λ no. let e5 = rw no at e4 in
-    bool_cases (sees (codes "==") j) (λ is. let e1 = rw is at e5 in taken start count a j f q _ e1 (λ few e2.
-    k tree.equal _ e2 (took_symbol (codes "==") refl j g is) few
-    (λ start rows all a b h. both_sound start all a b (rule.with_row start rows (pos 0) a b) (mean.with_row rows (pos 0) a b) (λ more m. with_row_sound start rows more (pos 0) a b m) h)))
-    (λ no. let e6 = rw no at e5 in no_comparison start count a j f q e6)))))
+comparison_sound j taken g e =
+    if_ok _ _ (sees (codes ">=") j) e (λ is e1. (tree.at_least, took_symbol (codes ">=") refl j g is, as_taken e1 (record { count = refl; rows = λ start rows a b. with_row_is start rows (pos 0) a b }))) (λ _ e0.
+    if_ok _ _ (sees (codes ">") j) e0 (λ is e1. (tree.above, took_symbol (codes ">") refl j g is, as_taken e1 (record { count = refl; rows = λ start rows a b. with_row_is start rows (pos 1) a b }))) (λ _ e0.
+    if_ok _ _ (sees (codes "<=") j) e0 (λ is e1. (tree.at_most, took_symbol (codes "<=") refl j g is, as_taken e1 (record { count = refl; rows = λ start rows a b. with_row_is start rows (pos 0) b a }))) (λ _ e0.
+    if_ok _ _ (sees (codes "<") j) e0 (λ is e1. (tree.below, took_symbol (codes "<") refl j g is, as_taken e1 (record { count = refl; rows = λ start rows a b. with_row_is start rows (pos 1) b a }))) (λ _ e0.
+    if_ok _ _ (sees (codes "==") j) e0 (λ is e1. (tree.equal, took_symbol (codes "==") refl j g is, as_taken e1 (record { count = refl; rows = λ start rows a b. with_both_is start rows a b }))) (λ _ e0. absurd cc)))))
 
 -- a compare was taken that means these rows
 abbrev pub CompareSound : Rows → Input → Compared × Input → Type 0
@@ -82,25 +86,23 @@ pub few_rows : (rows all : Rows) (c : tree.Comparison) (o : Option Rows) → nat
 few_rows rows all c o few e = rw few e
 
 -- a compare that was read is spelled, whatever place its faults have
-compare_from_sound : (start : ℕ) (rows : Rows) (i : Input) (q : Compared × Input) → AreLexical (words i) → rule.compare_from start rows i ≡ Ok q → CompareSound rows i q
+pub compare_from_sound : (start : ℕ) (rows : Rows) (i : Input) (q : Compared × Input) → AreLexical (words i) → rule.compare_from start rows i ≡ Ok q → CompareSound rows i q
 unfolding rule.compare_from compare_means next
 compare_from_sound start rows i q g e =
     and_then_ok _ (affine most_brackets None i) e (λ p e1 e2.
     let a = affine_sound most_brackets None i p g e1 in
-    comparison_sound start (length rows) p.0 p.1 _ q e2 a.1.lexical (λ c other e3 t few sound.
+    taken start (length rows) p.0 p.1 _ q (rule.comparison p.1) e2 (λ other seen few e3.
+    let c = comparison_sound p.1 other a.1.lexical seen in
     and_then_ok _ (affine most_brackets None (next p.1)) e3 (λ r e4 e5.
     given_ok (rule.with_compare start rows other p.0.numbers r.0.numbers) _ r.1 e5 (λ all e6 e7.
-    let b = affine_sound most_brackets None (next p.1) r t.lexical e4 in
+    let b = affine_sound most_brackets None (next p.1) r c.1.lexical e4 in
+    let few_are : nat_le (length rows + mean.row_count c.0) most_rows ≡ true = ap (λ (n : ℕ). nat_le (length rows + n) most_rows) (sym c.2.count) ∙ few in
+    let meant = or_large_ok start _ all (sym (c.2.rows start rows p.0.numbers r.0.numbers) ∙ e6) in
     ok_is (CompareSound rows i) q e7 (
-      record { left = a.0; comparison = c; right = b.0 },
-      took_then a.1 (took_then t b.1),
-      means_then _ _ a.2 (means_then _ _ b.2 (ap (λ (o : Option Rows). mean.given o (bare r.1)) (few_rows rows all c _ few (sound start rows all p.0.numbers r.0.numbers e6)))),
+      record { left = a.0; comparison = c.0; right = b.0 },
+      took_then a.1 (took_then c.1 b.1),
+      means_then _ _ a.2 (means_then _ _ b.2 (ap (λ (o : Option Rows). mean.given o (bare r.1)) (few_rows rows all c.0 _ few_are meant))),
     )))))
-
--- a compare that was read is spelled
-pub compare_sound : (rows : Rows) (i : Input) (q : Compared × Input) → AreLexical (words i) → rule.compare rows i ≡ Ok q → CompareSound rows i q
-unfolding rule.compare
-compare_sound rows i q g e = compare_from_sound (place i) rows i q g e
 
 -- ---- references
 
@@ -115,12 +117,6 @@ array_by_sound i (Some (OpenLoop depth)) q g is e = absurd cc
 array_by_sound i (Some ClosedLoop) q g is e = absurd cc
 array_by_sound i (Some (Array number count)) q g is e = ok_is (λ (q : _ × Input). Took i (a_name (spelling i) ∷ []) q.1 × (mean.array_by (spelling i) (Some (Array number count)) (bare i) ≡ Some (record { array = q.0.array; subscripts = q.0.subscripts }, bare q.1))) q e
     (took_name i g is, refl)
-
--- an array's name that was read is one
-array_sound : (i : Input) (q : _ × Input) → AreLexical (words i) → is_name_kind (kind i) ≡ true → refs.array i ≡ Ok q
-    → Took i (a_name (spelling i) ∷ []) q.1 × (mean.array (spelling i) (bare i) ≡ Some (record { array = q.0.array; subscripts = q.0.subscripts }, bare q.1))
-unfolding refs.array mean.array kind_of
-array_sound i q g is e = array_by_sound i (kind_of (spelling i) i) q g is e
 
 -- a subscript behind its `[`
 SubscriptSound : ℕ → Input → List ℤ × Input → Type 0
@@ -145,16 +141,12 @@ subscript_sound b i q g e =
       ap (λ (f : Form). f.numbers) (sym c.1),
     )))
 
--- subscripts were taken, which with those before mean these
-abbrev pub SubscriptsSound : ℕ → Rows → Input → Rows × Input → Type 0
-SubscriptsSound b rows i q = (ss : tree.Subscripts) × Took i (subscripts_words ss) q.1 × (subscripts_means b rows ss (bare i) ≡ Some (q.0, bare q.1))
-
 -- subscripts that were read are spelled
-subscripts_sound : (b n : ℕ) (rows : Rows) (i : Input) (q : Rows × Input) → AreLexical (words i) → refs.subscripts b n rows i ≡ Ok q → SubscriptsSound b rows i q
+subscripts_sound : (b n : ℕ) (rows : Rows) (i : Input) (q : Rows × Input) → AreLexical (words i) → refs.subscripts b n rows i ≡ Ok q → Spells subscripts_words (subscripts_means b rows) i q
 unfolding refs.subscripts SubscriptSound subscripts_means spelled_kind
 subscripts_sound b zero rows i q g e = absurd cc
 subscripts_sound zero (suc n) rows i q g e =
-    bool_cases (sees (codes "[") i) (λ is. let e0 = rw is at e in absurd cc) (λ other. let e0 = rw other at e in ok_is (SubscriptsSound zero rows i) q e0 (tree.subscript_end, took_none g, refl))
+    bool_cases (sees (codes "[") i) (λ is. let e0 = rw is at e in absurd cc) (λ other. let e0 = rw other at e in ok_is (Spells subscripts_words (subscripts_means zero rows) i) q e0 (tree.subscript_end, took_none g, refl))
 subscripts_sound (suc b) (suc n) rows i q g e =
     bool_cases (sees (codes "[") i) (λ is. let e0 = rw (is, suc_not_zero b) at e in
     bool_cases (nat_le refs.most_subscripts (length rows)) (λ full. let e2 = rw full at e0 in absurd cc) (λ free. let e2 = rw free at e0 in
@@ -166,7 +158,7 @@ subscripts_sound (suc b) (suc n) rows i q g e =
       took_then t (took_then a.3 (took_then a.4 r.1)),
       rw free (means_then _ _ a.5 (ap (λ (row : List ℤ). subscripts_means (suc b) (rows ++ row ∷ []) r.0 (bare p.1)) a.6 ∙ r.2)),
     ))))
-    (λ other. let e0 = rw other at e in ok_is (SubscriptsSound (suc b) rows i) q e0 (tree.subscript_end, took_none g, refl))
+    (λ other. let e0 = rw other at e in ok_is (Spells subscripts_words (subscripts_means (suc b) rows) i) q e0 (tree.subscript_end, took_none g, refl))
 
 -- what a reference's subscripts decide
 access_by_sound : (there at number : ℕ) (rows : Rows) (i : Input) (q : Access × Input) (o : Option ℕ) → AreLexical (words i)
@@ -186,11 +178,11 @@ AccessSound b i q = (r : tree.Reference) × Took i (reference_words r) q.1 × (r
 
 -- a reference that was read is spelled
 pub access_sound : (b : ℕ) (i : Input) (q : Access × Input) → AreLexical (words i) → is_name_kind (kind i) ≡ true → refs.access b i ≡ Ok q → AccessSound b i q
-unfolding refs.access refs.access_from refs.access_by refs.all_subscripts reference_means access_from
+unfolding refs.access refs.access_from refs.access_by refs.all_subscripts reference_means access_from refs.array mean.array kind_of
 access_sound b i q g is e =
     and_then_ok _ (refs.array i) e (λ p e1 e2.
     and_then_ok _ (refs.all_subscripts b p.1) e2 (λ r e3 e4.
-    let a = array_sound i p g is e1 in
+    let a = array_by_sound i (kind_of (spelling i) i) p g is e1 in
     let ss = subscripts_sound b (left p.1) [] p.1 r a.0.lexical e3 in
     let f = access_by_sound (place i) (length i.names) p.0.array r.0 r.1 q p.0.subscripts ss.1.lexical e4 in
     (record { name = spelling i; subscripts = ss.0 }, took_then a.0 (plus_none (took_then ss.1 f.0)), means_then _ _ a.1 (means_then _ _ ss.2 f.1), refl)))

@@ -14,8 +14,8 @@ use Rattle.c_grammar.specs.Affine.{Reference, reference_words, subscript_end}
 use Rattle.c_grammar.specs.Value as tree
 use Rattle.c_grammar.specs.Value.{Unary, value_words, operands_words, unary_words, arguments_words, operator_word}
 use Rattle.c_grammar.specs.Meaning as mean
-use Rattle.c_grammar.specs.Meaning.{Names, reference_means, named_means, name_means, value_means, operands_means, unary_means, arguments_means}
-use Rattle.c_grammar.proofs.Steps.{suc_not_zero, words, bare, spelled_kind, AreLexical, Took, took_then, took_none, took_symbol, took_name, took_number, and_then_ok, if_ok, ok_is, ok_if, bool_cases, means_then}
+use Rattle.c_grammar.specs.Meaning.{Names, named_means, name_means, value_means, operands_means, unary_means, arguments_means}
+use Rattle.c_grammar.proofs.Steps.{Spells, suc_not_zero, words, bare, spelled_kind, AreLexical, Took, took_then, took_none, took_symbol, took_name, took_number, and_then_ok, if_ok, ok_is, ok_if, bool_cases, means_then}
 use Rattle.c_grammar.proofs.SoundAffine.{sign_words, all_signs_sound}
 use Rattle.c_grammar.proofs.SoundRefs.{access_sound}
 
@@ -82,25 +82,13 @@ name_by_sound b reads (Some (OpenLoop depth)) i q g is e = plain_sound b reads (
 name_by_sound b reads (Some ClosedLoop) i q g is e = absurd cc
 name_by_sound b reads (Some (Array number count)) i q g is e = one_read_sound b reads i q g is e
 
--- an operand was taken that means this
-abbrev pub UnarySound : ℕ → Accesses → Input → Accesses × Input → Type 0
-UnarySound b reads i q = (u : Unary) × Took i (unary_words u) q.1 × (unary_means b reads u (bare i) ≡ Some (q.0, bare q.1))
-
--- a value was taken that means this
-abbrev pub ValueSound : ℕ → Accesses → Input → Accesses × Input → Type 0
-ValueSound b reads i q = (v : tree.Value) × Took i (value_words v) q.1 × (value_means b reads v (bare i) ≡ Some (q.0, bare q.1))
-
--- more operands were taken, which with those before mean this
-abbrev pub OperandsSound : ℕ → Accesses → Input → Accesses × Input → Type 0
-OperandsSound b reads i q = (os : tree.Operands) × Took i (operands_words os) q.1 × (operands_means b reads os (bare i) ≡ Some (q.0, bare q.1))
-
 -- arguments, and the bracket that closes them
 abbrev pub ArgumentsSound : ℕ → Accesses → Input → Accesses × Input → Type 0
 ArgumentsSound d reads i q = (vs : tree.Arguments) × (j : Input) × Took i (arguments_words vs) j × Took j (a_symbol (codes ")") ∷ []) q.1
     × (arguments_means d reads vs (bare i) ≡ Some (q.0, bare q.1))
 
 -- a name that isn't called is an operand
-name_sound : (b : ℕ) (reads : Accesses) (i : Input) (q : Accesses × Input) → AreLexical (words i) → is_name_kind (kind i) ≡ true → rule.name_by b reads (kind_of (spelling i) i) i ≡ Ok q → UnarySound b reads i q
+name_sound : (b : ℕ) (reads : Accesses) (i : Input) (q : Accesses × Input) → AreLexical (words i) → is_name_kind (kind i) ≡ true → rule.name_by b reads (kind_of (spelling i) i) i ≡ Ok q → Spells unary_words (unary_means b reads) i q
 unfolding unary_means name_means kind_of
 name_sound b reads i q g is e =
     let n = name_by_sound b reads (kind_of (spelling i) i) i q g is e in
@@ -160,7 +148,7 @@ group_is b d reads v s o is e = rw is e
 -- ---- over what brackets hold
 
 module _ (b : ℕ) (inside : Accesses → Rule Accesses)
-    (inner : (d : ℕ) → b ≡ suc d → (reads : Accesses) (i : Input) (q : Accesses × Input) → AreLexical (words i) → inside reads i ≡ Ok q → ValueSound d reads i q) where
+    (inner : (d : ℕ) → b ≡ suc d → (reads : Accesses) (i : Input) (q : Accesses × Input) → AreLexical (words i) → inside reads i ≡ Ok q → Spells value_words (value_means d reads) i q) where
   -- arguments that were read are spelled
   arguments_sound : (d : ℕ) → b ≡ suc d → (n : ℕ) (reads : Accesses) (i : Input) (q : Accesses × Input) → AreLexical (words i) → rule.arguments inside n reads i ≡ Ok q → ArgumentsSound d reads i q
   unfolding rule.arguments arguments_means next spelled_kind
@@ -178,7 +166,7 @@ module _ (b : ℕ) (inside : Accesses → Rule Accesses)
       ok_is (ArgumentsSound d reads i) q e5 (tree.last_argument v.0, p.1, v.1, c.0, v.2 ∙ ap (λ (s : Names). Some (p.0, s)) (sym c.1)))))
 
   -- a call that was read is an operand
-  call_sound : (reads : Accesses) (i : Input) (q : Accesses × Input) → AreLexical (words i) → is_name_kind (kind i) ≡ true → sees (codes "(") (next i) ≡ true → rule.call inside b reads i ≡ Ok q → UnarySound b reads i q
+  call_sound : (reads : Accesses) (i : Input) (q : Accesses × Input) → AreLexical (words i) → is_name_kind (kind i) ≡ true → sees (codes "(") (next i) ≡ true → rule.call inside b reads i ≡ Ok q → Spells unary_words (unary_means b reads) i q
   unfolding rule.call rule.called rule.all_arguments unary_means next spelled_kind
   call_sound reads i q g is seen e =
       bool_cases (is_short (spelling i)) (λ short. let e0 = rw short at e in
@@ -188,7 +176,7 @@ module _ (b : ℕ) (inside : Accesses → Rule Accesses)
       let n = took_name i g is in
       let t = took_symbol (codes "(") refl (next i) n.lexical seen in
       if_ok _ _ (sees (codes ")") (next (next i))) e3
-      (λ closed e4. ok_is (UnarySound b reads i) q e4 (
+      (λ closed e4. ok_is (Spells unary_words (unary_means b reads) i) q e4 (
         tree.call_of_none (spelling i),
         took_then n (took_then t (took_symbol (codes ")") refl (next (next i)) t.lexical closed)),
         call_of_none_is b o.0 reads (spelling i) (bare i) o.1 short,
@@ -199,7 +187,7 @@ module _ (b : ℕ) (inside : Accesses → Rule Accesses)
       (λ long. let e0 = rw long at e in absurd cc)
 
   -- a value in brackets that was read is an operand
-  grouped_sound : (reads : Accesses) (i : Input) (q : Accesses × Input) → AreLexical (words i) → sees (codes "(") i ≡ true → rule.grouped inside b reads i ≡ Ok q → UnarySound b reads i q
+  grouped_sound : (reads : Accesses) (i : Input) (q : Accesses × Input) → AreLexical (words i) → sees (codes "(") i ≡ true → rule.grouped inside b reads i ≡ Ok q → Spells unary_words (unary_means b reads) i q
   unfolding rule.grouped unary_means next spelled_kind
   grouped_sound reads i q g seen e =
       and_then_ok _ (open_bracket b i) e (λ p e1 e2.
@@ -210,19 +198,19 @@ module _ (b : ℕ) (inside : Accesses → Rule Accesses)
       let v = inner o.0 o.1 reads (next i) r t.lexical e4 in
       and_then_ok _ (expect (codes ")") r.1) e5 (λ c e6 e7.
       let x = expect_sound (codes ")") r.1 c refl v.1.lexical e6 in
-      ok_is (UnarySound b reads i) q e7 (tree.in_brackets v.0, took_then t (took_then v.1 x.0), group_is b o.0 reads v.0 (bare i) _ o.1 (v.2 ∙ ap (λ (s : Names). Some (r.0, s)) (sym x.1))))))
+      ok_is (Spells unary_words (unary_means b reads) i) q e7 (tree.in_brackets v.0, took_then t (took_then v.1 x.0), group_is b o.0 reads v.0 (bare i) _ o.1 (v.2 ∙ ap (λ (s : Names). Some (r.0, s)) (sym x.1))))))
 
   -- what stands behind the signs is an operand
-  primary_sound : (reads : Accesses) (i : Input) (q : Accesses × Input) → AreLexical (words i) → rule.primary inside b reads i ≡ Ok q → UnarySound b reads i q
+  primary_sound : (reads : Accesses) (i : Input) (q : Accesses × Input) → AreLexical (words i) → rule.primary inside b reads i ≡ Ok q → Spells unary_words (unary_means b reads) i q
   unfolding rule.primary rule.named unary_means next
   primary_sound reads i q g e = if_ok _ _ (is_number_kind (kind i)) e
-      (λ is e0. ok_is (UnarySound b reads i) q e0 (tree.number (spelling i), took_number i g is, refl))
+      (λ is e0. ok_is (Spells unary_words (unary_means b reads) i) q e0 (tree.number (spelling i), took_number i g is, refl))
       (λ _ e0. if_ok _ _ (is_name_kind (kind i)) e0
       (λ is e1. if_ok _ _ (sees (codes "(") (next i)) e1 (λ seen e2. call_sound reads i q g is seen e2) (λ _ e2. name_sound b reads i q g is e2))
       (λ _ e1. if_ok _ _ (sees (codes "(") i) e1 (λ seen e2. grouped_sound reads i q g seen e2) (λ _ e2. absurd cc)))
 
   -- an operand that was read is spelled
-  unary_sound : (reads : Accesses) (i : Input) (q : Accesses × Input) → AreLexical (words i) → rule.unary inside b reads i ≡ Ok q → UnarySound b reads i q
+  unary_sound : (reads : Accesses) (i : Input) (q : Accesses × Input) → AreLexical (words i) → rule.unary inside b reads i ≡ Ok q → Spells unary_words (unary_means b reads) i q
   unfolding rule.unary
   unary_sound reads i q g e = and_then_ok _ (all_signs i) e (λ p e1 e2.
       let s = all_signs_sound i p g e1 in
@@ -233,7 +221,7 @@ module _ (b : ℕ) (inside : Accesses → Rule Accesses)
       ))
 
   -- operands that were read are spelled
-  operands_sound : (n : ℕ) (reads : Accesses) (i : Input) (q : Accesses × Input) → AreLexical (words i) → rule.operands inside b n reads i ≡ Ok q → OperandsSound b reads i q
+  operands_sound : (n : ℕ) (reads : Accesses) (i : Input) (q : Accesses × Input) → AreLexical (words i) → rule.operands inside b n reads i ≡ Ok q → Spells operands_words (operands_means b reads) i q
   unfolding rule.operands operands_means next
   operands_sound zero reads i q g e = absurd cc
   operands_sound (suc n) reads i q g e = bool_cases (rule.is_operator i)
@@ -243,10 +231,10 @@ module _ (b : ℕ) (inside : Accesses → Rule Accesses)
       let u = unary_sound reads (next i) p t.lexical e1 in
       let r = operands_sound n p.0 p.1 q u.1.lexical e2 in
       (tree.operand o u.0 r.0, took_then t (took_then u.1 r.1), means_then _ _ u.2 r.2))))
-      (λ no. let e0 = rw no at e in ok_is (OperandsSound b reads i) q e0 (tree.operand_end, took_none g, refl))
+      (λ no. let e0 = rw no at e in ok_is (Spells operands_words (operands_means b reads) i) q e0 (tree.operand_end, took_none g, refl))
 
   -- a value that was read is spelled
-  value_by_sound : (reads : Accesses) (i : Input) (q : Accesses × Input) → AreLexical (words i) → rule.value_by inside b reads i ≡ Ok q → ValueSound b reads i q
+  value_by_sound : (reads : Accesses) (i : Input) (q : Accesses × Input) → AreLexical (words i) → rule.value_by inside b reads i ≡ Ok q → Spells value_words (value_means b reads) i q
   unfolding rule.value_by value_means
   value_by_sound reads i q g e = and_then_ok _ (rule.unary inside b reads i) e (λ p e1 e2.
       let u = unary_sound reads i p g e1 in
@@ -254,14 +242,14 @@ module _ (b : ℕ) (inside : Accesses → Rule Accesses)
       (tree.value u.0 r.0, took_then u.1 r.1, means_then _ _ u.2 r.2))
 
 -- a value in brackets that was read is spelled
-inside_sound : (b d : ℕ) → b ≡ suc d → (reads : Accesses) (i : Input) (q : Accesses × Input) → AreLexical (words i) → rule.inside b reads i ≡ Ok q → ValueSound d reads i q
+inside_sound : (b d : ℕ) → b ≡ suc d → (reads : Accesses) (i : Input) (q : Accesses × Input) → AreLexical (words i) → rule.inside b reads i ≡ Ok q → Spells value_words (value_means d reads) i q
 unfolding rule.inside
 inside_sound zero d is reads i q g e = absurd (omega arith)
 inside_sound (suc b) d is reads i q g e =
     let same : b ≡ d = omega arith in
-    subst (λ (n : ℕ). ValueSound n reads i q) same (value_by_sound b (rule.inside b) (inside_sound b) reads i q g e)
+    subst (λ (n : ℕ). Spells value_words (value_means n reads) i q) same (value_by_sound b (rule.inside b) (inside_sound b) reads i q g e)
 
 -- a value, where so many brackets may still be opened
-pub value_sound : (b : ℕ) (reads : Accesses) (i : Input) (q : Accesses × Input) → AreLexical (words i) → rule.value b reads i ≡ Ok q → ValueSound b reads i q
+pub value_sound : (b : ℕ) (reads : Accesses) (i : Input) (q : Accesses × Input) → AreLexical (words i) → rule.value b reads i ≡ Ok q → Spells value_words (value_means b reads) i q
 unfolding rule.value
 value_sound b reads i q g e = value_by_sound b (rule.inside b) (inside_sound b) reads i q g e

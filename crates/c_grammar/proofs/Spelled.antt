@@ -1,68 +1,75 @@
 -- What a rule of the reading sees where words are spelled.
-use Rattle.std.proofs.Common.{◌≡◌, ℕ, suc, ◌≤◌, Bool, true, false, List, [], ◌∷◌, ◌++◌, length, drop, refl, sym, ap, ◌∙◌, Option, Some, None, subst, arith}
+use Rattle.std.proofs.Common.{◌≡◌, ℕ, suc, ◌<◌, ◌≤◌, Bool, true, false, List, [], ◌∷◌, ◌++◌, length, drop, refl, ap, ◌∙◌, Option, Some, None, subst, arith}
 use Rattle.std.specs.Prelude.{if◌then◌else◌, Result, Ok, bytes_eq}
+use Rattle.std.specs.List.{AllByRecursion}
 use Rattle.std.proofs.lemmas.List.{append_assoc, length-append}
 use Rattle.std.proofs.lemmas.Slice.Eq.{bytes_eq-Decides}
 use Rattle.c_tokens.specs.declared.token.TokenKind.{TokenKind}
 use Rattle.c_tokens.specs.declared.token.TokenKind.TheVariants as token
 use Rattle.c_reading.specs.declared.error.ReadFault.{ReadFault}
 use Rattle.c_reading.specs.Input.{Input, Rule, Outcome, and_then, kind, spelling, next, sees, left, given as rule_given}
-use Rattle.c_grammar.specs.Words.{Word, a_name, a_number}
+use Rattle.c_grammar.specs.Words.{Word, a_name, a_number, program_end}
 use Rattle.c_grammar.specs.Meaning.{Names, Meaning, then_in, given}
-use Rattle.c_grammar.proofs.Steps.{words, first, spelled_kind, goes_on, AreLexical, kind_is, spelling_is, next_is, left_is, bool_cases}
+use Rattle.c_grammar.proofs.Steps.{words, bare, first, spelled_kind, IsSpelled, kind_is, spelling_is, next_is, left_is, bool_cases}
 
--- these lexical words are left
+-- these words, whose bytes have their kinds, are left in front of the end of the program
 pub record At (i : Input) (ws : List Word) : Type 0 where
-  pub are : words i ≡ ws
-  pub lexical : AreLexical ws
+  pub are : words i ≡ ws ++ program_end ∷ []
+  pub spelled : AllByRecursion IsSpelled ws
+
+-- the rule gives this, and these words are left
+abbrev pub Ran : {A V : Type 0} → (A → V) → Outcome A → List Word → V × Names → Type 0
+Ran {A} {V} view o rest x = (q : A × Input) × (o ≡ Ok q) × At q.1 rest × ◌≡◌ {A = V × Names} (view q.0, bare q.1) x
+
+-- the same, where it gives what is meant
+abbrev pub Gave : {A : Type 0} → Outcome A → List Word → A × Names → Type 0
+Gave {A} o rest x = Ran (λ (a : A). a) o rest x
+
+-- the first word, with the end or without
+first_end : (ws : List Word) → first (ws ++ program_end ∷ []) ≡ first ws
+first_end [] = refl
+first_end (w ∷ ws) = refl
 
 -- the next token's kind is the first word's
 pub at_kind : {i : Input} {ws : List Word} → At i ws → kind i ≡ (first ws).kind
-at_kind {i} {ws} at = kind_is i ∙ ap (λ (l : List Word). (first l).kind) at.are
+at_kind {i} {ws} at = kind_is i ∙ ap (λ (l : List Word). (first l).kind) at.are ∙ ap (λ (w : Word). w.kind) (first_end ws)
 
 -- its bytes are the first word's
 pub at_spelling : {i : Input} {ws : List Word} → At i ws → spelling i ≡ (first ws).bytes
-at_spelling {i} {ws} at = spelling_is i ∙ ap (λ (l : List Word). (first l).bytes) at.are
+at_spelling {i} {ws} at = spelling_is i ∙ ap (λ (l : List Word). (first l).bytes) at.are ∙ ap (λ (w : Word). w.bytes) (first_end ws)
 
 -- a word is seen exactly where the first word has its bytes
 pub at_sees : {i : Input} {ws : List Word} (word : List ℕ) → At i ws → sees word i ≡ bytes_eq (first ws).bytes word
 unfolding sees
 at_sees {i} {ws} word at = ap (λ (b : List ℕ). bytes_eq b word) (at_spelling at)
 
--- as many tokens are left as words
-pub at_left : {i : Input} {ws : List Word} → At i ws → left i ≡ length ws
-at_left {i} {ws} at = left_is i ∙ ap (λ (l : List Word). length l) at.are
+-- as many tokens are left as words, and the end
+pub at_left : {i : Input} {ws : List Word} → At i ws → left i ≡ suc (length ws)
+at_left {i} {ws} at = omega (arith, left_is i, ap (λ (l : List Word). length l) at.are, length-append ws (program_end ∷ []))
 
 -- the first word is taken
-pub at_next : {i : Input} {w : Word} {ws : List Word} → At i (w ∷ ws) → goes_on w.kind ≡ true → At (next i) ws
-at_next {i} {w} {ws} at on = record { are = next_is i ∙ ap (λ (l : List Word). drop 1 l) at.are; lexical = at.lexical.2 on }
+pub at_next : {i : Input} {w : Word} {ws : List Word} → At i (w ∷ ws) → At (next i) ws
+at_next {i} {w} {ws} at = record { are = next_is i ∙ ap (λ (l : List Word). drop 1 l) at.are; spelled = at.spelled.1 }
 
 -- the same words are left
 pub at_as : {i : Input} {ws : List Word} (j : Input) → words j ≡ words i → At i ws → At j ws
-at_as j same at = record { are = same ∙ at.are; lexical = at.lexical }
+at_as j same at = record { are = same ∙ at.are; spelled = at.spelled }
 
 -- the words are put together otherwise
 pub at_assoc : {i : Input} (xs ys zs : List Word) → At i ((xs ++ ys) ++ zs) → At i (xs ++ (ys ++ zs))
 at_assoc {i} xs ys zs at = subst (λ (l : List Word). At i l) (append_assoc xs ys zs) at
 
--- some word is left
-pub some_left : {i : Input} (ws : List Word) → At i ws → 1 ≤ left i
-some_left [] at = absurd at.lexical
-some_left (w ∷ ws) at = omega (arith, at_left at)
+-- some token is left
+pub some_left : {i : Input} {ws : List Word} → At i ws → 1 ≤ left i
+some_left at = omega (arith, at_left at)
 
--- the word in front of these
-pub at_front : {i j : Input} {w : Word} {xs ws : List Word} → At i (w ∷ xs) → At j ws → words j ≡ drop 1 (words i) → At i (w ∷ ws)
-at_front {i} {j} {w} {xs} {ws} at after same =
-    let e : xs ≡ ws = sym (ap (λ (l : List Word). drop 1 l) at.are) ∙ sym same ∙ after.are in
-    subst (λ (l : List Word). At i (w ∷ l)) e at
+-- words in front of others make them longer
+pub longer : (xs ys zs : List Word) → length (ys ++ zs) ≤ length ((xs ++ ys) ++ zs)
+longer xs ys zs = omega (arith, length-append (xs ++ ys) zs, length-append xs ys, length-append ys zs)
 
--- a word and others were taken
-pub fewer : {i j : Input} (w : Word) (ws vs : List Word) (n : ℕ) → At i (w ∷ (ws ++ vs)) → At j vs → left i ≤ suc n → left j ≤ n
-fewer w ws vs n a b few = omega (arith, at_left a, at_left b, length-append ws vs)
-
--- a word was taken
-pub one_fewer : {i j : Input} (w : Word) (vs : List Word) (n : ℕ) → At i (w ∷ vs) → At j vs → left i ≤ suc n → left j ≤ n
-one_fewer w vs n a b few = omega (arith, at_left a, at_left b)
+-- words were taken
+pub fewer : {i j : Input} {ws vs : List Word} {n : ℕ} → At i ws → At j vs → left i ≤ suc n → length vs < length ws → left j ≤ n
+fewer a b few less = omega (arith, at_left a, at_left b)
 
 -- words of other kinds aren't seen
 pub other_bytes : (bytes word : List ℕ) (k : TokenKind) → k ≡ spelled_kind bytes → (k ≡ spelled_kind word → ⊥) → bytes_eq bytes word ≡ false
@@ -70,15 +77,15 @@ other_bytes bytes word k is other = bool_cases (bytes_eq bytes word) (λ same. a
 
 -- no name is a symbol
 pub name_not_symbol : {i : Input} {name : List ℕ} {ws : List Word} (word : List ℕ) → spelled_kind word ≡ token.Symbol → At i (a_name name ∷ ws) → sees word i ≡ false
-name_not_symbol {i} {name} {ws} word symbol at = at_sees word at ∙ other_bytes name word token.Name at.lexical.0 (λ e. let no : token.Name ≡ token.Symbol = e ∙ symbol in absurd cc)
+name_not_symbol {i} {name} {ws} word symbol at = at_sees word at ∙ other_bytes name word token.Name at.spelled.0 (λ e. let no : token.Name ≡ token.Symbol = e ∙ symbol in absurd cc)
 
 -- no name is a word that C keeps
 pub name_not_keyword : {i : Input} {name : List ℕ} {ws : List Word} (word : List ℕ) → spelled_kind word ≡ token.Word → At i (a_name name ∷ ws) → sees word i ≡ false
-name_not_keyword {i} {name} {ws} word keyword at = at_sees word at ∙ other_bytes name word token.Name at.lexical.0 (λ e. let no : token.Name ≡ token.Word = e ∙ keyword in absurd cc)
+name_not_keyword {i} {name} {ws} word keyword at = at_sees word at ∙ other_bytes name word token.Name at.spelled.0 (λ e. let no : token.Name ≡ token.Word = e ∙ keyword in absurd cc)
 
 -- no number is a symbol
 pub number_not_symbol : {i : Input} {name : List ℕ} {ws : List Word} (word : List ℕ) → spelled_kind word ≡ token.Symbol → At i (a_number name ∷ ws) → sees word i ≡ false
-number_not_symbol {i} {name} {ws} word symbol at = at_sees word at ∙ other_bytes name word token.Number at.lexical.0 (λ e. let no : token.Number ≡ token.Symbol = e ∙ symbol in absurd cc)
+number_not_symbol {i} {name} {ws} word symbol at = at_sees word at ∙ other_bytes name word token.Number at.spelled.0 (λ e. let no : token.Number ≡ token.Symbol = e ∙ symbol in absurd cc)
 
 -- what has the same bytes is seen
 pub same_seen : {i : Input} {w : Word} {ws : List Word} → At i (w ∷ ws) → sees w.bytes i ≡ true

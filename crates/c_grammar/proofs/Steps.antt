@@ -1,7 +1,7 @@
 -- What a rule of the reading takes from the words that are left, and what it leaves.
 use Rattle.std.proofs.Common.{◌≡◌, ℕ, suc, ◌-◌, arith, Bool, true, false, List, [], ◌∷◌, ◌++◌, length, map, drop, refl, sym, ap, ◌∙◌, Option, Some, subst}
 use Rattle.std.specs.Prelude.{◌==◌, ◌||◌, if◌then◌else◌, Result, Ok, Err}
-use Rattle.std.specs.List.{list_all}
+use Rattle.std.specs.List.{list_all, AllByRecursion}
 use Rattle.std.proofs.lemmas.List.{append_assoc, append-nil}
 use Rattle.std.proofs.lemmas.Bool.Decides.{nat_tests}
 use Rattle.std.proofs.lemmas.Slice.Eq.{bytes_eq-Decides}
@@ -18,6 +18,10 @@ use Rattle.c_reading.proofs.TokenKinds.{name_kind_is}
 use Rattle.c_grammar.specs.Words.{Word, word_of, program_end, line_end, a_name, a_number, a_symbol}
 use Rattle.c_tokens.specs.Names.{IsWord}
 use Rattle.c_grammar.specs.Meaning.{Names, Meaning, then_in, given}
+
+-- what a function is over
+abbrev pub domain : {A B : Type 0} → (A → B) → Type 0
+domain {A} f = A
 
 -- the words that are left
 abbrev pub words : Input → List Word
@@ -74,10 +78,19 @@ goes_on token.Number = true
 goes_on token.Symbol = true
 goes_on token.End = false
 
--- words whose bytes have their kinds, up to one behind which none is taken
+-- a word whose bytes have its kind
+abbrev pub IsSpelled : Word → Type 0
+IsSpelled w = class w.kind ≡ spelled_kind w.bytes
+
+-- words whose bytes have their kinds, of which one stands behind each that goes on and none behind the last
 abbrev pub AreLexical : List Word → Type 0
 AreLexical [] = ⊥
-AreLexical (w ∷ ws) = (class w.kind ≡ spelled_kind w.bytes) × (is_last w.kind ≡ true → ws ≡ []) × (goes_on w.kind ≡ true → AreLexical ws)
+AreLexical (w ∷ ws) = AllByRecursion IsSpelled (w ∷ ws) × (is_last w.kind ≡ true → ws ≡ []) × (goes_on w.kind ≡ true → AreLexical ws)
+
+-- the bytes of lexical words have their kinds
+pub all_spelled : (ws : List Word) → AreLexical ws → AllByRecursion IsSpelled ws
+all_spelled [] g = absurd g
+all_spelled (w ∷ ws) g = g.0
 
 -- a kind that bytes tell
 pub record IsPlain (k : TokenKind) : Type 0 where
@@ -120,6 +133,10 @@ keywords = record { only = only_keyword; inside = refl }
 pub record Took (i : Input) (ws : List Word) (j : Input) : Type 0 where
   pub spelled : words i ≡ ws ++ words j
   pub lexical : AreLexical (words j)
+
+-- a tree was taken that means this
+abbrev pub Spells : {T A : Type 0} → (T → List Word) → (T → Meaning A) → Input → A × Input → Type 0
+Spells {T} ws means i q = (t : T) × Took i (ws t) q.1 × (means t (bare i) ≡ Some (q.0, bare q.1))
 
 -- words were taken, and then others
 pub took_then : {i j k : Input} {ws vs : List Word} → Took i ws j → Took j vs k → Took i (ws ++ vs) k
@@ -176,21 +193,17 @@ took_kind k i inside g is =
 -- the next word's bytes have its kind
 lexical_first : (ws : List Word) → AreLexical ws → class (first ws).kind ≡ spelled_kind (first ws).bytes
 lexical_first [] g = absurd g
-lexical_first (w ∷ ws) g = g.0
+lexical_first (w ∷ ws) g = g.0.0
 
 -- the next token's bytes have its kind
 pub kind_spelled : (i : Input) → AreLexical (words i) → class (kind i) ≡ spelled_kind (spelling i)
 kind_spelled i g = ap class (kind_is i) ∙ lexical_first (words i) g ∙ ap spelled_kind (sym (spelling_is i))
 
--- a word that is seen has these bytes
-pub sees_spelling : (word : List ℕ) (i : Input) → sees word i ≡ true → spelling i ≡ word
-unfolding sees
-sees_spelling word i is = (bytes_eq-Decides (spelling i) word).0 is
-
 -- a word whose bytes are seen
 pub took_word : (word : List ℕ) (k : TokenKind) → IsPlain k → spelled_kind word ≡ class k → (i : Input) → AreLexical (words i) → sees word i ≡ true → Took i (record { kind = k; bytes = word } ∷ []) (next i)
+unfolding sees
 took_word word k plain word_is i g seen =
-    let same : spelling i ≡ word = sees_spelling word i seen in
+    let same : spelling i ≡ word = (bytes_eq-Decides (spelling i) word).0 seen in
     let kinds : kind i ≡ k = plain.only (kind i) (kind_spelled i g ∙ ap spelled_kind same ∙ word_is) in
     let took = took_kind k i plain.inside g kinds in
     record { spelled = took.spelled ∙ ap (λ b. record { kind = k; bytes = b } ∷ words (next i)) same; lexical = took.lexical }
@@ -227,14 +240,6 @@ took_name i g is = took_kind token.Name i refl g (name_kind_is (kind i) is)
 -- a number is a word
 pub took_number : (i : Input) → AreLexical (words i) → is_number_kind (kind i) ≡ true → Took i (a_number (spelling i) ∷ []) (next i)
 took_number i g is = took_kind token.Number i refl g (number_kind_is (kind i) is)
-
--- the head of a line that names parameters is a word
-pub took_parameters : (i : Input) → AreLexical (words i) → is_parameters (kind i) ≡ true → Took i (record { kind = token.Parameters; bytes = spelling i } ∷ []) (next i)
-took_parameters i g is = took_kind token.Parameters i refl g (parameters_is (kind i) is)
-
--- the head of a line that assumes is a word
-pub took_assumptions : (i : Input) → AreLexical (words i) → is_assumptions (kind i) ≡ true → Took i (record { kind = token.Assumptions; bytes = spelling i } ∷ []) (next i)
-took_assumptions i g is = took_kind token.Assumptions i refl g (assumptions_is (kind i) is)
 
 -- what has no bytes
 no_bytes : (bytes : List ℕ) → token.End ≡ spelled_kind bytes → bytes ≡ []
@@ -279,7 +284,7 @@ took_line_end i g is =
 end_words : (ws : List Word) → AreLexical ws → (first ws).kind ≡ token.End → ws ≡ program_end ∷ []
 end_words [] g is = absurd g
 end_words (w ∷ ws) g is =
-    let none = no_bytes w.bytes (ap class (sym is) ∙ g.0) in
+    let none = no_bytes w.bytes (ap class (sym is) ∙ g.0.0) in
     ap (λ l. w ∷ l) (g.1 (ap is_last is)) ∙ ap (λ k. record { kind = k; bytes = w.bytes } ∷ []) is ∙ ap (λ b. record { kind = token.End; bytes = b } ∷ []) none
 
 -- the end of the program is the last word
@@ -343,10 +348,6 @@ bool_cases false t f = f refl
 -- no words more were taken
 pub plus_none : {i j : Input} {ws : List Word} → Took i (ws ++ []) j → Took i ws j
 plus_none {i} {j} {ws} t = subst (λ (l : List Word). Took i l j) (append-nil ws) t
-
--- the same words were there before
-pub took_from : {i j : Input} {ws : List Word} (k : Input) → words k ≡ words i → Took i ws j → Took k ws j
-took_from k same t = record { spelled = same ∙ t.spelled; lexical = t.lexical }
 
 -- one more than a number isn't 0
 pub suc_not_zero : (d : ℕ) → (suc d == 0) ≡ false

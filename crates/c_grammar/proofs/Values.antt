@@ -13,10 +13,11 @@ use Rattle.c_reading.specs.Affine.{kind_of, with_name, is_short, sign_of}
 use Rattle.c_reading.specs.Numbers.{is_small, small_number, number_before, plus_times, combined, single, zeros, width, constant_of, value_from, is_integer, most_parameters}
 use Rattle.c_grammar.specs.Affine as tree
 use Rattle.c_grammar.specs.Meaning as mean
-use Rattle.c_grammar.specs.Meaning.{Names, Meaning, Form, form, then_in, given, slot_by, slot, affine_means, sums_means, term_means, products_means, factor_means}
+use Rattle.c_grammar.specs.Meaning.{Names, Form, form, then_in, given, slot_by, slot, affine_means, sums_means, term_means, products_means, factor_means}
 use Rattle.c_grammar.specs.Points.{Point, digits_value, affine_value, sums_value, term_value, products_value, factor_value, row_value, AreNumbersAt, HaveKinds, RowsHaveValues}
 use Rattle.c_grammar.proofs.Spelled.{then_some, given_some, given_last, same_some, some_if}
 use Rattle.c_grammar.proofs.Dictionary.{kind_of-lookup, lookup-other, lookup-new, bytes_are}
+use Rattle.std.proofs.lemmas.Option.{slice_get_within}
 
 -- ---- sums of rows
 
@@ -97,12 +98,6 @@ dot_set (suc m) k n v [] below e = cc
 dot_set (suc m) zero n v (w ∷ ns) below e = let same : w ≡ v = cc in let rest = dot_zeros m ns in omega (arith, ints, rest, ap (λ x. n *ℤ x) same)
 dot_set (suc m) (suc k) n v (w ∷ ns) below e = let rest = dot_set m k n v ns (omega arith) e in omega (arith, ints, rest, zero-mul w)
 
--- the number of a place is there
-place_below : (ns : List ℤ) (k : ℕ) (v : ℤ) → slice_get ns k ≡ Some v → k < length ns
-place_below [] k v e = cc
-place_below (n ∷ ns) zero v e = omega arith
-place_below (n ∷ ns) (suc k) v e = omega (arith, place_below ns k v e)
-
 -- the row of a constant
 constant_value : (n : ℤ) (ns : List ℤ) → row_value (single 0 n) ns ≡ n
 constant_value n ns = let rest = dot_zeros (PARAMETERS + LOOPS) ns in omega (arith, ints, rest, mul-one n)
@@ -111,7 +106,7 @@ constant_value n ns = let rest = dot_zeros (PARAMETERS + LOOPS) ns in omega (ari
 variable_value : (k : ℕ) (v : ℤ) (ns : List ℤ) → length ns ≡ PARAMETERS + LOOPS → slice_get ns k ≡ Some v → row_value (single (1 + k) (pos 1)) ns ≡ v
 variable_value k v ns many e =
     let one : 1 + k ≡ suc k = omega arith in
-    ap (λ n. row_value (single n (pos 1)) ns) one ∙ dot_set width (suc k) (pos 1) v (pos 1 ∷ ns) (omega (arith, many, place_below ns k v e)) e ∙ one-mul v
+    ap (λ n. row_value (single n (pos 1)) ns) one ∙ dot_set width (suc k) (pos 1) v (pos 1 ∷ ns) (omega (arith, many, slice_get_within ns k v e)) e ∙ one-mul v
 
 -- ---- names
 
@@ -220,10 +215,6 @@ times_valued s q r a b c u v x y e = which a.has_name b.has_name refl refl e whe
 pub minus-one : (v : ℤ) → negsuc 0 *ℤ v ≡ neg_ℤ v
 minus-one v = neg-mul (pos 1) v ∙ ap neg_ℤ (one-mul v)
 
--- the negative of a form is valued so
-negated_valued : (s r : Names) (a c : Form) (v : Point → ℤ) → IsValued s a r v → mean.negated a ≡ Some c → IsValued s c r (λ at. neg_ℤ (v at))
-negated_valued s r a c v x e = as_value s r c (λ at. negsuc 0 *ℤ v at) (λ at. neg_ℤ (v at)) (λ at. minus-one (v at)) (multiple_valued s r a.has_name (negsuc 0) a c (λ _. negsuc 0) v x.back x.kinds (λ at ns h. refl) x.size x.is (λ none. none) x.constant e)
-
 -- ---- integers
 
 -- what reaches the bound stays there
@@ -262,13 +253,8 @@ integer_is bytes n e = some_if _ (is_integer bytes && nat_lt (value_from 0 bytes
 last_valued : (s q r : Names) (c a : Form) (u v : Point → ℤ) → ((at : Point) → u at ≡ v at) → IsValued s c q u → ◌≡◌ {A = Form × Names} (c, q) (a, r) → IsValued s a r v
 last_valued s q r c a u v same x e = as_value s r a u v same (subst (λ (y : Form × Names). IsValued s y.0 y.1 u) e x)
 
--- a name's place
-slot_placed : (bytes : List ℕ) (s : Names) (x : ℕ × Names) → HaveKinds s → slot bytes s ≡ Some x → IsPlaced s bytes x.0 x.1
-unfolding slot
-slot_placed bytes s x k e = placed_by bytes (kind_of bytes s) s x k refl e
-
 mutual
-  unfolding affine_means sums_means term_means products_means factor_means
+  unfolding affine_means sums_means term_means products_means factor_means slot
 
   pub affine_valued : (b : ℕ) (t : tree.Affine) (s r : Names) (a : Form) → HaveKinds s → affine_means b t s ≡ Some (a, r) → IsValued s a r (λ at. affine_value at t)
   affine_valued b (tree.sum t ss) s r a k e = then_some (λ c. sums_means b c ss) (term_means b t s) e (λ p f g.
@@ -305,14 +291,15 @@ mutual
       last_valued s s r (record { numbers = single 0 n; has_name = false }) a (λ _. n) (λ at. pos (digits_value 0 bytes)) (λ at. is)
       (record { kinds = k; back = λ at ns h. h; size = length-set (replicate width (pos 0)) 0 n; is = λ at ns h. constant_value n ns; constant = λ _ ns. constant_value n ns }) (same_some g))
   factor_valued b (tree.name name) s r a k e = then_some (λ at. mean.pure (record { numbers = single at (pos 1); has_name = true })) (slot name s) e (λ p f g.
-      let placed = slot_placed name s p k f in
+      let placed = placed_by name (kind_of name s) s p k refl f in
       last_valued s p.1 r (record { numbers = single p.0 (pos 1); has_name = true }) a (λ at. at name) (λ at. at name) (λ at. refl)
       (record { kinds = placed.kinds; back = placed.back; size = length-set (replicate width (pos 0)) p.0 (pos 1); is = placed.is; constant = λ none. cc }) (same_some g))
   factor_valued zero (tree.in_brackets t) s r a k e = cc
   factor_valued (suc b) (tree.in_brackets t) s r a k e = affine_valued b t s r a k e
   factor_valued b (tree.negative f) s r a k e = then_some (λ c. mean.given (mean.negated c)) (factor_means b f s) e (λ p g h.
       let x = factor_valued b f s p.1 p.0 k g in
-      given_last (mean.negated p.0) p.1 h (λ c i j. last_valued s p.1 r c a (λ at. neg_ℤ (factor_value at f)) (λ at. neg_ℤ (factor_value at f)) (λ at. refl) (negated_valued s p.1 p.0 c (λ at. factor_value at f) x i) j))
+      given_last (mean.negated p.0) p.1 h (λ c i j. last_valued s p.1 r c a (λ at. neg_ℤ (factor_value at f)) (λ at. neg_ℤ (factor_value at f)) (λ at. refl)
+      (as_value s p.1 c (λ at. negsuc 0 *ℤ factor_value at f) (λ at. neg_ℤ (factor_value at f)) (λ at. minus-one (factor_value at f)) (multiple_valued s p.1 p.0.has_name (negsuc 0) p.0 c (λ _. negsuc 0) (λ at. factor_value at f) x.back x.kinds (λ at ns h. refl) x.size x.is (λ none. none) x.constant i)) j))
   factor_valued b (tree.positive f) s r a k e = factor_valued b f s r a k e
 
 -- a row that an expression means has the expression's value at every point

@@ -12,7 +12,7 @@ use Rattle.c_reading.specs.Numbers.{combined, zeros, width}
 use Rattle.c_reading.specs.Compare.{Rows, most_brackets, most_rows}
 use Rattle.c_grammar.specs.Affine.{Comparison, at_least, above, at_most, below, equal}
 use Rattle.c_grammar.specs.Meaning as mean
-use Rattle.c_grammar.specs.Meaning.{Names, Form, then_in, given, affine_means, row_behind, with_row, with_compare, row_count, if_rows, compare_means, loop_again, loop_by, loop_name, excluded, upper_bound, header_means}
+use Rattle.c_grammar.specs.Meaning.{Names, then_in, given, affine_means, row_behind, with_row, with_compare, row_count, if_rows, compare_means, loop_again, loop_by, loop_name, excluded, upper_bound, header_means}
 use Rattle.c_grammar.specs.Points.{Point, affine_value, Compares, Holds, IsBelow, IsTaken, row_value, AreNumbersAt, HaveKinds, RowsHoldSo, LoopsTakeValues}
 use Rattle.c_grammar.proofs.Spelled.{then_some, given_some, given_last, same_some, some_if}
 use Rattle.c_grammar.proofs.Values.{combined_sum, zeros_value, minus-one, affine_valued}

@@ -1,25 +1,70 @@
--- Printed forms, references, statements and loops lex as they are written.
-use Rattle.std.proofs.Common.{◌≡◌, refl, sym, subst, ℕ, zero, suc, ◌<◌, ◌≤◌, true, false, List, [], ◌∷◌, ◌++◌, append_assoc, length, arith, length-append}
-use Rattle.std.specs.Prelude.{ℤ, codes, ◌==◌, unsigned_abs, decimal, slice_get, slice_index_or, IsSomeAnd}
+-- Printed forms, references, statements and loops lex as the words of their trees.
+use Rattle.std.proofs.Common.{◌≡◌, refl, sym, ap, subst, ◌∙◌, ℕ, zero, suc, ◌<◌, ◌≤◌, Bool, true, false, List, [], ◌∷◌, ◌++◌, append_assoc, append-nil, length, arith, length-append}
+use Rattle.std.specs.Prelude.{ℤ, codes, ◌==◌, if◌then◌else◌, unsigned_abs, decimal, slice_get, slice_index_or, IsSomeAnd, flat_map}
 use Rattle.std.specs.List.{AllByRecursion, list_all}
 use Rattle.std.proofs.lemmas.Bool.Decides.{nat_tests}
 use Rattle.std.proofs.lemmas.Bool.{and_parts}
+use Rattle.base_laws.proofs.Lists.{All-append}
 use Rattle.iolb_model.specs.Form.{AffineForm}
 use Rattle.iolb_model.specs.Program.{Access, Statement, Item, assign, loop, Row, done, next, Array, AffineProgram, statement_at}
-use Rattle.iolb_model.specs.Printed.{is_below_zero}
+use Rattle.iolb_model.specs.Printed.{is_below_zero, size_text, later_terms_text, terms_text, form_text}
 use Rattle.c_tokens.specs.Bytes.{is_name_byte, is_digit}
 use Rattle.c_tokens.specs.declared.token.TokenKind.{TokenKind}
-use Rattle.c_tokens.specs.declared.token.TokenKind.TheVariants.{Name, Word, Number, Symbol, End}
-use Rattle.c_printing.specs.Text.{array_name}
-use Rattle.c_printing.specs.Tree.{form_terms}
-use Rattle.c_printing.proofs.Words.{Bit, space, newline, word, bits_text, symbol, size_bits, sign_bytes, later_bits, minus_bits, terms_bits, form_bits, subscripts_bits, access_bits, others_bits, reads_bits, statement_bits, step_bits, header_bits, item_bits, row_bits}
+use Rattle.c_tokens.specs.declared.token.TokenKind.TheVariants as token
 use Rattle.c_tokens.specs.Names.{IsName}
+use Rattle.c_grammar.specs.Words.{Word, a_name, a_number, a_symbol}
+use Rattle.c_grammar.specs.Affine.{affine_words, sums_words, term_words, subscripts_words, reference_words}
+use Rattle.c_grammar.specs.Value.{value_words, arguments_words}
+use Rattle.c_grammar.specs.Item.{assign_words, header_words, item_words, items_words}
+use Rattle.c_printing.specs.Text.{subscript_text, array_name, access_text, reads_text, statement_text, header_text, item_text, row_text}
+use Rattle.c_printing.specs.Tree.{size_tree, later_tree, terms_tree, form_terms, form_tree, subscripts_tree, access_tree, arguments_tree, reads_tree, statement_tree, header_tree, item_tree, row_tree}
 use Rattle.c_printing.proofs.Roles.{IsSmallForm, HasRoles, IsReadableAccess, AreReadableAccesses, access_seen, IsReadableStatement, IsReadableHeader, IsReadableItem, IsReadableRow, item_seen}
-use Rattle.c_printing.proofs.Bytes.{begins_so, goes_on, ends_name, ends_number}
-use Rattle.c_printing.proofs.Lexed.{IsWordAt, AreLexed}
-use Rattle.c_printing.proofs.Fits.{name_fits, number_fits, single_fits, plain_fits, minus_before, star_before, Writes, writes_decimal}
-use Rattle.c_printing.proofs.Terms.{IsTerm, AreTerms, form_terms-are, All_both}
+use Rattle.c_printing.proofs.Lexed.{begins_so, goes_on, ends_name, ends_number, Piece, space, newline, word, text_in, words_in, IsWordAt, AreLexed, name_fits, number_fits, single_fits, plain_fits, minus_before, star_before, Writes, writes_decimal}
+use Rattle.c_printing.proofs.RowForms.{IsTerm, AreTerms, form_terms-are}
 use Rattle.iolb_model.specs.declared.limits.TheConstants.{NUMBER_SIZE, PARAMETERS, LOOPS}
+
+-- ---- texts as words
+
+-- a text that lexes as these words, inside a line or at its begin, up to the end of its part
+pub record Lexes (last : TokenKind) (inside : Bool) (text : List ℕ) (ws : List Word) : Type 0 where
+  pub pieces : List Piece
+  pub text_is : text_in pieces ≡ text
+  pub words_are : words_in pieces ≡ ws
+  pub lexed : AreLexed last inside pieces
+
+-- the same, where it ends a word before it
+pub record Follows (last : TokenKind) (text : List ℕ) (ws : List Word) : Type 0 where
+  pub ends : goes_on ends_number text ≡ true
+  pub lexes : Lexes last true text ws
+
+-- written otherwise
+pub lexes_as : {last : TokenKind} {inside : Bool} {a b : List ℕ} {x y : List Word} → Lexes last inside a x → a ≡ b → x ≡ y → Lexes last inside b y
+lexes_as l e f = record { pieces = l.pieces; text_is = l.text_is ∙ e; words_are = l.words_are ∙ f; lexed = l.lexed }
+
+-- the same of what follows a word
+pub follows_as : {last : TokenKind} {a b : List ℕ} {x y : List Word} → Follows last a x → a ≡ b → x ≡ y → Follows last b y
+follows_as l e f = record { ends = ap (goes_on ends_number) (sym e) ∙ l.ends; lexes = lexes_as l.lexes e f }
+
+-- a word, and what follows it
+pub word_then : {last : TokenKind} {inside : Bool} {text : List ℕ} {ws : List Word} (kind : TokenKind) (bytes : List ℕ) → IsWordAt kind bytes text → Lexes last true text ws → Lexes last inside (bytes ++ text) (record { kind = kind; bytes = bytes } ∷ ws)
+word_then kind bytes fits l = record {
+  pieces = word kind bytes ∷ l.pieces;
+  text_is = ap (λ t. bytes ++ t) l.text_is;
+  words_are = ap (λ ws. record { kind = kind; bytes = bytes } ∷ ws) l.words_are;
+  lexed = (subst (IsWordAt kind bytes) (sym l.text_is) fits, l.lexed);
+}
+
+-- a space, and what follows it
+pub space_then : {last : TokenKind} {text : List ℕ} {ws : List Word} → Lexes last true text ws → Follows last (32 ∷ text) ws
+space_then l = record { ends = refl; lexes = record { pieces = space ∷ l.pieces; text_is = ap (λ t. 32 ∷ t) l.text_is; words_are = l.words_are; lexed = (refl, l.lexed) } }
+
+-- a newline of the program, and the line behind it
+newline_then : {last : TokenKind} {inside : Bool} {text : List ℕ} {ws : List Word} → last ≡ token.End → Lexes last false text ws → Lexes last inside (10 ∷ text) ws
+newline_then program l = record { pieces = newline ∷ l.pieces; text_is = ap (λ t. 10 ∷ t) l.text_is; words_are = l.words_are; lexed = (program, l.lexed) }
+
+-- one symbol more
+pub symbol_then : {last : TokenKind} {text : List ℕ} {ws : List Word} (b : ℕ) → IsWordAt token.Symbol (b ∷ []) text → ends_number b ≡ true → Lexes last true text ws → Follows last (b ∷ text) (a_symbol (b ∷ []) ∷ ws)
+symbol_then b fits ends l = record { ends = ends; lexes = word_then token.Symbol (b ∷ []) fits l }
 
 -- ---- what may follow
 
@@ -32,93 +77,83 @@ goes_on-name : (rest : List ℕ) → goes_on ends_number rest ≡ true → goes_
 goes_on-name [] h = refl
 goes_on-name (b ∷ rest) h = ends_number-name b h
 
--- what follows ends a word, and lexes
-pub record Follows (last : TokenKind) (more : List Bit) : Type 0 where
-  pub ends : goes_on ends_number (bits_text more) ≡ true
-  pub lexed : AreLexed last true more
-
--- one symbol more
-pub symbol_then : (last : TokenKind) (b : ℕ) (more : List Bit) → IsWordAt Symbol (b ∷ []) (bits_text more) → ends_number b ≡ true → AreLexed last true more → Follows last (symbol (b ∷ []) ∷ more)
-symbol_then last b more fits ends lexed = record { ends = ends; lexed = (fits, lexed) }
-
--- a space, and what follows it
-pub space_then : (last : TokenKind) (more : List Bit) → AreLexed last true more → Follows last (space ∷ more)
-space_then last more lexed = record { ends = refl; lexed = (refl, lexed) }
-
 -- ---- forms
 
 -- a number, and what follows it
-number_lexed : (last : TokenKind) (n : ℕ) (more : List Bit) → n < NUMBER_SIZE → Follows last more → AreLexed last true (word Number (decimal n) ∷ more)
-number_lexed last n more small follows = let w : Writes n (decimal n) = writes_decimal n small in (number_fits (decimal n) (bits_text more) w.some w.digits follows.ends, follows.lexed)
+number_lexes : {last : TokenKind} {text : List ℕ} {ws : List Word} (n : ℕ) → n < NUMBER_SIZE → Follows last text ws → Lexes last true (decimal n ++ text) (a_number (decimal n) ∷ ws)
+number_lexes {text = text} n small follows = let w : Writes n (decimal n) = writes_decimal n small in word_then token.Number (decimal n) (number_fits (decimal n) text w.some w.digits follows.ends) follows.lexes
+
+-- 0, and what follows it
+pub none_lexes : {last : TokenKind} {text : List ℕ} {ws : List Word} → Follows last text ws → Lexes last true (codes "0" ++ text) (a_number (codes "0") ∷ ws)
+none_lexes {text = text} follows = word_then token.Number (codes "0") (number_fits (codes "0") text (omega arith) refl follows.ends) follows.lexes
 
 -- a name, and what follows it
-pub name_lexed : (last : TokenKind) (name : List ℕ) (more : List Bit) → IsName name → Follows last more → AreLexed last true (word Name name ∷ more)
-name_lexed last name more is follows = (name_fits name (bits_text more) is (goes_on-name (bits_text more) follows.ends), follows.lexed)
+pub name_lexes : {last : TokenKind} {inside : Bool} {text : List ℕ} {ws : List Word} (name : List ℕ) → IsName name → Follows last text ws → Lexes last inside (name ++ text) (a_name name ∷ ws)
+name_lexes {text = text} name is follows = word_then token.Name name (name_fits name text is (goes_on-name text follows.ends)) follows.lexes
 
 -- a name begins with a byte of one
 name-begins : (name rest : List ℕ) → IsName name → begins_so is_name_byte (name ++ rest) ≡ true
 name-begins [] rest is = absurd (let e = is.begins in cc)
 name-begins (b ∷ name) rest is = (and_parts (is_name_byte b) (list_all is_name_byte name) is.bytes).0
 
--- a digit is a byte of names
-digit-name_byte : (b : ℕ) → is_digit b ≡ true → is_name_byte b ≡ true
-digit-name_byte b h = grind (arith, nat_tests)
-
 -- digits begin with a byte of names
 digits-begin : (ds rest : List ℕ) → 1 ≤ length ds → list_all is_digit ds ≡ true → begins_so is_name_byte (ds ++ rest) ≡ true
 digits-begin [] rest some all = absurd (omega arith)
-digits-begin (d ∷ ds) rest some all = digit-name_byte d (and_parts (is_digit d) (list_all is_digit ds) all).0
+digits-begin (d ∷ ds) rest some all = let digit : is_digit d ≡ true = (and_parts (is_digit d) (list_all is_digit ds) all).0 in grind (arith, nat_tests)
 
 -- a decimal text begins with a byte of names
 decimal-begins : (n : ℕ) (rest : List ℕ) → n < NUMBER_SIZE → begins_so is_name_byte (decimal n ++ rest) ≡ true
 decimal-begins n rest small = let w : Writes n (decimal n) = writes_decimal n small in digits-begin (decimal n) rest w.some w.digits
 
 -- a term begins with a byte of names
-size_begins : (t : ℤ × List ℕ) (more : List Bit) → IsTerm t → begins_so is_name_byte (bits_text (size_bits t.0 t.1 more)) ≡ true
-size_begins (c, []) more is = decimal-begins (unsigned_abs c) (bits_text more) is.0
-size_begins (c, b ∷ name) more is =
-    elim (unsigned_abs c == 1) as (λ v. (unsigned_abs c == 1) ≡ v → begins_so is_name_byte (bits_text (size_bits c (b ∷ name) more)) ≡ true) [
-      | true ↦ λ e. rw e (name-begins (b ∷ name) (bits_text more) is.1)
-      | false ↦ λ e. rw e (decimal-begins (unsigned_abs c) _ is.0)
+size_begins : (t : ℤ × List ℕ) (rest : List ℕ) → IsTerm t → begins_so is_name_byte (size_text t.0 t.1 ++ rest) ≡ true
+size_begins (c, []) rest is = decimal-begins (unsigned_abs c) rest is.0
+size_begins (c, b ∷ name) rest is =
+    elim (unsigned_abs c == 1) as (λ v. (unsigned_abs c == 1) ≡ v → begins_so is_name_byte (size_text c (b ∷ name) ++ rest) ≡ true) [
+      | true ↦ λ e. rw e (name-begins (b ∷ name) rest is.1)
+      | false ↦ λ e. rw e (simp append_assoc (decimal-begins (unsigned_abs c) _ is.0))
     ] refl
 
 -- a term, and what follows it
-size_lexed : (last : TokenKind) (t : ℤ × List ℕ) (more : List Bit) → IsTerm t → Follows last more → AreLexed last true (size_bits t.0 t.1 more)
-size_lexed last (c, []) more is follows = number_lexed last (unsigned_abs c) more is.0 follows
-size_lexed last (c, b ∷ name) more is follows =
-    elim (unsigned_abs c == 1) as (λ v. (unsigned_abs c == 1) ≡ v → AreLexed last true (size_bits c (b ∷ name) more)) [
-      | true ↦ λ e. rw e (name_lexed last (b ∷ name) more is.1 follows)
-      | false ↦ λ e. rw e (number_lexed last (unsigned_abs c) _ is.0 (
-          symbol_then last 42 (word Name (b ∷ name) ∷ more) (single_fits 42 (b ∷ (name ++ bits_text more)) refl (star_before (b ∷ (name ++ bits_text more)) (name-begins (b ∷ name) (bits_text more) is.1))) refl (name_lexed last (b ∷ name) more is.1 follows)))
-    ] refl
-
--- a sign between terms
-sign_then : (last : TokenKind) (c : ℤ) (more : List Bit) → AreLexed last true more → AreLexed last true (symbol (sign_bytes c) ∷ space ∷ more)
-sign_then last c more lexed =
-    elim (is_below_zero c) as (λ v. is_below_zero c ≡ v → AreLexed last true (symbol (sign_bytes c) ∷ space ∷ more)) [
-      | true ↦ λ e. rw e (single_fits 45 (32 ∷ bits_text more) refl refl, (refl, lexed))
-      | false ↦ λ e. rw e (single_fits 43 (32 ∷ bits_text more) refl refl, (refl, lexed))
+size_lexes : {last : TokenKind} {text : List ℕ} {ws : List Word} (t : ℤ × List ℕ) → IsTerm t → Follows last text ws → Lexes last true (size_text t.0 t.1 ++ text) (term_words (size_tree false t.0 t.1) ++ ws)
+size_lexes (c, []) is follows = number_lexes (unsigned_abs c) is.0 follows
+size_lexes {last} {text} {ws} (c, b ∷ name) is follows =
+    elim (unsigned_abs c == 1) as (λ v. (unsigned_abs c == 1) ≡ v → Lexes last true (size_text c (b ∷ name) ++ text) (term_words (size_tree false c (b ∷ name)) ++ ws)) [
+      | true ↦ λ e. rw e (name_lexes (b ∷ name) is.1 follows)
+      | false ↦ λ e. rw e (lexes_as (number_lexes (unsigned_abs c) is.0 (
+          symbol_then 42 (single_fits 42 (b ∷ (name ++ text)) refl (star_before (b ∷ (name ++ text)) (name-begins (b ∷ name) text is.1))) refl (name_lexes (b ∷ name) is.1 follows))) (simp append_assoc) refl)
     ] refl
 
 -- the terms after the first
-later_follow : (last : TokenKind) (terms : List (ℤ × List ℕ)) (more : List Bit) → AreTerms terms → Follows last more → Follows last (later_bits terms more)
-later_follow last [] more are follows = follows
-later_follow last (t ∷ terms) more are follows =
-    space_then last (symbol (sign_bytes t.0) ∷ space ∷ size_bits t.0 t.1 (later_bits terms more)) (sign_then last t.0 _ (size_lexed last t (later_bits terms more) are.0 (later_follow last terms more are.1 follows)))
-
--- the sign of the first term
-minus_lexed : (last : TokenKind) (c : ℤ) (more : List Bit) → begins_so is_name_byte (bits_text more) ≡ true → AreLexed last true more → AreLexed last true (minus_bits c more)
-minus_lexed last c more begins lexed =
-    elim (is_below_zero c) as (λ v. is_below_zero c ≡ v → AreLexed last true (minus_bits c more)) [
-      | true ↦ λ e. rw e (single_fits 45 (bits_text more) refl (minus_before (bits_text more) begins), lexed)
-      | false ↦ λ e. rw e lexed
+later_follow : {last : TokenKind} {text : List ℕ} {ws : List Word} (terms : List (ℤ × List ℕ)) → AreTerms terms → Follows last text ws → Follows last (later_terms_text terms ++ text) (sums_words (later_tree terms) ++ ws)
+later_follow [] are follows = follows
+later_follow {last} {text} {ws} (t ∷ terms) are follows =
+    let rest = size_lexes t are.0 (later_follow terms are.1 follows) in
+    elim (is_below_zero t.0) as (λ v. is_below_zero t.0 ≡ v → Follows last (later_terms_text (t ∷ terms) ++ text) (sums_words (later_tree (t ∷ terms)) ++ ws)) [
+      | true ↦ λ e. rw e (follows_as (space_then (word_then token.Symbol (codes "-") (single_fits 45 (32 ∷ _) refl refl) (space_then rest).lexes)) (simp append_assoc) (simp append_assoc))
+      | false ↦ λ e. rw e (follows_as (space_then (word_then token.Symbol (codes "+") (single_fits 43 (32 ∷ _) refl refl) (space_then rest).lexes)) (simp append_assoc) (simp append_assoc))
     ] refl
 
+-- a term's words behind a minus
+minus_words : (c : ℤ) (name : List ℕ) → a_symbol (codes "-") ∷ term_words (size_tree false c name) ≡ term_words (size_tree true c name)
+minus_words c [] = refl
+minus_words c (b ∷ bytes) =
+    elim (unsigned_abs c == 1) as (λ v. (unsigned_abs c == 1) ≡ v → a_symbol (codes "-") ∷ term_words (size_tree false c (b ∷ bytes)) ≡ term_words (size_tree true c (b ∷ bytes))) [
+      | true ↦ λ e. rw e refl
+      | false ↦ λ e. rw e refl
+    ] refl
+
+-- a term with its sign, and what follows it
+first_lexes : {last : TokenKind} {text : List ℕ} {ws : List Word} (below : Bool) (t : ℤ × List ℕ) → IsTerm t → Follows last text ws → Lexes last true ((if below then codes "-" else []) ++ (size_text t.0 t.1 ++ text)) (term_words (size_tree below t.0 t.1) ++ ws)
+first_lexes {text = text} {ws = ws} true t is follows =
+    lexes_as (word_then token.Symbol (codes "-") (single_fits 45 (size_text t.0 t.1 ++ text) refl (minus_before (size_text t.0 t.1 ++ text) (size_begins t text is))) (size_lexes t is follows)) refl (ap (λ (l : List Word). l ++ ws) (minus_words t.0 t.1))
+first_lexes false t is follows = size_lexes t is follows
+
 -- all terms
-terms_lexed : (last : TokenKind) (terms : List (ℤ × List ℕ)) (more : List Bit) → AreTerms terms → Follows last more → AreLexed last true (terms_bits terms more)
-terms_lexed last [] more are follows = (number_fits (codes "0") (bits_text more) (omega arith) refl follows.ends, follows.lexed)
-terms_lexed last (t ∷ terms) more are follows =
-    minus_lexed last t.0 _ (size_begins t (later_bits terms more) are.0) (size_lexed last t (later_bits terms more) are.0 (later_follow last terms more are.1 follows))
+terms_lexes : {last : TokenKind} {text : List ℕ} {ws : List Word} (terms : List (ℤ × List ℕ)) → AreTerms terms → Follows last text ws → Lexes last true (terms_text terms ++ text) (affine_words (terms_tree terms) ++ ws)
+terms_lexes [] are follows = none_lexes follows
+terms_lexes {ws = ws} (t ∷ terms) are follows =
+    lexes_as (first_lexes (is_below_zero t.0) t are.0 (later_follow terms are.1 follows)) (simp append_assoc) (sym (append_assoc (term_words (size_tree (is_below_zero t.0) t.0 t.1)) (sums_words (later_tree terms)) ws))
 
 -- the names of parameters and of loops around, and their bounds
 pub record AreVariables (parameters around : List (List ℕ)) : Type 0 where
@@ -128,19 +163,20 @@ pub record AreVariables (parameters around : List (List ℕ)) : Type 0 where
   pub deep : length around ≤ LOOPS
 
 -- a form
-pub form_lexed : (last : TokenKind) (parameters around : List (List ℕ)) (form : AffineForm) (more : List Bit) → AreVariables parameters around → IsSmallForm (length parameters) (length around) form → Follows last more → AreLexed last true (form_bits (parameters ++ around) form more)
-form_lexed last parameters around form more are small follows =
-    terms_lexed last (form_terms (parameters ++ around) form) more (form_terms-are parameters around form are.parameter_names are.loop_names are.few are.deep small) follows
+pub form_lexes : {last : TokenKind} {text : List ℕ} {ws : List Word} {parameters around : List (List ℕ)} (form : AffineForm) → AreVariables parameters around → IsSmallForm (length parameters) (length around) form → Follows last text ws
+    → Lexes last true (form_text (parameters ++ around) form ++ text) (affine_words (form_tree (parameters ++ around) form) ++ ws)
+form_lexes {parameters = parameters} {around = around} form are small follows =
+    terms_lexes (form_terms (parameters ++ around) form) (form_terms-are parameters around form are.parameter_names are.loop_names are.few are.deep small) follows
 
 -- ---- references and statements
 
 -- subscripts
-subscripts_follow : (last : TokenKind) (parameters around : List (List ℕ)) (forms : List AffineForm) (more : List Bit) → AreVariables parameters around → AllByRecursion (IsSmallForm (length parameters) (length around)) forms → Follows last more → Follows last (subscripts_bits (parameters ++ around) forms more)
-subscripts_follow last parameters around [] more are small follows = follows
-subscripts_follow last parameters around (form ∷ forms) more are small follows =
-    let rest : Follows last (subscripts_bits (parameters ++ around) forms more) = subscripts_follow last parameters around forms more are small.1 follows in
-    let close : Follows last (symbol (codes "]") ∷ subscripts_bits (parameters ++ around) forms more) = symbol_then last 93 _ (plain_fits 93 _ refl refl refl) refl rest.lexed in
-    symbol_then last 91 _ (plain_fits 91 _ refl refl refl) refl (form_lexed last parameters around form _ are small.0 close)
+subscripts_follow : {last : TokenKind} {text : List ℕ} {ws : List Word} {parameters around : List (List ℕ)} (forms : List AffineForm) → AreVariables parameters around → AllByRecursion (IsSmallForm (length parameters) (length around)) forms → Follows last text ws
+    → Follows last (flat_map (subscript_text (parameters ++ around)) forms ++ text) (subscripts_words (subscripts_tree (parameters ++ around) forms) ++ ws)
+subscripts_follow [] are small follows = follows
+subscripts_follow (form ∷ forms) are small follows =
+    let close = symbol_then 93 (plain_fits 93 _ refl refl refl) refl (subscripts_follow forms are small.1 follows).lexes in
+    follows_as (symbol_then 91 (plain_fits 91 _ refl refl refl) refl (form_lexes form are small.0 close)) (simp append_assoc) (simp append_assoc)
 
 -- the name of an array that is there
 pub array_named : (P Q : Array → Type 0) (arrays : List Array) (number : ℕ) (none : Array) → AllByRecursion P arrays → IsSomeAnd (slice_get arrays number) Q → P (slice_index_or arrays number none) × Q (slice_index_or arrays number none)
@@ -155,68 +191,71 @@ module _ (p : AffineProgram) (is : HasRoles p) where
 
   module _ (around : List (List ℕ)) (are : AreVariables p.parameters around) where
     -- a reference
-    access_lexed : (last : TokenKind) (seen : ℕ) (access : Access) (more : List Bit) → IsReadableAccess p (length around) seen access → Follows last more → AreLexed last true (access_bits p (p.parameters ++ around) access more)
-    access_lexed last seen access more fits follows =
-        name_lexed last (array_name p access.array) _ (array_named _ _ p.arrays access.array _ is.arrays fits.rank).0.0 (subscripts_follow last p.parameters around access.subscripts more are fits.subscripts follows)
+    access_lexes : {last : TokenKind} {inside : Bool} {text : List ℕ} {ws : List Word} (seen : ℕ) (access : Access) → IsReadableAccess p (length around) seen access → Follows last text ws
+        → Lexes last inside (access_text p (p.parameters ++ around) access ++ text) (reference_words (access_tree p (p.parameters ++ around) access) ++ ws)
+    access_lexes seen access fits follows =
+        lexes_as (name_lexes (array_name p access.array) (array_named _ _ p.arrays access.array _ is.arrays fits.rank).0.0 (subscripts_follow access.subscripts are fits.subscripts follows)) (simp append_assoc) refl
 
-    -- the reads after the first
-    others_follow : (last : TokenKind) (seen : ℕ) (reads : List Access) (more : List Bit) → AreReadableAccesses p (length around) seen reads → Follows last more → Follows last (others_bits p (p.parameters ++ around) reads more)
-    others_follow last seen [] more fit follows = follows
-    others_follow last seen (read ∷ reads) more fit follows =
-        symbol_then last 44 _ (plain_fits 44 _ refl refl refl) refl
-        (refl, access_lexed last seen read _ fit.0 (others_follow last (access_seen seen read) reads more fit.1 follows))
+    -- the arguments of a call
+    arguments_lex : {last : TokenKind} {text : List ℕ} {ws : List Word} (seen : ℕ) (read : Access) (reads : List Access) → AreReadableAccesses p (length around) seen (read ∷ reads) → Follows last text ws
+        → Lexes last true ((access_text p (p.parameters ++ around) read ++ flat_map (λ r. codes ", " ++ access_text p (p.parameters ++ around) r) reads) ++ text) (arguments_words (arguments_tree p (p.parameters ++ around) read reads) ++ ws)
+    arguments_lex seen read [] fit follows = lexes_as (access_lexes seen read fit.0 follows) (simp (append-nil, append_assoc)) (simp append_assoc)
+    arguments_lex seen read (other ∷ reads) fit follows =
+        let more = space_then (arguments_lex (access_seen seen read) other reads fit.1 follows) in
+        lexes_as (access_lexes seen read fit.0 (symbol_then 44 (plain_fits 44 _ refl refl refl) refl more.lexes)) (simp append_assoc) (simp append_assoc)
 
     -- what a statement reads
-    reads_lexed : (last : TokenKind) (seen : ℕ) (reads : List Access) (more : List Bit) → AreReadableAccesses p (length around) seen reads → Follows last more → AreLexed last true (reads_bits p (p.parameters ++ around) reads more)
-    reads_lexed last seen [] more fit follows = (number_fits (codes "0") (bits_text more) (omega arith) refl follows.ends, follows.lexed)
-    reads_lexed last seen (read ∷ reads) more fit follows =
-        let close : Follows last (symbol (codes ")") ∷ more) = symbol_then last 41 _ (plain_fits 41 _ refl refl refl) refl follows.lexed in
-        name_lexed last (codes "f") (symbol (codes "(") ∷ access_bits p (p.parameters ++ around) read (others_bits p (p.parameters ++ around) reads (symbol (codes ")") ∷ more))) (record { begins = refl; bytes = refl; few = omega arith; no_word = refl })
-        (symbol_then last 40 (access_bits p (p.parameters ++ around) read (others_bits p (p.parameters ++ around) reads (symbol (codes ")") ∷ more))) (plain_fits 40 _ refl refl refl) refl
-        (access_lexed last seen read _ fit.0 (others_follow last (access_seen seen read) reads _ fit.1 close)))
+    reads_lex : {last : TokenKind} {text : List ℕ} {ws : List Word} (seen : ℕ) (reads : List Access) → AreReadableAccesses p (length around) seen reads → Follows last text ws
+        → Lexes last true (reads_text p (p.parameters ++ around) reads ++ text) (value_words (reads_tree p (p.parameters ++ around) reads) ++ ws)
+    reads_lex seen [] fit follows = none_lexes follows
+    reads_lex seen (read ∷ reads) fit follows =
+        let inside = arguments_lex seen read reads fit (symbol_then 41 (plain_fits 41 _ refl refl refl) refl follows.lexes) in
+        lexes_as (name_lexes (codes "f") (record { begins = refl; bytes = refl; few = omega arith; no_word = refl }) (symbol_then 40 (plain_fits 40 _ refl refl refl) refl inside)) (simp append_assoc) (simp (append-nil, append_assoc))
 
     -- a statement
-    statement_lexed : (last : TokenKind) (seen : ℕ) (statement : Statement) (more : List Bit) → last ≡ End → IsReadableStatement p (length around) seen statement → AreLexed last false more → AreLexed last true (statement_bits p (p.parameters ++ around) statement more)
-    statement_lexed last seen statement more program fits lexed =
-        let close : Follows last (symbol (codes ";") ∷ newline ∷ more) = symbol_then last 59 _ (plain_fits 59 _ refl refl refl) refl (program, lexed) in
-        access_lexed last seen statement.writes _ fits.accesses.0 (space_then last (symbol (codes "=") ∷ space ∷ reads_bits p (p.parameters ++ around) statement.reads (symbol (codes ";") ∷ newline ∷ more))
-        (single_fits 61 (32 ∷ _) refl refl, (refl, reads_lexed last (access_seen seen statement.writes) statement.reads _ fits.accesses.1 close)))
+    statement_lexes : {last : TokenKind} {inside : Bool} {text : List ℕ} {ws : List Word} (seen : ℕ) (statement : Statement) → last ≡ token.End → IsReadableStatement p (length around) seen statement → Lexes last false text ws
+        → Lexes last inside (statement_text p (p.parameters ++ around) statement ++ text) ((assign_words (statement_tree p (p.parameters ++ around) statement) ++ (a_symbol (codes ";") ∷ [])) ++ ws)
+    statement_lexes seen statement program fits l =
+        let close = symbol_then 59 (plain_fits 59 _ refl refl refl) refl (newline_then program l) in
+        let reads = space_then (reads_lex (access_seen seen statement.writes) statement.reads fits.accesses.1 close) in
+        lexes_as (access_lexes seen statement.writes fits.accesses.0 (space_then (word_then token.Symbol (codes "=") (single_fits 61 (32 ∷ _) refl refl) reads.lexes))) (simp append_assoc) (simp append_assoc)
 
-    -- the end of a header
-    step_follow : (last : TokenKind) (name : List ℕ) (more : List Bit) → last ≡ End → IsName name → AreLexed last false more → Follows last (step_bits name more)
-    step_follow last name more program is_name lexed =
-        let brace : Follows last (symbol (codes "{") ∷ newline ∷ more) = symbol_then last 123 _ (plain_fits 123 _ refl refl refl) refl (program, lexed) in
-        let close : Follows last (symbol (codes ")") ∷ space ∷ symbol (codes "{") ∷ newline ∷ more) = symbol_then last 41 _ (plain_fits 41 _ refl refl refl) refl (refl, brace.lexed) in
-        let plus : IsWordAt Symbol (codes "++") (bits_text (symbol (codes ")") ∷ space ∷ symbol (codes "{") ∷ newline ∷ more)) = record { begins = refl; in_line = refl; long = λ region. refl; token = λ last place. refl } in
-        symbol_then last 59 _ (plain_fits 59 _ refl refl refl) refl (refl, (name_fits name _ is_name refl, (plus, close.lexed)))
-
-    -- a header
-    header_lexed : (last : TokenKind) (name : List ℕ) (lower upper : AffineForm) (more : List Bit) → last ≡ End → IsReadableHeader p around name lower upper → AreLexed last false more → AreLexed last true (header_bits (p.parameters ++ around) name lower upper more)
-    header_lexed last name lower upper more program fits lexed =
-        let upper_lexed = form_lexed last p.parameters around upper (step_bits name more) are fits.upper_small (step_follow last name more program fits.is_name lexed) in
-        let compare : IsWordAt Symbol (codes "<=") (32 ∷ bits_text (form_bits (p.parameters ++ around) upper (step_bits name more))) = record { begins = refl; in_line = refl; long = λ region. refl; token = λ last place. refl } in
-        let behind = name_lexed last name _ fits.is_name (space_then last (symbol (codes "<=") ∷ space ∷ form_bits (p.parameters ++ around) upper (step_bits name more)) (compare, (refl, upper_lexed))) in
-        let lower_lexed = form_lexed last p.parameters around lower _ are fits.lower_small (symbol_then last 59 _ (plain_fits 59 _ refl refl refl) refl (refl, behind)) in
-        let named = name_lexed last name _ fits.is_name (space_then last (symbol (codes "=") ∷ space ∷ form_bits (p.parameters ++ around) lower _) (single_fits 61 (32 ∷ _) refl refl, (refl, lower_lexed))) in
-        let for_fits : IsWordAt Word (codes "for") (32 ∷ _) = record { begins = refl; in_line = refl; long = λ region. refl; token = λ last place. refl } in
-        (for_fits, (refl, (plain_fits 40 _ refl refl refl, named)))
-
-  -- one loop more around
-  All_one_more : (around : List (List ℕ)) (name : List ℕ) → AllByRecursion IsName around → IsName name → AllByRecursion IsName (around ++ name ∷ [])
-  All_one_more around name names is_name = All_both IsName around (name ∷ []) names (is_name, tt)
+    -- a header, and the bracket behind it
+    header_lexes : {last : TokenKind} {inside : Bool} {text : List ℕ} {ws : List Word} (name : List ℕ) (lower upper : AffineForm) → last ≡ token.End → IsReadableHeader p around name lower upper → Lexes last false text ws
+        → Lexes last inside (header_text (p.parameters ++ around) name lower upper ++ text) (header_words (header_tree (p.parameters ++ around) name lower upper) ++ (a_symbol (codes "{") ∷ ws))
+    header_lexes name lower upper program fits l =
+        let brace = space_then (symbol_then 123 (plain_fits 123 _ refl refl refl) refl (newline_then program l)).lexes in
+        let close = symbol_then 41 (plain_fits 41 _ refl refl refl) refl brace.lexes in
+        let plus = word_then token.Symbol (codes "++") (record { begins = refl; in_line = refl; long = λ region. refl; token = λ region place. refl }) close.lexes in
+        let step = space_then (word_then token.Name name (name_fits name _ fits.is_name refl) plus) in
+        let high = space_then (form_lexes upper are fits.upper_small (symbol_then 59 (plain_fits 59 _ refl refl refl) refl step.lexes)) in
+        let compare = space_then (word_then token.Symbol (codes "<=") (record { begins = refl; in_line = refl; long = λ region. refl; token = λ region place. refl }) high.lexes) in
+        let behind = space_then (name_lexes name fits.is_name compare) in
+        let low = space_then (form_lexes lower are fits.lower_small (symbol_then 59 (plain_fits 59 _ refl refl refl) refl behind.lexes)) in
+        let named = name_lexes name fits.is_name (space_then (word_then token.Symbol (codes "=") (single_fits 61 (32 ∷ _) refl refl) low.lexes)) in
+        lexes_as (word_then token.Word (codes "for") (record { begins = refl; in_line = refl; long = λ region. refl; token = λ region place. refl })
+        (space_then (word_then token.Symbol (codes "(") (plain_fits 40 _ refl refl refl) named)).lexes) (simp append_assoc) (simp append_assoc)
 
   mutual
     -- an item
-    item_lexed : (last : TokenKind) (around : List (List ℕ)) (are : AreVariables p.parameters around) (seen : ℕ) (item : Item) (more : List Bit) → last ≡ End → IsReadableItem p around seen item → AreLexed last false more → AreLexed last false (item_bits p (p.parameters ++ around) item more)
-    item_lexed last around are seen (assign number) more program fits lexed = statement_lexed around are last seen (statement_at p number) more program fits lexed
-    item_lexed last around are seen (loop name lower upper body) more program fits lexed =
-        let inner : AreVariables p.parameters (around ++ name ∷ []) = are_variables (around ++ name ∷ []) (All_one_more around name are.loop_names fits.0.is_name) (omega (arith, fits.0.depth, length-append around (name ∷ []))) in
-        let close : AreLexed last false (symbol (codes "}") ∷ newline ∷ more) = (plain_fits 125 _ refl refl refl, (program, lexed)) in
-        let rows : AreLexed last false (row_bits p (p.parameters ++ (around ++ name ∷ [])) body (symbol (codes "}") ∷ newline ∷ more)) = row_lexed last (around ++ name ∷ []) inner seen body _ program fits.1 close in
-        header_lexed around are last name lower upper _ program fits.0 (subst (λ names. AreLexed last false (row_bits p names body (symbol (codes "}") ∷ newline ∷ more))) (sym (append_assoc p.parameters around (name ∷ []))) rows)
+    item_lexes : {last : TokenKind} {text : List ℕ} {ws : List Word} (around : List (List ℕ)) (are : AreVariables p.parameters around) (seen : ℕ) (item : Item) → last ≡ token.End → IsReadableItem p around seen item → Lexes last false text ws
+        → Lexes last false (item_text p (p.parameters ++ around) item ++ text) (item_words (item_tree p (p.parameters ++ around) item) ++ ws)
+    item_lexes around are seen (assign number) program fits l = statement_lexes around are seen (statement_at p number) program fits l
+    item_lexes {last} {text} {ws} around are seen (loop name lower upper body) program fits l =
+        let inner : AreVariables p.parameters (around ++ name ∷ []) = are_variables (around ++ name ∷ []) (All-append IsName around (name ∷ []) are.loop_names (fits.0.is_name, tt)) (omega (arith, fits.0.depth, length-append around (name ∷ []))) in
+        let close = word_then token.Symbol (codes "}") (plain_fits 125 _ refl refl refl) (newline_then program l) in
+        let rows = row_lexes (around ++ name ∷ []) inner seen body program fits.1 close in
+        let again = subst (λ names. Lexes last false (row_text p names body ++ (codes "}\n" ++ text)) (items_words (row_tree p names body) ++ (a_symbol (codes "}") ∷ ws))) (sym (append_assoc p.parameters around (name ∷ []))) rows in
+        let head : List ℕ = header_text (p.parameters ++ around) name lower upper in
+        let inside : List ℕ = row_text p ((p.parameters ++ around) ++ name ∷ []) body in
+        let head_words : List Word = header_words (header_tree (p.parameters ++ around) name lower upper) in
+        let words : List Word = items_words (row_tree p ((p.parameters ++ around) ++ name ∷ []) body) in
+        lexes_as (header_lexes around are name lower upper program fits.0 again) (sym (append_assoc (head ++ inside) (codes "}\n") text ∙ append_assoc head inside (codes "}\n" ++ text)))
+        (ap (λ (l : List Word). head_words ++ (a_symbol (codes "{") ∷ l)) (sym (append_assoc words (a_symbol (codes "}") ∷ []) ws)) ∙ sym (append_assoc head_words (a_symbol (codes "{") ∷ (words ++ a_symbol (codes "}") ∷ [])) ws))
 
     -- a row
-    pub row_lexed : (last : TokenKind) (around : List (List ℕ)) (are : AreVariables p.parameters around) (seen : ℕ) (row : Row) (more : List Bit) → last ≡ End → IsReadableRow p around seen row → AreLexed last false more → AreLexed last false (row_bits p (p.parameters ++ around) row more)
-    row_lexed last around are seen done more program fits lexed = lexed
-    row_lexed last around are seen (next item row) more program fits lexed =
-        item_lexed last around are seen item _ program fits.0 (row_lexed last around are (item_seen p seen item) row more program fits.1 lexed)
+    pub row_lexes : {last : TokenKind} {text : List ℕ} {ws : List Word} (around : List (List ℕ)) (are : AreVariables p.parameters around) (seen : ℕ) (row : Row) → last ≡ token.End → IsReadableRow p around seen row → Lexes last false text ws
+        → Lexes last false (row_text p (p.parameters ++ around) row ++ text) (items_words (row_tree p (p.parameters ++ around) row) ++ ws)
+    row_lexes around are seen done program fits l = l
+    row_lexes around are seen (next item row) program fits l =
+        lexes_as (item_lexes around are seen item program fits.0 (row_lexes around are (item_seen p seen item) row program fits.1 l)) (sym (append_assoc (item_text p (p.parameters ++ around) item) _ _)) (sym (append_assoc (item_words (item_tree p (p.parameters ++ around) item)) _ _))

@@ -21,21 +21,14 @@ use Rattle.c_grammar.specs.Meaning as mean
 use Rattle.c_grammar.specs.Meaning.{Names, Form, form, affine_means, sums_means, term_means, products_means, factor_means, integer_means, slot_by}
 use Rattle.c_printing.specs.Tree.{form_terms, signed, size_tree, added, later_tree, terms_tree, form_tree}
 use Rattle.c_tokens.specs.Names.{IsName}
-use Rattle.c_printing.proofs.Roles.{IsSmall, IsSmallForm}
-use Rattle.c_printing.proofs.Same.{padded, widened}
-use Rattle.c_printing.proofs.Fits.{Writes, writes_decimal}
-use Rattle.c_printing.proofs.Terms.{IsTerm, AreTerms, form_terms-parts, form_terms-are}
-use Rattle.c_printing.proofs.Numbers.{combined_single, replicate_small, set_small}
+use Rattle.c_printing.proofs.Roles.{IsSmall, IsSmallForm, padded, widened}
+use Rattle.c_printing.proofs.Lexed.{Writes, writes_decimal}
+use Rattle.c_printing.proofs.RowForms.{IsTerm, AreTerms, form_terms-parts, form_terms-are, combined_single, length-padded}
+use Rattle.base_laws.proofs.Lists.{All-replicate}
+use Rattle.c_grammar.proofs.NameKinds.{All-set}
+use Rattle.c_grammar.proofs.Steps.{means_then, means_given}
 
 -- ---- names and numbers
-
--- a meaning, and what follows it
-pub then_is : {A B : Type 0} (f : A → mean.Meaning B) {a : A} {s : Names} (m : Option (A × Names)) {o : Option (B × Names)} → m ≡ Some (a, s) → f a s ≡ o → mean.then_in m f ≡ o
-then_is f m e g = ap (λ p. mean.then_in p f) e ∙ g
-
--- what is given, and what follows it
-pub given_is : {A B : Type 0} (f : A → mean.Meaning B) {a : A} (s : Names) (m : Option A) {o : Option (B × Names)} → m ≡ Some a → f a s ≡ o → mean.then_in (mean.given m s) f ≡ o
-given_is f s m e g = ap (λ p. mean.then_in (mean.given p s) f) e ∙ g
 
 -- the place of a name's coefficient, by its kind
 abbrev pub kind_slot : Option Kind → Option ℕ
@@ -81,7 +74,7 @@ times_one c = omega (arith, ints)
 -- the multiple of one variable
 single_times : (k : ℤ) (at : ℕ) (n v : ℤ) → at < width → (pos 0 +ℤ (k *ℤ n)) -ℤ pos 0 ≡ v → IsSmall v → combined k (pos 0) zeros (single at n) ≡ Some (single at v)
 single_times k at n v within e fits =
-    combined_single k zeros at n v refl (replicate_small width) within (ap (λ z. (z +ℤ (k *ℤ n)) -ℤ pos 0) (get_or-replicate width at (pos 0) (pos 0) within) ∙ e) fits
+    combined_single k zeros at n v refl (All-replicate IsSmall width (pos 0) (omega arith)) within (ap (λ z. (z +ℤ (k *ℤ n)) -ℤ pos 0) (get_or-replicate width at (pos 0) (pos 0) within) ∙ e) fits
 
 module _ (brackets : ℕ) (s : Names) where
   -- a factor of one variable, with its sign
@@ -89,7 +82,7 @@ module _ (brackets : ℕ) (s : Names) where
       → factor_means brackets (signed below f) s ≡ Some (record { numbers = single at v; has_name = h }, s)
   unfolding factor_means
   signed_means true f at n v h e within is fits =
-      then_is _ (factor_means brackets f s) e (ap (λ o. mean.given (form h o) s) (single_times (negsuc 0) at n v within is fits))
+      means_then (factor_means brackets f s) _ e (ap (λ o. mean.given (form h o) s) (single_times (negsuc 0) at n v within is fits))
   signed_means false f at n v h e within is fits =
       let same : n ≡ v = omega (arith, ints, is) in
       e ∙ ap (λ m. Some (record { numbers = single at m; has_name = h }, s)) same
@@ -97,25 +90,25 @@ module _ (brackets : ℕ) (s : Names) where
   -- a number
   integer_factor : (n : ℕ) → n < NUMBER_SIZE → factor_means brackets (tree.integer (decimal n)) s ≡ Some (record { numbers = single 0 (pos n); has_name = false }, s)
   unfolding factor_means
-  integer_factor n small = given_is _ s (integer_means (decimal n)) (integer_is n small) refl
+  integer_factor n small = means_given (integer_means (decimal n)) _ s (integer_is n small) refl
 
   -- a name
   name_factor : (bytes : List ℕ) (at : ℕ) → kind_slot (kind_of bytes s) ≡ Some at → factor_means brackets (tree.name bytes) s ≡ Some (record { numbers = single at (pos 1); has_name = true }, s)
   unfolding factor_means mean.slot
-  name_factor bytes at known = then_is _ (slot_by bytes (kind_of bytes s) s) (slot_known bytes (kind_of bytes s) at s known) refl
+  name_factor bytes at known = means_then (slot_by bytes (kind_of bytes s) s) _ (slot_known bytes (kind_of bytes s) at s known) refl
 
   -- a factor alone
   alone : (f : Factor) (a : Form) → factor_means brackets f s ≡ Some (a, s) → term_means brackets (tree.product f tree.product_end) s ≡ Some (a, s)
   unfolding term_means products_means
-  alone f a e = then_is _ (factor_means brackets f s) e refl
+  alone f a e = means_then (factor_means brackets f s) _ e refl
 
   -- a number times a name
   multiple : (f g : Factor) (at : ℕ) (v : ℤ) → factor_means brackets f s ≡ Some (record { numbers = single 0 v; has_name = false }, s) → factor_means brackets g s ≡ Some (record { numbers = single at (pos 1); has_name = true }, s) → at < width → IsSmall v
       → term_means brackets (tree.product f (tree.times g tree.product_end)) s ≡ Some (record { numbers = single at v; has_name = true }, s)
   unfolding term_means products_means
   multiple f g at v e1 e2 within fits =
-      then_is _ (factor_means brackets f s) e1 (then_is _ (factor_means brackets g s) e2
-      (given_is _ s _ (ap (form true) (single_times v at (pos 1) v within (times_one v) fits)) refl))
+      means_then (factor_means brackets f s) _ e1 (means_then (factor_means brackets g s) _ e2
+      (means_given _ _ s (ap (form true) (single_times v at (pos 1) v within (times_one v) fits)) refl))
 
   -- a term with its sign
   pub size_means : (below : Bool) (t : ℤ × List ℕ) (at : ℕ) (v : ℤ) → IsTerm t → HasSlot s t.1 at → at < width → (pos 0 +ℤ (sign_of below *ℤ pos (unsigned_abs t.0))) -ℤ pos 0 ≡ v → IsSmall v
@@ -151,8 +144,8 @@ module _ (brackets : ℕ) (s : Names) where
   -- a term more
   added_means : (below : Bool) (a b c : Form) (t : Term) (ss : Sums) (o : Option (Form × Names)) → term_means brackets t s ≡ Some (b, s) → mean.plus below a b ≡ Some c → sums_means brackets c ss s ≡ o → sums_means brackets a (added below t ss) s ≡ o
   unfolding sums_means
-  added_means true a b c t ss o e f g = then_is _ (term_means brackets t s) e (given_is _ s _ f g)
-  added_means false a b c t ss o e f g = then_is _ (term_means brackets t s) e (given_is _ s _ f g)
+  added_means true a b c t ss o e f g = means_then (term_means brackets t s) _ e (means_given _ _ s f g)
+  added_means false a b c t ss o e f g = means_then (term_means brackets t s) _ e (means_given _ _ s f g)
 
   -- no term more
   none_means : (a : Form) → sums_means brackets a tree.sum_end s ≡ Some (a, s)
@@ -168,13 +161,13 @@ module _ (brackets : ℕ) (s : Names) where
       let b : Form = record { numbers = single fills.0 (pos (unsigned_abs t.0)); has_name = size.0 } in
       let sums : mean.plus (is_below_zero t.0) (record { numbers = row; has_name = h }) b ≡ Some (record { numbers = set row fills.0 t.0; has_name = h || size.0 }) =
       ap (form (h || size.0)) (combined_single (sign_of (is_below_zero t.0)) row fills.0 (pos (unsigned_abs t.0)) t.0 long small fills.1 (ap (λ z. (z +ℤ (sign_of (is_below_zero t.0) *ℤ pos (unsigned_abs t.0))) -ℤ pos 0) fills.3 ∙ signed_size t.0) are.0.0) in
-      let rest = later_means terms (set row fills.0 t.0) last (h || size.0) (length-set row fills.0 t.0 ∙ long) (set_small row fills.0 t.0 small are.0.0) are.1 fills.4 in
+      let rest = later_means terms (set row fills.0 t.0) last (h || size.0) (length-set row fills.0 t.0 ∙ long) (All-set IsSmall row fills.0 t.0 are.0.0 small) are.1 fills.4 in
       (rest.0, added_means (is_below_zero t.0) _ b _ (size_tree false t.0 t.1) (later_tree terms) _ size.1 sums rest.1)
 
   -- a sum
   sum_means : (t : Term) (ss : Sums) (a : Form) (o : Option (Form × Names)) → term_means brackets t s ≡ Some (a, s) → sums_means brackets a ss s ≡ o → affine_means brackets (tree.sum t ss) s ≡ o
   unfolding affine_means
-  sum_means t ss a o e f = then_is _ (term_means brackets t s) e f
+  sum_means t ss a o e f = means_then (term_means brackets t s) _ e f
 
   -- all terms
   pub terms_means : (terms : List (ℤ × List ℕ)) (last : List ℤ) → AreTerms terms → FillsRow s zeros terms last → MeansRow (affine_means brackets (terms_tree terms) s) last s
@@ -184,7 +177,7 @@ module _ (brackets : ℕ) (s : Names) where
       (false, sum_means _ _ _ _ (alone brackets s _ _ none) (none_means _) ∙ ap (λ ns. Some (record { numbers = ns; has_name = false }, s)) fills)
   terms_means (t ∷ terms) last are fills =
       let size = size_means brackets s (is_below_zero t.0) t fills.0 t.0 are.0 fills.2 fills.1 (signed_size t.0) are.0.0 in
-      let rest = later_means terms (single fills.0 t.0) last size.0 (length-set zeros fills.0 t.0) (set_small zeros fills.0 t.0 (replicate_small width) are.0.0) are.1 fills.4 in
+      let rest = later_means terms (single fills.0 t.0) last size.0 (length-set zeros fills.0 t.0) (All-set IsSmall zeros fills.0 t.0 are.0.0 (All-replicate IsSmall width (pos 0) (omega arith))) are.1 fills.4 in
       (rest.0, sum_means _ _ _ _ size.1 rest.1)
 
 -- ---- rows
@@ -209,12 +202,6 @@ fills_kept i row last t terms s within has none rest =
           rw e (subst (λ r. FillsRow i r (nonzero terms) last) same rest)
       | false ↦ λ e. rw e (s, within, has, none, rest)
     ] refl
-
--- so many numbers
-pub length-padded : (k : ℕ) (ns : List ℤ) → length (padded k ns) ≡ k
-length-padded zero ns = refl
-length-padded (suc k) [] = ap suc (length-padded k [])
-length-padded (suc k) (n ∷ ns) = ap suc (length-padded k ns)
 
 -- only zeros
 pub padded_none : (k : ℕ) → padded k [] ≡ replicate k (pos 0)

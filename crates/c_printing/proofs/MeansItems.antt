@@ -20,16 +20,16 @@ use Rattle.c_grammar.specs.Meaning as mean
 use Rattle.c_grammar.specs.Meaning.{Names, affine_means, header_means, loop_by, item_means, items_means, begin, end, statement_means}
 use Rattle.c_grammar.specs.Program.{narrowed, narrowed_statement, TreeLine, begins, does, ends, item_lines, row_lines, tree_lines, statements_among}
 use Rattle.c_printing.specs.Tree.{statement_tree, header_tree, item_tree, row_tree}
-use Rattle.c_printing.proofs.Same.{padded, widened, widened_statement}
+use Rattle.c_printing.proofs.Roles.{padded, widened, widened_statement, IsSmall, HasRoles, IsReadableHeader, IsReadableItem, IsReadableRow, item_seen, row_seen, statement_seen, other, role}
 use Rattle.c_tokens.specs.Names.{IsName}
-use Rattle.c_printing.proofs.Roles.{IsSmall, HasRoles, IsReadableHeader, IsReadableItem, IsReadableRow, item_seen, row_seen, statement_seen, other, role}
-use Rattle.c_printing.proofs.Terms.{All_both}
-use Rattle.c_printing.proofs.Numbers.{small_number_is, combined-plus}
-use Rattle.c_printing.proofs.RowForms.{form_back, form_statement_back}
-use Rattle.c_grammar.proofs.Dictionary.{place_of, lookup, number_of-place, kind_of-lookup, place-new, place-more, place-get, lookup-new, lookup-place}
+use Rattle.base_laws.proofs.Lists.{All-append}
+use Rattle.c_printing.proofs.RowForms.{small_number_is, combined-plus, form_back, form_statement_back, length-padded}
+use Rattle.c_grammar.proofs.Dictionary.{place_of, lookup, position-place, kind_of-lookup, place-new, place-more, place-get, lookup-new, lookup-place}
 use Rattle.c_printing.proofs.State.{AreLoops, Knows, named, knows-variables, knows_loop, moved, changed, knows_opened, knows_closed}
-use Rattle.c_printing.proofs.MeansForms.{then_is, given_is, KnowsVariables, form_means, length-padded}
+use Rattle.c_printing.proofs.MeansForms.{KnowsVariables, form_means}
 use Rattle.c_printing.proofs.MeansRefs.{Means, Extends, extends_none, extends_both, short_name, get_index, statement_meant}
+use Rattle.std.proofs.lemmas.List.{map-append}
+use Rattle.c_grammar.proofs.Steps.{means_then, means_given}
 
 -- ---- bounds
 
@@ -82,7 +82,7 @@ module _ (p : AffineProgram) (around : List (List ℕ)) (is : HasRoles p) (loops
         found.0,
         record {
           names = i;
-          is = ap (λ o. loop_by name o i) (kind_of-lookup name i knows.same ∙ again) ∙ ap (λ o. mean.loop_again o i) (number_of-place name i ∙ found.1);
+          is = ap (λ o. loop_by name o i) (kind_of-lookup name i knows.same ∙ again) ∙ ap (λ o. mean.loop_again o i) (position-place name i.names ∙ found.1);
           so = record { knows = knows; names = extends_none i.names; lines = refl; there = found.1; closed = again };
         },
       ))
@@ -102,8 +102,8 @@ module _ (p : AffineProgram) (around : List (List ℕ)) (is : HasRoles p) (loops
         first.0,
         record {
           names = j;
-          is = then_is _ (mean.loop_name name i) first.1.is (then_is _ (affine_means brackets _ j) low.1 (then_is _ (affine_means brackets _ j) high.1
-              (given_is _ j _ (bound_is wide (length-widened (length p.parameters) (length around) upper) fits.upper_small) refl)));
+          is = means_then (mean.loop_name name i) _ first.1.is (means_then (affine_means brackets _ j) _ low.1 (means_then (affine_means brackets _ j) _ high.1
+              (means_given _ _ j (bound_is wide (length-widened (length p.parameters) (length around) upper) fits.upper_small) refl)));
           so = first.1.so;
         },
       )
@@ -146,7 +146,7 @@ length_more around name = omega (arith, length-append around (name ∷ []))
 -- an item of a row
 items_step : (more brackets : ℕ) (t : item.Item) (ts : item.Items) (i j : Names) (o : Option (Unit {0} × Names)) → item_means more brackets t i ≡ Some (tt, j) → items_means more brackets ts j ≡ o → items_means more brackets (item.item t ts) i ≡ o
 unfolding items_means
-items_step more brackets t ts i j o e f = then_is _ (item_means more brackets t i) e f
+items_step more brackets t ts i j o e f = means_then (item_means more brackets t i) _ e f
 
 -- an item that is a statement
 statement_step : (more brackets : ℕ) (a : item.Assign) (i : Names) → item_means more brackets (item.statement a) i ≡ statement_means brackets a i
@@ -173,15 +173,15 @@ loop_step : (more brackets : ℕ) (h : item.Header) (body : item.Items) (l : Loo
     → items_means more brackets body second ≡ Some (tt, k) → end l.name k ≡ Some (tt, last) → item_means (suc more) (suc brackets) (item.loop h (item.block body)) i ≡ Some (tt, last)
 unfolding item_means
 loop_step more brackets h body l i j second k last e f g c =
-    then_is (λ (m : Loop). λ s. mean.then_in (mean.then_in (begin (most_loops - 1 - more) m s) (λ _. items_means more brackets body)) (λ _. end m.name)) (header_means brackets h i) e
-    (then_is (λ _. end l.name) (mean.then_in (begin (most_loops - 1 - more) l j) (λ _. items_means more brackets body)) (then_is (λ _. items_means more brackets body) (begin (most_loops - 1 - more) l j) f g) c)
+    means_then (header_means brackets h i) (λ (m : Loop). λ s. mean.then_in (mean.then_in (begin (most_loops - 1 - more) m s) (λ _. items_means more brackets body)) (λ _. end m.name)) e
+    (means_then (mean.then_in (begin (most_loops - 1 - more) l j) (λ _. items_means more brackets body)) (λ _. end l.name) (means_then (begin (most_loops - 1 - more) l j) (λ _. items_means more brackets body) f g) c)
 
 module _ (p : AffineProgram) (is : HasRoles p) where
   -- a loop more around
   loops_more : (around : List (List ℕ)) (name : List ℕ) (lower upper : AffineForm) → AreLoops p around → IsReadableHeader p around name lower upper → AreLoops p (around ++ name ∷ [])
   loops_more around name lower upper loops fits = record {
-    names = All_both IsName around (name ∷ []) loops.names (fits.is_name, tt);
-    others = All_both (λ n. role p n ≡ other) around (name ∷ []) loops.others (fits.is_other, tt);
+    names = All-append IsName around (name ∷ []) loops.names (fits.is_name, tt);
+    others = All-append (λ n. role p n ≡ other) around (name ∷ []) loops.others (fits.is_other, tt);
     deep = omega (arith, fits.depth, length-append around (name ∷ []));
   }
 
@@ -231,7 +231,7 @@ module _ (p : AffineProgram) (is : HasRoles p) where
         let l : Loop = record { name = head.0; lower = widened P D lower; upper = widened P D upper } in
         let begun : Names = record j { lines = j.lines ++ Begin l ∷ [] } in
         let second : Names = changed l.name (OpenLoop D) begun in
-        let knows_second : Knows p inner seen first second = knows_opened p is around name fits.0.is_other fits.0.is_new l.name seen first begun (moved p around seen first j is loops known.knows j.tokens (j.lines ++ Begin l ∷ [])) known.there known.closed in
+        let knows_second : Knows p inner seen first second = knows_opened p is around name fits.0.is_other fits.0.is_new l.name seen first begun (moved p around seen first j is loops known.knows j.tokens (j.lines ++ Begin l ∷ []) j.statements first known.knows.statements_count) known.there known.closed in
         let at_depth : most_loops - 1 - more ≡ D = omega arith in
         let variables : P + suc D ≡ P + length inner = omega arith in
         let over_body : RowFits p (P + length inner) body = subst (λ n. RowFits p n body) (suc_variables P D ∙ variables) over.2 in
@@ -241,7 +241,7 @@ module _ (p : AffineProgram) (is : HasRoles p) where
         let last : Names = changed l.name ClosedLoop ended in
         let place_k : place_of name k.names ≡ Some l.name = subst (λ ns. place_of name ns ≡ Some l.name) (sym rows.so.names.1) (place-more name j.names rows.so.names.0 l.name known.there) in
         let knows_last : Knows p around (row_seen p seen body) count last =
-        knows_closed p is around name fits.0.is_other fits.0.is_new l.name (row_seen p seen body) count ended (moved p inner (row_seen p seen body) count k is inner_loops rows.so.knows k.tokens (k.lines ++ End ∷ [])) place_k in
+        knows_closed p is around name fits.0.is_other fits.0.is_new l.name (row_seen p seen body) count ended (moved p inner (row_seen p seen body) count k is inner_loops rows.so.knows k.tokens (k.lines ++ End ∷ []) k.statements count rows.so.knows.statements_count) place_k in
         let body_tree = row_tree p ((p.parameters ++ around) ++ name ∷ []) body in
         let body_is : items_means more brackets body_tree second ≡ Some (tt, k) = ap (λ ns. items_means more brackets (row_tree p ns body) second) (append_assoc p.parameters around (name ∷ [])) ∙ rows.is in
         record {
@@ -317,9 +317,6 @@ module _ (p : AffineProgram) (is : HasRoles p) where
                 ∙ ap (λ ls. item_lines item ++ ls) (rest.so.same longer later extends ∙ ap (λ n. row_lines row ++ tree_lines longer P D n later) counts) ∙ sym (append_assoc (item_lines item) (row_lines row) _);
             table = λ later.
                 ap (λ ls. statements_among P D ls) (append_assoc one.so.new rest.so.new later) ∙ one.so.table (rest.so.new ++ later) ∙ ap (λ ls. map (statement_at p) (item_statements item) ++ ls) (rest.so.table later)
-                ∙ sym (append_assoc (map (statement_at p) (item_statements item)) (map (statement_at p) (row_statements row)) _) ∙ ap (λ ls. ls ++ statements_among P D later) (sym (map_both (item_statements item)));
+                ∙ sym (append_assoc (map (statement_at p) (item_statements item)) (map (statement_at p) (row_statements row)) _) ∙ ap (λ ls. ls ++ statements_among P D later) (sym (map-append (statement_at p) (item_statements item) (row_statements row)));
           };
-        } where
-          map_both : (xs : List ℕ) → map (statement_at p) (xs ++ row_statements row) ≡ map (statement_at p) xs ++ map (statement_at p) (row_statements row)
-          map_both [] = refl
-          map_both (x ∷ xs) = ap (λ ls. statement_at p x ∷ ls) (map_both xs)
+        }

@@ -22,13 +22,15 @@ use Rattle.c_grammar.specs.Affine as tree
 use Rattle.c_grammar.specs.Meaning as mean
 use Rattle.c_grammar.specs.Meaning.{Names, affine_means, subscripts_means, array_by, access_from, reference_means, with_read, named_means, name_means, value_means, operands_means, unary_means, arguments_means, assign_means, statement_means}
 use Rattle.c_printing.specs.Tree.{subscripts_tree, access_tree, read_tree, arguments_tree, reads_tree, statement_tree}
-use Rattle.c_printing.proofs.Same.{widened, widened_access, widened_statement}
+use Rattle.c_printing.proofs.Roles.{widened, widened_access, widened_statement, IsSmallForm, HasRoles, IsReadableAccess, AreReadableAccesses, access_seen, accesses_seen, IsReadableStatement, statement_seen}
 use Rattle.c_tokens.specs.Names.{IsName}
-use Rattle.c_printing.proofs.Roles.{IsSmallForm, HasRoles, IsReadableAccess, AreReadableAccesses, access_seen, accesses_seen, IsReadableStatement, statement_seen}
-use Rattle.c_printing.proofs.MeansForms.{then_is, KnowsVariables, form_means}
+use Rattle.c_printing.proofs.MeansForms.{KnowsVariables, form_means}
 use Rattle.c_grammar.proofs.Dictionary.{kind_of-lookup, set-last}
-use Rattle.c_printing.proofs.State.{AreLoops, Knows, named, knows-variables, array-variables, knows_array, moved, counted}
+use Rattle.c_printing.proofs.State.{AreLoops, Knows, named, knows-variables, array-variables, knows_array, moved}
 use Rattle.iolb_model.specs.declared.limits.TheConstants.{NAME_BYTES}
+use Rattle.std.proofs.lemmas.Option.{slice_get_within}
+use Rattle.c_grammar.proofs.NameKinds.{All-get}
+use Rattle.c_grammar.proofs.Steps.{means_then}
 
 -- ---- members
 
@@ -42,18 +44,6 @@ pub get_index : {X : Type 0} (xs : List X) (k : ℕ) (x none : X) → slice_get 
 get_index [] k x none e = cc
 get_index (y ∷ xs) zero x none e = cc
 get_index (y ∷ xs) (suc k) x none e = get_index xs k x none e
-
--- a member's place is within the list
-pub get_below : {X : Type 0} (xs : List X) (k : ℕ) (x : X) → slice_get xs k ≡ Some x → k < length xs
-get_below [] k x e = cc
-get_below (y ∷ xs) zero x e = omega arith
-get_below (y ∷ xs) (suc k) x e = omega (arith, get_below xs k x e)
-
--- what holds of each member holds of the one at a place
-pub get_all : {X : Type 0} (P : X → Type 0) (xs : List X) (k : ℕ) (x : X) → AllByRecursion P xs → slice_get xs k ≡ Some x → P x
-get_all P [] k x all e = cc
-get_all P (y ∷ xs) zero x all e = let same : y ≡ x = cc in subst P same all.0
-get_all P (y ∷ xs) (suc k) x all e = get_all P xs k x all.1 e
 
 -- the names go on with others
 abbrev pub Extends : List (List ℕ) → List (List ℕ) → Type 0
@@ -94,7 +84,7 @@ subscripts_mean brackets i parameters around knows (form ∷ forms) rows small f
     let below : nat_le most_subscripts (length rows) ≡ false = grind (arith, nat_tests) in
     let row_before = form_means brackets i parameters around form knows small.0 in
     let wide : List ℤ = widened (length parameters) (length around) form in
-    rw below (then_is _ (affine_means _ _ i) row_before.1
+    rw below (means_then (affine_means _ _ i) _ row_before.1
     (subscripts_mean brackets i parameters around knows forms (rows ++ wide ∷ []) small.1 (omega (arith, length-append rows (wide ∷ [])))
     ∙ ap (λ r. Some (r, i)) (append_assoc rows (wide ∷ []) (map (widened (length parameters) (length around)) forms))))
 
@@ -123,7 +113,7 @@ access_known : (brackets k rank : ℕ) (rows : List (List ℤ)) (r : tree.Refere
 unfolding reference_means access_from
 access_known brackets k rank rows r i known f same =
     let count : (length rows == rank) ≡ true = same_count (length rows) rank same in
-    then_is _ (mean.array r.name i) (array_known r.name k rank i known) (then_is _ (subscripts_means brackets [] r.subscripts i) f (rw count refl))
+    means_then (mean.array r.name i) _ (array_known r.name k rank i known) (means_then (subscripts_means brackets [] r.subscripts i) _ f (rw count refl))
 
 -- a reference to a new array, from its parts
 access_new : (brackets k rank : ℕ) (rows : List (List ℤ)) (r : tree.Reference) (i : Names) → kind_of r.name i ≡ None → is_short r.name ≡ true → length i.kinds ≡ length i.names → i.arrays ≡ k → k < most_arrays → length rows ≡ rank
@@ -133,8 +123,8 @@ unfolding reference_means access_from with_kind
 access_new brackets k rank rows r i none short same count few long f =
     let kinds_are : slice_set (i.kinds ++ Array i.arrays 0 ∷ []) (length i.names) (Array i.arrays (length rows)) ≡ i.kinds ++ Array k rank ∷ [] =
     ap (λ n. slice_set (i.kinds ++ Array i.arrays 0 ∷ []) n (Array i.arrays (length rows))) (sym same) ∙ set-last i.kinds (Array i.arrays 0) (Array i.arrays (length rows)) ∙ ap (λ n. i.kinds ++ Array n (length rows) ∷ []) count ∙ ap (λ n. i.kinds ++ Array k n ∷ []) long in
-    then_is _ (mean.array r.name i) (array_new r.name i none short (omega arith))
-    (then_is _ (subscripts_means brackets [] r.subscripts _) f
+    means_then (mean.array r.name i) _ (array_new r.name i none short (omega arith))
+    (means_then (subscripts_means brackets [] r.subscripts _) _ f
     (ap (λ ks. Some (record { array = i.arrays; subscripts = rows }, record (named r.name (Array i.arrays 0) i) { arrays = i.arrays + 1; kinds = ks })) kinds_are
     ∙ ap (λ n. Some (record { array = n; subscripts = rows }, record (named r.name (Array k rank) i) { arrays = i.arrays + 1 })) count))
 
@@ -174,7 +164,7 @@ module _ (p : AffineProgram) (around : List (List ℕ)) (is : HasRoles p) (loops
       → (a : program.Array) × (slice_get p.arrays printed.array ≡ Some a) × (a.name ≡ array_name p printed.array) × IsName a.name × (length printed.subscripts ≡ a.rank) × (a.rank ≤ most_subscripts)
   array_named printed depth seen fits =
       let found = some_and _ (slice_get p.arrays printed.array) fits.rank in
-      let fine = get_all _ p.arrays printed.array found.0 is.arrays found.1 in
+      let fine = All-get _ p.arrays printed.array found.0 is.arrays found.1 in
       (found.0, found.1, sym (ap (λ (b : program.Array). b.name) (get_index p.arrays printed.array found.0 (record { name = []; rank = 0 }) found.1)), fine.0, found.2, fine.1)
 
   -- a printed reference means itself
@@ -202,7 +192,7 @@ module _ (p : AffineProgram) (around : List (List ℕ)) (is : HasRoles p) (loops
       let here : printed.array ≡ seen = omega (arith, fits.seen_first) in
       let there : slice_get p.arrays seen ≡ Some a = ap (slice_get p.arrays) (sym here) ∙ found.1 in
       let none : kind_of a.name i ≡ None = kind_of-lookup a.name i knows.same ∙ knows.new_arrays seen a there (omega arith) in
-      let few : seen < most_arrays = omega (arith, get_below p.arrays seen a there, is.few_arrays) in
+      let few : seen < most_arrays = omega (arith, slice_get_within p.arrays seen a there, is.few_arrays) in
       let above : nat_lt printed.array seen ≡ false = grind (arith, nat_tests) in
       let grown : access_seen seen printed ≡ suc seen = rw above refl in
       let last : Names = record (named a.name (Array seen a.rank) i) { arrays = i.arrays + 1 } in
@@ -234,10 +224,10 @@ module _ (p : AffineProgram) (around : List (List ℕ)) (is : HasRoles p) (loops
       let one = access_means brackets seen count i printed knows fits in
       let r : tree.Reference = access_tree p (p.parameters ++ around) printed in
       let kind_is : IsReadable (kind_of r.name i) = subst (λ n. IsReadable (kind_of n i)) found.2 (readable seen count i printed.array found.0 knows found.1) in
-      let read : with_read (suc brackets) before r i ≡ Some (before ++ widened_access (length p.parameters) (length around) printed ∷ [], one.names) = rw below (then_is _ (reference_means (suc brackets) r i) one.is refl) in
+      let read : with_read (suc brackets) before r i ≡ Some (before ++ widened_access (length p.parameters) (length around) printed ∷ [], one.names) = rw below (means_then (reference_means (suc brackets) r i) _ one.is refl) in
       record {
         names = one.names;
-        is = then_is _ (named_means (suc brackets) before r (kind_of r.name i) i) (ap (λ (m : mean.Meaning Accesses). m i) (read_by (suc brackets) before r (kind_of r.name i) kind_is) ∙ read) refl;
+        is = means_then (named_means (suc brackets) before r (kind_of r.name i) i) _ (ap (λ (m : mean.Meaning Accesses). m i) (read_by (suc brackets) before r (kind_of r.name i) kind_is) ∙ read) refl;
         so = one.so;
       }
 
@@ -252,7 +242,7 @@ module _ (p : AffineProgram) (around : List (List ℕ)) (is : HasRoles p) (loops
       let rest = arguments_mean brackets count other reads (access_seen seen read) one.names (before ++ wide ∷ []) (omega (arith, length-append before (wide ∷ []))) one.so.knows fit.1 in
       record {
         names = rest.names;
-        is = then_is (λ more. arguments_means (suc brackets) more (arguments_tree p (p.parameters ++ around) other reads)) (value_means (suc brackets) before (read_tree p (p.parameters ++ around) read) i) one.is (rest.is ∙ ap (λ a. Some (a, rest.names)) (append_assoc before (wide ∷ []) (map (widened_access (length p.parameters) (length around)) (other ∷ reads))));
+        is = means_then (value_means (suc brackets) before (read_tree p (p.parameters ++ around) read) i) (λ more. arguments_means (suc brackets) more (arguments_tree p (p.parameters ++ around) other reads)) one.is (rest.is ∙ ap (λ a. Some (a, rest.names)) (append_assoc before (wide ∷ []) (map (widened_access (length p.parameters) (length around)) (other ∷ reads))));
         so = record { knows = rest.so.knows; names = extends_both i.names one.names.names rest.names.names one.so.names rest.so.names; lines = rest.so.lines ∙ one.so.lines };
       }
 
@@ -263,7 +253,7 @@ module _ (p : AffineProgram) (around : List (List ℕ)) (is : HasRoles p) (loops
   reads_mean brackets seen count i [] few knows fit = record { names = i; is = refl; so = record { knows = knows; names = extends_none i.names; lines = refl } }
   reads_mean brackets seen count i (read ∷ reads) few knows fit =
       let all = arguments_mean brackets count read reads seen i [] (omega arith) knows fit in
-      record { names = all.names; is = then_is _ (arguments_means (suc brackets) [] (arguments_tree p (p.parameters ++ around) read reads) i) all.is refl; so = all.so }
+      record { names = all.names; is = means_then (arguments_means (suc brackets) [] (arguments_tree p (p.parameters ++ around) read reads) i) _ all.is refl; so = all.so }
 
   -- ---- statements
 
@@ -282,13 +272,11 @@ module _ (p : AffineProgram) (around : List (List ℕ)) (is : HasRoles p) (loops
       let line : Line = Does (widened_statement (length p.parameters) (length around) printed) in
       let two : Names = read.names in
       let three : Names = record two { lines = two.lines ++ line ∷ [] } in
-      let counts : i.statements + 1 ≡ suc count = omega (arith, knows.statements_count) in
-      let moved_on : Knows p around (statement_seen seen printed) count three = moved p around (statement_seen seen printed) count two is loops read.so.knows two.tokens (two.lines ++ line ∷ []) in
       record {
         names = record three { statements = i.statements + 1 };
-        is = rw (written, below) (then_is _ (assign_means (suc (suc brackets)) (statement_tree p (p.parameters ++ around) printed) i) (then_is _ (reference_means (suc (suc brackets)) target i) write.is (then_is _ (value_means (suc (suc brackets)) [] (reads_tree p (p.parameters ++ around) printed.reads) write.names) read.is refl)) refl);
+        is = rw (written, below) (means_then (assign_means (suc (suc brackets)) (statement_tree p (p.parameters ++ around) printed) i) _ (means_then (reference_means (suc (suc brackets)) target i) _ write.is (means_then (value_means (suc (suc brackets)) [] (reads_tree p (p.parameters ++ around) printed.reads) write.names) _ read.is refl)) refl);
         so = (
-          subst (λ n. Knows p around (statement_seen seen printed) n (record three { statements = i.statements + 1 })) counts (counted p around (statement_seen seen printed) count three is loops moved_on (i.statements + 1)),
+          moved p around (statement_seen seen printed) count two is loops read.so.knows two.tokens (two.lines ++ line ∷ []) (i.statements + 1) (suc count) (omega (arith, knows.statements_count)),
           extends_both i.names write.names.names two.names write.so.names read.so.names,
           ap (λ ls. ls ++ line ∷ []) (read.so.lines ∙ write.so.lines),
         );

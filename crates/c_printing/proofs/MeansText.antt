@@ -6,7 +6,7 @@ use Rattle.std.proofs.lemmas.Bool.Decides.{nat_tests}
 use Rattle.std.proofs.str.Laws.{order}
 use Rattle.affine_program.specs.Parts.{array_of}
 use Rattle.iolb_model.specs.Form.{AffineForm}
-use Rattle.iolb_model.specs.Program.{Row, Statement, AffineProgram, statement_at, no_statement, IsOver, IsWellFormed, row_statements}
+use Rattle.iolb_model.specs.Program.{AffineProgram, statement_at, no_statement, IsOver, IsWellFormed, row_statements}
 use Rattle.iolb_model.specs.Program as program
 use Rattle.c_reading.specs.declared.named.Kind.{Kind}
 use Rattle.c_reading.specs.declared.named.Kind.TheVariants.{Parameter}
@@ -20,16 +20,17 @@ use Rattle.c_grammar.specs.Meaning as mean
 use Rattle.c_grammar.specs.Meaning.{Names, affine_means, compare_means, slot_by, parameters_mean, compares_mean, lines_mean, items_means, whole_means, text_means}
 use Rattle.c_grammar.specs.Program.{narrowed, IsReadingOf, row_lines, tree_lines, statements_among}
 use Rattle.c_printing.specs.Tree.{form_tree, row_tree, parameters_tree, assumption_tree, assumptions_tree, program_tree}
-use Rattle.c_printing.proofs.Same.{widened}
+use Rattle.c_printing.proofs.Roles.{widened, IsSmall, IsSmallForm, parameter, array, other, role, HasRoles, row_seen}
 use Rattle.c_tokens.specs.Names.{IsName}
-use Rattle.c_printing.proofs.Roles.{IsSmall, IsSmallForm, parameter, array, other, role, HasRoles, row_seen}
-use Rattle.c_printing.proofs.Numbers.{plus_none, combined-plus}
-use Rattle.c_printing.proofs.RowForms.{forms_back}
+use Rattle.c_printing.proofs.RowForms.{plus_none, combined-plus, forms_back}
 use Rattle.c_grammar.proofs.Dictionary.{lookup, kind_of-lookup, lookup-new, lookup-other, parameters-new, arrays-new}
-use Rattle.c_printing.proofs.State.{AreLoops, Knows, names_differ, named, length-named, knows-variables}
-use Rattle.c_printing.proofs.MeansForms.{then_is, KnowsVariables, form_means, terms_means}
-use Rattle.c_printing.proofs.MeansRefs.{Means, extends_none, short_name, get_below}
+use Rattle.c_printing.proofs.State.{AreLoops, Knows, names_differ, named, length-named, knows-variables, take_one_more}
+use Rattle.c_printing.proofs.MeansForms.{KnowsVariables, form_means, terms_means}
+use Rattle.c_printing.proofs.MeansRefs.{Means, extends_none, short_name}
 use Rattle.c_printing.proofs.MeansItems.{length-widened, row_meant}
+use Rattle.std.proofs.lemmas.Option.{slice_get_within}
+use Rattle.std.proofs.Math.Seq.{take-length}
+use Rattle.c_grammar.proofs.Steps.{means_then}
 
 -- ---- parameters
 
@@ -45,17 +46,6 @@ pub record KnowsFirst (p : AffineProgram) (n : ℕ) (i : Names) : Type 0 where
   pub parameter_names : parameters_among i.names i.kinds ≡ take n p.parameters
   pub array_names : arrays_among i.names i.kinds ≡ []
   pub lines : i.lines ≡ []
-
--- the first members with one more
-take_more : {X : Type 0} (xs : List X) (k : ℕ) (x : X) → slice_get xs k ≡ Some x → take k xs ++ x ∷ [] ≡ take (suc k) xs
-take_more [] k x e = cc
-take_more (y ∷ xs) zero x e = let same : y ≡ x = cc in ap (λ z. z ∷ []) (sym same)
-take_more (y ∷ xs) (suc k) x e = ap (λ zs. y ∷ zs) (take_more xs k x e)
-
--- all members
-pub take_whole : {X : Type 0} (xs : List X) → take (length xs) xs ≡ xs
-take_whole [] = refl
-take_whole (x ∷ xs) = ap (λ ys. x ∷ ys) (take_whole xs)
 
 module _ (p : AffineProgram) (is : HasRoles p) where
   -- one parameter more
@@ -80,7 +70,7 @@ module _ (p : AffineProgram) (is : HasRoles p) where
             (order m n);
         new_kinds = λ m other_name e above. unchanged other_name (names_differ p other_name name (parameter m) (parameter n) (is.parameter_roles m other_name e) is_parameter (λ no. let same : m ≡ n = cc in omega arith)) ∙ knows.new_kinds m other_name e (omega arith);
         other_names = λ other_name no. unchanged other_name (names_differ p other_name name (role p other_name) (parameter n) refl is_parameter (λ e. no n e)) ∙ knows.other_names other_name no;
-        parameter_names = parameters-new name k i.names i.kinds knows.same ∙ ap (λ ns. ns ++ name ∷ []) knows.parameter_names ∙ take_more p.parameters n name there;
+        parameter_names = parameters-new name k i.names i.kinds knows.same ∙ ap (λ ns. ns ++ name ∷ []) knows.parameter_names ∙ take_one_more p.parameters n name there;
         array_names = arrays-new name k i.names i.kinds knows.same ∙ append-nil (arrays_among i.names i.kinds) ∙ knows.array_names;
         lines = knows.lines;
       }
@@ -92,12 +82,12 @@ module _ (p : AffineProgram) (is : HasRoles p) where
     parameters_count = knows.parameters_count;
     arrays_count = knows.arrays_count;
     statements_count = knows.statements_count;
-    parameter_kinds = λ k name e. knows.seen_kinds k name e (get_below p.parameters k name e);
+    parameter_kinds = λ k name e. knows.seen_kinds k name e (slice_get_within p.parameters k name e);
     loop_kinds = λ k name e. cc;
     array_kinds = λ k a e below. absurd (omega arith);
     new_arrays = λ k a e above. knows.other_names a.name (λ n no. let differ : array k ≡ parameter n = sym (is.array_roles k a e) ∙ no in cc);
     other_names = λ name is_other apart. inl (knows.other_names name (λ n no. let differ : other ≡ parameter n = sym is_other ∙ no in cc));
-    parameter_names = knows.parameter_names ∙ take_whole p.parameters;
+    parameter_names = knows.parameter_names ∙ take-length p.parameters;
     array_names = ap (map array_of) knows.array_names;
   }
 
@@ -126,7 +116,7 @@ module _ (p : AffineProgram) (is : HasRoles p) where
       let rest = names_mean names (suc n) grown (λ k m e. (let same : suc n + k ≡ n + suc k = omega arith in ap (slice_get p.parameters) same ∙ among (suc k) m e)) all.1 (omega arith) (knows_one_more n i name knows there) in
       record {
         names = rest.names;
-        is = then_is _ (mean.slot name i) (slot_new name i unknown short few) rest.is;
+        is = means_then (mean.slot name i) _ (slot_new name i unknown short few) rest.is;
         so = rest.so;
       }
 
@@ -161,7 +151,7 @@ module _ (p : AffineProgram) (is : HasRoles p) (i : Names) (variables : KnowsVar
       let below : nat_le (length rows + 1) most_rows ≡ true = grind (arith, nat_tests) in
       let left_side = subst (λ ns. (h : _) × (affine_means most_brackets (form_tree ns form) i ≡ Some (record { numbers = row; has_name = h }, i))) (append-nil p.parameters) (form_means most_brackets i p.parameters [] form variables small) in
       let right_side = terms_means most_brackets i [] zeros tt refl in
-      then_is _ (affine_means most_brackets _ i) left_side.1 (then_is _ (affine_means most_brackets _ i) right_side.1
+      means_then (affine_means most_brackets _ i) _ left_side.1 (means_then (affine_means most_brackets _ i) _ right_side.1
       (rw below (ap (λ o. mean.given (mean.row_behind rows o) i) (less_zeros row (length-widened (length p.parameters) 0 form) small))))
 
   -- the printed assumptions mean their rows
@@ -171,7 +161,7 @@ module _ (p : AffineProgram) (is : HasRoles p) (i : Names) (variables : KnowsVar
   assumptions_mean [] rows small few = ap (λ r. Some (head_of r, i)) (sym (append-nil rows))
   assumptions_mean (form ∷ forms) rows small few =
       let row : List ℤ = widened (length p.parameters) 0 form in
-      then_is _ (compares_mean (head_of rows).rows (assumption_tree p.parameters form) i) (ap (λ r. compares_mean r (assumption_tree p.parameters form) i) (head_rows rows) ∙ assumption_means form rows small.0 (omega arith))
+      means_then (compares_mean (head_of rows).rows (assumption_tree p.parameters form) i) _ (ap (λ r. compares_mean r (assumption_tree p.parameters form) i) (head_rows rows) ∙ assumption_means form rows small.0 (omega arith))
       (ap (λ h. lines_mean h (assumptions_tree p.parameters forms) i) (longer_head rows row) ∙ assumptions_mean forms (rows ++ row ∷ []) small.1 (omega (arith, length-append rows (row ∷ [])))
       ∙ ap (λ r. Some (head_of r, i)) (append_assoc rows (row ∷ []) (map (widened (length p.parameters) 0) forms)))
 
@@ -238,7 +228,7 @@ module _ (p : AffineProgram) (is : HasRoles p) (well : IsWellFormed p) where
       let knows = knows_all p is j named_so.so in
       record {
         names = j;
-        is = then_is _ (parameters_mean (name ∷ names) (start_of [] [])) named_so.is (assumptions_mean p is j (knows-variables p [] 0 0 j is no_loops knows) p.assumptions [] is.assumptions (omega (arith, is.few_assumptions)));
+        is = means_then (parameters_mean (name ∷ names) (start_of [] [])) _ named_so.is (assumptions_mean p is j (knows-variables p [] 0 0 j is no_loops knows) p.assumptions [] is.assumptions (omega (arith, is.few_assumptions)));
         so = (knows, named_so.so.lines);
       }
 
@@ -256,7 +246,7 @@ module _ (p : AffineProgram) (is : HasRoles p) (well : IsWellFormed p) where
       let h : Head = head_of (map (widened P 0) p.assumptions) in
       let s : Reading = record { names = k.names; kinds = k.kinds; assumptions = assumptions_of h k; lines = k.lines } in
       let items_are : items_means most_loops most_brackets (row_tree p p.parameters p.tree) j ≡ Some (tt, k) = ap (λ ns. items_means most_loops most_brackets (row_tree p ns p.tree) j) (sym (append-nil p.parameters)) ∙ body.is in
-      let meant : whole_means (program_tree p) (start_of [] []) ≡ Some (h, k) = then_is _ (lines_mean (head_of []) _ (start_of [] [])) front.is (then_is _ (items_means most_loops most_brackets _ j) items_are refl) in
+      let meant : whole_means (program_tree p) (start_of [] []) ≡ Some (h, k) = means_then (lines_mean (head_of []) _ (start_of [] [])) _ front.is (means_then (items_means most_loops most_brackets _ j) _ items_are refl) in
       let knows : Knows p [] (row_seen p 0 p.tree) (0 + length (row_statements p.tree)) k = body.so.knows in
       let lines_are : k.lines ≡ body.so.new ++ [] = body.so.lines ∙ ap (λ ls. ls ++ body.so.new) front.so.1 ∙ sym (append-nil body.so.new) in
       let same_params : P ≡ length (parameters_among k.names k.kinds) = ap length (sym knows.parameter_names) in (
@@ -266,7 +256,7 @@ module _ (p : AffineProgram) (is : HasRoles p) (well : IsWellFormed p) where
           parameters = sym knows.parameter_names;
           assumptions = sym (ap (λ n. map (narrowed n 0) (assumptions_of h k)) (sym same_params) ∙ ap (map (narrowed P 0)) (assumed p k p.assumptions is.some_assumptions knows.parameters_count)
               ∙ forms_back P 0 p.assumptions is.few_parameters (omega arith) (subst (λ n. AllByRecursion (IsOver n) p.assumptions) none well.assumptions));
-          arrays = sym (knows.array_names ∙ ap (λ n. take n p.arrays) is.seen ∙ take_whole p.arrays);
+          arrays = sym (knows.array_names ∙ ap (λ n. take n p.arrays) is.seen ∙ take-length p.arrays);
           statements = sym (ap (λ n. statements_among n 0 k.lines) (sym same_params) ∙ ap (statements_among P 0) lines_are ∙ body.so.table [] ∙ append-nil (map (statement_at p) (row_statements p.tree)) ∙ ap (map (statement_at p)) well.numbered ∙ all_members no_statement [] p.statements);
           tree = sym (ap (λ n. tree_lines k.names n 0 0 k.lines) (sym same_params) ∙ ap (tree_lines k.names P 0 0) lines_are ∙ body.so.same k.names [] (extends_none k.names) ∙ append-nil (row_lines p.tree));
         },

@@ -6,7 +6,7 @@ use Rattle.std.proofs.lemmas.Bool.{or_parts}
 use Rattle.std.proofs.lemmas.List.{length-map}
 use Rattle.base_laws.proofs.Lists.{All-append, All-map}
 use Rattle.iolb_model.specs.Form.{AffineForm}
-use Rattle.iolb_model.specs.Program.{Item, assign, loop, Row, done, next, AffineProgram, statement_at, no_statement, AccessFits, StatementFits, ItemFits, RowFits, item_statements, row_statements}
+use Rattle.iolb_model.specs.Program.{Item, assign, loop, Row, done, next, AffineProgram, statement_at, no_statement, AccessFits, ItemFits, RowFits, item_statements, row_statements}
 use Rattle.iolb_model.specs.Program as program
 use Rattle.iolb_model.specs.declared.limits.TheConstants.{READS, SUBSCRIPTS, NUMBER_SIZE}
 use Rattle.c_tokens.specs.Names.{IsName}
@@ -20,11 +20,10 @@ use Rattle.c_grammar.proofs.Dictionary.{place_of, bytes_same}
 use Rattle.c_grammar.specs.Program.{Means}
 use Rattle.c_printing.specs.Text.{program_text}
 use Rattle.c_printing.proofs.WordsAre.{text_means_program}
-use Rattle.c_printing.proofs.Same.{padded}
-use Rattle.c_printing.proofs.Roles.{parameter, array, other, role_by, array_role, names_of, role, IsSmall, IsSmallForm, access_seen, accesses_seen, AreReadableAccesses, statement_seen, item_seen, row_seen, IsReadableHeader, IsReadableItem, IsReadableRow, HasRoles}
+use Rattle.c_printing.proofs.Roles.{padded, parameter, array, other, role_by, array_role, names_of, role, IsSmall, IsSmallForm, access_seen, accesses_seen, AreReadableAccesses, statement_seen, item_seen, row_seen, IsReadableHeader, IsReadableItem, IsReadableRow, HasRoles}
 use Rattle.c_printing.proofs.State.{among_differ}
-use Rattle.c_printing.proofs.MeansRefs.{get_all}
 use Rattle.c_printing.proofs.MeansItems.{split_numbers}
+use Rattle.c_grammar.proofs.NameKinds.{All-get}
 
 -- ---- roles
 
@@ -138,7 +137,7 @@ module _ (parts : ProgramParts) (is : IsProgram parts) where
   -- an array's name stands for it
   array_is : (k : ℕ) (a : program.Array) → slice_get whole.arrays k ≡ Some a → role whole a.name ≡ array k
   array_is k a e =
-      let named : IsArrayName whole.parameters a = get_all (IsArrayName whole.parameters) whole.arrays k a is.printable.arrays e in
+      let named : IsArrayName whole.parameters a = All-get (IsArrayName whole.parameters) whole.arrays k a is.printable.arrays e in
       ap (λ o. role_by o (place_of a.name (names_of whole.arrays))) (place_absent a.name whole.parameters named.1)
       ∙ ap array_role (place_there (names_of whole.arrays) k a.name (names_different whole.arrays is.printable.different_arrays) (names_get whole.arrays k a e))
 

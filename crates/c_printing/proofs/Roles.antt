@@ -1,12 +1,34 @@
--- What the names of a program stand for, and what each part of it is where it is printed.
-use Rattle.std.specs.Prelude.{◌≡◌, ℕ, suc, ◌≤◌, ◌<◌, ℤ, unsigned_abs, false, nat_lt, if◌then◌else◌, List, [], ◌∷◌, ◌++◌, length, slice_get, bytes_eq, Option, Some, None, IsSomeAnd, ⊤}
-use Rattle.std.specs.List.{list_any, AllByRecursion}
+-- What the names of a program stand for, what each part of it is where it is printed, and the rows of its forms.
+use Rattle.std.specs.Prelude.{ℕ, zero, suc, ℤ, pos, List, [], ◌∷◌, ◌++◌, map, take, drop, ◌≡◌, ◌≤◌, ◌<◌, unsigned_abs, false, nat_lt, if◌then◌else◌, length, slice_get, bytes_eq, Option, Some, None, IsSomeAnd, ⊤}
 use Rattle.iolb_model.specs.Form.{AffineForm}
+use Rattle.c_reading.specs.Access.{Access as ReadAccess, Statement as ReadStatement}
+use Rattle.c_reading.specs.Numbers.{most_parameters, most_loops}
+use Rattle.std.specs.List.{list_any, AllByRecursion}
 use Rattle.iolb_model.specs.Program.{Access, Statement, Item, assign, loop, Row, done, next, Array, AffineProgram, statement_at, row_statements}
 use Rattle.c_tokens.specs.Names.{IsName}
 use Rattle.c_grammar.proofs.Dictionary.{place_of}
-use Rattle.c_printing.proofs.Same.{widened}
 use Rattle.iolb_model.specs.declared.limits.TheConstants.{NUMBER_SIZE, PARAMETERS, LOOPS, ARRAYS, SUBSCRIPTS, READS, ASSUMPTIONS, STATEMENTS}
+
+-- so many of these numbers, and 0 for those that aren't there
+abbrev pub padded : ℕ → List ℤ → List ℤ
+padded zero ns = []
+padded (suc k) [] = pos 0 ∷ padded k []
+padded (suc k) (n ∷ ns) = n ∷ padded k ns
+
+-- The row of a form over so many parameters and loops: the constant, the coefficients of as many parameters as there may be,
+-- and those of as many loops.
+abbrev pub widened : ℕ → ℕ → AffineForm → List ℤ
+widened parameters depth form =
+    form.constant ∷ (padded most_parameters (take parameters form.coefficients) ++ padded most_loops (take depth (drop parameters form.coefficients)))
+
+-- a reference and a statement inside so many loops
+abbrev pub widened_access : ℕ → ℕ → Access → ReadAccess
+widened_access parameters depth access = record { array = access.array; subscripts = map (widened parameters depth) access.subscripts }
+
+-- a statement with the rows of its references
+abbrev pub widened_statement : ℕ → ℕ → Statement → ReadStatement
+widened_statement parameters depth statement =
+    record { writes = widened_access parameters depth statement.writes; reads = map (widened_access parameters depth) statement.reads }
 
 -- ---- what names stand for
 

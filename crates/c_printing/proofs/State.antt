@@ -1,9 +1,10 @@
 -- What the reader knows of a printed program, and how it changes.
-use Rattle.std.proofs.Common.{◌≡◌, refl, sym, ap, subst, ◌∙◌, ℕ, zero, suc, ◌+◌, ◌<◌, ◌≤◌, Bool, true, false, List, [], ◌∷◌, ◌++◌, append-nil, length, take, arith, length-append, length-set, ⊎_elim, inl, inr}
-use Rattle.std.specs.Prelude.{bytes_eq, Some, None, slice_get, slice_set, set, map, ◌⊎◌}
+use Rattle.std.proofs.Common.{◌≡◌, refl, sym, ap, subst, ◌∙◌, ℕ, zero, suc, ◌+◌, ◌<◌, ◌≤◌, true, false, List, [], ◌∷◌, ◌++◌, append-nil, length, take, arith, length-append, length-set, ⊎_elim, inr}
+use Rattle.std.specs.Prelude.{bytes_eq, Some, None, slice_get, slice_set, set, map, ◌⊎◌, ◌||◌}
 use Rattle.std.specs.List.{AllByRecursion, list_any}
 use Rattle.std.proofs.str.Laws.{order}
 use Rattle.std.proofs.lemmas.Bool.{or_parts}
+use Rattle.std.proofs.lemmas.List.Folds.{list_any-append}
 use Rattle.affine_program.specs.Parts.{array_of}
 use Rattle.iolb_model.specs.Program.{AffineProgram}
 use Rattle.iolb_model.specs.Program as program
@@ -20,6 +21,8 @@ use Rattle.c_printing.proofs.MeansForms.{kind_slot, HaveSlots, KnowsVariables}
 use Rattle.c_grammar.proofs.Dictionary.{place_of, lookup, kind_of-lookup, bytes_same, bytes_are, lookup-new, lookup-other, lookup-set, lookup-set_other, parameters-new, arrays-new, parameters-set, arrays-set, lookup-get}
 use Rattle.iolb_model.specs.declared.limits.TheConstants.{LOOPS, PARAMETERS}
 use Rattle.c_grammar.proofs.Kept.{at_end}
+use Rattle.std.proofs.lemmas.List.{map-append}
+use Rattle.c_grammar.proofs.NameKinds.{get-append, All-get}
 
 -- the loops around: their names stand for nothing else
 pub record AreLoops (p : AffineProgram) (around : List (List ℕ)) : Type 0 where
@@ -90,22 +93,11 @@ knows-variables p around seen count i is loops knows = knows_variables p around 
 
 -- ---- one array more
 
--- the name of a loop around stands for nothing else
-other_at : (p : AffineProgram) (names : List (List ℕ)) (k : ℕ) (name : List ℕ) → AllByRecursion (λ n. role p n ≡ other) names → slice_get names k ≡ Some name → role p name ≡ other
-other_at p [] k name all e = cc
-other_at p (n ∷ names) zero name all e = let same : n ≡ name = cc in subst (λ m. role p m ≡ other) same all.0
-other_at p (n ∷ names) (suc k) name all e = other_at p names k name all.1 e
-
--- the first arrays with one more
-take_one_more : (arrays : List program.Array) (k : ℕ) (a : program.Array) → slice_get arrays k ≡ Some a → take k arrays ++ a ∷ [] ≡ take (suc k) arrays
-take_one_more [] k a e = cc
-take_one_more (x ∷ arrays) zero a e = let same : x ≡ a = cc in ap (λ y. y ∷ []) (sym same)
-take_one_more (x ∷ arrays) (suc k) a e = ap (λ ys. x ∷ ys) (take_one_more arrays k a e)
-
--- arrays with one more
-map_one_more : (arrays : List (List ℕ × ℕ)) (a : List ℕ × ℕ) → map array_of (arrays ++ a ∷ []) ≡ map array_of arrays ++ array_of a ∷ []
-map_one_more [] a = refl
-map_one_more (x ∷ arrays) a = ap (λ ys. array_of x ∷ ys) (map_one_more arrays a)
+-- the first members with one more
+pub take_one_more : {X : Type 0} (xs : List X) (k : ℕ) (x : X) → slice_get xs k ≡ Some x → take k xs ++ x ∷ [] ≡ take (suc k) xs
+take_one_more [] k x e = cc
+take_one_more (y ∷ xs) zero x e = let same : y ≡ x = cc in ap (λ z. z ∷ []) (sym same)
+take_one_more (y ∷ xs) (suc k) x e = ap (λ ys. y ∷ ys) (take_one_more xs k x e)
 
 -- with one name more, of this kind
 abbrev pub named : List ℕ → Kind → Input → Input
@@ -122,7 +114,7 @@ module _ (p : AffineProgram) (around : List (List ℕ)) (seen count : ℕ) (i : 
       let is_array : role p a.name ≡ array seen = is.array_roles seen a there in
       knows_variables p around (record (named a.name k i) { arrays = n }) is loops (length-named a.name k i knows.same)
       (λ n name e. lookup-other name a.name k i.names i.kinds knows.same (names_differ p name a.name (parameter n) (array seen) (is.parameter_roles n name e) is_array (λ no. cc)) ∙ knows.parameter_kinds n name e)
-      (λ n name e. lookup-other name a.name k i.names i.kinds knows.same (names_differ p name a.name other (array seen) (other_at p around n name loops.others e) is_array (λ no. cc)) ∙ knows.loop_kinds n name e)
+      (λ n name e. lookup-other name a.name k i.names i.kinds knows.same (names_differ p name a.name other (array seen) (All-get (λ m. role p m ≡ other) around n name loops.others e) is_array (λ no. cc)) ∙ knows.loop_kinds n name e)
 
   -- one array more
   pub knows_array : (a : program.Array) → slice_get p.arrays seen ≡ Some a → Knows p around (suc seen) count (record (named a.name (Array seen a.rank) i) { arrays = i.arrays + 1 })
@@ -136,7 +128,7 @@ module _ (p : AffineProgram) (around : List (List ℕ)) (seen count : ℕ) (i : 
         arrays_count = omega (arith, knows.arrays_count);
         statements_count = knows.statements_count;
         parameter_kinds = λ n name e. lookup-other name a.name k i.names i.kinds knows.same (names_differ p name a.name (parameter n) (array seen) (is.parameter_roles n name e) is_array (λ no. cc)) ∙ knows.parameter_kinds n name e;
-        loop_kinds = λ n name e. lookup-other name a.name k i.names i.kinds knows.same (names_differ p name a.name other (array seen) (other_at p around n name loops.others e) is_array (λ no. cc)) ∙ knows.loop_kinds n name e;
+        loop_kinds = λ n name e. lookup-other name a.name k i.names i.kinds knows.same (names_differ p name a.name other (array seen) (All-get (λ m. role p m ≡ other) around n name loops.others e) is_array (λ no. cc)) ∙ knows.loop_kinds n name e;
         array_kinds = λ n b e below. ⊎_elim
             (λ before. lookup-other b.name a.name k i.names i.kinds knows.same (names_differ p b.name a.name (array n) (array seen) (is.array_roles n b e) is_array (λ no. let same : n ≡ seen = cc in omega arith)) ∙ knows.array_kinds n b e before)
             (λ after.
@@ -150,7 +142,7 @@ module _ (p : AffineProgram) (around : List (List ℕ)) (seen count : ℕ) (i : 
             let unchanged : lookup name (i.names ++ a.name ∷ []) (i.kinds ++ k ∷ []) ≡ lookup name i.names i.kinds = lookup-other name a.name k i.names i.kinds knows.same differ in
             subst (λ o. (o ≡ None) ⊎ (o ≡ Some ClosedLoop)) (sym unchanged) (knows.other_names name is_other apart);
         parameter_names = parameters-new a.name k i.names i.kinds knows.same ∙ append-nil (parameters_among i.names i.kinds) ∙ knows.parameter_names;
-        array_names = ap (map array_of) (arrays-new a.name k i.names i.kinds knows.same) ∙ map_one_more (arrays_among i.names i.kinds) (a.name, a.rank) ∙ ap (λ xs. xs ++ a ∷ []) knows.array_names ∙ take_one_more p.arrays seen a there;
+        array_names = ap (map array_of) (arrays-new a.name k i.names i.kinds knows.same) ∙ map-append array_of (arrays_among i.names i.kinds) ((a.name, a.rank) ∷ []) ∙ ap (λ xs. xs ++ a ∷ []) knows.array_names ∙ take_one_more p.arrays seen a there;
       }
 
   -- a new loop's name
@@ -175,13 +167,13 @@ module _ (p : AffineProgram) (around : List (List ℕ)) (seen count : ℕ) (i : 
         array_names = ap (map array_of) (arrays-new name k i.names i.kinds knows.same ∙ append-nil (arrays_among i.names i.kinds)) ∙ knows.array_names;
       }
 
-  -- other tokens and lines, or one statement more
-  pub moved : (tokens : List Token) (lines : List Line) → Knows p around seen count (record i { tokens = tokens; lines = lines })
-  moved tokens lines = record {
+  -- other tokens and lines, and a count of statements
+  pub moved : (tokens : List Token) (lines : List Line) (n m : ℕ) → n ≡ m → Knows p around seen m (record i { tokens = tokens; lines = lines; statements = n })
+  moved tokens lines n m e = record {
     same = knows.same;
     parameters_count = knows.parameters_count;
     arrays_count = knows.arrays_count;
-    statements_count = knows.statements_count;
+    statements_count = e;
     parameter_kinds = knows.parameter_kinds;
     loop_kinds = knows.loop_kinds;
     array_kinds = knows.array_kinds;
@@ -190,45 +182,6 @@ module _ (p : AffineProgram) (around : List (List ℕ)) (seen count : ℕ) (i : 
     parameter_names = knows.parameter_names;
     array_names = knows.array_names;
   }
-
-  -- another count of statements
-  pub counted : (n : ℕ) → Knows p around seen n (record i { statements = n })
-  counted n = record {
-    same = knows.same;
-    parameters_count = knows.parameters_count;
-    arrays_count = knows.arrays_count;
-    statements_count = refl;
-    parameter_kinds = knows.parameter_kinds;
-    loop_kinds = knows.loop_kinds;
-    array_kinds = knows.array_kinds;
-    new_arrays = knows.new_arrays;
-    other_names = knows.other_names;
-    parameter_names = knows.parameter_names;
-    array_names = knows.array_names;
-  }
-
--- a name that is neither among these nor the last
-any_append : (t : List ℕ → Bool) (names : List (List ℕ)) (name : List ℕ) → list_any t (names ++ name ∷ []) ≡ false → (list_any t names ≡ false) × (t name ≡ false)
-any_append t [] name e = (refl, (or_parts (t name) false e).0)
-any_append t (n ∷ names) name e =
-    let both = or_parts (t n) (list_any t (names ++ name ∷ [])) e in
-    let rest = any_append t names name both.1 in
-    let here : t n ≡ false = both.0 in
-    (rw here rest.0, rest.1)
-
--- a name that is not among these with one more
-any_more : (t : List ℕ → Bool) (names : List (List ℕ)) (name : List ℕ) → list_any t names ≡ false → t name ≡ false → list_any t (names ++ name ∷ []) ≡ false
-any_more t [] name e f = rw f refl
-any_more t (n ∷ names) name e f =
-    let both = or_parts (t n) (list_any t names) e in
-    let here : t n ≡ false = both.0 in
-    rw here (any_more t names name both.1 f)
-
--- a member in front of one more
-at_front : (names : List (List ℕ)) (name other : List ℕ) (k : ℕ) → slice_get names k ≡ Some other → slice_get (names ++ name ∷ []) k ≡ Some other
-at_front [] name m k e = cc
-at_front (n ∷ names) name m zero e = e
-at_front (n ∷ names) name m (suc k) e = at_front names name m k e
 
 -- with another kind at this place
 abbrev pub changed : ℕ → Kind → Input → Input
@@ -255,8 +208,8 @@ module _ (p : AffineProgram) (is : HasRoles p) (around : List (List ℕ)) (name 
         array_kinds = λ n b e below. unchanged b.name (names_differ p b.name name (array n) other (is.array_roles n b e) is_other (λ no. cc)) ∙ knows.array_kinds n b e below;
         new_arrays = λ n b e above. unchanged b.name (names_differ p b.name name (array n) other (is.array_roles n b e) is_other (λ no. cc)) ∙ knows.new_arrays n b e above;
         other_names = λ m m_other m_apart.
-            let both = any_append (bytes_eq m) around name m_apart in
-            subst (λ o. (o ≡ None) ⊎ (o ≡ Some ClosedLoop)) (sym (unchanged m both.1)) (knows.other_names m m_other both.0);
+            let both = or_parts (list_any (bytes_eq m) around) (bytes_eq m name || false) (sym (list_any-append (bytes_eq m) around (name ∷ [])) ∙ m_apart) in
+            subst (λ o. (o ≡ None) ⊎ (o ≡ Some ClosedLoop)) (sym (unchanged m (or_parts (bytes_eq m name) false both.1).0)) (knows.other_names m m_other both.0);
         parameter_names = parameters-set k ClosedLoop i.names i.kinds place tt tt still ∙ knows.parameter_names;
         array_names = ap (map array_of) (arrays-set k ClosedLoop i.names i.kinds place tt tt still) ∙ knows.array_names;
       }
@@ -274,13 +227,13 @@ module _ (p : AffineProgram) (is : HasRoles p) (around : List (List ℕ)) (name 
         arrays_count = knows.arrays_count;
         statements_count = knows.statements_count;
         parameter_kinds = λ n m e. unchanged m (names_differ p m name (parameter n) other (is.parameter_roles n m e) is_other (λ no. cc)) ∙ knows.parameter_kinds n m e;
-        loop_kinds = λ n m e. unchanged m (among_differ name around n m apart e) ∙ knows.loop_kinds n m (at_front around name m n e);
+        loop_kinds = λ n m e. unchanged m (among_differ name around n m apart e) ∙ knows.loop_kinds n m (get-append around (name ∷ []) n m e);
         array_kinds = λ n b e below. unchanged b.name (names_differ p b.name name (array n) other (is.array_roles n b e) is_other (λ no. cc)) ∙ knows.array_kinds n b e below;
         new_arrays = λ n b e above. unchanged b.name (names_differ p b.name name (array n) other (is.array_roles n b e) is_other (λ no. cc)) ∙ knows.new_arrays n b e above;
         other_names = λ m m_other m_apart.
             elim (bytes_eq m name) as (λ v. bytes_eq m name ≡ v → (lookup m i.names (set i.kinds place k) ≡ None) ⊎ (lookup m i.names (set i.kinds place k) ≡ Some ClosedLoop)) [
               | true ↦ λ e. inr (ap (λ n. lookup n i.names (set i.kinds place k)) (bytes_are m name e) ∙ lookup-set name k i.names i.kinds place knows.same there)
-              | false ↦ λ e. subst (λ o. (o ≡ None) ⊎ (o ≡ Some ClosedLoop)) (sym (unchanged m e)) (knows.other_names m m_other (any_more (bytes_eq m) around name m_apart e))
+              | false ↦ λ e. subst (λ o. (o ≡ None) ⊎ (o ≡ Some ClosedLoop)) (sym (unchanged m e)) (knows.other_names m m_other (list_any-append (bytes_eq m) around (name ∷ []) ∙ rw (m_apart, e) refl))
             ] refl;
         parameter_names = parameters-set k (OpenLoop (length around)) i.names i.kinds place tt tt still ∙ knows.parameter_names;
         array_names = ap (map array_of) (arrays-set k (OpenLoop (length around)) i.names i.kinds place tt tt still) ∙ knows.array_names;

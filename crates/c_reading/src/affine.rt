@@ -173,6 +173,7 @@ fn sign_of(negative: bool) -> i32
 
 impl<'a> Reader<'a> {
     /// The signs in front of a factor, and whether they make it negative.
+    #[tactic(auto, using(crate::proofs::Turns::turns), unfolding(crate::specs::Affine::signs, crate::specs::Affine::all_signs))]
     pub fn all_signs(&mut self) -> Result<bool, ReadError>
         ensures { Reads (spec.all_signs self.old) result self.new }
     {
@@ -256,6 +257,7 @@ impl<'a> Reader<'a> {
 
     /// A factor without its signs. No more than so many brackets may be opened.
     #[cycle(affine)]
+    #[tactic(auto, unfolding(crate::specs::Affine::atom))]
     fn atom(&mut self, brackets: u8, star: Option<usize>) -> Result<Affine, ReadError>
         ensures { Reads (spec.atom (spec.bracketed brackets) star self.old) result self.new }
     {
@@ -274,6 +276,7 @@ impl<'a> Reader<'a> {
 
     /// A factor with its signs.
     #[cycle(affine)]
+    #[tactic(auto, unfolding(crate::specs::Affine::factor))]
     fn factor(
         &mut self,
         brackets: u8,
@@ -289,6 +292,7 @@ impl<'a> Reader<'a> {
 
     /// A product of factors.
     #[cycle(affine)]
+    #[tactic(auto, using(crate::proofs::Turns::turns), unfolding(crate::specs::Affine::term, crate::specs::Affine::products))]
     fn term(&mut self, brackets: u8, start: usize, star: Option<usize>) -> Result<Affine, ReadError>
         ensures { Reads (spec.term (spec.bracketed brackets) start star self.old) result self.new }
     {
@@ -307,6 +311,7 @@ impl<'a> Reader<'a> {
 
     /// An affine expression: a sum of terms.
     #[cycle(affine)]
+    #[tactic(auto, using(crate::proofs::Turns::turns), unfolding(crate::specs::Affine::affine, crate::specs::Affine::affine_by, crate::specs::Affine::sums))]
     pub fn affine(&mut self, brackets: u8, star: Option<usize>) -> Result<Affine, ReadError>
         ensures { Reads (spec.affine brackets star self.old) result self.new }
     {
@@ -326,6 +331,7 @@ impl<'a> Reader<'a> {
 
     /// An expression in brackets.
     #[cycle(affine)]
+    #[tactic(auto, using(crate::proofs::Turns::turns), unfolding(crate::specs::Affine::bracketed, crate::specs::Affine::affine))]
     fn bracketed(&mut self, brackets: u8, star: Option<usize>) -> Result<Affine, ReadError>
         ensures { Reads (spec.bracketed brackets star self.old) result self.new }
     {

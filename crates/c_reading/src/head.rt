@@ -52,6 +52,7 @@ fn is_assumptions(kind: TokenKind) -> bool
 
 impl<'a> Reader<'a> {
     /// Names up to the line's end, each a parameter.
+    #[tactic(auto, using(crate::proofs::Turns::turns), unfolding(crate::specs::Head::parameter_names, crate::specs::Head::all_parameter_names))]
     fn parameter_names(&mut self) -> Result<(), ReadError>
         ensures { Reads (spec.all_parameter_names self.old) result self.new }
     {
@@ -81,6 +82,7 @@ impl<'a> Reader<'a> {
     }
 
     /// Compares up to the line's end, with `&&` between them.
+    #[tactic(auto, using(crate::proofs::Turns::turns), unfolding(crate::specs::Head::compares, crate::specs::Head::all_compares))]
     fn compares(&mut self, rows: Rows) -> Result<Rows, ReadError>
         ensures { Reads (spec.all_compares rows self.old) result self.new }
     {
@@ -97,6 +99,7 @@ impl<'a> Reader<'a> {
     }
 
     /// The directives in front.
+    #[tactic(auto, using(crate::proofs::Turns::turns), unfolding(crate::specs::Head::head, crate::specs::Head::directives))]
     pub fn head(&mut self) -> Result<Head, ReadError>
         ensures { Reads (spec.head self.old) result self.new }
     {

@@ -132,6 +132,7 @@ impl<'a> Reader<'a> {
 
     /// A loop, where so many loops and brackets may still be opened.
     #[cycle(item)]
+    #[tactic(auto, using(crate::proofs::Turns::turns), unfolding(crate::specs::Items::loops, crate::specs::Items::for_loop, crate::specs::Items::item))]
     fn for_loop(&mut self, loops: u8, brackets: u8) -> Result<(), ReadError>
         requires { loops ≤ LOOPS }
         ensures { Reads (spec.loops loops brackets self.old) result self.new }
@@ -149,6 +150,7 @@ impl<'a> Reader<'a> {
 
     /// Items up to the bracket that closes their block, behind the one that opens it.
     #[cycle(item)]
+    #[tactic(auto, using(crate::proofs::Turns::turns), unfolding(crate::specs::Items::block_items, crate::specs::Items::all_block_items))]
     fn block_items(&mut self, loops: u8, brackets: u8) -> Result<(), ReadError>
         requires { loops ≤ LOOPS }
         ensures { Reads (spec.all_block_items (spec.item loops brackets) self.old) result self.new }
@@ -165,6 +167,7 @@ impl<'a> Reader<'a> {
 
     /// A block, where so many loops and brackets may still be opened.
     #[cycle(item)]
+    #[tactic(auto, using(crate::proofs::Turns::turns), unfolding(crate::specs::Items::block, crate::specs::Items::item, crate::specs::Items::item_over))]
     fn block(&mut self, loops: u8, brackets: u8) -> Result<(), ReadError>
         requires { loops ≤ LOOPS }
         ensures { Reads (spec.block (spec.loops loops) brackets self.old) result self.new }
@@ -178,6 +181,7 @@ impl<'a> Reader<'a> {
 
     /// An item, where so many loops and brackets may still be opened.
     #[cycle(item)]
+    #[tactic(auto, unfolding(crate::specs::Items::item, crate::specs::Items::item_over, crate::specs::Items::item_by))]
     fn item(&mut self, loops: u8, brackets: u8) -> Result<(), ReadError>
         requires { loops ≤ LOOPS }
         ensures { Reads (spec.item loops brackets self.old) result self.new }
@@ -202,6 +206,7 @@ impl<'a> Reader<'a> {
     }
 
     /// Items up to the closing line.
+    #[tactic(auto, using(crate::proofs::Turns::turns), unfolding(crate::specs::Items::items, crate::specs::Items::all_items))]
     pub fn items(&mut self) -> Result<(), ReadError>
         ensures { Reads (spec.all_items self.old) result self.new }
     {

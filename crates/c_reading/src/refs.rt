@@ -68,6 +68,7 @@ impl<'a> Reader<'a> {
     }
 
     /// Subscripts, where so many brackets may still be opened.
+    #[tactic(auto, using(crate::proofs::Turns::turns), unfolding(crate::specs::Refs::subscripts, crate::specs::Refs::all_subscripts))]
     fn subscripts(&mut self, brackets: u8) -> Result<Rows, ReadError>
         ensures { Reads (spec.all_subscripts brackets self.old) result self.new }
     {

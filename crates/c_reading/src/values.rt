@@ -133,6 +133,7 @@ impl<'a> Reader<'a> {
 
     /// Values with commas between them, and the bracket that closes them.
     #[cycle(value)]
+    #[tactic(auto, using(crate::proofs::Turns::turns), unfolding(crate::specs::Values::arguments, crate::specs::Values::all_arguments))]
     fn arguments(&mut self, brackets: u8, reads: Accesses) -> Result<Accesses, ReadError>
         ensures { Reads (spec.all_arguments (spec.inside brackets) reads self.old) result self.new }
     {
@@ -150,6 +151,7 @@ impl<'a> Reader<'a> {
 
     /// A call: the function's name, and its arguments.
     #[cycle(value)]
+    #[tactic(auto, unfolding(crate::specs::Values::call, crate::specs::Values::called))]
     fn call(&mut self, brackets: u8, reads: Accesses) -> Result<Accesses, ReadError>
         ensures { Reads (spec.call (spec.inside brackets) brackets reads self.old) result self.new }
     {
@@ -167,6 +169,7 @@ impl<'a> Reader<'a> {
 
     /// A value without its signs.
     #[cycle(value)]
+    #[tactic(auto, unfolding(crate::specs::Values::primary, crate::specs::Values::named))]
     fn primary(&mut self, brackets: u8, reads: Accesses) -> Result<Accesses, ReadError>
         ensures { Reads (spec.primary (spec.inside brackets) brackets reads self.old) result self.new }
     {
@@ -194,6 +197,7 @@ impl<'a> Reader<'a> {
 
     /// A value in brackets.
     #[cycle(value)]
+    #[tactic(auto, unfolding(crate::specs::Values::grouped))]
     fn grouped(&mut self, brackets: u8, reads: Accesses) -> Result<Accesses, ReadError>
         ensures { Reads (spec.grouped (spec.inside brackets) brackets reads self.old) result self.new }
     {
@@ -205,6 +209,7 @@ impl<'a> Reader<'a> {
 
     /// A value with its signs.
     #[cycle(value)]
+    #[tactic(auto, unfolding(crate::specs::Values::unary))]
     fn unary(&mut self, brackets: u8, reads: Accesses) -> Result<Accesses, ReadError>
         ensures { Reads (spec.unary (spec.inside brackets) brackets reads self.old) result self.new }
     {
@@ -214,6 +219,7 @@ impl<'a> Reader<'a> {
 
     /// A value, where so many brackets may still be opened; its references behind these.
     #[cycle(value)]
+    #[tactic(auto, using(crate::proofs::Turns::turns), unfolding(crate::specs::Values::value, crate::specs::Values::value_by, crate::specs::Values::operands))]
     pub fn value(&mut self, brackets: u8, reads: Accesses) -> Result<Accesses, ReadError>
         ensures { Reads (spec.value brackets reads self.old) result self.new }
     {
@@ -230,6 +236,7 @@ impl<'a> Reader<'a> {
 
     /// The value that brackets hold, where so many were left before them.
     #[cycle(value)]
+    #[tactic(auto, using(crate::proofs::Turns::turns), unfolding(crate::specs::Values::inside, crate::specs::Values::value))]
     fn inside(&mut self, brackets: u8, reads: Accesses) -> Result<Accesses, ReadError>
         ensures { Reads (spec.inside brackets reads self.old) result self.new }
     {

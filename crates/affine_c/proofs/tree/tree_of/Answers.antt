@@ -5,8 +5,8 @@ use Rattle.c_reading.specs.declared.lines.Line.TheVariants.{Begin, Does, End}
 use Rattle.c_grammar.specs.Program.{narrowed}
 use Rattle.affine_c.specs.Built.{lines_so_far}
 use Rattle.affine_c.specs.declared.growing.GrowingTree.{GrowingTree}
-use Rattle.affine_c.proofs.Lists.{dropped}
-use Rattle.affine_c.proofs.TreeKept.{Kept, kept_begin, kept_does, kept_end}
+use Rattle.affine_c.proofs.Rows.{dropped}
+use Rattle.affine_c.proofs.TreeGrows.{Kept, kept_begin, kept_does, kept_end}
 use Rattle.affine_c.proofs.tree.tree_of.Goals.{in-Begin+in_ok-name-in-Begin+in_ok-lower-in-Begin+in_ok-upper-in-Begin+in_ok-begin-in-Begin, in-Does+in_ok-assign-in-Does, in-End+in_ok-end-in-End}
 use Rattle.affine_c.proofs.tree.tree_of.Goals as goal
 

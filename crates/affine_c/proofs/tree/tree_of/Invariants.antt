@@ -1,6 +1,6 @@
 use Rattle.std.proofs.Common.{length, drop}
 use Rattle.affine_c.specs.Built.{lines_so_far}
-use Rattle.affine_c.proofs.TreeKept.{Kept}
+use Rattle.affine_c.proofs.TreeGrows.{Kept}
 use Rattle.affine_c.proofs.tree.tree_of.Given as goal
 
 abbrev pub invariant-loop-line : goal.invariant-loop-line

@@ -1,27 +1,11 @@
-use Rattle.std.proofs.Common.{rules, arith}
+use Rattle.std.proofs.Common.{◌∙◌, rules, arith}
 use Rattle.std.proofs.lemmas.Grind.{common_steps}
-use Rattle.c_reading.specs.Affine.{signs, all_signs}
-use Rattle.c_reading.proofs.Turns.{one_more, no_more}
+use Rattle.c_reading.specs.Affine.{signs}
+use Rattle.c_reading.proofs.Turns.{turn}
 use Rattle.c_reading.proofs.input.Reader.all_signs.Goals as goal
-
-pub loop-turn-init : goal.loop-turn-init
-unfolding all_signs
-loop-turn-init c = first_of (search rules, grind (arith, common_steps))
-
-pub returns-then-not-sees : goal.returns-then-not-sees
-unfolding signs
-returns-then-not-sees c =
-    let e = one_more (λ n. signs n c.loop-turn.negative c.loop-turn.self) _ c.loop-turn._turn c.loop-turn-test.true c.loop-turn.invariant in
-    first_of (search rules, grind (arith, common_steps))
 
 pub loop-turn-preserved : goal.loop-turn-preserved
 unfolding signs
 loop-turn-preserved c =
-    let e = one_more (λ n. signs n c.loop-turn.negative c.loop-turn.self) _ c.loop-turn._turn c.loop-turn-test.true c.loop-turn.invariant in
-    first_of (search rules, grind (arith, common_steps))
-
-pub returns : goal.returns
-unfolding signs
-returns c =
-    let e = no_more (λ n. signs n c.loop-turn.negative c.loop-turn.self) _ c.loop-turn._turn c.loop-turn-test.false c.loop-turn.invariant in
+    let e = c.loop-turn.invariant ∙ turn (λ n. signs n c.loop-turn.negative c.loop-turn.self) _ c.loop-turn._turn c.loop-turn-test.true in
     first_of (search rules, grind (arith, common_steps))
