@@ -1,10 +1,11 @@
 //! Answers to questions about systems.
 
-ghost use Rattle.std.specs.Prelude.{◌≡◌, ◌≤◌, ◌++◌, IfOk, MatchOption};
+ghost use Rattle.std.specs.Prelude.{◌≡◌, ◌≤◌, ◌++◌, IfOk, IsTrue, MatchOption};
 ghost use Rattle.affine_form.specs.Form.{variables};
-ghost use Rattle.affine_form.specs.Shown.{minus_one};
+ghost use Rattle.affine_form.specs.Shown.{Follows, minus_one};
 ghost use Rattle.affine_form.specs.System.{AllOver};
 ghost use Rattle.answers.specs.Answers.{IsAnswered, HasShortAnswer, HasNoShort, IsAsShort, Answers, following, pointless};
+ghost use Rattle.int_sets.specs.ShortList.{HasShortList};
 ghost use Rattle.iolb_model.specs.declared.limits.TheConstants.{VARIABLES};
 
 use crate::wanted::Wanted;
@@ -31,12 +32,16 @@ fn answered(
     }
 }
 
-/// Whether a goal is found to follow from the rows of the system.
+/// Whether a goal is found to follow from the rows of the system. Where a short list shows it, it is found.
 pub fn is_answered(alloc: Global, system: &System, goal: &Form) -> Result<bool, Memory>
     requires { variables goal.now ≡ system.now.vars }
+    ensures follows { IfOk result (λ yes. IsTrue yes → Follows system.now goal.now) }
+    ensures short { IfOk result (λ yes. HasShortList system.now goal.now → IsTrue yes) }
 {
-    let found = prove(alloc, system, goal)?;
-    Ok(found.is_some())
+    match prove(alloc, system, goal)? {
+        Some(_) => Ok(true),
+        None => Ok(false),
+    }
 }
 
 /// Multipliers that show each goal from the rows of the system. None only where some goal has no short list.
