@@ -7,7 +7,7 @@ ghost use Rattle.iolb_model.specs.declared.limits.TheConstants.{NEST_VARIABLES, 
 use crate::affine::{Affine, copies, loops};
 use crate::combined::combined;
 use crate::facts::Facts;
-use crate::shown::{Rows, all_shown};
+use crate::shown::{Rows, all_shown, followed, within};
 use affine_form::{Form, Memory};
 use affine_program::Program;
 use domain_count::{Nest, Sums};
@@ -214,7 +214,7 @@ pub fn narrowed(
 }
 
 /// The values of a nest's variables.
-pub fn own_values(
+fn own_values(
     alloc: Global,
     params: usize,
     bounds: &[(Affine, Affine)],
@@ -222,8 +222,23 @@ pub fn own_values(
     loops(alloc, params, bounds.len())
 }
 
+/// The rows of a nest's points: the assumptions and the bounds.
+pub fn nest_rows(
+    alloc: Global,
+    facts: &Facts,
+    bounds: &[(Affine, Affine)],
+) -> Result<Rows, Memory> {
+    let values = own_values(alloc, facts.params, bounds)?;
+    let nest = within(alloc, facts.params, bounds, values.as_slice())?;
+    let rows = copies(alloc, facts.assumed.as_slice())?;
+    Ok(Rows {
+        vars: facts.params.saturating_add(bounds.len()),
+        rows: followed(alloc, rows, nest.as_slice())?,
+    })
+}
+
 /// The nest of these bounds, where it is within the limits.
-pub fn nest_of(
+fn nest_of(
     alloc: Global,
     params: usize,
     bounds: &[(Affine, Affine)],

@@ -1,6 +1,6 @@
 //! Multipliers that show rows, found.
 
-ghost use Rattle.std.specs.Prelude.{◌≤◌, IfOk, IfSome};
+ghost use Rattle.std.specs.Prelude.{◌≤◌, min, IfOk, IfSome};
 ghost use Rattle.affine_form.specs.System.{AllOver};
 ghost use Rattle.iolb_model.specs.declared.limits.TheConstants.{VARIABLES};
 
@@ -18,7 +18,7 @@ pub struct Rows {
 }
 
 /// The rows as forms over so many variables, where they are within the limits.
-pub fn forms(alloc: Global, vars: usize, rows: &[Affine]) -> Result<Option<Vec<Form>>, Memory>
+fn forms(alloc: Global, vars: usize, rows: &[Affine]) -> Result<Option<Vec<Form>>, Memory>
     requires { vars ≤ VARIABLES }
     ensures { IfOk result (λ found. IfSome found (λ forms. AllOver vars forms.items)) }
 {
@@ -30,6 +30,13 @@ pub fn forms(alloc: Global, vars: usize, rows: &[Affine]) -> Result<Option<Vec<F
         all.push(form)?;
     }
     Ok(Some(all))
+}
+
+/// The rows as forms over so many variables, or over as many as the limits allow, where they are within the limits.
+pub fn all_forms(alloc: Global, vars: usize, rows: &[Affine]) -> Result<Option<Vec<Form>>, Memory>
+    ensures { IfOk result (λ found. IfSome found (λ forms. AllOver (min vars VARIABLES) forms.items)) }
+{
+    forms(alloc, vars.min(limits::VARIABLES), rows)
 }
 
 /// Multipliers for each goal.

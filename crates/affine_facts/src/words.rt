@@ -67,6 +67,22 @@ pub fn two_apart(
     Ok(Some(shown))
 }
 
+/// Whether words are shown to be none of those that are taken.
+pub fn are_none_of(
+    alloc: Global,
+    facts: &Facts,
+    words: &[Words],
+    taken: &[Vec<Words>],
+) -> Result<bool, Memory> {
+    for some in taken {
+        let none = Vec::new(alloc);
+        if two_apart(alloc, facts, some.as_slice(), words, none)?.is_none() {
+            return Ok(false);
+        }
+    }
+    Ok(true)
+}
+
 /// Multipliers that show that no two families have a word in common.
 pub fn apart(
     alloc: Global,

@@ -1,7 +1,7 @@
 //! That families have no word in common, shown.
 
+use crate::drafts::Draft;
 use crate::families::{anew, families_of};
-use crate::labels::Draft;
 use affine_facts::facts::Facts;
 use affine_facts::words::{Words, joined, two_apart};
 use affine_form::Memory;

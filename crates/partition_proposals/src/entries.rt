@@ -1,6 +1,6 @@
 //! What is claimed at the leaves of a read's source tree, as far as multipliers are found.
 
-use crate::labels::{Draft, Way};
+use crate::drafts::{Draft, Way};
 use affine_facts::affine::{Affine, copies};
 use affine_facts::facts::{Facts, Origin, ReadFacts, TreeLeaf};
 use affine_facts::nests::{image, narrowed, ranged, tightened, wide_loops};

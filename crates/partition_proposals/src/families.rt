@@ -1,8 +1,9 @@
 //! Families that cover the coordinates of a statement.
 
 use crate::coordinates::Coordinates;
+use crate::drafts::{Draft, Way};
 use crate::entries::Work;
-use crate::labels::{Draft, Way, drafted};
+use crate::labels::drafted;
 use crate::walks::{Made, begun, family};
 use affine_facts::affine::Affine;
 use affine_facts::facts::{Facts, Origin, ReadFacts};

@@ -3,9 +3,12 @@
 
 mod apart;
 mod coordinates;
+mod drafts;
 mod entries;
 mod families;
 mod labels;
+mod nodes;
+mod taking;
 mod terms;
 mod walks;
 

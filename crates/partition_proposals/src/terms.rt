@@ -2,14 +2,14 @@
 
 use crate::apart::{apart_by_way, is_apart_code, words_by_way};
 use crate::coordinates::Coordinates;
+use crate::drafts::Draft;
 use crate::entries::Work;
 use crate::families::{Families, anew, choices, cover, families_of, weighted};
-use crate::labels::Draft;
-use affine_facts::affine::{copies, loops};
+use affine_facts::affine::loops;
 use affine_facts::facts::Facts;
-use affine_facts::nests::counted;
-use affine_facts::shown::{Rows, all_shown, followed, within};
-use affine_facts::words::{Words, apart, joined, two_apart};
+use affine_facts::nests::{counted, nest_rows};
+use affine_facts::shown::{all_shown, within};
+use affine_facts::words::{Words, apart, are_none_of, joined};
 use affine_form::{Memory, Multipliers};
 use affine_program::Program;
 use iolb_model::limits;
@@ -58,15 +58,14 @@ fn inside(alloc: Global, facts: &Facts, work: &Work) -> Result<Option<Vec<Multip
     let Some(own) = facts.statement(work.statement) else {
         return Ok(None);
     };
-    let params = facts.params;
-    let values = loops(alloc, params, own.depth())?;
-    let nest = within(alloc, params, work.bounds.as_slice(), values.as_slice())?;
-    let rows = copies(alloc, facts.assumed.as_slice())?;
-    let given = Rows {
-        vars: params.saturating_add(own.depth()),
-        rows: followed(alloc, rows, nest.as_slice())?,
-    };
-    let goals = within(alloc, params, own.bounds.as_slice(), values.as_slice())?;
+    let given = nest_rows(alloc, facts, work.bounds.as_slice())?;
+    let values = loops(alloc, facts.params, own.depth())?;
+    let goals = within(
+        alloc,
+        facts.params,
+        own.bounds.as_slice(),
+        values.as_slice(),
+    )?;
     all_shown(alloc, &given, goals.as_slice())
 }
 
@@ -152,11 +151,8 @@ fn whole(
         work,
     } = made;
     let words = joined(alloc, words)?;
-    for some in taken {
-        let none = Vec::new(alloc);
-        if two_apart(alloc, facts, some.as_slice(), words.as_slice(), none)?.is_none() {
-            return Ok(None);
-        }
+    if !are_none_of(alloc, facts, words.as_slice(), taken)? {
+        return Ok(None);
     }
     match term(alloc, program, facts, chosen, work, families, apart)? {
         Some(term) => Ok(Some(Proposed { term, words })),

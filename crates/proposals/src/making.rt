@@ -2,7 +2,7 @@
 
 use affine_facts::facts::{Facts, facts_of};
 use affine_facts::numbers::short;
-use affine_facts::words::{Words, apart, two_apart};
+use affine_facts::words::{Words, apart, are_none_of};
 use affine_form::{Memory, Multipliers};
 use affine_program::Program;
 use iolb_model::limits;
@@ -124,22 +124,6 @@ fn partitions(
     Ok(Gathered { terms, taken })
 }
 
-/// Whether words are shown to be none of those that are taken.
-fn is_apart(
-    alloc: Global,
-    facts: &Facts,
-    taken: &[Vec<Words>],
-    words: &[Words],
-) -> Result<bool, Memory> {
-    for some in taken {
-        let none = Vec::new(alloc);
-        if two_apart(alloc, facts, some.as_slice(), words, none)?.is_none() {
-            return Ok(false);
-        }
-    }
-    Ok(true)
-}
-
 /// The wavefront terms whose words aren't taken, behind other terms.
 fn with_wavefronts(
     alloc: Global,
@@ -154,7 +138,7 @@ fn with_wavefronts(
     for proposed in wavefronts(alloc, program, facts)? {
         if terms.len() < limits::TERMS {
             let words = proposed.words.as_slice();
-            if is_apart(alloc, facts, taken.as_slice(), words)? {
+            if are_none_of(alloc, facts, words, taken.as_slice())? {
                 terms.push(ProposedTerm::Wavefront(proposed.term))?;
                 taken.push(proposed.words)?;
             }

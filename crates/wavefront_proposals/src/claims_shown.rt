@@ -3,27 +3,14 @@
 use crate::outlines::Outline;
 use crate::ways::{Instance, Step, Turn};
 use affine_facts::affine::{Affine, copies, loops};
-use affine_facts::facts::{Facts, Origin, ReadFacts, TreeLeaf};
-use affine_facts::shown::{Rows, all_put, all_shown, equalities, followed, no_point, within};
-use affine_form::{Form, Memory, Multipliers};
+use affine_facts::facts::{Facts, Origin, ReadFacts, TreeLeaf, with_row};
+use affine_facts::shown::{
+    Rows, all_forms, all_put, all_shown, equalities, followed, no_point, within,
+};
+use affine_form::{Memory, Multipliers};
 use iolb_model::limits;
 use reuse_paths::{Leaf, Reach, Region, Walk};
 use std::alloc::Global;
-
-/// The rows of a nest's points: the assumptions and the bounds.
-pub(crate) fn nest_rows(
-    alloc: Global,
-    facts: &Facts,
-    bounds: &[(Affine, Affine)],
-) -> Result<Rows, Memory> {
-    let values = loops(alloc, facts.params, bounds.len())?;
-    let nest = within(alloc, facts.params, bounds, values.as_slice())?;
-    let rows = copies(alloc, facts.assumed.as_slice())?;
-    Ok(Rows {
-        vars: facts.params.saturating_add(bounds.len()),
-        rows: followed(alloc, rows, nest.as_slice())?,
-    })
-}
 
 /// Rows, and those of the tests before a leaf, with values put in.
 fn with_tests(
@@ -201,11 +188,9 @@ fn taken_where(
     let Some(read) = way.facts.read(statement, number) else {
         return Ok(None);
     };
-    let mut rows = copies(alloc, given.rows.as_slice())?;
-    rows.push(row)?;
     let given = Rows {
         vars: given.vars,
-        rows,
+        rows: with_row(alloc, given.rows.as_slice(), row)?,
     };
     taken(alloc, way, &given, number, read, values)
 }
@@ -238,15 +223,6 @@ fn turning(
         })),
         _ => Ok(None),
     }
-}
-
-/// The forms over so many variables, where all are within the limits.
-pub(crate) fn all_forms(
-    alloc: Global,
-    vars: usize,
-    rows: &[Affine],
-) -> Result<Option<Vec<Form>>, Memory> {
-    affine_facts::shown::forms(alloc, vars.min(limits::VARIABLES), rows)
 }
 
 /// The region of a step.

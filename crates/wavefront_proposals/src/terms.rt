@@ -5,14 +5,14 @@ ghost use Rattle.std.specs.List.{AllByRecursion};
 ghost use Rattle.affine_form.specs.Form.{IsSmall};
 ghost use Rattle.iolb_model.specs.declared.limits.TheConstants.{LOOPS, NEST_VARIABLES, NUMBER_SIZE};
 
-use crate::claims_shown::{Way, all_forms, edge, nest_rows, reach};
+use crate::claims_shown::{Way, edge, reach};
 use crate::outlines::{Outline, outlines_of};
 use crate::ways::{Instance, Step};
 use affine_facts::affine::{Affine, copies};
 use affine_facts::facts::Facts;
-use affine_facts::nests::counted;
+use affine_facts::nests::{counted, nest_rows};
 use affine_facts::numbers::{narrow, short};
-use affine_facts::shown::{Rows, all_shown, followed, within};
+use affine_facts::shown::{Rows, all_forms, all_shown, followed, within};
 use affine_facts::words::Words;
 use affine_form::{Matrix, Memory, Multipliers};
 use affine_program::Program;

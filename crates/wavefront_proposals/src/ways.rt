@@ -37,10 +37,10 @@ pub(crate) struct Step {
     pub(crate) read: u16,
 }
 
-/// The steps so far, and the instance to which they lead.
+/// The instances and reads from and by which steps were made so far, and the instance to which they lead.
 #[derive(Drop)]
 struct Trail {
-    steps: Vec<Step>,
+    steps: Vec<(Instance, u16)>,
     at: Instance,
 }
 
@@ -53,12 +53,18 @@ impl Instance {
     }
 }
 
-fn copied_step(alloc: Global, step: &Step) -> Result<Step, Memory> {
-    Ok(Step {
-        from: step.from.copied(alloc)?,
-        turn: None,
-        read: step.read,
-    })
+/// The steps of a way, and a last one.
+fn ended(alloc: Global, trail: Trail, last: Step) -> Result<Vec<Step>, Memory> {
+    let mut steps = Vec::new(alloc);
+    for (from, read) in trail.steps {
+        steps.push(Step {
+            from,
+            turn: None,
+            read,
+        })?;
+    }
+    steps.push(last)?;
+    Ok(steps)
 }
 
 /// The value of a loop at which one of the forms has its wanted value, where a form has no other loop than this one.
@@ -267,7 +273,7 @@ fn comes_to(trail: &Trail, statement: u16) -> bool {
             .steps
             .as_slice()
             .iter()
-            .any(|step| step.from.statement == statement)
+            .any(|(from, _)| from.statement == statement)
 }
 
 /// A way with one step more.
@@ -280,16 +286,12 @@ fn extended(
     point: &[Affine],
 ) -> Result<Trail, Memory> {
     let mut steps = Vec::new(alloc);
-    for step in trail.steps.as_slice() {
-        steps.push(copied_step(alloc, step)?)?;
+    for (from, read) in trail.steps.as_slice() {
+        steps.push((from.copied(alloc)?, *read))?;
     }
     let from = trail.at.copied(alloc)?;
     let point = all_put(alloc, facts.params, point, from.point.as_slice())?;
-    steps.push(Step {
-        from,
-        turn: None,
-        read,
-    })?;
+    steps.push((from, read))?;
     let at = Instance { statement, point };
     Ok(Trail { steps, at })
 }
@@ -340,9 +342,7 @@ fn followed_once(
     let mut more = Vec::new(alloc);
     for trail in trails {
         if let Some(step) = last_step(alloc, facts, &trail.at, word)? {
-            let Trail { mut steps, .. } = trail;
-            steps.push(step)?;
-            return Ok((Some(steps), more));
+            return Ok((Some(ended(alloc, trail, step)?), more));
         }
         more = all_extended(alloc, facts, &trail, more)?;
     }

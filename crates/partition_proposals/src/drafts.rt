@@ -1,0 +1,202 @@
+//! Families that are thought out without multipliers.
+
+use affine_facts::affine::{Affine, copies};
+use affine_facts::facts::Facts;
+use affine_form::Memory;
+use std::alloc::Global;
+
+/// How far the walks of a family go.
+#[derive(Clone, Copy, PartialEq, Eq)]
+pub(crate) enum Way {
+    /// As far as they can.
+    Whole,
+    /// To their first source.
+    Short,
+    /// As far as they can without an input cell.
+    Dry,
+}
+
+/// How a walk goes on from a statement: by a read, and from the instances that meet a row, if there is one.
+#[derive(Drop)]
+pub(crate) struct Step {
+    pub(crate) read: u16,
+    pub(crate) row: Option<Affine>,
+}
+
+/// What is known of a statement in a family: the label of its instances, and how a walk goes on.
+#[derive(Drop)]
+pub(crate) struct Node {
+    pub(crate) label: Vec<Affine>,
+    pub(crate) step: Option<Step>,
+}
+
+/// A family that is thought out: the read from which its words come, the coordinates and the label of a start, the node of
+/// each statement that it comes to, and the label of the cells of each array.
+#[derive(Drop)]
+pub(crate) struct Draft {
+    pub(crate) way: Way,
+    pub(crate) is_strict: bool,
+    pub(crate) read: u16,
+    pub(crate) set: Vec<u8>,
+    pub(crate) label: Vec<Affine>,
+    pub(crate) nodes: Vec<Option<Node>>,
+    pub(crate) cells: Vec<Option<Vec<Affine>>>,
+}
+
+impl Draft {
+    fn node(&self, statement: u16) -> Option<&Node> {
+        match self.nodes.as_slice().get(usize::from(statement)) {
+            Some(Some(node)) => Some(node),
+            _ => None,
+        }
+    }
+
+    /// The label of a statement's instances, where there is one.
+    pub(crate) fn label_of(&self, statement: u16) -> Option<&[Affine]> {
+        Some(self.node(statement)?.label.as_slice())
+    }
+
+    /// How a walk goes on from a statement.
+    pub(crate) fn step_of(&self, statement: u16) -> Option<&Step> {
+        self.node(statement)?.step.as_ref()
+    }
+
+    /// The label of an array's cells, where there is one.
+    pub(crate) fn cell_label(&self, array: u16) -> Option<&[Affine]> {
+        match self.cells.as_slice().get(usize::from(array)) {
+            Some(Some(label)) => Some(label.as_slice()),
+            _ => None,
+        }
+    }
+
+    /// Gives the instances of a statement a label.
+    pub(crate) fn put_label(&mut self, statement: u16, label: Vec<Affine>) {
+        if let Some(node) = self.nodes.get_mut(usize::from(statement)) {
+            *node = Some(Node { label, step: None });
+        }
+    }
+
+    /// Gives the cells of an array a label.
+    pub(crate) fn put_cells(&mut self, array: u16, label: Vec<Affine>) {
+        if let Some(cells) = self.cells.get_mut(usize::from(array)) {
+            *cells = Some(label);
+        }
+    }
+
+    /// Lets walks go on from a statement from those of its instances alone that meet a row, where they do go on.
+    pub(crate) fn restrict(&mut self, statement: u16, row: Affine) -> bool {
+        let Some(step) = self.step_of(statement) else {
+            return false;
+        };
+        let read = step.read;
+        self.put_step(statement, read, Some(row));
+        true
+    }
+
+    /// Lets walks go on from a statement by a read.
+    pub(crate) fn put_step(&mut self, statement: u16, read: u16, row: Option<Affine>) {
+        if let Some(Some(node)) = self.nodes.get_mut(usize::from(statement)) {
+            node.step = Some(Step { read, row });
+        }
+    }
+}
+
+/// A family without nodes.
+pub(crate) fn empty_draft(
+    alloc: Global,
+    facts: &Facts,
+    way: Way,
+    is_strict: bool,
+    read: u16,
+    set: Vec<u8>,
+    label: Vec<Affine>,
+) -> Result<Draft, Memory> {
+    let mut nodes = Vec::new(alloc);
+    for _statement in facts.statements.as_slice() {
+        nodes.push(None)?;
+    }
+    let mut cells = Vec::new(alloc);
+    for _array in facts.arrays.as_slice() {
+        cells.push(None)?;
+    }
+    Ok(Draft {
+        way,
+        is_strict,
+        read,
+        set,
+        label,
+        nodes,
+        cells,
+    })
+}
+
+/// A copy of the label, where there is one.
+pub(crate) fn copied_label(
+    alloc: Global,
+    label: Option<&[Affine]>,
+) -> Result<Option<Vec<Affine>>, Memory> {
+    match label {
+        Some(label) => Ok(Some(copies(alloc, label)?)),
+        None => Ok(None),
+    }
+}
+
+fn copied_step(alloc: Global, step: &Step) -> Result<Step, Memory> {
+    let row = match &step.row {
+        None => None,
+        Some(row) => Some(row.copied(alloc)?),
+    };
+    Ok(Step {
+        read: step.read,
+        row,
+    })
+}
+
+fn copied_node(alloc: Global, node: &Node) -> Result<Node, Memory> {
+    let step = match &node.step {
+        None => None,
+        Some(step) => Some(copied_step(alloc, step)?),
+    };
+    Ok(Node {
+        label: copies(alloc, node.label.as_slice())?,
+        step,
+    })
+}
+
+fn copied_nodes(alloc: Global, nodes: &[Option<Node>]) -> Result<Vec<Option<Node>>, Memory> {
+    let mut all = Vec::new(alloc);
+    for node in nodes {
+        all.push(match node {
+            None => None,
+            Some(node) => Some(copied_node(alloc, node)?),
+        })?;
+    }
+    Ok(all)
+}
+
+fn copied_cells(
+    alloc: Global,
+    cells: &[Option<Vec<Affine>>],
+) -> Result<Vec<Option<Vec<Affine>>>, Memory> {
+    let mut all = Vec::new(alloc);
+    for label in cells {
+        all.push(match label {
+            None => None,
+            Some(label) => Some(copies(alloc, label.as_slice())?),
+        })?;
+    }
+    Ok(all)
+}
+
+/// A copy of the draft.
+pub(crate) fn copied(alloc: Global, draft: &Draft) -> Result<Draft, Memory> {
+    Ok(Draft {
+        way: draft.way,
+        is_strict: draft.is_strict,
+        read: draft.read,
+        set: Vec::from_slice(alloc, draft.set.as_slice())?,
+        label: copies(alloc, draft.label.as_slice())?,
+        nodes: copied_nodes(alloc, draft.nodes.as_slice())?,
+        cells: copied_cells(alloc, draft.cells.as_slice())?,
+    })
+}
