@@ -1,13 +1,12 @@
 -- Source trees by their shapes.
-use Rattle.std.proofs.Common.{◌≡◌, refl, sym, ◌∙◌, ap, subst, ℕ, zero, suc, ◌+◌, ◌<◌, List, [], ◌∷◌, ◌++◌, length, get_or, arith, inl, inr, Bool, true, false}
+use Rattle.std.proofs.Common.{◌≡◌, refl, sym, ◌∙◌, ap, subst, ℕ, zero, suc, ◌+◌, ◌<◌, List, [], ◌∷◌, ◌++◌, length, get_or, arith, Bool, true, false}
 use Rattle.std.specs.Prelude.{Some, ◌||◌, ◌==◌, if◌then◌else◌, nat_lt, negsuc}
 use Rattle.std.specs.List.{AllByRecursion, range_with_len}
 use Rattle.std.proofs.lemmas.Bool.{eq-eqb, eqb-true}
-use Rattle.std.proofs.lemmas.Option.{slice_get-get_or}
-use Rattle.base_laws.proofs.Lists.{All-at, All-weaken}
+use Rattle.base_laws.proofs.Lists.{All-weaken}
 use Rattle.iolb_model.specs.Form.{AffineForm}
 use Rattle.iolb_model.specs.Path.{PathStep, rises}
-use Rattle.iolb_model.specs.Program.{Access, AffineProgram, no_statement, read_at, statement_at}
+use Rattle.iolb_model.specs.Program.{Access, AffineProgram, read_at, statement_at}
 use Rattle.affine_form.specs.Form.{variables}
 use Rattle.affine_form.specs.Rows.{IsSmallOver, widened}
 use Rattle.affine_program.specs.Domain.{depth_of, path_of}
@@ -15,15 +14,16 @@ use Rattle.dep_quast.specs.Context.{no_row, variables_at}
 use Rattle.dep_quast.specs.Tree.{SelectionTree, leaf, test, source, input, empty, blank}
 use Rattle.dep_quast.specs.Truth.{FitsUnder}
 use Rattle.part_fit.specs.Limits.{IsNestedTree}
-use Rattle.reuse_paths.specs.Quasts.{tree_at}
-use Rattle.projective.specs.Projective.{HoldsOfOne, IsProjective, coordinates, reference_to, shifted_variable, stands_in}
+use Rattle.projective.specs.Projective.{IsProjective, coordinates, shifted_variable, stands_in}
 use Rattle.shown_leaves.specs.Shapes.{last_write, no_write, shape_of, split}
-use Rattle.projective_trees.specs.SourceTrees.{AreFromRead, AreSourceTrees, IsSourceTree, read_number, turns_shape}
+use Rattle.projective_trees.specs.SourceTrees.{AreSourceTrees, IsSourceTree, read_number, turns_shape}
 use Rattle.projective_trees.specs.Turns.{is_kept, later_turn, turn_before, turn_value, turn_values, width}
 use Rattle.whole_terms.specs.Families.{loop_form}
 use Rattle.whole_terms.specs.Trees.{HaveKeepingTrees, KeepsLoops}
 use Rattle.whole_terms.proofs.Labels.{none}
 use Rattle.whole_terms.proofs.Readings.{filter-both, range-below}
+use Rattle.projective_trees.proofs.ProjectiveFacts.{read-same}
+use Rattle.projective_trees.proofs.ReadTrees.{tree-is, tree-there, tree_of_read}
 use Rattle.kept_trees.specs.Laws.{SourceTreesKeepLoops}
 
 -- ---- the values one turn before
@@ -117,16 +117,6 @@ module _ (program : AffineProgram) (set : List ℕ) (kept : AllByRecursion (λ (
 
 -- ---- the trees of reads
 
-from-at : (program : AffineProgram) (first k : ℕ) (row : List SelectionTree) (d : SelectionTree) → AreFromRead program first row → k < length row → IsSourceTree program (first + k) (get_or row k d)
-from-at program first k [] d h below = absurd (omega arith)
-from-at program first zero (tree ∷ row) d h below = subst (λ (n : ℕ). IsSourceTree program n tree) (omega arith) h.0
-from-at program first (suc k) (tree ∷ row) d h below = subst (λ (n : ℕ). IsSourceTree program n (get_or row k d)) (omega arith) (from-at program (suc first) k row d h.1 (omega arith))
-
-some-access : (P : Access → Type 0) (accesses : List Access) → HoldsOfOne P accesses → (k : ℕ) × (k < length accesses) × P (get_or accesses k no_statement.writes)
-some-access P [] h = absurd h
-some-access P (a ∷ accesses) (inl here) = (0, omega arith, here)
-some-access P (a ∷ accesses) (inr later) = let there = some-access P accesses later in (suc there.0, omega (arith, there.1), there.2)
-
 module _ (program : AffineProgram) (projective : IsProjective program) where
   abbrev reads : List Access
   reads = (statement_at program 0).reads
@@ -134,44 +124,32 @@ module _ (program : AffineProgram) (projective : IsProjective program) where
   abbrev writes : Access
   writes = (statement_at program 0).writes
 
-  -- a read of the array that is written reads the reference that is written
-  written-is : (read : ℕ) → read < length reads → (read_at program 0 read).array ≡ writes.array → read_at program 0 read ≡ writes
-  written-is read below e =
-      let one = some-access (λ (a : Access). a ≡ writes) reads projective.projects.accumulates in
-      let same_of : (a : Access) → reference_to reads a.array ≡ Some a → a.array ≡ writes.array → reference_to reads writes.array ≡ Some a = λ a h f. ap (reference_to reads) (sym f) ∙ h in
-      let first : reference_to reads writes.array ≡ Some writes = subst (λ (a : Access). reference_to reads a.array ≡ Some a) one.2
-      (All-at (λ (a : Access). reference_to reads a.array ≡ Some a) reads one.0 no_statement.writes projective.projects.same one.1) in
-      let second : reference_to reads writes.array ≡ Some (read_at program 0 read) = same_of (read_at program 0 read)
-      (All-at (λ (a : Access). reference_to reads a.array ≡ Some a) reads read no_statement.writes projective.projects.same below) e in
-      let both : Some (read_at program 0 read) ≡ Some writes = sym second ∙ first in cc
-
   keeping : (rows : List (List SelectionTree)) → AreSourceTrees program rows → HaveKeepingTrees program rows
   keeping rows h read below =
-      let inside : read < length h.row = omega (arith, h.many, below) in
-      let is : IsSourceTree program read (get_or h.row read (leaf blank)) = subst (λ (n : ℕ). IsSourceTree program n (get_or h.row read (leaf blank))) (omega arith) (from-at program 0 read h.row (leaf blank) h.each inside) in
+      let is : IsSourceTree program read (tree_of_read program rows h read below) = tree-is program rows h read below in
       record {
-        tree = get_or h.row read (leaf blank);
-        there = ap (λ (rs : List (List SelectionTree)). tree_at rs 0 read) h.one ∙ slice_get-get_or h.row read (leaf blank) inside;
+        tree = tree_of_read program rows h read below;
+        there = tree-there program rows h read below;
         few = is.few;
         keeps = by ((read_at program 0 read).array == writes.array) refl is.shape is;
       } where
         by : (b : Bool) → b ≡ ((read_at program 0 read).array == writes.array)
-            → shape_of (get_or h.row read (leaf blank)) ≡ (if b then turns_shape program (depth_of program 0) else no_write) → IsSourceTree program read (get_or h.row read (leaf blank))
-            → KeepsLoops program (writes.array == (read_at program 0 read).array) (coordinates (length program.parameters) (depth_of program 0) (Some (read_at program 0 read))) 16 (get_or h.row read (leaf blank))
+            → shape_of (tree_of_read program rows h read below) ≡ (if b then turns_shape program (depth_of program 0) else no_write) → IsSourceTree program read (tree_of_read program rows h read below)
+            → KeepsLoops program (writes.array == (read_at program 0 read).array) (coordinates (length program.parameters) (depth_of program 0) (Some (read_at program 0 read))) 16 (tree_of_read program rows h read below)
         by true e shape is =
             let same : (read_at program 0 read).array ≡ writes.array = eqb-true (read_at program 0 read).array writes.array (sym e) in
-            let one : read_at program 0 read ≡ writes = written-is read below same in
+            let one : read_at program 0 read ≡ writes = read-same program read projective below same in
             let stand = filter-both (λ place. stands_in (length program.parameters + place) (read_at program 0 read)) (λ (l : ℕ). l < depth_of program 0) (range_with_len 0 (depth_of program 0))
             (range-below 0 (depth_of program 0) (depth_of program 0) (omega arith)) in
-            subst (λ (b : Bool). KeepsLoops program b (coordinates (length program.parameters) (depth_of program 0) (Some (read_at program 0 read))) 16 (get_or h.row read (leaf blank)))
+            subst (λ (b : Bool). KeepsLoops program b (coordinates (length program.parameters) (depth_of program 0) (Some (read_at program 0 read))) 16 (tree_of_read program rows h read below))
             (sym (eq-eqb writes.array (read_at program 0 read).array (sym same)))
             (tree-keeps program (coordinates (length program.parameters) (depth_of program 0) (Some (read_at program 0 read)))
             (All-weaken (λ (l : ℕ). (l < depth_of program 0) × (stands_in (length program.parameters + l) (read_at program 0 read) ≡ true)) (λ (l : ℕ). (l < depth_of program 0) × (is_kept program l ≡ true))
             (coordinates (length program.parameters) (depth_of program 0) (Some (read_at program 0 read)))
             (λ l p. (p.0, subst (λ (a : Access). stands_in (length program.parameters + l) a ≡ true) one p.1)) stand)
-            read (depth_of program 0) 16 [] (get_or h.row read (leaf blank)) shape is.stands.fits is.stands.small)
+            read (depth_of program 0) 16 [] (tree_of_read program rows h read below) shape is.stands.fits is.stands.small)
         by false e shape is =
-            input-keeps program (coordinates (length program.parameters) (depth_of program 0) (Some (read_at program 0 read))) (writes.array == (read_at program 0 read).array) 16 (get_or h.row read (leaf blank)) shape
+            input-keeps program (coordinates (length program.parameters) (depth_of program 0) (Some (read_at program 0 read))) (writes.array == (read_at program 0 read).array) 16 (tree_of_read program rows h read below) shape
 
 pub source-trees-keep : SourceTreesKeepLoops
 source-trees-keep program trees projective h = keeping program projective trees h

@@ -111,9 +111,6 @@ shifted-top none h = h
 shifted-top (part t none) h = absurd h
 shifted-top (part t (part u ps)) h = h
 
-number-top : (n : ℤ) → number n ≢ zero_expansion → HasTop (part zero_expansion (part (number n) none))
-number-top n h = h
-
 mutual
   pub times-canonical : (bound v : ℕ) (t : Expansion) → v < bound → IsCanonical bound t → IsCanonical bound (times v t)
   times-canonical bound v (number (pos zero)) below c = tt

@@ -6,7 +6,7 @@
 
 mod assumed;
 mod counts;
-mod parameters;
+pub mod parameters;
 mod powers;
 
 pub use counts::product_sums;

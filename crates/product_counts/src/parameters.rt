@@ -1,6 +1,6 @@
 //! The parameters below which variables run.
 
-ghost use Rattle.std.specs.Prelude.{◌≡◌, ◌<◌, ◌≤◌, ◌+◌, ℕ, negsuc, IfOk, length, map};
+ghost use Rattle.std.specs.Prelude.{◌≡◌, ◌<◌, ◌≤◌, ◌+◌, ℕ, ℤ, IfOk, length, map};
 ghost use Rattle.affine_form.specs.Rows.{step_of};
 ghost use Rattle.affine_program.specs.Parts.{meaning};
 ghost use Rattle.iolb_model.specs.declared.limits.TheConstants.{VARIABLES};
@@ -11,10 +11,10 @@ use affine_form::{Form, Memory};
 use affine_program::Program;
 use std::alloc::Global;
 
-/// The variable of a form that is a variable less 1.
-fn variable_of(form: &Form) -> usize
-    requires some { (vars place : ℕ) × (place < vars) × (form.now ≡ shifted_variable vars place (negsuc 0)) }
-    ensures { (vars place : ℕ) → place < vars → form.now ≡ shifted_variable vars place (negsuc 0) → result ≡ place }
+/// The variable of a form that is a variable and a number.
+pub fn variable_of(form: &Form) -> usize
+    requires some { (vars place : ℕ) × (number : ℤ) × (place < vars) × (form.now ≡ shifted_variable vars place number) }
+    ensures { (vars place : ℕ) (number : ℤ) → place < vars → form.now ≡ shifted_variable vars place number → result ≡ place }
 {
     for (place, number) in form.coef().iter().enumerate() {
         if *number != 0 {
@@ -25,7 +25,7 @@ fn variable_of(form: &Form) -> usize
 }
 
 /// The parameters below which the variables of a nest run, with so many variables around the first.
-pub(crate) fn parameters_from(
+pub fn parameters_from(
     alloc: Global,
     program: &Program,
     vars: usize,

@@ -34,8 +34,8 @@ fn first_to(reads: &[Reference], array: u16) -> usize
     first_to(others, array) + 1
 }
 
-/// The number of the first read of an array.
-fn array_read(program: &Program, array: u16) -> u16
+/// The number of the first read of an array, and how many reads there are where it isn't read.
+pub fn array_read(program: &Program, array: u16) -> u16
     requires there { 0 < length program.now.statements }
     ensures { result ≡ array_read (meaning program.now) array }
 {

@@ -4,9 +4,9 @@
 #![tactic(auto)]
 
 mod entries;
-mod families;
+pub mod families;
 mod labels;
-mod matrices;
+pub mod matrices;
 mod multipliers;
 mod whole;
 

@@ -24,7 +24,7 @@ fn with_row(cells: Vec<i32>, size: usize, row: usize) -> Result<Vec<i32>, Memory
 }
 
 /// The identity matrix of a size.
-pub(crate) fn identity(alloc: Global, size: usize) -> Result<Matrix, Memory>
+pub fn identity(alloc: Global, size: usize) -> Result<Matrix, Memory>
     requires { size ≤ NEST_VARIABLES }
     ensures { IfOk result (λ matrix. matrix ≡ identity_matrix size) }
 {

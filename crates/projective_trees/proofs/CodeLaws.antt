@@ -63,9 +63,6 @@ one-last : (P : AffineForm → Type 0) (tests : List AffineForm) (row : AffineFo
 one-last P [] row h = inl h
 one-last P (t ∷ tests) row h = inr (one-last P tests row h)
 
-pub none-tested : (program : AffineProgram) → AreFirstTurns program (depth_of program 0) []
-none-tested program = record { first = λ other from below free. absurd (omega (arith, from, below)); over = tt; few = omega arith }
-
 module _ (program : AffineProgram) (level : ℕ) (tests : List AffineForm) (h : AreFirstTurns program (suc level) tests) where
   -- a loop that stands in the reference isn't tested
   pub kept-passed : is_kept program level ≡ true → AreFirstTurns program level tests

@@ -9,3 +9,4 @@ pub mod Fits
 pub mod LeafLaws
 pub mod Leaves
 pub mod CodeLaws
+pub mod ReadTrees

@@ -3,3 +3,4 @@ pub mod Moved
 pub mod ShownLeaves
 pub mod StandingLaws
 pub mod ShownTrees
+pub mod StandingTrees

@@ -64,7 +64,7 @@ run-fits program vars (b ∷ nest) (p ∷ ps) h = (
 
 -- ---- the term by its parts
 
-abbrev whole : AffineProgram → List (List SelectionTree) → ℕ → List ℕ → List (AffineForm × AffineForm) → SumClaims → PartitionTerm
+abbrev pub whole : AffineProgram → List (List SelectionTree) → ℕ → List ℕ → List (AffineForm × AffineForm) → SumClaims → PartitionTerm
 whole program trees q weights nest count = record {
   statement = 0;
   nest = nest;
@@ -81,7 +81,7 @@ whole program trees q weights nest count = record {
   apart = [];
 }
 
-whole-is : (program : AffineProgram) (trees : List (List SelectionTree)) (q : ℕ) (weights : List ℕ) (term : PartitionTerm) → IsWholeTerm program trees q weights term
+pub whole-is : (program : AffineProgram) (trees : List (List SelectionTree)) (q : ℕ) (weights : List ℕ) (term : PartitionTerm) → IsWholeTerm program trees q weights term
     → term ≡ whole program trees q weights term.nest term.count
 whole-is program trees q weights term h = λ i. record {
   statement = h.statement i;
@@ -110,7 +110,7 @@ module _ (parts : ProgramParts) (trees : List (List SelectionTree)) (q : ℕ) (w
   abbrev size : ℕ
   size = length nest
 
-  depth : depth_of program 0 ≡ size
+  pub depth : depth_of program 0 ≡ size
   depth = ap (λ (steps : List PathStep). length steps) (sym path) ∙ length-map nest step_of
 
   one-statement : length parts.statements ≡ 1
@@ -119,7 +119,7 @@ module _ (parts : ProgramParts) (trees : List (List SelectionTree)) (q : ℕ) (w
   pub few : size ≤ 6
   few = omega (arith, depth, depth-few parts can.program 0 (omega (arith, one-statement)))
 
-  is-nest : IsNest program nest (identity_matrix size)
+  pub is-nest : IsNest program nest (identity_matrix size)
   is-nest = record {
     one = can.projective.one;
     path = sym path;

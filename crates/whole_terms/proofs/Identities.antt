@@ -75,15 +75,19 @@ row-unit size row few below =
     (long ∙ sym (length-set (replicate size (pos 0)) row (pos 1) ∙ length-replicate size (pos 0)))
     (λ k inside. row-entry (identity_matrix size) row k below (omega (arith, inside, long)) ∙ entry-is size row k below (omega (arith, inside, long)) ∙ sym (unit-at size row k below ∙ unit-is row k))
 
+-- times a matrix it is that matrix
+pub identity-times : (size row col : ℕ) (others : List (List ℤ)) → size ≤ 6 → row < size → row < length others
+    → product_entry (matrix_rows (identity_matrix size)) others row col ≡ get_or (get_or others row []) col (pos 0)
+identity-times size row col others few below there =
+    ap (λ (xs : List ℤ). dot xs (column col others)) (row-unit size row few below)
+    ∙ plain (dot (slice_set (replicate size (pos 0)) row (pos 1)) (column col others)) (get_or (column col others) row (pos 0)) (form_value-variable size row (column col others) below)
+    ∙ get_or-map (λ (r : List ℤ). get_or r col (pos 0)) others row [] (pos 0) there where
+      plain : (a b : ℤ) → a +ℤ pos 0 ≡ b → a ≡ b
+      plain a b e = omega (arith, ints)
+
 -- so it is its own inverse
 pub identity-undone : (size row col : ℕ) → size ≤ 6 → row < size → col < size
     → product_entry (matrix_rows (identity_matrix size)) (matrix_rows (identity_matrix size)) row col ≡ scaled_entry 1 row col
 identity-undone size row col few below inside =
-    let rows = matrix_rows (identity_matrix size) in
-    ap (λ (xs : List ℤ). dot xs (column col (matrix_rows (identity_matrix size)))) (row-unit size row few below)
-    ∙ plain (dot (slice_set (replicate size (pos 0)) row (pos 1)) (column col (matrix_rows (identity_matrix size)))) (get_or (column col (matrix_rows (identity_matrix size))) row (pos 0))
-    (form_value-variable size row (column col (matrix_rows (identity_matrix size))) below)
-    ∙ get_or-map (λ (r : List ℤ). get_or r col (pos 0)) (matrix_rows (identity_matrix size)) row [] (pos 0) (omega (arith, rows-many (identity_matrix size), below))
-    ∙ row-entry (identity_matrix size) row col below inside ∙ entry-is size row col below inside where
-      plain : (a b : ℤ) → a +ℤ pos 0 ≡ b → a ≡ b
-      plain a b e = omega (arith, ints)
+    identity-times size row col (matrix_rows (identity_matrix size)) few below (omega (arith, rows-many (identity_matrix size), below))
+    ∙ row-entry (identity_matrix size) row col below inside ∙ entry-is size row col below inside

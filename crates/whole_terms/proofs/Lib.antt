@@ -9,3 +9,6 @@ pub mod Readings
 pub mod Walked
 pub mod Held
 pub mod Small
+pub mod Sums
+pub mod AskedFamilies
+pub mod Asked

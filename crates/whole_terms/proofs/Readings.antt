@@ -121,7 +121,7 @@ filter-both passes Q (x ∷ xs) h = by (passes x) refl (filter-both passes Q xs 
   by true e rest = ((h.0, sym e), rest)
   by false e rest = rest
 
-filter-few : (passes : ℕ → Bool) (xs : List ℕ) → length (filter passes xs) ≤ length xs
+pub filter-few : (passes : ℕ → Bool) (xs : List ℕ) → length (filter passes xs) ≤ length xs
 filter-few passes [] = omega arith
 filter-few passes (x ∷ xs) = by (passes x) (filter-few passes xs) where
   by : (b : Bool) → length (filter passes xs) ≤ length xs → length (cond b (x ∷ filter passes xs) (filter passes xs)) ≤ suc (length xs)

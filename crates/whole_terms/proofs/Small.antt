@@ -40,7 +40,7 @@ use Rattle.iolb_model.specs.declared.limits.TheConstants.{COEFFICIENT_SIZE, NUMB
 
 -- ---- multipliers
 
-taken-names : (rows : List AffineForm) (count : ℕ) (ps : List ℕ) (shown : List FarkasMultipliers) → length rows ≤ 32 → AreTaken rows count ps shown → NameRows shown
+pub taken-names : (rows : List AffineForm) (count : ℕ) (ps : List ℕ) (shown : List FarkasMultipliers) → length rows ≤ 32 → AreTaken rows count ps shown → NameRows shown
 taken-names rows count [] [] few h = tt
 taken-names rows count [] (m ∷ shown) few h = absurd h
 taken-names rows count (p ∷ ps) [] few h = absurd h
@@ -56,7 +56,7 @@ agree-name size = All-replicate NamesRows (2 * size) none_taken tt
 
 -- ---- polynomials
 
-repeated-small : (v : ℕ) (ps : List ℕ) (sums : List Quotient) → v + length ps ≤ 24 → AreRepeated v ps sums → AllByRecursion IsSmallPolynomial sums
+pub repeated-small : (v : ℕ) (ps : List ℕ) (sums : List Quotient) → v + length ps ≤ 24 → AreRepeated v ps sums → AllByRecursion IsSmallPolynomial sums
 repeated-small v [] [] few h = tt
 repeated-small v [] (s ∷ sums) few h = absurd h
 repeated-small v (p ∷ ps) [] few h = absurd h
@@ -180,7 +180,7 @@ module _ (program : AffineProgram) (trees : List (List SelectionTree)) where
     by true e rest = rest (omega (arith, none (holds set c) w (eqb-true w 0 (sym e))))
     by false e rest = omega arith
 
-  weights-all : (first : ℕ) (sets : List (List ℕ)) (weights : List ℕ) → sum_by (λ (family : FamilyForms). family.weight) (array_families program trees first sets weights) ≤ sum weights
+  pub weights-all : (first : ℕ) (sets : List (List ℕ)) (weights : List ℕ) → sum_by (λ (family : FamilyForms). family.weight) (array_families program trees first sets weights) ≤ sum weights
   weights-all first [] weights = omega arith
   weights-all first (set ∷ sets) [] = omega arith
   weights-all first (set ∷ sets) (w ∷ weights) = by (w == 0) (weights-all (suc first) sets weights) where

@@ -12,6 +12,7 @@ use Rattle.k_partition.specs.declared.term.Partition.{Partition}
 use Rattle.k_partition.specs.Term.{PartitionTerm}
 use Rattle.k_partition.specs.View.{partition_of}
 use Rattle.iolb_check.specs.Limits.{IsSmallPartition}
+use Rattle.iolb_check.specs.PartitionFit.{partition_fit}
 use Rattle.projective.specs.Projective.{IsProjective, projection_sets}
 use Rattle.whole_terms.specs.Trees.{HaveKeepingTrees}
 use Rattle.whole_terms.specs.Whole.{IsWholeTerm}
@@ -37,6 +38,11 @@ WholeTermsHold = (parts : ProgramParts) (trees : List (List SelectionTree)) (q :
 abbrev pub WholeTermsFit : Type 0
 WholeTermsFit = (parts : ProgramParts) (trees : List (List SelectionTree)) (q : ℕ) (weights : List ℕ) (term : PartitionTerm)
     → CanBeShown parts trees q weights → IsWholeTerm (meaning parts) trees q weights term → PartitionFits (meaning parts) trees term
+
+-- What a certificate asks of it holds too, wherever it stands (condition 1).
+abbrev pub WholeTermsAreAsAsked : Type 0
+WholeTermsAreAsAsked = (parts : ProgramParts) (trees : List (List SelectionTree)) (q : ℕ) (weights : List ℕ) (term : PartitionTerm) (place : List Step)
+    → CanBeShown parts trees q weights → IsWholeTerm (meaning parts) trees q weights term → AllHold (partition_fit (meaning parts) trees place term)
 
 -- And it is within the limits of certificates.
 abbrev pub WholeTermsAreSmall : Type 0

@@ -1,6 +1,6 @@
 //! What is shown of the terms of whole domains.
 
-ghost use Rattle.whole_terms.specs.Laws.{WholeTermsAreSmall, WholeTermsFit, WholeTermsHold};
+ghost use Rattle.whole_terms.specs.Laws.{WholeTermsAreAsAsked, WholeTermsAreSmall, WholeTermsFit, WholeTermsHold};
 
 /// All that the term of a projective program's whole domain claims holds, over source trees that keep the loops, for a cover
 /// whose arrays are read.
@@ -11,6 +11,11 @@ pub fn whole_terms_hold()
 /// It fits the program and the source trees.
 pub fn whole_terms_fit()
     ensures { WholeTermsFit }
+{}
+
+/// What certificates ask of it holds, wherever it stands.
+pub fn whole_terms_are_as_asked()
+    ensures { WholeTermsAreAsAsked }
 {}
 
 /// It is within the limits of certificates.
