@@ -1,0 +1,19 @@
+-- What follows of the certificates of projective programs.
+use Rattle.iolb_model.specs.Program.{AffineProgram}
+use Rattle.claims.specs.Claims.{FirstFails}
+use Rattle.claims.specs.declared.refused.No.{No}
+use Rattle.k_partition.specs.View.{partition_of}
+use Rattle.iolb_check.specs.Claims.{claim_of_certificate}
+use Rattle.iolb_check.specs.Conditions.{conditions}
+use Rattle.iolb_check.specs.Limits.{CertificateParts}
+use Rattle.projective_bounds.specs.Certified.{IsCertified, IsOfLeastExponent}
+
+-- the term of the first branch has the least exponent
+abbrev pub CertifiedHaveLeastExponents : Type 0
+CertifiedHaveLeastExponents = (program : AffineProgram) (certificate : CertificateParts) (is : IsCertified program certificate)
+    → IsOfLeastExponent program (partition_of is.whole.term)
+
+-- and no condition fails
+abbrev pub CertifiedAreAccepted : Type 0
+CertifiedAreAccepted = (program : AffineProgram) (certificate : CertificateParts) → IsCertified program certificate
+    → (failed : No) → ¬ FirstFails (conditions program (claim_of_certificate certificate)) failed

@@ -1,0 +1,51 @@
+//! The two branches of a projective program's certificate.
+
+ghost use Rattle.std.specs.Prelude.{◌≡◌, [], IfOk, map};
+ghost use Rattle.affine_program.specs.Parts.{meaning};
+ghost use Rattle.iolb_check.specs.declared.term.Term.{Term};
+ghost use Rattle.projective.specs.Shape.{IsShapeOf};
+ghost use Rattle.projective_bounds.specs.Certified.{IsWholeBranch};
+ghost use Rattle.reuse_paths.specs.Quasts.{trees_of};
+ghost use Rattle.whole_terms.specs.Laws.{CanBeShown};
+
+use affine_form::Memory;
+use affine_program::Program;
+use iolb_check::{Branch, Term};
+use projective::Projective;
+use projective_terms::whole_term;
+use reuse_paths::Quasts;
+use std::alloc::Global;
+use wavefront::Cold;
+
+/// The branch of the term of the whole domain.
+pub(crate) fn whole_branch(
+    alloc: Global,
+    program: &Program,
+    shape: &Projective,
+    quasts: &Quasts,
+    q: u8,
+    weights: &[u8],
+) -> Result<Branch, Memory>
+    requires shown { CanBeShown program.now (trees_of quasts.now) q weights.now }
+    requires shape { IsShapeOf (meaning program.now) shape.now }
+    ensures { IfOk result (λ branch. IsWholeBranch (meaning program.now) (trees_of quasts.now) q weights.now branch) }
+{
+    let mut terms = Vec::new(alloc);
+    let term = whole_term(alloc, program, shape, quasts, q, weights)?;
+    terms.push(Term::Partition(term))?;
+    let disjoint = Vec::new(alloc);
+    Ok(Branch { terms, disjoint })
+}
+
+/// The branch of some cold terms.
+pub(crate) fn cold_branch(alloc: Global, colds: Vec<Cold>) -> Result<Branch, Memory>
+    ensures all { IfOk result (λ branch. branch.terms.items ≡ map Term.Cold colds.items) }
+    ensures alone { IfOk result (λ branch. branch.disjoint.items ≡ []) }
+{
+    let mut terms = Vec::new(alloc);
+    for cold in colds {
+        terms.push(Term::Cold(cold))?;
+    }
+    let disjoint = Vec::new(alloc);
+    Ok(Branch { terms, disjoint })
+}
