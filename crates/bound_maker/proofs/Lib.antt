@@ -1,3 +1,4 @@
 pub mod Standing
 pub mod Opened
 pub mod Rows
+pub mod OfProjective

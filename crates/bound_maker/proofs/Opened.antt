@@ -1,21 +1,19 @@
 -- Source trees that stand, with the opening branch: within the limits, and plain where the branch names their reads.
-use Rattle.std.proofs.Common.{Bool, true, false, ◌≡◌, refl, sym, ◌∙◌, ap, subst, inl, inr, ℕ, zero, suc, ◌+◌, ◌<◌, ◌≤◌, List, [], ◌∷◌, ◌++◌, length, map, arith, Vec, Global, Bor}
-use Rattle.std.specs.Prelude.{◌⊎◌, ◌==◌, ◌&&◌, ◌||◌, Option, None, Some, IfNone, option_and_then, slice_get}
+use Rattle.std.proofs.Common.{Bool, true, false, ◌≡◌, refl, sym, ◌∙◌, ap, subst, inl, inr, ℕ, zero, suc, ◌+◌, ◌<◌, List, [], ◌∷◌, ◌++◌, length, map, arith, Bor}
+use Rattle.std.specs.Prelude.{◌==◌, ◌&&◌, ◌||◌, Option, None, Some, IfNone, option_and_then, slice_get}
 use Rattle.std.specs.List.{AllByRecursion, list_any}
 use Rattle.std.proofs.lemmas.Bool.{eq-eqb}
-use Rattle.iolb_model.specs.Program.{AffineProgram, statement_at}
+use Rattle.iolb_model.specs.Program.{AffineProgram}
 use Rattle.claims.specs.Claims.{FirstFails}
 use Rattle.claims.specs.declared.refused.No.{No as FailedCondition}
 use Rattle.claims.proofs.Laws.{accepted-stand}
 use Rattle.affine_program.specs.Parts.{ProgramParts, IsProgram, meaning}
-use Rattle.dep_quast.specs.declared.quast.Quast.{Quast}
 use Rattle.dep_quast.specs.Context.{ReadOf}
-use Rattle.dep_quast.specs.Tree.{SelectionTree, tree_of}
+use Rattle.dep_quast.specs.Tree.{SelectionTree}
 use Rattle.dep_quast.specs.Truth.{ReadFits}
-use Rattle.flow_deps.specs.Plain.{IsPlain}
-use Rattle.part_fit.specs.Limits.{IsSmallTree}
+use Rattle.shown_leaves.specs.Standing.{AllStand}
 use Rattle.reuse_paths.specs.declared.quasts.Quasts.{Quasts}
-use Rattle.reuse_paths.specs.Quasts.{row_trees, tree_at, tree_for, tree_or_blank, trees_of}
+use Rattle.reuse_paths.specs.Quasts.{tree_at, tree_for, tree_or_blank, trees_of}
 use Rattle.reuse_paths.specs.Trees.{read_of}
 use Rattle.wavefront.specs.declared.cold.Cold.{Cold}
 use Rattle.iolb_check.specs.declared.term.Term.{Term}
@@ -29,10 +27,11 @@ use Rattle.cold_terms.specs.Held.{reader_of}
 use Rattle.bound_maker.specs.Accepted.{IsRefused}
 use Rattle.bound_maker.specs.declared.accepted.Accepted.{Accepted}
 use Rattle.bound_maker.specs.Opened.{BeginsWithOpening, HasTreesFor, NamesBranch, NamesTerm}
-use Rattle.bound_maker.specs.Trees.{HasRow, HasTrees, IsSourceTree, RowStands, RowsStand, is_named, is_of_read}
+use Rattle.bound_maker.specs.Trees.{HasRow, HasTrees, IsSourceTree, RowStands, RowsStand, is_of_read}
 use Rattle.bound_maker.specs.declared.trees.Scope.{Scope}
-use Rattle.bound_maker.specs.declared.trees.Scope.TheVariants.{All, Few}
-use Rattle.bound_maker.proofs.Standing.{bare-stands, trees-fit, trees-valid}
+use Rattle.bound_maker.specs.declared.trees.Scope.TheVariants.{Few}
+use Rattle.shown_leaves.proofs.StandingTrees.{trees-fit, trees-small, trees-valid}
+use Rattle.bound_maker.proofs.Standing.{all-standing, bare-stands}
 
 no-more : (n : ℕ) → n + 0 ≡ n
 no-more n = omega arith
@@ -44,20 +43,6 @@ from-none : (n : ℕ) → 0 + n ≡ n
 from-none n = omega arith
 
 module _ (program : AffineProgram) (scope : Scope) where
-  -- ---- within the limits
-
-  small-row : (statement read : ℕ) (row : List Quast) → RowStands program scope statement read (map tree_of row) → AllByRecursion (λ quast. IsSmallTree (tree_of quast)) row
-  small-row statement read [] stand = tt
-  small-row statement read (quast ∷ row) stand = (record { nested = stand.0.stands.small; few = stand.0.few }, small-row statement (suc read) row stand.1)
-
-  small-rows : (first : ℕ) (rows : List (Vec Quast Global)) → RowsStand program scope first (map row_trees rows)
-      → AllByRecursion (λ (row : Vec Quast Global). AllByRecursion (λ quast. IsSmallTree (tree_of quast)) row.items) rows
-  small-rows first [] stand = tt
-  small-rows first (row ∷ rows) stand = (small-row first 0 row.items stand.0.stand, small-rows (suc first) rows stand.1)
-
-  pub trees-small : (quasts : Quasts) → HasTrees program scope (trees_of quasts) → AllByRecursion (λ (row : Vec Quast Global). AllByRecursion (λ quast. IsSmallTree (tree_of quast)) row.items) quasts.rows.items
-  trees-small quasts has = small-rows 0 quasts.rows.items has.stand
-
   -- ---- the tree of a read
 
   row-at : (first k : ℕ) (rows : List (List SelectionTree)) → k < length rows → RowsStand program scope first rows
@@ -98,26 +83,27 @@ module _ (program : AffineProgram) (scope : Scope) where
 
 pub opening-small : OpeningsAreWithinLimits → (program : AffineProgram) (quasts : Quasts) (branch : Branch) → HasTreesFor program (Some branch) (trees_of quasts) → IsOpeningBranch program branch
     → IsWithinLimits (record { quasts = quasts; branches = branch ∷ [] })
-opening-small law program quasts branch (scope, has, named) opening = law program quasts branch opening (trees-small program scope quasts has)
+opening-small law program quasts branch (scope, has, named) opening = law program quasts branch opening (trees-small program quasts (all-standing program scope (trees_of quasts) has))
 
 pub opening-stands : OpeningsMeetConditions → (program : ProgramParts) (trees : List (List SelectionTree)) (branch : Branch) (failed : FailedCondition) → IsProgram program
     → HasTreesFor (meaning program) (Some branch) trees → IsOpeningBranch (meaning program) branch → FirstFails (conditions (meaning program) (alone trees branch)) failed → ⊥
 opening-stands law program trees branch failed kept (scope, has, named) opening fails =
     let P : AffineProgram = meaning program in
+    let stand : AllStand P trees = all-standing P scope trees has in
     let plain : AllByRecursion (HasPlainTree P trees) branch.terms.items =
     subst (λ (all : List Term). AllByRecursion (HasPlainTree P trees) all) (sym opening.2)
     (plain-trees P scope trees opening.0 has opening.1.each (subst (λ (all : List Term). AllByRecursion (NamesTerm scope) all) opening.2 named)) in
     accepted-stand (conditions P (alone trees branch)) failed
-    (law program trees branch kept opening (trees-fit P scope kept.well_formed trees has) (trees-valid P scope kept.well_formed trees has) plain) fails
+    (law program trees branch kept opening (trees-fit P kept.well_formed trees stand) (trees-valid P kept.well_formed trees stand) plain) fails
 
 -- ---- certificates that aren't refused
 
 pub bare-small : (program : AffineProgram) (quasts : Quasts) (branches : List Branch) → ((scope : Scope) × HasTrees program scope (trees_of quasts)) → branches ≡ []
     → IsWithinLimits (record { quasts = quasts; branches = branches })
 bare-small program quasts branches (scope, has) none =
-    subst (λ (all : List Branch). IsWithinLimits (record { quasts = quasts; branches = all })) (sym none) (record { trees = trees-small program scope quasts has; few = omega arith; branches = tt })
+    subst (λ (all : List Branch). IsWithinLimits (record { quasts = quasts; branches = all })) (sym none) (record { trees = trees-small program quasts (all-standing program scope (trees_of quasts) has); few = omega arith; branches = tt })
 
-refused : (program : ProgramParts) (certificate : CertificateParts) (found : Option Accepted) → found ≡ None → IfNone found (IsRefused program certificate) → IsRefused program certificate
+pub refused : (program : ProgramParts) (certificate : CertificateParts) (found : Option Accepted) → found ≡ None → IfNone found (IsRefused program certificate) → IsRefused program certificate
 refused program certificate found none h = subst (λ (o : Option Accepted). IfNone o (IsRefused program certificate)) none h
 
 pub bare-accepted : (program : ProgramParts) (certificate : CertificateParts) (quasts : Quasts) (branches : List Branch) (found : Option Accepted) → IsProgram program
@@ -127,7 +113,7 @@ bare-accepted program certificate quasts branches found kept (scope, has) is emp
     let at : IsRefused program (record { quasts = quasts; branches = [] }) =
     subst (λ (all : List Branch). IsRefused program (record { quasts = quasts; branches = all })) empty
     (subst (λ (c : CertificateParts). IsRefused program c) is (refused program certificate found none h)) in
-    bare-stands (meaning program) scope kept.well_formed (trees_of quasts) at.0 has at.1
+    bare-stands (meaning program) kept.well_formed (trees_of quasts) at.0 (all-standing (meaning program) scope (trees_of quasts) has) at.1
 
 pub opening-accepted : OpeningsMeetConditions → (program : ProgramParts) (certificate : CertificateParts) (quasts : Quasts) (branches : List Branch) (branch : Branch) (found : Option Accepted) → IsProgram program
     → HasTreesFor (meaning program) (Some branch) (trees_of quasts) → IsOpeningBranch (meaning program) branch → certificate ≡ record { quasts = quasts; branches = branches } → branches ≡ branch ∷ [] → found ≡ None
@@ -150,16 +136,6 @@ begins-pushed program branches branch (inl never) = inl never
 begins-pushed program branches branch (inr (first, later, is, opens, some)) = inr (first, later ++ branch ∷ [], ap (λ (all : List Branch). all ++ branch ∷ []) is, opens, some)
 
 -- ---- named reads
-
-names-all : (all : List Term) → AllByRecursion (NamesTerm All) all
-names-all [] = tt
-names-all (terms.Cold cold ∷ all) = (refl, names-all all)
-names-all (terms.Partition partition ∷ all) = (tt, names-all all)
-names-all (terms.Wavefront front ∷ all) = (tt, names-all all)
-
-pub all-named : (opening : Option Branch) → NamesBranch All opening
-all-named None = tt
-all-named (Some branch) = names-all branch.terms.items
 
 -- a cold term is one of its read
 own-read : (cold : Cold) → is_of_read (reader_of cold) (terms.Cold cold) ≡ true

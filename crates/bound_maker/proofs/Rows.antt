@@ -1,11 +1,8 @@
 -- Reads of a statement, counted in the code and in what it means.
-use Rattle.std.proofs.Common.{◌≡◌, refl, sym, ◌∙◌, ap, subst, true, ℕ, ◌+◌, ◌<◌, List, [], ◌∷◌, ◌++◌, length, map, get_or, arith, Vec, Global}
+use Rattle.std.proofs.Common.{◌≡◌, refl, sym, ◌∙◌, ap, subst, true, ℕ, ◌+◌, List, [], ◌∷◌, ◌++◌, length, map, arith, Vec, Global}
 use Rattle.std.proofs.lemmas.List.{length-append, length-map}
-use Rattle.iolb_model.specs.Program.{statement_at, Statement as ModelStatement}
-use Rattle.affine_program.specs.declared.statement.Statement.{Statement}
-use Rattle.affine_program.specs.Parts.{ProgramParts, IsProgram, access_of, meaning, statement_of}
+use Rattle.affine_program.specs.Parts.{ProgramParts, IsProgram, meaning, statement_of}
 use Rattle.dep_quast.specs.Truth.{ReadFits}
-use Rattle.dep_quast.proofs.Fits.{statement-is}
 use Rattle.iolb_model.specs.Program.{AffineProgram}
 use Rattle.dep_quast.specs.declared.quast.Quast.{Quast}
 use Rattle.dep_quast.specs.Context.{ReadOf}
@@ -18,19 +15,13 @@ use Rattle.shown_leaves.proofs.StandingLaws.{blank-stands, context-few}
 use Rattle.iolb_model.specs.declared.limits.TheConstants.{TREE_TESTS}
 use Rattle.bound_maker.proofs.Standing.{row-pushed, rows-pushed}
 
--- a statement has as many reads
-pub reads-many : (parts : ProgramParts) (s : ℕ) (at : Statement) → s < length parts.statements → at ≡ get_or parts.statements s at → length at.reads.items ≡ length (statement_at (meaning parts) s).reads
-reads-many parts s at below is = sym (ap (λ (t : ModelStatement). length t.reads) (statement-is parts s at below is) ∙ length-map at.reads.items access_of)
-
--- a read below their number is there
-pub read-there : (parts : ProgramParts) (s r count : ℕ) → s < length parts.statements → count ≡ length (statement_at (meaning parts) s).reads → r < count → ReadFits (meaning parts) (read_of s r)
-read-there parts s r count below many less = record { statement = omega (arith, below, length-map parts.statements statement_of); read = omega (arith, many, less) }
-
 -- a blank tree of a read that isn't named
 pub blank-tree : (parts : ProgramParts) (scope : Scope) (reader : ReadOf) → IsProgram parts → ReadFits (meaning parts) reader → (is_named scope reader ≡ true → ⊥) → IsSourceTree (meaning parts) scope reader (leaf blank)
 blank-tree parts scope reader kept fits unnamed = record {
-  stands = blank-stands (meaning parts) reader [] TREE_TESTS (context-few parts kept reader [] (omega (arith, fits.statement, length-map parts.statements statement_of)) (omega arith));
-  few = omega arith;
+  standing = record {
+    stands = blank-stands (meaning parts) reader [] TREE_TESTS (context-few parts kept reader [] (omega (arith, fits.statement, length-map parts.statements statement_of)) (omega arith));
+    few = omega arith;
+  };
   plain = λ named other plain. absurd (unnamed named);
 }
 

@@ -1,139 +1,40 @@
--- Source trees that stand claim nothing that doesn't hold: a certificate of them without branches meets all conditions.
-use Rattle.std.proofs.Common.{Bool, true, false, ◌≡◌, refl, sym, ◌∙◌, ap, subst, inl, inr, ℕ, zero, suc, ◌+◌, ◌<◌, ◌≤◌, List, [], ◌∷◌, ◌++◌, length, arith}
-use Rattle.std.specs.Prelude.{nat_lt, if◌then◌else◌, ◌⊎◌}
-use Rattle.std.specs.List.{AllByRecursion}
-use Rattle.std.proofs.lemmas.Bool.{lt-ltb}
-use Rattle.iolb_model.specs.Form.{AffineForm}
-use Rattle.iolb_model.specs.Program.{AffineProgram, IsWellFormed, statement_at}
-use Rattle.iolb_model.specs.Order.{common_loops}
-use Rattle.claims.specs.Claims.{Claim, AllHold, FirstFails, numbered}
-use Rattle.claims.specs.declared.place.Step.{Step}
-use Rattle.claims.specs.declared.place.Step.TheVariants.{Key, Index}
-use Rattle.claims.specs.declared.key.TheConstants.{NO, POINT, QUASTS, STATEMENT, YES}
+-- Source trees of all reads stand: a certificate of them without branches meets all conditions.
+use Rattle.std.proofs.Common.{◌≡◌, subst, ℕ, suc, ◌+◌, List, [], ◌∷◌, ◌++◌, length, arith}
+use Rattle.iolb_model.specs.Program.{AffineProgram, IsWellFormed}
+use Rattle.claims.specs.Claims.{AllHold, FirstFails}
 use Rattle.claims.specs.declared.refused.No.{No as FailedCondition}
 use Rattle.claims.proofs.Laws.{AllHold-append, accepted-stand}
-use Rattle.affine_form.specs.Rows.{IsSmallOver}
-use Rattle.affine_form.proofs.RowLemmas.{length-variables}
-use Rattle.affine_program.specs.Domain.{depth_of}
-use Rattle.dep_quast.specs.Claims.{before_goals, claims}
-use Rattle.dep_quast.specs.Context.{ReadOf, variables_at, no_row, context, reader_values}
-use Rattle.dep_quast.specs.Levels.{level_count, order_count}
-use Rattle.dep_quast.specs.Tree.{SourceClaim, Leaf as TreeLeaf, source, input, empty, blank, SelectionTree, leaf, test}
-use Rattle.dep_quast.specs.Truth.{ReadFits, IsLevel, LeafFits, FitsUnder}
-use Rattle.dep_quast.proofs.Counts.{earlier-many, between-many, order-many, level-within}
-use Rattle.dep_quast.proofs.Fits.{common-first, common-second}
-use Rattle.part_fit.specs.FitClaims.{names, so_many}
-use Rattle.part_fit.specs.PartFit.{form_at, forms_fit}
-use Rattle.part_fit.specs.TreeFit.{order_rows_at, source_lists_fit, leaf_fit, tree_fit, tree_at, row_at, row_fit, trees_fit}
-use Rattle.reuse_paths.specs.Trees.{read_of, row_claims, rows_claims, tree_place}
+use Rattle.dep_quast.specs.Tree.{SelectionTree}
+use Rattle.part_fit.specs.TreeFit.{trees_fit}
+use Rattle.reuse_paths.specs.Trees.{read_of, rows_claims}
+use Rattle.shown_leaves.specs.Standing.{AllStand, AreStanding, AreStandingRows}
+use Rattle.shown_leaves.proofs.StandingTrees.{trees-fit, trees-valid}
 use Rattle.iolb_check.specs.Conditions.{conditions}
 use Rattle.bound_maker.specs.Trees.{HasRow, HasTrees, IsSourceTree, RowStands, RowsStand}
 use Rattle.bound_maker.specs.declared.trees.Scope.{Scope}
 
--- a level is below their number
-level-below : (program : AffineProgram) (t s level : ℕ) → IsLevel program t s level → level < level_count program t s
-level-below program t s level (inl common) = by (nat_lt t s) where
-  by : (b : Bool) → level < length (common_loops program t s) + (if b then 1 else 0)
-  by true = omega (arith, common)
-  by false = omega (arith, common)
-level-below program t s level (inr (last, earlier)) =
-    let more = ap (λ (b : Bool). length (common_loops program t s) + (if b then 1 else 0)) (lt-ltb t s earlier) in omega (arith, last, more)
+module _ (program : AffineProgram) (scope : Scope) where
+  row-standing : (statement read : ℕ) (row : List SelectionTree) → RowStands program scope statement read row → AreStanding program statement read row
+  row-standing statement read [] stand = tt
+  row-standing statement read (tree ∷ row) stand = (stand.0.standing, row-standing statement (suc read) row stand.1)
 
-forms-hold : (vars : ℕ) (place : List Step) (index : ℕ) (forms : List AffineForm) → AllByRecursion (IsSmallOver vars) forms → AllHold (numbered (form_at vars place) index forms)
-forms-hold vars place index [] small = tt
-forms-hold vars place index (form ∷ forms) small = (small.0.over, forms-hold vars place (suc index) forms small.1)
+  rows-standing : (statement : ℕ) (rows : List (List SelectionTree)) → RowsStand program scope statement rows → AreStandingRows program statement rows
+  rows-standing statement [] stand = tt
+  rows-standing statement (row ∷ rows) stand = (record { many = stand.0.many; each = row-standing statement 0 row stand.0.stand }, rows-standing (suc statement) rows stand.1)
 
-module _ (program : AffineProgram) (scope : Scope) (well : IsWellFormed program) where
-  module _ (reader : ReadOf) (fits : ReadFits program reader) where
-    -- as many rows as show the order at a level
-    before-many : (claim : SourceClaim) → claim.statement < length program.statements → IsLevel program claim.statement reader.statement claim.level
-        → length claim.point ≡ depth_of program claim.statement → length (before_goals program reader claim) ≡ order_rows_at program claim.statement reader.statement claim.level
-    before-many claim there level point =
-        let vars = variables_at program reader in
-        let t = claim.statement in
-        let s = reader.statement in
-        order-many vars (common_loops program t s) claim.level claim.point (reader_values program reader vars)
-        (level-within program t s claim.level level)
-        (omega (arith, common-first program t s well there, point))
-        (omega (arith, common-second program t s well fits.statement, length-variables vars (length program.parameters) (depth_of program s)))
-        ∙ sym (ap (λ (b : Bool). if b then order_count (length (common_loops program t s)) claim.level else 0) (lt-ltb claim.level (level_count program t s) (level-below program t s claim.level level)))
+  pub all-standing : (trees : List (List SelectionTree)) → HasTrees program scope trees → AllStand program trees
+  all-standing trees has = record { many = has.many; rows = rows-standing 0 trees has.stand }
 
-    leaf-holds : (place : List Step) (tests : List AffineForm) (chosen : TreeLeaf) → LeafFits program reader tests chosen → AllHold (leaf_fit program reader place chosen)
-    leaf-holds place tests (source claim) h =
-        let lists : List Claim = source_lists_fit program reader claim place in
-        let forms : List Claim = forms_fit (variables_at program reader) (place ++ Key POINT ∷ []) claim.point in
-        let last : List Claim = names (place ++ Key STATEMENT ∷ []) claim.statement (length program.statements) ∷ [] in
-        let point : AllHold (so_many (place ++ Key POINT ∷ []) (length claim.point) (depth_of program claim.statement) ∷ []) = (h.there.point, tt) in
-        let each : AllHold lists = (
-          h.lists.before ∙ before-many claim h.there.statement h.there.level h.there.point,
-          (
-            h.lists.between ∙ between-many program reader (context program reader tests) claim,
-            (h.lists.cell, (h.lists.inside, (level-below program claim.statement reader.statement claim.level h.there.level, point))),
-          ),
-        ) in
-        AllHold-append (lists ++ forms) last
-        (AllHold-append lists forms each (forms-hold (variables_at program reader) (place ++ Key POINT ∷ []) 0 claim.point h.there.forms)) (h.there.statement, tt)
-    leaf-holds place tests (input shown) h = (h ∙ earlier-many program reader (context program reader tests), tt)
-    leaf-holds place tests (empty shown) h = tt
-    leaf-holds place tests blank h = tt
+-- a certificate of trees that stand, without branches, meets all conditions
+bare-holds : (program : AffineProgram) → IsWellFormed program → (trees : List (List SelectionTree)) → AllStand program trees → AllHold (conditions program (record { trees = trees; branches = [] }))
+bare-holds program well trees stand =
+    AllHold-append (trees_fit program trees ++ rows_claims program 0 trees) []
+    (AllHold-append (trees_fit program trees) (rows_claims program 0 trees) (trees-fit program well trees stand) (trees-valid program well trees stand)) tt
 
-    tree-holds : (place : List Step) (tests : List AffineForm) (tree : SelectionTree) → FitsUnder program reader tests tree → AllHold (tree_fit program reader place tree)
-    tree-holds place tests (leaf chosen) h = leaf-holds place tests chosen h
-    tree-holds place tests (test form above below) h =
-        let low : List Claim = tree_fit program reader (place ++ Key NO ∷ []) below in
-        let high : List Claim = tree_fit program reader (place ++ Key YES ∷ []) above in (
-          h.0.over,
-          AllHold-append low high (tree-holds (place ++ Key NO ∷ []) (tests ++ no_row (variables_at program reader) form ∷ []) below h.2)
-              (tree-holds (place ++ Key YES ∷ []) (tests ++ form ∷ []) above h.1),
-        )
-
-  -- the trees of a statement's reads fit
-  row-holds : (place : List Step) (statement read : ℕ) (row : List SelectionTree) → statement < length program.statements → read + length row ≡ length (statement_at program statement).reads
-      → RowStands program scope statement read row → AllHold (numbered (tree_at program place statement) read row)
-  row-holds place statement read [] there many stand = tt
-  row-holds place statement read (tree ∷ row) there many stand =
-      let reader : ReadOf = read_of statement read in
-      AllHold-append (tree_at program place statement read tree) (numbered (tree_at program place statement) (suc read) row)
-      (tree-holds reader (record { statement = there; read = omega arith }) (place ++ Index read ∷ []) [] tree stand.0.stands.fits)
-      (row-holds place statement (suc read) row there (omega arith) stand.1)
-
-  -- and those of all
-  rows-hold : (place : List Step) (first : ℕ) (rows : List (List SelectionTree)) → first + length rows ≡ length program.statements
-      → RowsStand program scope first rows → AllHold (numbered (row_at program place) first rows)
-  rows-hold place first [] many stand = tt
-  rows-hold place first (row ∷ rows) many stand =
-      AllHold-append (row_at program place first row) (numbered (row_at program place) (suc first) rows)
-      (stand.0.many, row-holds (place ++ Index first ∷ []) first 0 row (omega arith) (omega (arith, stand.0.many)) stand.0.stand)
-      (rows-hold place (suc first) rows (omega arith) stand.1)
-
-  -- what the trees claim holds
-  row-valid : (statement read : ℕ) (row : List SelectionTree) → RowStands program scope statement read row → AllHold (row_claims program statement read row)
-  row-valid statement read [] stand = tt
-  row-valid statement read (tree ∷ row) stand =
-      AllHold-append (claims program (read_of statement read) [] (tree_place statement read) tree) (row_claims program statement (suc read) row)
-      (stand.0.stands.valid (tree_place statement read)) (row-valid statement (suc read) row stand.1)
-
-  rows-valid : (first : ℕ) (rows : List (List SelectionTree)) → RowsStand program scope first rows → AllHold (rows_claims program first rows)
-  rows-valid first [] stand = tt
-  rows-valid first (row ∷ rows) stand =
-      AllHold-append (row_claims program first 0 row) (rows_claims program (suc first) rows) (row-valid first 0 row stand.0.stand) (rows-valid (suc first) rows stand.1)
-
-  -- the trees fit
-  pub trees-fit : (trees : List (List SelectionTree)) → HasTrees program scope trees → AllHold (trees_fit program trees)
-  trees-fit trees has = (has.many, rows-hold (Key QUASTS ∷ []) 0 trees (omega (arith, has.many)) has.stand)
-
-  pub trees-valid : (trees : List (List SelectionTree)) → HasTrees program scope trees → AllHold (rows_claims program 0 trees)
-  trees-valid trees has = rows-valid 0 trees has.stand
-
-  -- a certificate of the trees without branches meets all conditions
-  bare-holds : (trees : List (List SelectionTree)) → HasTrees program scope trees → AllHold (conditions program (record { trees = trees; branches = [] }))
-  bare-holds trees has =
-      AllHold-append (trees_fit program trees ++ rows_claims program 0 trees) []
-      (AllHold-append (trees_fit program trees) (rows_claims program 0 trees) (trees-fit trees has) (trees-valid trees has)) tt
-
-  -- so it isn't refused
-  pub bare-stands : (trees : List (List SelectionTree)) (failed : FailedCondition) → HasTrees program scope trees → FirstFails (conditions program (record { trees = trees; branches = [] })) failed → ⊥
-  bare-stands trees failed has fails = accepted-stand (conditions program (record { trees = trees; branches = [] })) failed (bare-holds trees has) fails
+-- so it isn't refused
+pub bare-stands : (program : AffineProgram) → IsWellFormed program → (trees : List (List SelectionTree)) (failed : FailedCondition) → AllStand program trees
+    → FirstFails (conditions program (record { trees = trees; branches = [] })) failed → ⊥
+bare-stands program well trees failed stand fails = accepted-stand (conditions program (record { trees = trees; branches = [] })) failed (bare-holds program well trees stand) fails
 
 -- one tree more at the end of a row, and one row more
 pub row-pushed : (program : AffineProgram) (scope : Scope) (statement read : ℕ) (row : List SelectionTree) (tree : SelectionTree) → RowStands program scope statement read row → IsSourceTree program scope (read_of statement (read + length row)) tree

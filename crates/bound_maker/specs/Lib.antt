@@ -1,3 +1,4 @@
 pub mod Trees
 pub mod Accepted
 pub mod Opened
+pub mod Made

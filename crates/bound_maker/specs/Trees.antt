@@ -1,17 +1,16 @@
 -- Source trees of all reads of a program.
-use Rattle.std.specs.Prelude.{◌≡◌, ◌≤◌, ◌==◌, ◌&&◌, ℕ, suc, ⊤, Bool, true, false, List, [], ◌∷◌, length}
+use Rattle.std.specs.Prelude.{◌≡◌, ◌==◌, ◌&&◌, ℕ, suc, ⊤, Bool, true, false, List, [], ◌∷◌, length}
 use Rattle.std.specs.List.{list_any}
 use Rattle.iolb_model.specs.Program.{AffineProgram, statement_at}
 use Rattle.dep_quast.specs.Context.{ReadOf}
-use Rattle.dep_quast.specs.Tree.{SelectionTree, leaf_count}
+use Rattle.dep_quast.specs.Tree.{SelectionTree}
 use Rattle.flow_deps.specs.Plain.{IsPlain}
-use Rattle.shown_leaves.specs.Shown.{Stands}
+use Rattle.shown_leaves.specs.Standing.{IsStanding}
 use Rattle.reuse_paths.specs.Trees.{read_of}
 use Rattle.iolb_check.specs.declared.term.Term.{Term}
 use Rattle.iolb_check.specs.declared.term.Term.TheVariants as terms
 use Rattle.bound_maker.specs.declared.trees.Scope.{Scope}
 use Rattle.bound_maker.specs.declared.trees.Scope.TheVariants.{All, Few}
-use Rattle.iolb_model.specs.declared.limits.TheConstants.{TREE_TESTS, TREE_LEAVES}
 
 -- whether a term is a cold term of a read
 abbrev pub is_of_read : ReadOf → Term → Bool
@@ -24,11 +23,9 @@ abbrev pub is_named : Scope → ReadOf → Bool
 is_named All reader = true
 is_named (Few terms) reader = list_any (is_of_read reader) terms.now
 
--- A source tree of a read: it fits the program, each of its claims holds, and it is within the limits of certificates. It is plain
--- where the read is named and has a plain tree.
+-- A source tree of a read stands, and it is plain where the read is named and has a plain tree.
 pub record IsSourceTree (program : AffineProgram) (scope : Scope) (reader : ReadOf) (tree : SelectionTree) : Type 0 where
-  pub stands : Stands program reader [] TREE_TESTS tree
-  pub few : leaf_count tree ≤ TREE_LEAVES
+  pub standing : IsStanding program reader tree
   pub plain : is_named scope reader ≡ true → (other : SelectionTree) → IsPlain program reader other → IsPlain program reader tree
 
 -- source trees of the reads of a statement, from a read on

@@ -9,6 +9,7 @@ ghost use Rattle.bound_maker.specs.declared.trees.Scope.{Scope};
 ghost use Rattle.find_terms.specs.Openings.{FindsOpening, IsOpeningBranch};
 ghost use Rattle.iolb_check.specs.declared.term.Branch.{Branch};
 ghost use Rattle.iolb_check.specs.Limits.{IsWithinLimits};
+ghost use Rattle.projective_bounds.specs.Certified.{IsCertified};
 ghost use Rattle.reuse_paths.specs.Quasts.{trees_of};
 
 use affine_form::Memory;
@@ -17,6 +18,7 @@ use claims::Refused;
 use find_terms::law::openings_are_accepted;
 use iolb_cert::certificate_text;
 use iolb_check::{Bound, Branch, Certificate, check};
+use projective_bounds::law::certified_are_accepted;
 use reuse_paths::Quasts;
 use std::alloc::Global;
 
@@ -84,6 +86,23 @@ fn judged(
         bound,
         text,
     }))
+}
+
+/// The certificate of a projective program. It is accepted.
+pub(crate) fn certain(
+    alloc: Global,
+    program: &Program,
+    certificate: Certificate,
+) -> Result<Accepted, Memory>
+    requires { IsCertified (meaning program.now) certificate }
+    ensures accepted { IfOk result (IsAccepted program.now) }
+    ensures certificate { IfOk result (λ accepted. accepted.certificate ≡ certificate) }
+{
+    certified_are_accepted();
+    match judged(alloc, program, certificate)? {
+        Some(accepted) => Ok(accepted),
+        None => unreachable!(),
+    }
 }
 
 /// The certificate of source trees without branches. It is accepted whatever the trees are, as long as they stand.

@@ -85,7 +85,7 @@ printed complete call left request program text note bounds there bound gains no
   holds = bound.holds;
   printed = gains;
   noted = subst (λ (n : List ℕ). Gains left.error n) bound.noted noted;
-  opened = bound.opened;
+  made = bound.made;
 }
 
 -- what status 0 says

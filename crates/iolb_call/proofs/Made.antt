@@ -8,16 +8,16 @@ use Rattle.iolb_cert.specs.OneCertificate.{HasCertificate}
 use Rattle.iolb_check.specs.Bounds.{BoundParts, bound_of}
 use Rattle.iolb_check.specs.Claims.{CertificateClaim}
 use Rattle.iolb_check.specs.Conditions.{MeetsConditions}
-use Rattle.iolb_call.specs.Bounded.{IsBounded, IsOpened}
+use Rattle.iolb_call.specs.Bounded.{IsBounded, IsOfMaker}
 
 pub bounded_so : (program : ProgramParts) (certificate : CertificateClaim) (bound : BoundParts) (text note : List ℕ) → HasCertificate text certificate → bound.assumed ≡ program.assumed
-    → MeetsConditions (meaning program) certificate bound.branches → BoundHolds (meaning program) (bound_of bound) → note ≡ bound_text program.params (bound_of bound) → IsOpened (meaning program) certificate → IsBounded (meaning program) text note
-bounded_so program certificate bound text note written assumed meets holds noted opened = record {
+    → MeetsConditions (meaning program) certificate bound.branches → BoundHolds (meaning program) (bound_of bound) → note ≡ bound_text program.params (bound_of bound) → IsOfMaker (meaning program) certificate → IsBounded (meaning program) text note
+bounded_so program certificate bound text note written assumed meets holds noted made = record {
   certificate = certificate;
   written = written;
   values = bound.branches;
   valid = meets;
   noted = noted ∙ ap (λ (a : AffineSystem). bound_text program.params (bound_of (record { assumed = a; branches = bound.branches }))) assumed;
   holds = subst (λ (a : AffineSystem). BoundHolds (meaning program) (bound_of (record { assumed = a; branches = bound.branches }))) assumed holds;
-  opened = opened;
+  made = made;
 }

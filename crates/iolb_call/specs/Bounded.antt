@@ -1,23 +1,24 @@
 -- What answers the work of making a certificate.
-use Rattle.std.specs.Prelude.{◌≡◌, ℕ, List, map}
+use Rattle.std.specs.Prelude.{◌≡◌, ℕ, List}
 use Rattle.iolb_model.specs.Headline.{BoundHolds}
 use Rattle.iolb_model.specs.Printed.{bound_text}
 use Rattle.iolb_model.specs.Program.{AffineProgram}
-use Rattle.bound_maker.specs.Opened.{BeginsWithOpening}
+use Rattle.bound_maker.specs.Made.{IsMadeFor}
 use Rattle.iolb_cert.specs.OneCertificate.{HasCertificate}
-use Rattle.iolb_check.specs.Claims.{CertificateClaim, claim_of_branch}
+use Rattle.iolb_check.specs.Claims.{CertificateClaim, claim_of_certificate}
 use Rattle.iolb_check.specs.Conditions.{MeetsConditions}
 use Rattle.iolb_check.specs.declared.bound.Value.{Value}
-use Rattle.iolb_check.specs.declared.term.Branch.{Branch}
-use Rattle.projective.specs.Projective.{IsProjective}
+use Rattle.iolb_check.specs.Limits.{CertificateParts}
 use Rattle.iolb_call.specs.Task.{bound_with}
 
--- Where a program isn't projective, the first branch is the opening one, with a term at least, or no read of the program is plain.
-abbrev pub IsOpened : AffineProgram → CertificateClaim → Type 0
-IsOpened program certificate = (¬ IsProjective program) → (branches : List Branch) × (certificate.branches ≡ map claim_of_branch branches) × BeginsWithOpening program branches
+-- A certificate is as they are made for a program: for a projective one with a cover in reach that of the cover, whose first branch
+-- has the least exponent of all rational covers; for every other one the first branch is the opening one, with a term at least, or
+-- no read of the program is plain.
+abbrev pub IsOfMaker : AffineProgram → CertificateClaim → Type 0
+IsOfMaker program certificate = (parts : CertificateParts) × (certificate ≡ claim_of_certificate parts) × IsMadeFor program parts
 
 -- A text is that of a certificate that meets the conditions for a program, a note that of its bound, and the bound holds. The
--- certificate begins with the opening branch, but for projective programs.
+-- certificate is as they are made for the program.
 pub record IsBounded (program : AffineProgram) (text note : List ℕ) : Type 0 where
   pub certificate : CertificateClaim
   pub written : HasCertificate text certificate
@@ -25,4 +26,4 @@ pub record IsBounded (program : AffineProgram) (text note : List ℕ) : Type 0 w
   pub valid : MeetsConditions program certificate values
   pub noted : note ≡ bound_text program.parameters (bound_with program values)
   pub holds : BoundHolds program (bound_with program values)
-  pub opened : IsOpened program certificate
+  pub made : IsOfMaker program certificate

@@ -16,7 +16,7 @@ use Rattle.tile_sched.specs.declared.schedule.Key.{Key}
 use Rattle.tile_sched.specs.Order.{IsOrder, said}
 use Rattle.replay_call.specs.Lines.{play_text}
 use Rattle.iolb_check.specs.declared.bound.Value.{Value}
-use Rattle.iolb_call.specs.Bounded.{IsOpened}
+use Rattle.iolb_call.specs.Bounded.{IsOfMaker}
 use Rattle.iolb_call.specs.Replays.{HoldsSchedule}
 use Rattle.iolb_call.specs.Stop.{Call, HoldsCertificate, HoldsProgram}
 use Rattle.iolb_call.specs.Task.{IsAnswer, LoadsAtLeast, bound_with}
@@ -67,8 +67,9 @@ pub record IsPlayPrinted (call : Call) (left : CallUse) (request : Request) (s :
 
 -- A request for a certificate. Its file holds a text that means a program. The output has gained exactly the text of a
 -- certificate, which meets the conditions for the program, and the standard error exactly the text of its bound, which has the
--- program's assumptions and for each term the value that the conditions give. The bound holds. Unless the program is
--- projective, the first branch is the opening one, or no read is plain.
+-- program's assumptions and for each term the value that the conditions give. The bound holds. For a projective
+-- program with a cover in reach the certificate is that of the cover, with the least exponent of all rational covers; for every other
+-- one the first branch is the opening one, or no read is plain.
 pub record IsCertificatePrinted (call : Call) (left : CallUse) (request : Request) : Type 0 where
   pub program : AffineProgram
   pub holds_program : HoldsProgram call.files request.program program
@@ -80,7 +81,7 @@ pub record IsCertificatePrinted (call : Call) (left : CallUse) (request : Reques
   pub holds : BoundHolds program (bound_with program values)
   pub printed : Gains left.output text
   pub noted : Gains left.error (bound_text program.parameters (bound_with program values))
-  pub opened : IsOpened program certificate
+  pub made : IsOfMaker program certificate
 
 -- what was asked for
 abbrev pub IsPrinted : Call → CallUse → Request → Work → Type 0
