@@ -1,10 +1,9 @@
 -- The polynomials of a summation are antidifferences.
-use Rattle.std.proofs.Common.{◌≡◌, refl, sym, subst, ◌∙◌, ap, ℕ, zero, suc, ◌+◌, ◌<◌, ◌≤◌, List, [], ◌∷◌, ◌++◌, length, drop, replicate, arith, inl, inr}
+use Rattle.std.proofs.Common.{◌≡◌, refl, sym, subst, ◌∙◌, ap, ℕ, zero, suc, ◌+◌, ◌<◌, ◌≤◌, List, [], ◌∷◌, length, drop, arith, inl, inr}
 use Rattle.std.specs.Prelude.{slice_set, unsigned_abs}
-use Rattle.std.proofs.Math.IntN.{ℤ, pos, negsuc, ◌+ℤ◌, ◌-ℤ◌, ◌*ℤ◌}
-use lib.Signed.{◌≤ℤ◌}
+use Rattle.std.proofs.Math.IntN.{ℤ, pos, ◌+ℤ◌, ◌-ℤ◌, ◌*ℤ◌}
 use Rattle.std.proofs.lemmas.Int.{ints}
-use Rattle.std.proofs.lemmas.List.{get_or-set_same, length-append, length-replicate, length-set, drop_all}
+use Rattle.std.proofs.lemmas.List.{get_or-set_same, length-set, drop_all}
 use Rattle.base_laws.proofs.Ring.{zero-mul}
 use Rattle.iolb_model.specs.Form.{AffineForm}
 use Rattle.iolb_model.specs.Polynomial.{Term, int_power}
@@ -22,11 +21,15 @@ use Rattle.domain_count.specs.CountClaims.{sum_at, sums_down}
 use Rattle.domain_count.proofs.Determined.{between-same}
 use Rattle.domain_count.proofs.Fractions.{cancelled}
 use Rattle.domain_count.proofs.Ones.{one-is}
-use Rattle.domain_count.proofs.Variables.{at-longer}
 use Rattle.nest_sums.specs.Coefficients.{coefficient_terms, degree_of}
 use Rattle.nest_sums.specs.Summing.{AreAdded, AreSummed, IsMade, IsPart, IsPowerRow, IsPowersSum}
-use Rattle.nest_sums.proofs.Ratios.{row-difference, product-difference, sum-difference, backward-value}
-use Rattle.nest_sums.proofs.Values.{at-set, coefficient_at, coefficient-same, parts_sum, terms-total, row-at, power-same}
+use Rattle.nest_sums.proofs.Ratios.{positive-size, row-difference, product-difference, sum-difference, backward-value}
+use Rattle.nest_sums.proofs.Values.{agree-long, at-set, coefficient_at, coefficient-same, parts_sum, terms-total, row-at, power-same}
+
+-- a sum of parts is legal
+pub added-is-legal : (v : ℕ) (terms : List Term) (d n : ℕ) (q : Quotient) → AreAdded v terms d n q → IsLegal q
+added-is-legal v terms d zero q g = g.legal
+added-is-legal v terms d (suc n) q (b, r, (g, i, a)) = a.legal
 
 module _ (v : ℕ) (p : List ℤ) (below : v < length p) where
   -- the point with the variable's value less 1
@@ -38,10 +41,6 @@ module _ (v : ℕ) (p : List ℤ) (below : v < length p) where
 
   at-less : at less v ≡ at p v -ℤ pos 1
   at-less = get_or-set_same p v (at p v -ℤ pos 1) (pos 1) below
-
-  positive-size : (z : ℤ) → pos 1 ≤ℤ z → (1 ≤ unsigned_abs z) × (pos (unsigned_abs z) ≡ z)
-  positive-size (pos n) h = (omega (arith, ints), refl)
-  positive-size (negsuc n) h = absurd (omega (arith, ints))
 
   -- the step of a sum of powers
   row-step : (e : ℕ) (row : Quotient) → IsPowerRow v e row → step row ≡ int_power (at p v) e *ℤ pos row.denominator
@@ -80,16 +79,8 @@ module _ (v : ℕ) (p : List ℤ) (below : v < length p) where
   added-step d terms (suc e) sum some (before, part, (h, is, added)) =
       sum-difference before.denominator part.denominator sum.denominator (numerator_at sum p) (numerator_at sum less) (numerator_at before p) (numerator_at before less)
       (numerator_at part p) (numerator_at part less) (pos d) (parts_sum v terms p e) (coefficient_at v e terms p *ℤ int_power (at p v) e)
-      (added-legal e before h).positive is.product.legal.positive
-      (added.value p) (added.value less) (added-step d terms e before some h) (part-step e d terms part some is) where
-        added-legal : (n : ℕ) (q : Quotient) → AreAdded v terms d n q → IsLegal q
-        added-legal zero q g = g.legal
-        added-legal (suc n) q (b, r, (g, i, a)) = a.legal
-
--- a sum of parts is legal
-pub added-is-legal : (v : ℕ) (terms : List Term) (d n : ℕ) (q : Quotient) → AreAdded v terms d n q → IsLegal q
-added-is-legal v terms d zero q g = g.legal
-added-is-legal v terms d (suc n) q (b, r, (g, i, a)) = a.legal
+      (added-is-legal v terms d e before h).positive is.product.legal.positive
+      (added.value p) (added.value less) (added-step d terms e before some h) (part-step e d terms part some is)
 
 -- the polynomial of a variable is an antidifference at points that have the variable
 long-same : (v : ℕ) (summand sum difference : Quotient) (p : List ℤ) → v < length p → IsLegal summand → IsPowersSum v summand sum → IsBackwardDifference v sum difference
@@ -100,19 +91,14 @@ long-same v summand sum difference p below legal powers back =
     let total : parts_sum v terms p n ≡ numerator_at summand p = sym (terms-total v terms p n below (omega arith)) ∙ (are-written summand legal).value p in
     backward-value sum.denominator back.shifted.denominator difference.denominator summand.denominator
     (numerator_at sum p) (numerator_at sum (slice_set p v (at p v -ℤ pos 1))) (numerator_at back.shifted p) (numerator_at difference p) (numerator_at summand p)
-    (added-is-legal v terms summand.denominator n sum powers).positive back.shift.legal.positive
+    (added-is-legal v terms summand.denominator n sum powers.parts).positive back.shift.legal.positive
     (back.shift.value p ∙ ap (λ (f : ℕ → ℤ). value sum.tree f *ℤ pos back.shifted.denominator) (sym (at-set p v (at p v -ℤ pos 1) below)))
     (back.less.value p)
-    (added-step v p below summand.denominator terms n sum legal.positive powers ∙ ap (λ (z : ℤ). z *ℤ pos sum.denominator) total)
+    (added-step v p below summand.denominator terms n sum legal.positive powers.parts ∙ ap (λ (z : ℤ). z *ℤ pos sum.denominator) total)
 
 -- and so at all
 pub antidifference : (v : ℕ) (summand sum difference : Quotient) → IsLegal summand → IsPowersSum v summand sum → IsBackwardDifference v sum difference → SameValues difference summand
-antidifference v summand sum difference legal powers back = λ p.
-    let long = p ++ replicate (v + 1) (pos 1) in
-    let points : at p ≡ at long = λ i w. at-longer p (v + 1) w i in
-    ap (λ (f : ℕ → ℤ). value difference.tree f *ℤ pos summand.denominator) points
-    ∙ long-same v summand sum difference long (omega (arith, length-append p (replicate (v + 1) (pos 1)), length-replicate (v + 1) (pos 1))) legal powers back
-    ∙ ap (λ (f : ℕ → ℤ). value summand.tree f *ℤ pos difference.denominator) (sym points)
+antidifference v summand sum difference legal powers back = agree-long v difference summand (λ p below. long-same v summand sum difference p below legal powers back)
 
 -- what variables count by a summation is legal
 pub summed-legal : (v : ℕ) (nest : List (AffineForm × AffineForm)) (sums : List Quotient) (total : Quotient) → AreSummed v nest sums total → IsLegal total

@@ -1,9 +1,24 @@
--- Differences of values over denominators.
-use Rattle.std.proofs.Common.{◌≡◌, sym, ◌∙◌, ap, ℕ, ◌*◌, ◌≤◌, arith}
-use Rattle.std.proofs.Math.IntN.{ℤ, pos, ◌+ℤ◌, ◌-ℤ◌, ◌*ℤ◌}
+-- Values over denominators, and their differences.
+use Rattle.std.proofs.Common.{◌≡◌, refl, sym, ◌∙◌, ap, ℕ, ◌*◌, ◌≤◌, arith, mul-pos}
+use Rattle.std.specs.Prelude.{unsigned_abs}
+use Rattle.std.proofs.Math.IntN.{ℤ, pos, negsuc, ◌+ℤ◌, ◌-ℤ◌, ◌*ℤ◌}
+use lib.Signed.{◌≤ℤ◌}
 use Rattle.std.proofs.lemmas.Int.{ints}
 use Rattle.base_laws.proofs.Ring.{add-mul, mul_comm, mul_assoc_ℤ, mul_turn, sub-mul, mul-sub}
+use Rattle.domain_count.proofs.Determined.{crossed}
 use Rattle.domain_count.proofs.Fractions.{cancelled}
+
+-- a number of at least 1 is its size
+pub positive-size : (z : ℤ) → pos 1 ≤ℤ z → (1 ≤ unsigned_abs z) × (pos (unsigned_abs z) ≡ z)
+positive-size (pos n) h = (omega (arith, ints), refl)
+positive-size (negsuc n) h = absurd (omega (arith, ints))
+
+-- two values over their denominators that are one number over two numbers
+pub crossed-over : (d c i j : ℕ) (x y m n : ℤ) → 1 ≤ d → 1 ≤ c → x *ℤ pos d ≡ m *ℤ pos i → y *ℤ pos c ≡ n *ℤ pos j → m *ℤ pos c ≡ n *ℤ pos d → x *ℤ pos j ≡ y *ℤ pos i
+crossed-over d c i j x y m n some other p q e =
+    crossed (d * c) i j x y (m *ℤ pos c) (mul-pos some other)
+    (sym (mul_assoc_ℤ x (pos d) (pos c)) ∙ ap (λ (z : ℤ). z *ℤ pos c) p ∙ mul_turn m (pos i) (pos c))
+    (sym (mul_assoc_ℤ y (pos d) (pos c)) ∙ mul_turn y (pos d) (pos c) ∙ ap (λ (z : ℤ). z *ℤ pos d) q ∙ mul_turn n (pos j) (pos d) ∙ ap (λ (z : ℤ). z *ℤ pos j) (sym e))
 
 -- the difference of a row's values, from that of its numerators
 pub row-difference : (d r : ℕ) (h before v old z : ℤ) → 1 ≤ d → h *ℤ pos d ≡ v *ℤ pos r → before *ℤ pos d ≡ old *ℤ pos r → v -ℤ old ≡ pos d *ℤ z

@@ -49,8 +49,9 @@ pub record IsAdded (a b total : Quotient) : Type 0 where
 abbrev pub AdditionPasses : Quotient → Quotient → Type 0
 AdditionPasses a b = SUM_MEASURE ≤ size a * size b
 
--- the sum of the e-th powers up to a variable
+-- the sum of the e-th powers up to a variable, by the table of power sums
 pub record IsPowerRow (v e : ℕ) (row : Quotient) : Type 0 where
+  pub in_table : e < ROW_COUNT
   pub num : List ℤ
   pub den : ℤ
   pub sum : IsPowerSum e num den
@@ -87,9 +88,10 @@ AddingPasses v terms denominator (suc e) =
     AddingPasses v terms denominator e ⊎ ((before : Quotient) × (AreAdded v terms denominator e before
     × (PartPasses v e terms denominator ⊎ ((part : Quotient) × (IsPart v e terms denominator part × AdditionPasses before part)))))
 
--- the polynomial of a variable, for what the variables behind it count
-abbrev pub IsPowersSum : ℕ → Quotient → Quotient → Type 0
-IsPowersSum v summand sum = AreAdded v (written_terms summand) summand.denominator (degree_of v (written_terms summand) + 1) sum
+-- the polynomial of a variable, for what the variables behind it count, which has few enough variables to be made of terms
+pub record IsPowersSum (v : ℕ) (summand sum : Quotient) : Type 0 where
+  pub few_variables : IsCanonical VARIABLES summand.tree
+  pub parts : AreAdded v (written_terms summand) summand.denominator (degree_of v (written_terms summand) + 1) sum
 
 -- an operation on the way there passes its limit, or the polynomial has too many variables to be made of terms
 abbrev pub PowersSumPasses : ℕ → Quotient → Type 0

@@ -1,4 +1,4 @@
-use Rattle.std.proofs.Common.{◌≡◌, subst, sym, ◌∙◌, ap, ℕ, ℤ, List, inr, rules, FitsSigned, to_z, of_z}
+use Rattle.std.proofs.Common.{◌≡◌, refl, subst, sym, ◌∙◌, ap, ℕ, ℤ, List, inr, rules, FitsSigned, to_z, of_z}
 use Rattle.std.specs.Prelude.{unsigned_abs}
 use Rattle.std.specs.List.{AllByRecursion}
 use mir.Syntax.{w64, w128}
@@ -29,6 +29,7 @@ returns-clause-row c =
     let den : to_z w128 (of_z w128 c.from-2.result) ≡ c.in-Some.row.den = to_z-of_z w128 c.from-2.result fits_wide ∙ c.from-2.ensures ∙ to_z-of_z w64 c.in-Some.row.den fits in
     IfOk-then c.made.result (IsMade (terms_of c.as_slice.result.now) (unsigned_abs (to_z w128 (of_z w128 c.from-2.result)))) (IsPowerRow c.args.var c.args.power) c.made.ensures.made
     (λ row made. record {
+      in_table = c.in-Some.ensures.present.0 refl;
       num = c.in-Some.row.num;
       den = c.in-Some.row.den;
       sum = c.in-Some.ensures.sum;

@@ -6,7 +6,7 @@ use Rattle.iolb_model.specs.Polynomial.{Term}
 use Rattle.poly_tree.specs.Printed.{written_terms}
 use Rattle.poly_tree.specs.Terms.{terms_of}
 use Rattle.nest_sums.specs.Coefficients.{degree_of}
-use Rattle.nest_sums.specs.Summing.{IsPart, PartPasses}
+use Rattle.nest_sums.specs.Summing.{AreAdded, IsPart, PartPasses}
 use Rattle.nest_sums.proofs.Adding.{one-more-part, part-passes, sum-passes}
 use Rattle.nest_sums.proofs.summation.powers_sum.Goals as goal
 
@@ -48,3 +48,15 @@ loop-power-preserved c =
     = subst (λ (z : ℤ). IsPart c.args.var c.loop-power.power (written_terms c.args.summand.now) (unsigned_abs z) c.in_ok-part.part) den
     (subst (λ (ts : List Term). IsPart c.args.var c.loop-power.power ts (unsigned_abs (to_z w128 (of_z w128 c.den-den.result))) c.in_ok-part.part) terms c.in_ok-part.ensures.part) in
     one-more-part c.args.var (written_terms c.args.summand.now) c.args.summand.now.denominator c.loop-power.power c.loop-power.sum c.in_ok-part.part _ c.loop-power.invariant part c.in_ok-sum-2.ensures.total
+
+pub returns-clause-sum : goal.returns-clause-sum
+returns-clause-sum c =
+    let all : terms_of c.as_slice.result.now ≡ written_terms c.args.summand.now = rw c.as_slice.ensures.value c.in_ok-terms.ensures.terms in
+    let degree : c.degree_of-degree.result ≡ degree_of c.args.var (written_terms c.args.summand.now)
+    = c.degree_of-degree.ensures ∙ ap (λ (n : ℕ). degree_of n (terms_of c.as_slice.result.now)) c.from.ensures ∙ ap (degree_of c.args.var) all in
+    let ended : c.loop-power.power ≡ degree_of c.args.var (written_terms c.args.summand.now) + 1
+    = omega (arith, c.loop-power-test.false, c.loop-power.auto.power-end, c.from-power-end.ensures, degree) in
+    record {
+      few_variables = c.uses_below.ensures.0 c.if-not-uses_below.false;
+      parts = subst (λ (n : ℕ). AreAdded c.args.var (written_terms c.args.summand.now) c.args.summand.now.denominator n c.loop-power.sum) ended c.loop-power.invariant;
+    }

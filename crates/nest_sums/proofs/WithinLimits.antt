@@ -1,0 +1,109 @@
+-- Where an operation of a summation has an answer, it passes no limit; nor does a summation whose count is right.
+use Rattle.std.proofs.Common.{◌≡◌, refl, sym, subst, ◌∙◌, ap, inl, inr, ℕ, zero, suc, ◌+◌, ◌*◌, ◌≤◌, ◌^◌, List, [], ◌∷◌, length, arith, mul-pos, not-le_of_lt}
+use Rattle.std.proofs.Math.IntN.{ℤ, pos, ◌*ℤ◌}
+use lib.Signed.{◌≤ℤ◌}
+use Rattle.std.proofs.lemmas.Int.{ints}
+use Rattle.std.proofs.lemmas.Nat.Gcd.{dvd_refl}
+use Rattle.base_laws.proofs.Ring.{mul_comm, mul-one}
+use Rattle.iolb_model.specs.Form.{AffineForm}
+use Rattle.iolb_model.specs.Polynomial.{Term}
+use Rattle.iolb_model.specs.Program.{AffineProgram}
+use Rattle.claims.specs.Claims.{AllHold, numbered}
+use Rattle.claims.specs.declared.key.TheConstants.{SUMS}
+use Rattle.claims.proofs.Laws.{AllHold-right, accepted-stand}
+use Rattle.poly_tree.specs.Expansion.{Expansion, DegreesAtMost, IsCanonical, IsContent, at, scaled, value}
+use Rattle.poly_tree.specs.Poly.{Quotient, IsLegal, numerator_at}
+use Rattle.poly_tree.specs.Printed.{written_terms}
+use Rattle.poly_tree.proofs.Products.{canonical-scaled, value-scaled}
+use Rattle.poly_tree.proofs.Reduced.{degrees-scaled, legal-reduced}
+use Rattle.poly_tree.proofs.SameLemmas.{divides-multiple, everywhere, nonzero}
+use Rattle.poly_tree.proofs.Unique.{unique}
+use Rattle.domain_count.specs.Antidifference.{BetweenPasses}
+use Rattle.domain_count.specs.Claims.{SumClaims}
+use Rattle.domain_count.specs.Count.{IsCount}
+use Rattle.domain_count.specs.CountClaims.{range_claim, sums_claims}
+use Rattle.domain_count.proofs.Claimed.{count-claims}
+use Rattle.domain_count.proofs.Determined.{between-stays}
+use Rattle.nest_sums.specs.Coefficients.{coefficient_terms, degree_of}
+use Rattle.nest_sums.specs.Made.{AreMade, CheckPasses}
+use Rattle.nest_sums.specs.Summing.{AddingPasses, AdditionPasses, AreAdded, AreSummed, IsMultiplied, IsPart, IsPowerRow, IsPowersSum, MultiplicationPasses, PartPasses, PowerRowPasses, PowersSumPasses, SummationPasses}
+use Rattle.nest_sums.proofs.Exact.{summed-legal}
+use Rattle.nest_sums.proofs.OneAnswer.{made-same, of-same, part-same, parts-same, powers-legal, powers-same, row-same, summed-one}
+use Rattle.nest_sums.proofs.PowerRows.{row-narrow}
+
+-- a canonical tree that is a polynomial of the program times a number has degrees as such polynomials have
+multiple-degrees : (k : ℕ) (t : Expansion) (q : Quotient) → 1 ≤ k → IsLegal q → IsCanonical (2 ^ 16) t
+    → ((p : List ℤ) → (numerator_at q p *ℤ pos k) ≡ (value t (at p) *ℤ pos q.denominator)) → DegreesAtMost 8 t
+multiple-degrees k t q some legal canonical h =
+    let d = q.denominator in
+    let left = canonical-scaled (2 ^ 16) (pos k) q.tree (nonzero k some) legal.canonical in
+    let right = canonical-scaled (2 ^ 16) (pos d) t (nonzero d legal.positive) canonical in
+    let same : scaled (pos k) q.tree ≡ scaled (pos d) t
+    = unique (2 ^ 16) (scaled (pos k) q.tree) (scaled (pos d) t) left right
+    (everywhere (2 ^ 16) (scaled (pos k) q.tree) (scaled (pos d) t) left right
+    (λ p. value-scaled (pos k) q.tree (at p) ∙ mul_comm (pos k) (numerator_at q p) ∙ h p ∙ mul_comm (value t (at p)) (pos d) ∙ sym (value-scaled (pos d) t (at p)))) in
+    let content : IsContent (scaled (pos d) t) d d = record { divides_start = dvd_refl d; divides_all = divides-multiple d t; greatest = λ j start all. start } in
+    (legal-reduced (scaled (pos d) t) t (pos d) (pos 1) (pos d) (above d legal.positive) (above d legal.positive) content refl (mul-one (pos d)) right
+    (subst (DegreesAtMost 8) same (degrees-scaled 8 (pos k) q.tree legal.degrees))).0.degrees where
+      above : (n : ℕ) → 1 ≤ n → pos 1 ≤ℤ pos n
+      above n p = omega (arith, ints)
+
+multiplied-stays : (a b product : Quotient) → IsLegal a → IsLegal b → IsMultiplied a b product → MultiplicationPasses a b → ⊥
+multiplied-stays a b product first second h (inl wide) = not-le_of_lt h.narrow wide
+multiplied-stays a b product first second h (inr (t, (canonical, same, passes))) =
+    passes (multiple-degrees (a.denominator * b.denominator) t product (mul-pos first.positive second.positive) h.legal canonical
+    (λ p. h.value p ∙ ap (λ (z : ℤ). z *ℤ pos product.denominator) (sym (same p))))
+
+row-stays : (v e : ℕ) (row : Quotient) → IsPowerRow v e row → PowerRowPasses v e → ⊥
+row-stays v e row h (inl past) = not-le_of_lt h.in_table past
+row-stays v e row h (inr (num, den, (sum, wide))) = not-le_of_lt (row-narrow v e num den sum h.in_table) wide
+
+part-stays : (v e d : ℕ) (terms : List Term) (part : Quotient) → 1 ≤ d → IsPart v e terms d part → PartPasses v e terms d → ⊥
+part-stays v e d terms part some h (inl wide) = not-le_of_lt h.is_coefficient.narrow wide
+part-stays v e d terms part some h (inr (coefficient, (is, inl none))) = row-stays v e h.row h.is_row none
+part-stays v e d terms part some h (inr (coefficient, (is, inr (row, (its, wide))))) =
+    multiplied-stays h.coefficient h.row part h.is_coefficient.legal h.is_row.made.legal h.product
+    (of-same MultiplicationPasses h.coefficient h.row coefficient row (made-same (coefficient_terms v e terms) d h.coefficient coefficient some h.is_coefficient is)
+    (row-same v e h.row row h.is_row its) wide)
+
+parts-stay : (v d : ℕ) (terms : List Term) (n : ℕ) (sum : Quotient) → 1 ≤ d → AreAdded v terms d n sum → AddingPasses v terms d n → ⊥
+parts-stay v d terms zero sum some h passes = passes
+parts-stay v d terms (suc e) sum some (before, part, (h, is, added)) (inl earlier) = parts-stay v d terms e before some h earlier
+parts-stay v d terms (suc e) sum some (before, part, (h, is, added)) (inr (other, (g, inl wide))) = part-stays v e d terms part some is wide
+parts-stay v d terms (suc e) sum some (before, part, (h, is, added)) (inr (other, (g, inr (piece, (its, wide))))) =
+    not-le_of_lt added.narrow
+    (of-same AdditionPasses before part other piece (parts-same v d terms e before other some h g) (part-same v e d terms part piece some is its) wide)
+
+powers-stay : (v : ℕ) (summand sum : Quotient) → IsLegal summand → IsPowersSum v summand sum → PowersSumPasses v summand → ⊥
+powers-stay v summand sum legal h (inl many) = many h.few_variables
+powers-stay v summand sum legal h (inr wide) =
+    parts-stay v summand.denominator (written_terms summand) (degree_of v (written_terms summand) + 1) sum legal.positive h.parts wide
+
+summed-stays : (v : ℕ) (nest : List (AffineForm × AffineForm)) (sums : List Quotient) (total : Quotient) → AreSummed v nest sums total → SummationPasses v nest → ⊥
+summed-stays v [] sums total h passes = passes
+summed-stays v (b ∷ nest) [] total h passes = absurd h
+summed-stays v (b ∷ nest) (s ∷ sums) total (summand, (behind, sum, between)) (inl later) = summed-stays (suc v) nest sums summand behind later
+summed-stays v (b ∷ nest) (s ∷ sums) total (summand, (behind, sum, between)) (inr (others, other, (its, inl wide))) =
+    powers-stay v summand s (summed-legal (suc v) nest sums summand behind) sum
+    (subst (PowersSumPasses v) (sym (summed-one (suc v) nest sums others summand other behind its).1) wide)
+summed-stays v (b ∷ nest) (s ∷ sums) total (summand, (behind, sum, between)) (inr (others, other, (its, inr (t, (powers, wide))))) =
+    let same : summand ≡ other = (summed-one (suc v) nest sums others summand other behind its).1 in
+    let first : s ≡ t = powers-same v summand s t (summed-legal (suc v) nest sums summand behind) sum (subst (λ (q : Quotient). IsPowersSum v q t) (sym same) powers) in
+    between-stays v b s total (powers-legal v summand s sum) between (subst (BetweenPasses v b) (sym first) wide)
+
+module _ (program : AffineProgram) (nest : List (AffineForm × AffineForm)) where
+  abbrev params : ℕ
+  params = length program.parameters
+
+  -- the polynomials of a summation are one list
+  pub made-one : (sums others : List Quotient) → AreMade params nest sums → AreMade params nest others → sums ≡ others
+  made-one sums others h g = (summed-one params nest sums others h.0 g.0 h.1 g.1).0
+
+  -- Where claims are right, and their polynomials those of the summation, no operation on these passes its limit.
+  pub count-stays : (claims : SumClaims) (total : Quotient) → IsCount program nest claims total → AreMade params nest claims.sums → CheckPasses program nest → ⊥
+  count-stays claims total right made (inl wide) = summed-stays params nest claims.sums made.0 made.1 wide
+  count-stays claims total right made (inr (others, place, failed, (its, fails, wide))) =
+      accepted-stand (sums_claims program nest others place SUMS) failed
+      (subst (λ (sums : List Quotient). AllHold (sums_claims program nest sums place SUMS)) (made-one claims.sums others made its)
+      (AllHold-right (numbered (range_claim program nest claims.shown place) 0 nest) (sums_claims program nest claims.sums place SUMS) (count-claims program nest claims place total right)))
+      fails
