@@ -1,6 +1,6 @@
 -- Branches of cold terms of different arrays meet all conditions.
 use Rattle.std.proofs.Common.{◌≡◌, refl, sym, ◌∙◌, ap, subst, ℕ, zero, suc, ◌+◌, ◌<◌, ◌≤◌, Bool, true, false, List, [], ◌∷◌, ◌++◌, length, map, arith}
-use Rattle.std.specs.Prelude.{⊤, ◌==◌, if◌then◌else◌, cond, filter, Some}
+use Rattle.std.specs.Prelude.{⊤, ◌==◌, if◌then◌else◌, cond, filter}
 use Rattle.std.specs.List.{AllByRecursion}
 use Rattle.std.proofs.lemmas.Bool.{eqb-true, eq-eqb}
 use Rattle.iolb_model.specs.Form.{AffineForm}
@@ -23,7 +23,7 @@ use Rattle.reuse_paths.specs.declared.piece.Target.TheVariants.{Cell}
 use Rattle.reuse_paths.specs.DisjointClaims.{pairwise_systems, same_target}
 use Rattle.reuse_paths.specs.LeafClaims.{LeafClaim, no_point, stops, is_credited, goes_on, arrives, is_stop}
 use Rattle.reuse_paths.specs.OpenLeaves.{OpenLeaf}
-use Rattle.reuse_paths.specs.Quasts.{tree_at, tree_for}
+use Rattle.reuse_paths.specs.Quasts.{tree_for}
 use Rattle.reuse_paths.specs.TargetPairs.{same_targets, same_in_lists, pairwise_targets}
 use Rattle.reuse_paths.proofs.PairCounts.{targets_of}
 use Rattle.wavefront.specs.declared.cold.Cold.{Cold}
@@ -38,7 +38,7 @@ use Rattle.iolb_check.specs.Fit.{ColdTermFits, HasPieces, TermFits}
 use Rattle.iolb_check.specs.PairFit.{term_targets}
 use Rattle.iolb_check.specs.TermFit.{branch_fit, cold_back_fit, cold_fit, cold_front_fit, point_fit, term_at}
 use Rattle.iolb_check.proofs.PiecesOf.{pieces-told}
-use Rattle.cold_terms.specs.Held.{IsHeldCold, AreRising, array_read, reader_of}
+use Rattle.cold_terms.specs.Held.{IsPlaced, AreRising, array_read, reader_of}
 use Rattle.cold_terms.specs.Entries.{AreEntries}
 use Rattle.cold_terms.proofs.ColdParts.{parts-of}
 
@@ -79,13 +79,7 @@ module _ (program : ProgramParts) (trees : List (List SelectionTree)) where
   abbrev tree_of_cold : Cold → SelectionTree
   tree_of_cold cold = tree_for trees (reader_of cold)
 
-  -- a cold term holds over the tree of its read, which is there
-  pub record IsPlaced (cold : Cold) : Type 0 where
-    pub there : tree_at trees cold.statement cold.read ≡ Some (tree_of_cold cold)
-    pub shown : IsHeldCold P (tree_of_cold cold) cold
-    pub no_rows : cold.inverse.matrix.rows ≡ 0 → cold.inverse.matrix.columns ≡ 0
-
-  module _ (cold : Cold) (h : IsPlaced cold) where
+  module _ (cold : Cold) (h : IsPlaced P trees cold) where
     abbrev term : ColdTerm
     term = term_of cold
 
@@ -151,23 +145,23 @@ module _ (program : ProgramParts) (trees : List (List SelectionTree)) where
   abbrev claims_of : List Cold → List TermClaim
   claims_of colds = map claim_of_term (map terms.Cold colds)
 
-  all-fit : (place : List Step) (index : ℕ) (colds : List Cold) → AllByRecursion IsPlaced colds → AllHold (numbered (term_at P trees place) index (claims_of colds))
+  all-fit : (place : List Step) (index : ℕ) (colds : List Cold) → AllByRecursion (IsPlaced P trees) colds → AllHold (numbered (term_at P trees place) index (claims_of colds))
   all-fit place index [] h = tt
   all-fit place index (cold ∷ colds) h =
       AllHold-append (term_at P trees place index (claim_of_term (terms.Cold cold))) (numbered (term_at P trees place) (suc index) (claims_of colds))
       (cold-fit cold h.0 ((place ++ Index index ∷ []) ++ Key COLD ∷ [])) (all-fit place (suc index) colds h.1)
 
-  all-hold : (place : List Step) (index : ℕ) (colds : List Cold) → AllByRecursion IsPlaced colds → AllHold (numbered (term_claims_at P trees place) index (claims_of colds))
+  all-hold : (place : List Step) (index : ℕ) (colds : List Cold) → AllByRecursion (IsPlaced P trees) colds → AllHold (numbered (term_claims_at P trees place) index (claims_of colds))
   all-hold place index [] h = tt
   all-hold place index (cold ∷ colds) h =
       AllHold-append (term_claims_at P trees place index (claim_of_term (terms.Cold cold))) (numbered (term_claims_at P trees place) (suc index) (claims_of colds))
       (h.0.shown.holds ((place ++ Index index ∷ []) ++ Key COLD ∷ [])) (all-hold place (suc index) colds h.1)
 
-  all-terms-fit : (colds : List Cold) → AllByRecursion IsPlaced colds → AllByRecursion (TermFits program trees) (map terms.Cold colds)
+  all-terms-fit : (colds : List Cold) → AllByRecursion (IsPlaced P trees) colds → AllByRecursion (TermFits program trees) (map terms.Cold colds)
   all-terms-fit [] h = tt
   all-terms-fit (cold ∷ colds) h = (cold-fits cold h.0, all-terms-fit colds h.1)
 
-  all-pieces : (colds : List Cold) → AllByRecursion IsPlaced colds → AllByRecursion (HasPieces program trees) (map terms.Cold colds)
+  all-pieces : (colds : List Cold) → AllByRecursion (IsPlaced P trees) colds → AllByRecursion (HasPieces program trees) (map terms.Cold colds)
   all-pieces [] h = tt
   all-pieces (cold ∷ colds) h = (cold-pieces cold h.0, all-pieces colds h.1)
 
@@ -226,7 +220,7 @@ module _ (program : ProgramParts) (trees : List (List SelectionTree)) where
   none-paired (a ∷ arrays) (ts ∷ lists) rising h =
       ap (λ (xs : List Target). xs ++ pairwise_targets lists) (no-pairs a ts arrays lists rising.0 h.0 h.1) ∙ none-paired arrays lists rising.1 h.1
 
-  no-targets : (list : List Step) (colds : List Cold) → AreRising (map (array_read P) colds) → AllByRecursion IsPlaced colds
+  no-targets : (list : List Step) (colds : List Cold) → AreRising (map (array_read P) colds) → AllByRecursion (IsPlaced P trees) colds
       → pairwise_targets (map (term_targets P trees) (claims_of colds)) ≡ []
   no-targets list colds rising h =
       ap pairwise_targets (sym (pieces-told program trees list 0 (map terms.Cold colds) (all-terms-fit colds h) (all-pieces colds h) (all-hold list 0 colds h)))
@@ -241,10 +235,10 @@ module _ (program : ProgramParts) (trees : List (List SelectionTree)) where
   abbrev pub made : List Cold → BranchClaim
   made colds = record { terms = claims_of colds; disjoint = [] }
 
-  pub branch-fits : (place : List Step) (colds : List Cold) → AreRising (map (array_read P) colds) → AllByRecursion IsPlaced colds → AllHold (branch_fit P trees place (made colds))
+  pub branch-fits : (place : List Step) (colds : List Cold) → AreRising (map (array_read P) colds) → AllByRecursion (IsPlaced P trees) colds → AllHold (branch_fit P trees place (made colds))
   branch-fits place colds rising h = (ap length (sym (no-targets (place ++ Key TERMS ∷ []) colds rising h)), all-fit (place ++ Key TERMS ∷ []) 0 colds h)
 
-  pub branch-holds : (number : ℕ) (colds : List Cold) → AllByRecursion IsPlaced colds → AllHold (branch_claims P trees number (made colds))
+  pub branch-holds : (number : ℕ) (colds : List Cold) → AllByRecursion (IsPlaced P trees) colds → AllHold (branch_claims P trees number (made colds))
   branch-holds number colds h =
       let list : List Step = terms_place number in
       AllHold-append (terms_claims P trees list (claims_of colds)) (disjoint_claims P trees number (made colds)) (all-hold list 0 colds h)

@@ -1,5 +1,5 @@
 -- Cold terms that hold over a source tree.
-use Rattle.std.specs.Prelude.{◌≡◌, ℕ, ◌<◌, ⊤, List, [], ◌∷◌, length, map}
+use Rattle.std.specs.Prelude.{◌≡◌, ℕ, ◌<◌, ⊤, List, [], ◌∷◌, length, map, Some}
 use Rattle.std.specs.List.{AllByRecursion}
 use Rattle.iolb_model.specs.Form.{AffineForm}
 use Rattle.iolb_model.specs.Program.{AffineProgram}
@@ -11,6 +11,7 @@ use Rattle.part_fit.specs.Limits.{IsSmallPolynomial}
 use Rattle.part_fit.specs.PartFit.{polynomials_fit}
 use Rattle.poly_tree.specs.Poly.{Quotient}
 use Rattle.reuse_paths.specs.LeafClaims.{claim_of}
+use Rattle.reuse_paths.specs.Quasts.{tree_at, tree_for}
 use Rattle.wavefront.specs.declared.cold.Cold.{Cold}
 use Rattle.wavefront.specs.ColdClaims.{cold_claims}
 use Rattle.wavefront.specs.ColdPieces.{leaves_of}
@@ -45,3 +46,10 @@ pub record IsHeldCold (program : AffineProgram) (tree : SelectionTree) (cold : C
   pub holds : (place : List Step) → AllHold (cold_claims program place tree (term_of cold))
   pub small : IsSmallCold cold
   pub entries : AreEntries (leaves_of program tree (term_of cold)) (map claim_of cold.leaves.items)
+
+-- A cold term stands over the source trees of a program's reads: that of its read is there, the term holds over it, and a matrix
+-- without rows has no columns either, since it is written as the list of its rows.
+pub record IsPlaced (program : AffineProgram) (trees : List (List SelectionTree)) (cold : Cold) : Type 0 where
+  pub there : tree_at trees cold.statement cold.read ≡ Some (tree_for trees (reader_of cold))
+  pub shown : IsHeldCold program (tree_for trees (reader_of cold)) cold
+  pub no_rows : cold.inverse.matrix.rows ≡ 0 → cold.inverse.matrix.columns ≡ 0

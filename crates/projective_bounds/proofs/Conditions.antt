@@ -30,8 +30,8 @@ use Rattle.iolb_check.specs.Conditions.{branch_claims, conditions, disjoint_clai
 use Rattle.iolb_check.specs.Limits.{IsSmallBranch, IsSmallPartition, IsSmallTerm, IsWithinLimits}
 use Rattle.iolb_check.specs.PartitionFit.{partition_fit}
 use Rattle.iolb_check.specs.TermFit.{branch_at, branch_fit}
-use Rattle.cold_terms.specs.Held.{AreRising, array_read}
-use Rattle.cold_terms.proofs.BranchLaws.{IsPlaced, branch-fits, branch-holds, made}
+use Rattle.cold_terms.specs.Held.{AreRising, IsPlaced, array_read}
+use Rattle.cold_terms.proofs.BranchLaws.{branch-fits, branch-holds, made}
 use Rattle.whole_terms.specs.Laws.{CanBeShown}
 use Rattle.whole_terms.proofs.Asked.{whole-terms-asked}
 use Rattle.whole_terms.proofs.Held.{whole-terms-hold}
@@ -61,7 +61,7 @@ module _ (program : ProgramParts) (trees : List (List SelectionTree)) where
         (AllHold-append (partition_claims P trees own term) [] (hold own) tt) tt
 
     -- such a branch, and one of placed cold terms
-    both-hold : (colds : List Cold) → AreRising (map (array_read P) colds) → AllByRecursion (IsPlaced program trees) colds → AllHold (trees_fit P trees) → AllHold (rows_claims P 0 trees)
+    both-hold : (colds : List Cold) → AreRising (map (array_read P) colds) → AllByRecursion (IsPlaced P trees) colds → AllHold (trees_fit P trees) → AllHold (rows_claims P 0 trees)
         → AllHold (conditions P (record { trees = trees; branches = alone term ∷ made program trees colds ∷ [] }))
     both-hold colds rising placed trees_fitting valid =
         let second : BranchClaim = made program trees colds in
@@ -90,7 +90,7 @@ pub record AreParts (program : ProgramParts) (quasts : Quasts) (first second : B
   pub colds : List Cold
   pub all : second.terms.items ≡ map terms.Cold colds
   pub alone : second.disjoint.items ≡ []
-  pub placed : AllByRecursion (IsPlaced program (trees_of quasts)) colds
+  pub placed : AllByRecursion (IsPlaced (meaning program) (trees_of quasts)) colds
   pub rising : AreRising (map (array_read (meaning program)) colds)
   pub few : length colds ≤ TERMS
 
@@ -116,7 +116,7 @@ module _ (program : ProgramParts) (quasts : Quasts) (first second : Branch) (h :
 
   -- ---- within the limits
 
-  colds-small : (some : List Cold) → AllByRecursion (IsPlaced program held) some → AllByRecursion IsSmallTerm (map terms.Cold some)
+  colds-small : (some : List Cold) → AllByRecursion (IsPlaced (meaning program) held) some → AllByRecursion IsSmallTerm (map terms.Cold some)
   colds-small [] placed = tt
   colds-small (cold ∷ some) placed = (placed.0.shown.small, colds-small some placed.1)
 

@@ -1,8 +1,7 @@
-//! The two branches of a projective program's certificate.
+//! The branch of a projective program's whole domain.
 
-ghost use Rattle.std.specs.Prelude.{◌≡◌, [], IfOk, map};
+ghost use Rattle.std.specs.Prelude.{IfOk};
 ghost use Rattle.affine_program.specs.Parts.{meaning};
-ghost use Rattle.iolb_check.specs.declared.term.Term.{Term};
 ghost use Rattle.projective.specs.Shape.{IsShapeOf};
 ghost use Rattle.projective_bounds.specs.Certified.{IsWholeBranch};
 ghost use Rattle.reuse_paths.specs.Quasts.{trees_of};
@@ -15,7 +14,6 @@ use projective::Projective;
 use projective_terms::whole_term;
 use reuse_paths::Quasts;
 use std::alloc::Global;
-use wavefront::Cold;
 
 /// The branch of the term of the whole domain.
 pub(crate) fn whole_branch(
@@ -33,19 +31,6 @@ pub(crate) fn whole_branch(
     let mut terms = Vec::new(alloc);
     let term = whole_term(alloc, program, shape, quasts, q, weights)?;
     terms.push(Term::Partition(term))?;
-    let disjoint = Vec::new(alloc);
-    Ok(Branch { terms, disjoint })
-}
-
-/// The branch of some cold terms.
-pub(crate) fn cold_branch(alloc: Global, colds: Vec<Cold>) -> Result<Branch, Memory>
-    ensures all { IfOk result (λ branch. branch.terms.items ≡ map Term.Cold colds.items) }
-    ensures alone { IfOk result (λ branch. branch.disjoint.items ≡ []) }
-{
-    let mut terms = Vec::new(alloc);
-    for cold in colds {
-        terms.push(Term::Cold(cold))?;
-    }
     let disjoint = Vec::new(alloc);
     Ok(Branch { terms, disjoint })
 }

@@ -10,12 +10,13 @@ ghost use Rattle.projective.specs.Projective.{IsProjective, projection_sets};
 ghost use Rattle.projective.specs.Shape.{IsShapeOf};
 ghost use Rattle.projective_bounds.specs.Certified.{HasCoverInReach, IsCertified, IsOfLeastExponent};
 
-use crate::branches::{cold_branch, whole_branch};
+use crate::branches::whole_branch;
 use crate::covers::cover_of;
 use crate::fault::CertifyFault;
 use crate::law::certified_have_least_exponents;
 use affine_form::Memory;
 use affine_program::Program;
+use cold_terms::cold_branch;
 use iolb_check::{Branch, Certificate};
 use kept_trees::law::source_trees_keep_loops;
 use projective::Projective;

@@ -11,8 +11,7 @@ use Rattle.iolb_model.specs.Program.{Access, AffineProgram, no_statement, read_a
 use Rattle.affine_form.specs.Rows.{step_of}
 use Rattle.affine_program.specs.Domain.{depth_of}
 use Rattle.affine_program.specs.Parts.{ProgramParts, meaning}
-use Rattle.cold_terms.specs.Held.{AreRising, IsHeldCold, array_read as array_of_cold}
-use Rattle.cold_terms.proofs.BranchLaws.{IsPlaced}
+use Rattle.cold_terms.specs.Held.{AreRising, IsHeldCold, IsPlaced, array_read as array_of_cold}
 use Rattle.dep_quast.specs.Context.{ReadOf}
 use Rattle.dep_quast.specs.Tree.{SelectionTree}
 use Rattle.product_counts.specs.Products.{AreAssumed}
@@ -95,7 +94,7 @@ module _ (program : ProgramParts) (trees : List (List SelectionTree)) where
   P = meaning program
 
   -- a term that holds over the tree of its read
-  pub cold-placed : (read : ℕ) (tree : SelectionTree) (cold : Cold) → tree_at trees 0 read ≡ Some tree → IsReadCold P read cold → IsHeldCold P tree cold → IsPlaced program trees cold
+  pub cold-placed : (read : ℕ) (tree : SelectionTree) (cold : Cold) → tree_at trees 0 read ≡ Some tree → IsReadCold P read cold → IsHeldCold P tree cold → IsPlaced P trees cold
   cold-placed read tree cold there is held =
       let place : tree_at trees cold.statement cold.read ≡ Some tree = ap (λ (reader : ReadOf). tree_at trees reader.statement reader.read) is.outline.reader ∙ there in
       record {
@@ -107,7 +106,7 @@ module _ (program : ProgramParts) (trees : List (List SelectionTree)) where
   -- those of the arrays before one
   pub record ColdsTo (bound : ℕ) (colds : List Cold) : Type 0 where
     pub are : AreColdsOf P (filter (is_read P) (range_with_len 0 bound)) colds
-    pub placed : AllByRecursion (IsPlaced program trees) colds
+    pub placed : AllByRecursion (IsPlaced P trees) colds
     pub arrays : map (array_of_cold P) colds ≡ filter (is_read P) (range_with_len 0 bound)
 
   map-self : (xs : List ℕ) → map (λ (n : ℕ). n) xs ≡ xs
@@ -125,7 +124,7 @@ module _ (program : ProgramParts) (trees : List (List SelectionTree)) where
   colds-push (a ∷ arrays) [] array cold h one = absurd h
   colds-push (a ∷ arrays) (c ∷ colds) array cold h one = (h.0, colds-push arrays colds array cold h.1 one)
 
-  pub colds-more : (bound : ℕ) (colds more : List Cold) (cold : Cold) → ColdsTo bound colds → is_read P bound ≡ true → IsArrayCold P bound cold → IsPlaced program trees cold → array_of_cold P cold ≡ bound
+  pub colds-more : (bound : ℕ) (colds more : List Cold) (cold : Cold) → ColdsTo bound colds → is_read P bound ≡ true → IsArrayCold P bound cold → IsPlaced P trees cold → array_of_cold P cold ≡ bound
       → more ≡ colds ++ cold ∷ [] → ColdsTo (bound + 1) more
   colds-more bound colds more cold h there is placed array pushed =
       let next : filter (is_read P) (range_with_len 0 (bound + 1)) ≡ filter (is_read P) (range_with_len 0 bound) ++ bound ∷ [] =
@@ -133,7 +132,7 @@ module _ (program : ProgramParts) (trees : List (List SelectionTree)) where
       record {
         are = subst (AreColdsOf P (filter (is_read P) (range_with_len 0 (bound + 1)))) (sym pushed)
             (subst (λ (arrays : List ℕ). AreColdsOf P arrays (colds ++ cold ∷ [])) (sym next) (colds-push (filter (is_read P) (range_with_len 0 bound)) colds bound cold h.are is));
-        placed = subst (AllByRecursion (IsPlaced program trees)) (sym pushed) (All-push (IsPlaced program trees) colds cold h.placed placed);
+        placed = subst (AllByRecursion (IsPlaced P trees)) (sym pushed) (All-push (IsPlaced P trees) colds cold h.placed placed);
         arrays = ap (map (array_of_cold P)) pushed ∙ map-append (array_of_cold P) colds (cold ∷ []) ∙ ap (λ (ns : List ℕ). ns ++ array_of_cold P cold ∷ []) h.arrays
             ∙ ap (λ (n : ℕ). filter (is_read P) (range_with_len 0 bound) ++ n ∷ []) array ∙ sym next;
       }

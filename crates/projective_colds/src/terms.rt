@@ -3,8 +3,7 @@
 ghost use Rattle.std.specs.Prelude.{◌≡◌, ◌≤◌, true, IfOk, length, map};
 ghost use Rattle.std.specs.List.{AllByRecursion};
 ghost use Rattle.affine_program.specs.Parts.{meaning};
-ghost use Rattle.cold_terms.specs.Held.{AreRising, IsHeldCold, array_read as array_of_cold};
-ghost use Rattle.cold_terms.proofs.BranchLaws.{IsPlaced};
+ghost use Rattle.cold_terms.specs.Held.{AreRising, IsHeldCold, IsPlaced, array_read as array_of_cold};
 ghost use Rattle.dep_quast.specs.Tree.{tree_of};
 ghost use Rattle.dep_quast.specs.Truth.{ReadFits};
 ghost use Rattle.projective.specs.Projective.{IsProjective};
@@ -60,7 +59,7 @@ fn array_cold(alloc: Global, program: &Program, quasts: &Quasts, array: u16) -> 
     requires trees { AreSourceTrees (meaning program.now) (trees_of quasts.now) }
     requires read { is_read (meaning program.now) array ≡ true }
     ensures is { IfOk result (IsArrayCold (meaning program.now) array) }
-    ensures placed { IfOk result (IsPlaced program.now (trees_of quasts.now)) }
+    ensures placed { IfOk result (IsPlaced (meaning program.now) (trees_of quasts.now)) }
     ensures array { IfOk result (λ cold. array_of_cold (meaning program.now) cold ≡ array) }
 {
     let _params = program.params();
@@ -81,7 +80,7 @@ pub fn cold_terms(alloc: Global, program: &Program, quasts: &Quasts) -> Result<V
     requires projective { IsProjective (meaning program.now) }
     requires trees { AreSourceTrees (meaning program.now) (trees_of quasts.now) }
     ensures terms { IfOk result (λ colds. AreArrayColds (meaning program.now) colds.items) }
-    ensures placed { IfOk result (λ colds. AllByRecursion (IsPlaced program.now (trees_of quasts.now)) colds.items) }
+    ensures placed { IfOk result (λ colds. AllByRecursion (IsPlaced (meaning program.now) (trees_of quasts.now)) colds.items) }
     ensures rising { IfOk result (λ colds. AreRising (map (array_of_cold (meaning program.now)) colds.items)) }
     ensures few { IfOk result (λ colds. length colds.items ≤ TERMS) }
 {
