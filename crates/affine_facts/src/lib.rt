@@ -4,7 +4,10 @@
 pub mod affine;
 pub mod combined;
 pub mod facts;
+pub mod inverses;
+pub mod leaves;
 pub mod nests;
 pub mod numbers;
+pub mod placed;
 pub mod shown;
 pub mod words;

@@ -1,14 +1,14 @@
 //! Nests of instances, and how many they are.
 
-ghost use Rattle.std.specs.Prelude.{◌≡◌, ◌≤◌, length, IfOk, IfSome};
+ghost use Rattle.std.specs.Prelude.{◌≤◌, length, IfOk, IfSome};
 ghost use Rattle.affine_form.specs.Rows.{BoundsFit};
-ghost use Rattle.iolb_model.specs.declared.limits.TheConstants.{NEST_VARIABLES, PARAMETERS, VARIABLES};
+ghost use Rattle.iolb_model.specs.declared.limits.TheConstants.{NEST_VARIABLES, PARAMETERS};
 
 use crate::affine::{Affine, copies, loops};
 use crate::combined::combined;
 use crate::facts::Facts;
 use crate::shown::{Rows, all_shown, followed, within};
-use affine_form::{Form, Memory};
+use affine_form::Memory;
 use affine_program::Program;
 use domain_count::{Nest, Sums};
 use iolb_model::limits;
@@ -57,6 +57,23 @@ pub fn tightened(
         pair.1 = limit;
     } else {
         return Ok(None);
+    }
+    Ok(Some(all))
+}
+
+/// The bounds of those that meet rows too, where each bounds one loop by the parameters and the loops around it.
+pub fn restricted(
+    alloc: Global,
+    params: usize,
+    bounds: &[(Affine, Affine)],
+    rows: &[Affine],
+) -> Result<Option<Vec<(Affine, Affine)>>, Memory> {
+    let mut all = copied_bounds(alloc, bounds)?;
+    for row in rows {
+        match tightened(alloc, params, all.as_slice(), row)? {
+            Some(fewer) => all = fewer,
+            None => return Ok(None),
+        }
     }
     Ok(Some(all))
 }

@@ -101,6 +101,23 @@ pub fn apart(
     Ok(Some(shown))
 }
 
+/// Copies of words.
+pub fn copied_words(alloc: Global, words: &[Words]) -> Result<Vec<Words>, Memory> {
+    let mut all = Vec::new(alloc);
+    for some in words {
+        all.push(Words {
+            of_cells: some.of_cells,
+            target: some.target,
+            given: Rows {
+                vars: some.given.vars,
+                rows: copies(alloc, some.given.rows.as_slice())?,
+            },
+            point: copies(alloc, some.point.as_slice())?,
+        })?;
+    }
+    Ok(all)
+}
+
 /// All words of families.
 pub fn joined(alloc: Global, words: Vec<Vec<Words>>) -> Result<Vec<Words>, Memory> {
     let mut all = Vec::new(alloc);

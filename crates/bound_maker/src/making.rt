@@ -14,7 +14,7 @@ use crate::growing::with_branches;
 use crate::trees::{Scope, source_trees};
 use affine_form::Memory;
 use affine_program::Program;
-use find_terms::{candidates, opening};
+use find_terms::{ProposedBranches, candidates, opening};
 use iolb_check::Branch;
 use projective::as_projective;
 use projective_bounds::law::certified_have_least_exponents;
@@ -76,8 +76,7 @@ fn proposed(alloc: Global, program: &Program, most: usize) -> Result<Accepted, M
     ensures opening { IfOk result (λ accepted. BeginsWithOpening (meaning program.now) accepted.certificate.branches) }
 {
     let quasts = source_trees(alloc, program, Scope::All)?;
-    let proposals = candidates(alloc, program, &quasts)?;
-    let opening = opening(alloc, program)?;
+    let ProposedBranches { opening, proposals } = candidates(alloc, program, &quasts)?;
     let first = opened(alloc, program, quasts, opening)?;
     let accepted = with_branches(alloc, program, first, proposals, most)?;
     if accepted.text.len() <= most {

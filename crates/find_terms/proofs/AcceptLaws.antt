@@ -25,13 +25,12 @@ use Rattle.iolb_check.specs.Limits.{IsSmallTerm}
 use Rattle.iolb_check.specs.TermFit.{branch_fit}
 use Rattle.find_terms.specs.Accepted.{HasPlainTree, OpeningsAreWithinLimits, OpeningsMeetConditions}
 use Rattle.find_terms.specs.Openings.{AreNamed, IsFirstOpening, IsOpeningTerm, opening_outline}
-use Rattle.cold_terms.specs.Held.{AreRising, array_read, reader_of}
+use Rattle.cold_terms.specs.Held.{AreRising, IsHeldCold, IsPlaced, array_read, reader_of}
 use Rattle.cold_terms.specs.Outline.{ColdOutline, outline_in}
 use Rattle.find_terms.specs.Shown.{IsShownCold}
 use Rattle.find_terms.proofs.NameLaws.{none-named}
 use Rattle.find_terms.proofs.PlainLaws.{blank-not, shown-over}
-use Rattle.cold_terms.specs.Held.{IsHeldCold}
-use Rattle.cold_terms.proofs.BranchLaws.{IsPlaced, made, branch-fits, branch-holds}
+use Rattle.cold_terms.proofs.BranchLaws.{made, branch-fits, branch-holds}
 
 -- ---- a term over the trees
 
@@ -49,7 +48,7 @@ module _ (program : ProgramParts) (trees : List (List SelectionTree)) where
   held : {tree : SelectionTree} {cold : Cold} → IsShownCold Short P tree cold → IsHeldCold P tree cold
   held h = record { fits = h.fits; one_each = h.one_each; polynomials = h.polynomials; holds = h.holds; small = h.small; entries = h.entries }
 
-  placed : (cold : Cold) → IsFirstOpening P cold → IsPlain P (reader_of cold) (tree_of_cold cold) → IsPlaced program trees cold
+  placed : (cold : Cold) → IsFirstOpening P cold → IsPlain P (reader_of cold) (tree_of_cold cold) → IsPlaced P trees cold
   placed cold first plain =
       let opens : IsOpeningTerm P (reader_of cold) cold = first.opens in
       let loops : List ℕ = opens.outline.0 in
@@ -63,11 +62,11 @@ module _ (program : ProgramParts) (trees : List (List SelectionTree)) where
             ∙ none-named P (reader_of cold) loops named.there (sym (ap (λ (o : ColdOutline). o.matrix.rows) same) ∙ none);
       }
 
-  all-placed : (colds : List Cold) → AllByRecursion (IsFirstOpening P) colds → AllByRecursion (HasPlainTree P trees) (map terms.Cold colds) → AllByRecursion (IsPlaced program trees) colds
+  all-placed : (colds : List Cold) → AllByRecursion (IsFirstOpening P) colds → AllByRecursion (HasPlainTree P trees) (map terms.Cold colds) → AllByRecursion (IsPlaced P trees) colds
   all-placed [] first plain = tt
   all-placed (cold ∷ colds) first plain = (placed cold first.0 plain.0, all-placed colds first.1 plain.1)
 
-  made-holds : (colds : List Cold) → AreRising (map (array_read P) colds) → AllByRecursion (IsPlaced program trees) colds → AllHold (trees_fit P trees) → AllHold (rows_claims P 0 trees)
+  made-holds : (colds : List Cold) → AreRising (map (array_read P) colds) → AllByRecursion (IsPlaced P trees) colds → AllHold (trees_fit P trees) → AllHold (rows_claims P 0 trees)
       → AllHold (conditions P (record { trees = trees; branches = made program trees colds ∷ [] }))
   made-holds colds rising h fit valid =
       let fit_claims : List Claim = branch_fit P trees (Key BRANCHES ∷ Index 0 ∷ []) (made program trees colds) in

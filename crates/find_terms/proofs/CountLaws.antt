@@ -18,12 +18,13 @@ use Rattle.domain_count.specs.Count.{AreShownBelow, ShowsRange, bounds_at, multi
 use Rattle.int_sets.specs.ShortList.{HasShortList, IsShort}
 use Rattle.domain_count.specs.Claims.{SumClaims}
 use Rattle.nest_sums.proofs.RangeLemmas.{shown-more}
+use Rattle.nest_sums.proofs.WithinLimits.{count-stays, made-one}
 use Rattle.poly_tree.specs.Poly.{Quotient}
 use Rattle.part_fit.specs.Limits.{NamesRows}
 use Rattle.part_fit.specs.PartFit.{polynomials_fit, sum_at}
-use Rattle.nest_sums.specs.Made.{AreMade}
+use Rattle.nest_sums.specs.Made.{AreMade, CheckPasses}
 use Rattle.nest_sums.specs.Ranges.{AreRight, IsFirstNotShown}
-use Rattle.find_terms.specs.Counted.{AreCounted, AreRanges, CountPasses, FindsRanges, HasShortRange}
+use Rattle.find_terms.specs.Counted.{AreCounted, AreRanges, FindsRanges, HasShortRange}
 use Rattle.cold_terms.specs.Held.{ArePolynomials}
 
 -- ---- ranges
@@ -86,11 +87,21 @@ polynomials-anywhere params called place other sums h = (h.0, fit-anywhere (suc 
 
 module _ (program : AffineProgram) (nest : List (AffineForm × AffineForm)) where
   -- some range has no short list
-  pub ranges-none : FindsRanges Short program nest None → (claims : SumClaims) → AreCounted Short program nest claims → CountPasses program nest
-  ranges-none (k, below, none) claims h = absurd (none (short-range program nest claims k h below))
+  pub ranges-none : FindsRanges Short program nest None → (claims : SumClaims) → ¬ AreCounted Short program nest claims
+  ranges-none (k, below, none) claims h = none (short-range program nest claims k h below)
 
-  pub first-none : (k : ℕ) → IsFirstNotShown program nest k → (claims : SumClaims) → AreCounted Short program nest claims → CountPasses program nest
-  first-none k none claims h = absurd (none.no_list (short-range program nest claims k h none.there))
+  pub first-none : (k : ℕ) → IsFirstNotShown program nest k → (claims : SumClaims) → ¬ AreCounted Short program nest claims
+  first-none k none claims h = none.no_list (short-range program nest claims k h none.there)
+
+  -- an operation on the polynomials of the summation passes its limit
+  pub wide-none : CheckPasses program nest → (claims : SumClaims) → ¬ AreCounted Short program nest claims
+  wide-none passes claims h = count-stays program nest claims h.total h.right h.made passes
+
+  -- or they aren't within the limits of certificates
+  pub misfit-none : (sums : List Quotient) → AreMade (length program.parameters) nest sums → ¬ ArePolynomials (length program.parameters) nest sums → (claims : SumClaims)
+      → ¬ AreCounted Short program nest claims
+  misfit-none sums made misfit claims h =
+      misfit (subst (ArePolynomials (length program.parameters) nest) (made-one program nest claims.sums sums h.made made) h.polynomials)
 
   -- all that is claimed is found
   pub counted-some : (wanted : Wanted) (shown : List FarkasMultipliers) (made claims : SumClaims) → AreRanges wanted program nest (length nest) shown → AreRight program nest made

@@ -13,7 +13,6 @@ use Rattle.part_fit.specs.Limits.{AreSmall, AreSmallBounds}
 use Rattle.reuse_paths.specs.OpenLeaves.{TestsFit}
 use Rattle.wavefront.specs.declared.cold.Cold.{Cold}
 use Rattle.wavefront.specs.View.{term_of}
-use Rattle.find_terms.specs.Counted.{CountPasses}
 use Rattle.find_terms.specs.Found.{FarFits, FindsRead, FindsTerm, HasNoEarlier, IsSmallNest}
 use Rattle.find_terms.specs.Openings.{AreNamed, HasOpeningOutline, IsEarlierRead, IsFirstOpening, IsOpeningTerm, IsPlainRead, named_loops, named_nest, opening_outline}
 use Rattle.cold_terms.specs.Held.{array_read, reader_of}
@@ -58,14 +57,14 @@ module _ (program : AffineProgram) (reader : ReadOf) where
     outline-tests = subst (λ (r : ReadOf). TestsFit (variables_at program r) tree) (sym (ap (λ (o : ColdOutline). o.reader) is)) (plain-tests program reader tree plain)
 
     -- no term of the outline is shown
-    pub term-none : ((cold : Cold) → outline_in (term_of cold) ≡ outline → IsShownCold Short program tree cold → CountPasses program outline.nest) → ¬ IsPlainRead program reader
-    term-none none (cold, opens, passes_not) =
+    pub term-none : ((cold : Cold) → outline_in (term_of cold) ≡ outline → ¬ IsShownCold Short program tree cold) → ¬ IsPlainRead program reader
+    term-none none (cold, opens) =
         let same : outline_in (term_of cold) ≡ outline =
         opens.outline.2 ∙ ap (opening_outline program reader) (named-same program reader opens.outline.0 loops opens.outline.1 named) ∙ sym is in
         let its : (term_of cold).reader ≡ reader = ap (λ (o : ColdOutline). o.reader) opens.outline.2 in
         let shown : IsShownCold Short program tree cold =
         shown-over Short program opens.tree tree cold (subst (λ (r : ReadOf). IsPlain program r opens.tree) (sym its) opens.plain) (subst (λ (r : ReadOf). IsPlain program r tree) (sym its) plain) opens.shown in
-        passes_not (subst (λ (o : ColdOutline). CountPasses program o.nest) (sym same) (none cold same shown))
+        none cold same shown
 
     -- one is
     pub term-some : (cold : Cold) → ReadFits program reader → outline_in (term_of cold) ≡ outline → IsShownCold Short program tree cold → (reader_of cold ≡ reader) × IsOpeningTerm program reader cold

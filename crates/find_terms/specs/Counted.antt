@@ -1,5 +1,5 @@
 -- What is claimed of a nest's number of points, as it is found.
-use Rattle.std.specs.Prelude.{◌≡◌, ◌⊎◌, ℕ, ◌<◌, List, length, take, Option, Some, None, Vec}
+use Rattle.std.specs.Prelude.{◌≡◌, ℕ, ◌<◌, List, length, take, Option, Some, None, Vec}
 use Rattle.std.specs.Global.{Global}
 use Rattle.std.specs.List.{AllByRecursion}
 use Rattle.iolb_model.specs.Form.{AffineForm}
@@ -11,7 +11,7 @@ use Rattle.answers.specs.declared.wanted.Wanted.TheVariants.{Short}
 use Rattle.answers.specs.Answers.{IsAsShort}
 use Rattle.int_sets.specs.ShortList.{HasShortList}
 use Rattle.cold_terms.specs.Held.{ArePolynomials}
-use Rattle.nest_sums.specs.Made.{AreMade, CheckPasses}
+use Rattle.nest_sums.specs.Made.{AreMade}
 use Rattle.domain_count.specs.Claims.{SumClaims}
 use Rattle.domain_count.specs.Count.{AreShownBelow, IsCount, bounds_at, range_goal, rows_before}
 use Rattle.poly_tree.specs.Poly.{Quotient}
@@ -38,11 +38,6 @@ FindsRanges wanted program nest (Some shown) = AreRanges wanted program nest (le
 
 -- ---- counts
 
--- A count passes a limit: an operation on its polynomials does, or its polynomials do, which are those of the summation.
-abbrev pub CountPasses : AffineProgram → List (AffineForm × AffineForm) → Type 0
-CountPasses program nest =
-    CheckPasses program nest ⊎ ((sums : List Quotient) × AreMade (length program.parameters) nest sums × (¬ ArePolynomials (length program.parameters) nest sums))
-
 -- Claims of a nest's number of points: they are right, their polynomials are those of the summation, and their multipliers name
 -- rows below 128 and are as short as is wanted.
 pub record AreCounted (wanted : Wanted) (program : AffineProgram) (nest : List (AffineForm × AffineForm)) (claims : SumClaims) : Type 0 where
@@ -54,7 +49,7 @@ pub record AreCounted (wanted : Wanted) (program : AffineProgram) (nest : List (
   pub names : NameRows claims.shown
   pub as_short : AllByRecursion (IsAsShort wanted) claims.shown
 
--- what a search for them finds: them; or nothing, and then there are none with short lists, but where the count passes a limit
+-- what a search for them finds: them; or nothing, and then there are none with short lists
 abbrev pub FindsCount : Wanted → AffineProgram → List (AffineForm × AffineForm) → Option SumClaims → Type 0
-FindsCount wanted program nest None = (claims : SumClaims) → AreCounted Short program nest claims → CountPasses program nest
+FindsCount wanted program nest None = (claims : SumClaims) → ¬ AreCounted Short program nest claims
 FindsCount wanted program nest (Some claims) = AreCounted wanted program nest claims

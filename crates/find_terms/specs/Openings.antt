@@ -18,7 +18,6 @@ use Rattle.wavefront.specs.declared.cold.Cold.{Cold}
 use Rattle.wavefront.specs.View.{term_of}
 use Rattle.iolb_check.specs.declared.term.Term.TheVariants as terms
 use Rattle.iolb_check.specs.declared.term.Branch.{Branch}
-use Rattle.find_terms.specs.Counted.{CountPasses}
 use Rattle.cold_terms.specs.Held.{AreRising, array_read, reader_of}
 use Rattle.cold_terms.specs.Outline.{ColdOutline, outline_in}
 use Rattle.find_terms.specs.Shown.{IsShownCold}
@@ -122,9 +121,9 @@ pub record IsOpeningTerm (program : AffineProgram) (reader : ReadOf) (cold : Col
   pub outline : HasOpeningOutline program reader cold
   pub shown : IsShownCold Short program tree cold
 
--- A read is plain where it has an opening term, whose count passes no limit.
+-- A read is plain where it has an opening term.
 abbrev pub IsPlainRead : AffineProgram → ReadOf → Type 0
-IsPlainRead program reader = (cold : Cold) × IsOpeningTerm program reader cold × (¬ CountPasses program cold.nest)
+IsPlainRead program reader = (cold : Cold) × IsOpeningTerm program reader cold
 
 -- some read of an array is plain
 abbrev pub HasPlainRead : AffineProgram → ℕ → Type 0

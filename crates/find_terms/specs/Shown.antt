@@ -17,7 +17,6 @@ use Rattle.wavefront.specs.Loads.{ColdFits}
 use Rattle.wavefront.specs.View.{term_of}
 use Rattle.iolb_check.specs.Limits.{IsSmallCold}
 use Rattle.cold_terms.specs.Held.{ArePolynomials}
-use Rattle.find_terms.specs.Counted.{CountPasses}
 use Rattle.cold_terms.specs.Entries.{AreEntries, IsEntryAsShort}
 use Rattle.cold_terms.specs.Outline.{ColdOutline, outline_in}
 
@@ -41,7 +40,7 @@ pub record IsShownCold (wanted : Wanted) (program : AffineProgram) (tree : Selec
   pub as_short : IsColdAsShort wanted cold
 
 -- What a search for a cold term of an outline finds: one that is shown, as short as is wanted; or nothing, and then no short
--- lists show one, but where its count passes a limit.
+-- lists show one.
 abbrev pub FindsCold : Wanted → AffineProgram → SelectionTree → ColdOutline → Option Cold → Type 0
-FindsCold wanted program tree outline None = (cold : Cold) → outline_in (term_of cold) ≡ outline → IsShownCold Short program tree cold → CountPasses program outline.nest
+FindsCold wanted program tree outline None = (cold : Cold) → outline_in (term_of cold) ≡ outline → ¬ IsShownCold Short program tree cold
 FindsCold wanted program tree outline (Some cold) = (outline_in (term_of cold) ≡ outline) × IsShownCold wanted program tree cold

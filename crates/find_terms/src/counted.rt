@@ -21,8 +21,8 @@ use part_fit::part_limits::are_small_polynomials;
 use poly_tree::Poly;
 use std::alloc::Global;
 
-/// What is claimed of a nest's number of points, found. None only where no short lists show its ranges, or the count
-/// passes a limit.
+/// What is claimed of a nest's number of points, found. None only where no claims with short lists are right, with the
+/// polynomials of the summation and within the limits of certificates.
 pub(crate) fn counted(
     alloc: Global,
     wanted: Wanted,

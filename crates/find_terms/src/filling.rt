@@ -20,7 +20,7 @@ use wavefront::Cold;
 
 /// The cold term of an outline over the source tree of its read, with all that shows it: its polynomials are those of the
 /// summation, it stops at inputs alone, and its multipliers are as short as is wanted. It fits, all that it claims holds,
-/// and it is within the limits of certificates. None only where no short lists show one, or its count passes a limit.
+/// and it is within the limits of certificates. None only where no short lists show one.
 ///
 /// # Errors
 ///

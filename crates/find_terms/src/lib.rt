@@ -13,4 +13,4 @@ mod proposed;
 pub use cold_terms::Outline;
 pub use filling::filled;
 pub use openings::opening;
-pub use proposed::candidates;
+pub use proposed::{ProposedBranches, candidates};

@@ -1,10 +1,9 @@
 //! The branch of opening terms.
 
-ghost use Rattle.std.specs.Prelude.{◌≡◌, ◌<◌, ◌+◌, length, map, IfOk};
+ghost use Rattle.std.specs.Prelude.{◌<◌, ◌+◌, length, IfOk};
 ghost use Rattle.affine_program.specs.Parts.{meaning};
 ghost use Rattle.dep_quast.specs.Truth.{ReadFits};
 ghost use Rattle.dep_quast.specs.Views.{read_of};
-ghost use Rattle.iolb_check.specs.declared.term.Term.TheVariants as terms;
 ghost use Rattle.find_terms.specs.Found.{FindsFirst, FindsRead, FindsTerm, HasNoEarlier};
 ghost use Rattle.find_terms.specs.Openings.{AreOpenings, FindsOpening};
 
@@ -13,9 +12,10 @@ use crate::outlines::opening_outline;
 use affine_form::Memory;
 use affine_program::Program;
 use answers::Wanted;
+use cold_terms::cold_branch;
 use dep_quast::reader::{Reader, reference};
 use flow_deps::plain;
-use iolb_check::{Branch, Term};
+use iolb_check::Branch;
 use iolb_model::limits;
 use std::alloc::Global;
 use wavefront::Cold;
@@ -104,23 +104,12 @@ fn opening_terms(alloc: Global, program: &Program) -> Result<Vec<Cold>, Memory>
     Ok(colds)
 }
 
-/// Cold terms as terms of a branch.
-fn as_terms(alloc: Global, colds: Vec<Cold>) -> Result<Vec<Term>, Memory>
-    ensures { IfOk result (λ all. all.items ≡ map terms.Cold colds.items) }
-{
-    let mut all = Vec::new(alloc);
-    for cold in colds {
-        all.push(Term::Cold(cold))?;
-    }
-    Ok(all)
-}
-
 /// The branch of opening terms: for each of the first 16 arrays, in their order, that have a plain read, the opening term
 /// of the first one, by statement and then by read. None only where no read is plain.
 ///
 /// A read is plain where it has a plain source tree, its subscripts are different loops' names, and short lists of
-/// multipliers show all that its opening term claims. That term's nest has the loops that are named; each other loop is in
-/// its first turn.
+/// multipliers show all that its opening term claims, whose polynomials are those of the summation. That term's nest has
+/// the loops that are named; each other loop is in its first turn.
 ///
 /// # Errors
 ///
@@ -132,7 +121,5 @@ pub fn opening(alloc: Global, program: &Program) -> Result<Option<Branch>, Memor
     if colds.len() == 0 {
         return Ok(None);
     }
-    let terms = as_terms(alloc, colds)?;
-    let disjoint = Vec::new(alloc);
-    Ok(Some(Branch { terms, disjoint }))
+    Ok(Some(cold_branch(alloc, colds)?))
 }

@@ -1,59 +1,86 @@
 //! Branches that are proposed.
 
-use crate::openings::first_of;
+ghost use Rattle.std.specs.Prelude.{IfOk};
+ghost use Rattle.affine_program.specs.Parts.{meaning};
+ghost use Rattle.find_terms.specs.Openings.{FindsOpening};
+
+use crate::openings::opening;
 use affine_form::Memory;
 use affine_program::Program;
 use iolb_check::{Branch, Term};
-use iolb_model::limits;
 use proposals::{Proposal, ProposedTerm, proposals};
 use reuse_paths::Quasts;
 use std::alloc::Global;
 
-/// Branches beside the opening one that may be accepted over these source trees, those that are likely to be strong first.
-/// Nothing is promised of them.
+/// Branches for a program's certificate.
+#[derive(Drop)]
+pub struct ProposedBranches {
+    /// The opening branch, where some read is plain.
+    pub opening: Option<Branch>,
+    /// Other branches, those that are likely to be strong first.
+    pub proposals: Vec<Branch>,
+}
+
+/// Branches that may stand in a certificate over these source trees: the opening branch first, as `opening` answers it, and
+/// then proposals, of which nothing is promised.
+///
+/// # Errors
+///
+/// Want of memory alone.
 pub fn candidates(
     alloc: Global,
     program: &Program,
     quasts: &Quasts,
+) -> Result<ProposedBranches, Memory>
+    ensures { IfOk result (λ candidates. FindsOpening (meaning program.now) candidates.opening) }
+{
+    let opening = opening(alloc, program)?;
+    let proposals = proposed_branches(alloc, program, quasts, &opening)?;
+    Ok(ProposedBranches { opening, proposals })
+}
+
+/// The proposals as branches, without those of cold terms alone that are no more than the opening branch has.
+fn proposed_branches(
+    alloc: Global,
+    program: &Program,
+    quasts: &Quasts,
+    opening: &Option<Branch>,
 ) -> Result<Vec<Branch>, Memory> {
     let mut branches = Vec::new(alloc);
     for proposal in proposals(alloc, program, quasts)? {
-        branches.push(branch_of(alloc, program, proposal)?)?;
+        let branch = branch_of(alloc, proposal)?;
+        if !is_no_more(&branch, opening) {
+            branches.push(branch)?;
+        }
     }
     Ok(branches)
 }
 
-/// A proposal as a branch: its terms, and then the opening terms of the arrays of which it counts no cells.
-fn branch_of(alloc: Global, program: &Program, proposal: Proposal) -> Result<Branch, Memory> {
-    let Proposal {
-        terms: proposed,
-        disjoint,
-        arrays,
-    } = proposal;
+/// A proposal as a branch.
+fn branch_of(alloc: Global, proposal: Proposal) -> Result<Branch, Memory> {
     let mut terms = Vec::new(alloc);
-    for term in proposed {
+    for term in proposal.terms {
         terms.push(match term {
+            ProposedTerm::Cold(term) => Term::Cold(term),
             ProposedTerm::Partition(term) => Term::Partition(term),
             ProposedTerm::Wavefront(term) => Term::Wavefront(term),
         })?;
     }
-    let terms = with_openings(alloc, program, terms, arrays.as_slice())?;
+    let disjoint = proposal.disjoint;
     Ok(Branch { terms, disjoint })
 }
 
-/// Terms, and then the opening terms of the arrays that aren't among these, as many as a branch may have.
-fn with_openings(
-    alloc: Global,
-    program: &Program,
-    mut terms: Vec<Term>,
-    arrays: &[u16],
-) -> Result<Vec<Term>, Memory> {
-    for array in 0..program.arrays().len() {
-        if terms.len() < limits::TERMS && !arrays.contains(&(array as u16)) {
-            if let Some(cold) = first_of(alloc, program, array)? {
-                terms.push(Term::Cold(cold))?;
-            }
+/// Whether a branch has cold terms alone, and no more of them than the opening branch.
+fn is_no_more(branch: &Branch, opening: &Option<Branch>) -> bool {
+    let most = match opening {
+        Some(opening) => opening.terms.len(),
+        None => 0,
+    };
+    for term in branch.terms.as_slice() {
+        match term {
+            Term::Cold(_) => {}
+            Term::Partition(_) | Term::Wavefront(_) => return false,
         }
     }
-    Ok(terms)
+    branch.terms.len() <= most
 }

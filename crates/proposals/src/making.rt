@@ -2,31 +2,31 @@
 
 use affine_facts::facts::{Facts, facts_of};
 use affine_facts::numbers::short;
-use affine_facts::words::{Words, apart, are_none_of};
+use affine_facts::words::{Words, apart, are_none_of, copied_words};
 use affine_form::{Memory, Multipliers};
 use affine_program::Program;
+use cold_proposals::{Outline, cold_outlines, cold_term};
 use iolb_model::limits;
 use k_partition::Partition;
 use partition_proposals::{Coordinates, Proposed, partition, strength};
 use reuse_paths::Quasts;
 use std::alloc::Global;
-use wavefront::Wavefront;
+use wavefront::{Cold, Wavefront};
 use wavefront_proposals::wavefronts;
 
 /// A term that is proposed.
 #[derive(Drop)]
 pub enum ProposedTerm {
+    Cold(Cold),
     Partition(Partition),
     Wavefront(Wavefront),
 }
 
-/// Terms for one branch, multipliers which show that no two of them count a word that the other counts, and the arrays of which
-/// they count cells.
+/// Terms for one branch, and multipliers which show that no two of them count a word that the other counts.
 #[derive(Drop)]
 pub struct Proposal {
     pub terms: Vec<ProposedTerm>,
     pub disjoint: Vec<Multipliers>,
-    pub arrays: Vec<u16>,
 }
 
 /// A proposal of a statement over some coordinates.
@@ -147,17 +147,28 @@ fn with_wavefronts(
     Ok(Gathered { terms, taken })
 }
 
-/// The arrays of which words are cells.
-fn arrays_of(alloc: Global, taken: &[Vec<Words>]) -> Result<Vec<u16>, Memory> {
-    let mut arrays = Vec::new(alloc);
-    for some in taken {
-        for words in some.as_slice() {
-            if words.of_cells {
-                arrays.push(words.target)?;
+/// The cold terms whose cells aren't taken, behind other terms.
+fn with_colds(
+    alloc: Global,
+    program: &Program,
+    facts: &Facts,
+    colds: &[Outline],
+    gathered: Gathered,
+) -> Result<Gathered, Memory> {
+    let Gathered {
+        mut terms,
+        mut taken,
+    } = gathered;
+    for outline in colds {
+        let words = outline.words.as_slice();
+        if terms.len() < limits::TERMS && are_none_of(alloc, facts, words, taken.as_slice())? {
+            if let Some(cold) = cold_term(alloc, program, facts, outline)? {
+                terms.push(ProposedTerm::Cold(cold))?;
+                taken.push(copied_words(alloc, words)?)?;
             }
         }
     }
-    Ok(arrays)
+    Ok(Gathered { terms, taken })
 }
 
 /// Terms as a proposal, where there are some, and their words are shown to differ.
@@ -171,62 +182,77 @@ fn proposal_of(
         return Ok(None);
     }
     match apart(alloc, facts, taken.as_slice())? {
-        Some(disjoint) => Ok(Some(Proposal {
-            terms,
-            disjoint,
-            arrays: arrays_of(alloc, taken.as_slice())?,
-        })),
+        Some(disjoint) => Ok(Some(Proposal { terms, disjoint })),
         None => Ok(None),
     }
 }
 
-/// Wavefront terms with different words together.
-fn fronts(alloc: Global, program: &Program, facts: &Facts) -> Result<Option<Proposal>, Memory> {
-    let none = Gathered {
+/// No terms.
+fn nothing(alloc: Global) -> Gathered {
+    Gathered {
         terms: Vec::new(alloc),
         taken: Vec::new(alloc),
-    };
-    let gathered = with_wavefronts(alloc, program, facts, none)?;
-    proposal_of(alloc, facts, gathered)
+    }
 }
 
-/// One term as a proposal.
-fn alone(alloc: Global, proposed: Proposed) -> Result<Proposal, Memory> {
+/// A partition term and its words.
+fn alone(alloc: Global, proposed: Proposed) -> Result<Gathered, Memory> {
     let Proposed { term, words } = proposed;
-    let taken = vec![in alloc; words]?;
-    Ok(Proposal {
+    Ok(Gathered {
         terms: vec![in alloc; ProposedTerm::Partition(term)]?,
-        disjoint: Vec::new(alloc),
-        arrays: arrays_of(alloc, taken.as_slice())?,
+        taken: vec![in alloc; words]?,
     })
 }
 
-/// Terms for branches: partition terms and then wavefront terms with different words together, where they are several;
-/// wavefront terms alone; then each partition term by itself, strongest first.
+/// Those that have terms.
+fn without_empty(alloc: Global, all: Vec<Gathered>) -> Result<Vec<Gathered>, Memory> {
+    let mut some = Vec::new(alloc);
+    for gathered in all {
+        if !gathered.terms.is_empty() {
+            some.push(gathered)?;
+        }
+    }
+    Ok(some)
+}
+
+/// Terms for branches, before cold terms are added: partition terms and then wavefront terms with different words together,
+/// where they are several; wavefront terms alone; nothing; then each partition term by itself, strongest first.
+fn gatherings(alloc: Global, program: &Program, facts: &Facts) -> Result<Vec<Gathered>, Memory> {
+    let candidates = candidates_of(alloc, program, facts)?;
+    let mut all = Vec::new(alloc);
+    let some = partitions(alloc, program, facts, candidates.as_slice())?;
+    let is_mixed = !some.terms.is_empty();
+    let first = with_wavefronts(alloc, program, facts, some)?;
+    if first.terms.len() > 1 || !is_mixed {
+        all.push(first)?;
+    }
+    if is_mixed {
+        all.push(with_wavefronts(alloc, program, facts, nothing(alloc))?)?;
+    }
+    all = without_empty(alloc, all)?;
+    all.push(nothing(alloc))?;
+    for candidate in candidates {
+        all.push(alone(alloc, candidate.proposed)?)?;
+    }
+    Ok(all)
+}
+
+/// Terms for branches: partition terms and then wavefront terms with different words together, where they are several; wavefront
+/// terms alone; cold terms alone; then each partition term by itself, strongest first. In each the cold terms whose cells differ
+/// from what is counted stand behind.
 pub fn proposals(
     alloc: Global,
     program: &Program,
     quasts: &Quasts,
 ) -> Result<Vec<Proposal>, Memory> {
     let facts = facts_of(alloc, program, quasts)?;
-    let candidates = candidates_of(alloc, program, &facts)?;
+    let colds = cold_outlines(alloc, &facts)?;
     let mut all = Vec::new(alloc);
-    let some = partitions(alloc, program, &facts, candidates.as_slice())?;
-    let is_mixed = !some.terms.is_empty();
-    let first = with_wavefronts(alloc, program, &facts, some)?;
-    let is_new = first.terms.len() > 1 || !is_mixed;
-    if let Some(proposal) = proposal_of(alloc, &facts, first)? {
-        if is_new {
+    for gathered in gatherings(alloc, program, &facts)? {
+        let gathered = with_colds(alloc, program, &facts, colds.as_slice(), gathered)?;
+        if let Some(proposal) = proposal_of(alloc, &facts, gathered)? {
             all.push(proposal)?;
         }
-    }
-    if is_mixed {
-        if let Some(proposal) = fronts(alloc, program, &facts)? {
-            all.push(proposal)?;
-        }
-    }
-    for candidate in candidates {
-        all.push(alone(alloc, candidate.proposed)?)?;
     }
     Ok(all)
 }

@@ -4,37 +4,12 @@ use crate::outlines::Outline;
 use crate::ways::{Instance, Step, Turn};
 use affine_facts::affine::{Affine, copies, loops};
 use affine_facts::facts::{Facts, Origin, ReadFacts, TreeLeaf, with_row};
-use affine_facts::shown::{
-    Rows, all_forms, all_put, all_shown, equalities, followed, no_point, within,
-};
+use affine_facts::leaves::{empty_entry, with_tests};
+use affine_facts::shown::{Rows, all_forms, all_put, all_shown, equalities, followed, within};
 use affine_form::{Memory, Multipliers};
 use iolb_model::limits;
 use reuse_paths::{Leaf, Reach, Region, Walk};
 use std::alloc::Global;
-
-/// Rows, and those of the tests before a leaf, with values put in.
-fn with_tests(
-    alloc: Global,
-    params: usize,
-    given: &Rows,
-    leaf: &TreeLeaf,
-    values: &[Affine],
-) -> Result<Rows, Memory> {
-    let tests = all_put(alloc, params, leaf.tests.as_slice(), values)?;
-    let rows = copies(alloc, given.rows.as_slice())?;
-    Ok(Rows {
-        vars: given.vars,
-        rows: followed(alloc, rows, tests.as_slice())?,
-    })
-}
-
-/// The entry at a leaf to which no point comes.
-fn empty_entry(alloc: Global, given: &Rows) -> Result<Option<Leaf>, Memory> {
-    match no_point(alloc, given)? {
-        Some(shown) => Ok(Some(Leaf::Empty(shown))),
-        None => Ok(None),
-    }
-}
 
 /// The entry at a leaf whose source has to be an instance, or else no point comes.
 fn arriving_entry(

@@ -3,8 +3,9 @@
 use crate::ways::{Instance, Step, way_to};
 use affine_facts::affine::Affine;
 use affine_facts::facts::{Facts, Origin, StatementFacts, TreeLeaf};
-use affine_facts::nests::{copied_bounds, ranged, tightened};
+use affine_facts::nests::{ranged, restricted};
 use affine_facts::numbers::short;
+use affine_facts::placed::{PlacedNest, nested, stands_in};
 use affine_facts::shown::all_put;
 use affine_form::Memory;
 use std::alloc::Global;
@@ -59,60 +60,6 @@ fn sources_of(alloc: Global, own: &StatementFacts) -> Result<Vec<Source>, Memory
     Ok(all)
 }
 
-/// Whether a variable stands in forms.
-fn stands_in(forms: &[Affine], place: usize) -> bool {
-    forms.iter().any(|form| form.at(place) != 0)
-}
-
-/// The bounds of a statement's loops that meet rows too, where all ranges are whole.
-fn restricted(
-    alloc: Global,
-    facts: &Facts,
-    own: &StatementFacts,
-    rows: &[Affine],
-) -> Result<Option<Vec<(Affine, Affine)>>, Memory> {
-    let mut bounds = copied_bounds(alloc, own.bounds.as_slice())?;
-    for row in rows {
-        match tightened(alloc, facts.params, bounds.as_slice(), row)? {
-            Some(fewer) => bounds = fewer,
-            None => return Ok(None),
-        }
-    }
-    ranged(alloc, facts, bounds)
-}
-
-/// A nest over some loops of a statement, and the loop values at its points.
-#[derive(Drop)]
-struct PlacedNest {
-    bounds: Vec<(Affine, Affine)>,
-    values: Vec<Affine>,
-}
-
-/// The nest of the loops that stand in forms; each other loop is in its first turn.
-fn nested(
-    alloc: Global,
-    params: usize,
-    bounds: &[(Affine, Affine)],
-    forms: &[Affine],
-) -> Result<PlacedNest, Memory> {
-    let mut all = Vec::new(alloc);
-    let mut values = Vec::new(alloc);
-    for (place, (lower, upper)) in bounds.iter().enumerate() {
-        let least = lower.put(alloc, params, values.as_slice())?;
-        if stands_in(forms, params.saturating_add(place)) {
-            let most = upper.put(alloc, params, values.as_slice())?;
-            values.push(Affine::variable(alloc, params.saturating_add(all.len()))?)?;
-            all.push((least, most))?;
-        } else {
-            values.push(least)?;
-        }
-    }
-    Ok(PlacedNest {
-        bounds: all,
-        values,
-    })
-}
-
 /// On how many of the first variables forms depend at most.
 fn outer_of(params: usize, vars: usize, forms: &[Affine]) -> usize {
     let mut outer = 0;
@@ -157,7 +104,10 @@ fn outline_of(
 ) -> Result<Option<Outline>, Memory> {
     let params = facts.params;
     let rows = all_tests(alloc, vertex, word)?;
-    let Some(bounds) = restricted(alloc, facts, own, rows.as_slice())? else {
+    let Some(bounds) = restricted(alloc, params, own.bounds.as_slice(), rows.as_slice())? else {
+        return Ok(None);
+    };
+    let Some(bounds) = ranged(alloc, facts, bounds)? else {
         return Ok(None);
     };
     let PlacedNest { bounds, values } = nested(alloc, params, bounds.as_slice(), word.point)?;

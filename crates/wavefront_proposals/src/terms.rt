@@ -1,20 +1,16 @@
 //! Wavefront terms, proposed.
 
-ghost use Rattle.std.specs.Prelude.{◌≡◌, ◌≤◌, ◌*◌, length, IfOk};
-ghost use Rattle.std.specs.List.{AllByRecursion};
-ghost use Rattle.affine_form.specs.Form.{IsSmall};
-ghost use Rattle.iolb_model.specs.declared.limits.TheConstants.{LOOPS, NEST_VARIABLES, NUMBER_SIZE};
-
 use crate::claims_shown::{Way, edge, reach};
 use crate::outlines::{Outline, outlines_of};
 use crate::ways::{Instance, Step};
 use affine_facts::affine::{Affine, copies};
 use affine_facts::facts::Facts;
+use affine_facts::inverses::undoing_matrix;
 use affine_facts::nests::{counted, nest_rows};
 use affine_facts::numbers::{narrow, short};
 use affine_facts::shown::{Rows, all_forms, all_shown, followed, within};
 use affine_facts::words::Words;
-use affine_form::{Matrix, Memory, Multipliers};
+use affine_form::{Memory, Multipliers};
 use affine_program::Program;
 use domain_count::{Nest, Sums};
 use iolb_model::limits;
@@ -30,67 +26,13 @@ pub struct Proposed {
     pub words: Vec<Words>,
 }
 
-/// The entry of a matrix that turns forms back into variables, of which each is a form's only one: 1 or -1 where the first such
-/// form of the variable is this one, and 0 elsewhere.
-fn undoing(params: usize, forms: &[Affine], row: usize, column: usize) -> i32
-    ensures { IsSmall NUMBER_SIZE result }
-{
-    for (place, form) in forms.iter().enumerate() {
-        if form.only_loop(params) == Some(row) {
-            if place != column {
-                return 0;
-            }
-            return if form.at(params.saturating_add(row)) < 0 {
-                -1
-            } else {
-                1
-            };
-        }
-    }
-    0
-}
-
-/// The entries of the matrix that turns forms back into variables, row after row.
-fn entries(alloc: Global, params: usize, vars: usize, forms: &[Affine]) -> Result<Vec<i32>, Memory>
-    requires few { vars ≤ NEST_VARIABLES }
-    requires few_forms { length forms.now ≤ LOOPS }
-    ensures full { IfOk result (λ cells. length cells.items ≡ vars * length forms.now) }
-    ensures small { IfOk result (λ cells. AllByRecursion (IsSmall NUMBER_SIZE) cells.items) }
-{
-    let mut cells = Vec::new(alloc);
-    for place in 0..vars * forms.len() {
-        let row = place.checked_div(forms.len()).unwrap_or(0);
-        let column = place.checked_rem(forms.len()).unwrap_or(0);
-        cells.push(undoing(params, forms, row, column))?;
-    }
-    Ok(cells)
-}
-
-/// Whether each variable is the only one of some form.
-fn are_told_apart(params: usize, vars: usize, forms: &[Affine]) -> bool {
-    for row in 0..vars {
-        if !forms.iter().any(|form| form.only_loop(params) == Some(row)) {
-            return false;
-        }
-    }
-    true
-}
-
 /// The matrix that turns the word's loop values back into the nest's variables, where each is the only one of some value.
 fn inverse(alloc: Global, params: usize, outline: &Outline) -> Result<Option<Inverse>, Memory> {
     let vars = outline.bounds.len();
-    let forms = outline.word.point.as_slice();
-    if vars == 0 || vars > limits::NEST_VARIABLES || forms.len() > limits::LOOPS {
-        return Ok(None);
+    match undoing_matrix(alloc, params, vars, outline.word.point.as_slice())? {
+        Some(matrix) => Ok(Some(Inverse { matrix, scale: 1 })),
+        None => Ok(None),
     }
-    if !are_told_apart(params, vars, forms) {
-        return Ok(None);
-    }
-    let cells = entries(alloc, params, vars, forms)?;
-    Ok(Some(Inverse {
-        matrix: Matrix::new(vars, forms.len(), cells),
-        scale: 1,
-    }))
 }
 
 /// The rows which say that an instance is in its statement's domain, behind others.

@@ -23,7 +23,7 @@ pub returns-then-not-undone : goal.returns-then-not-undone
 returns-then-not-undone c =
     let program = meaning c.args.program.now in
     let tree : SelectionTree = tree_of c.args.quast.now in
-    λ cold e h. absurd (clash c.in_ok-undone.undone c.if-not-undone.true (c.in_ok-undone.ensures.1 (subst (IsUndone program) e (shown-undone program tree cold h))))
+    λ cold e h. clash c.in_ok-undone.undone c.if-not-undone.true (c.in_ok-undone.ensures.1 (subst (IsUndone program) e (shown-undone program tree cold h)))
 
 pub returns-in_default : goal.returns-in_default
 returns-in_default c =
@@ -32,8 +32,8 @@ returns-in_default c =
     let outline : ColdOutline = outline_of c.args.outline in
     let questions : List Question = following (nest_system program (bare outline)) (inside_goals program (bare outline)) in
     let none = found-none c.in_ok-inside.field-0 (HasNoShort questions) (λ shown. Answers c.args.wanted questions shown.items) c.in_default.is c.in_ok-inside.ensures.answers in
-    λ cold e h. absurd (none (subst (IsInside program) e
-    (shown-inside program tree cold h (subst (λ (o : ColdOutline). IsFew (length (nest_system program (bare o)).rows)) (sym e) c.in_ok-inside.ensures.few))))
+    λ cold e h. none (subst (IsInside program) e
+    (shown-inside program tree cold h (subst (λ (o : ColdOutline). IsFew (length (nest_system program (bare o)).rows)) (sym e) c.in_ok-inside.ensures.few)))
 
 pub returns-in_default-2 : goal.returns-in_default-2
 returns-in_default-2 c =
@@ -41,7 +41,7 @@ returns-in_default-2 c =
     let tree : SelectionTree = tree_of c.args.quast.now in
     let term : ColdTerm = bare (outline_of c.args.outline) in
     let none = subst (FindsEntries c.args.wanted (nest_variables program term) (nest_system program term).rows (leaves_of program tree term)) c.in_default-2.is c.in_ok-leaves.ensures in
-    λ cold e h. absurd (none (map claim_of cold.leaves.items) (subst (λ (o : ColdOutline). IsClosedBy Short program tree o (map claim_of cold.leaves.items)) e (shown-closed program tree cold h)))
+    λ cold e h. none (map claim_of cold.leaves.items) (subst (λ (o : ColdOutline). IsClosedBy Short program tree o (map claim_of cold.leaves.items)) e (shown-closed program tree cold h))
 
 pub returns-in_default-3 : goal.returns-in_default-3
 returns-in_default-3 c =
