@@ -10,9 +10,11 @@ use Rattle.c_reading.specs.declared.named.Kind.{Kind}
 use Rattle.c_reading.specs.declared.named.Kind.TheVariants.{Parameter, OpenLoop, ClosedLoop, Array}
 use Rattle.c_reading.specs.Names.{parameters_among, arrays_among}
 use Rattle.c_grammar.specs.Well.{AreDistinct}
-use Rattle.c_grammar.proofs.Dictionary.{bytes_same, bytes_are}
+use Rattle.c_grammar.proofs.Dictionary.{bytes_are}
 use Rattle.c_printing.proofs.Readable.{array_names}
 use Rattle.c_printing.proofs.Roles.{names_of}
+use Rattle.c_printing.proofs.State.{among_differ}
+use Rattle.c_grammar.proofs.Steps.{bool_cases}
 
 -- the names of kinds that pass a test
 abbrev pub among : (Kind → Bool) → List (List ℕ) → List Kind → List (List ℕ)
@@ -55,12 +57,9 @@ arrays-among (n ∷ names) (Array k rank ∷ kinds) = ap (λ ns. n ∷ ns) (arra
 -- ---- names that differ
 
 -- a name that stands nowhere
-none_any : (n : List ℕ) (names : List (List ℕ)) → ((at : ℕ) → slice_get names at ≡ Some n → ⊥) → list_any (bytes_eq n) names ≡ false
+pub none_any : (n : List ℕ) (names : List (List ℕ)) → ((at : ℕ) → slice_get names at ≡ Some n → ⊥) → list_any (bytes_eq n) names ≡ false
 none_any n [] f = refl
-none_any n (m ∷ names) f = elim (bytes_eq n m) as (λ v. bytes_eq n m ≡ v → list_any (bytes_eq n) (m ∷ names) ≡ false) [
-  | true ↦ λ e. absurd (f 0 (ap Some (sym (bytes_are n m e))))
-  | false ↦ λ e. rw e (none_any n names (λ at g. f (suc at) g))
-] refl
+none_any n (m ∷ names) f = bool_cases (bytes_eq n m) (λ e. absurd (f 0 (ap Some (sym (bytes_are n m e))))) (λ e. rw e (none_any n names (λ at g. f (suc at) g)))
 
 -- names at different places differ
 pub distinct-different : (names : List (List ℕ)) → AreDistinct names → AreDifferent names
@@ -75,35 +74,21 @@ among_any test n (m ∷ names) (k ∷ kinds) h =
     let both = or_parts (bytes_eq n m) (list_any (bytes_eq n) names) h in
     let here : bytes_eq n m ≡ false = both.0 in
     let rest : list_any (bytes_eq n) (among test names kinds) ≡ false = among_any test n names kinds both.1 in
-    elim (test k) as (λ v. test k ≡ v → list_any (bytes_eq n) (among test (m ∷ names) (k ∷ kinds)) ≡ false) [ true ↦ λ e. rw e (rw here rest) | false ↦ λ e. rw e rest ] refl
+    bool_cases (test k) (λ e. rw e (rw here rest)) (λ e. rw e rest)
 
 -- some of names that differ
 pub among_differs : (test : Kind → Bool) (names : List (List ℕ)) (kinds : List Kind) → AreDifferent names → AreDifferent (among test names kinds)
 among_differs test [] kinds d = tt
 among_differs test (m ∷ names) [] d = tt
 among_differs test (m ∷ names) (k ∷ kinds) d =
-    elim (test k) as (λ v. test k ≡ v → AreDifferent (among test (m ∷ names) (k ∷ kinds))) [ true ↦ λ e. rw e (among_any test m names kinds d.0, among_differs test names kinds d.1) | false ↦ λ e. rw e (among_differs test names kinds d.1) ] refl
+    bool_cases (test k) (λ e. rw e (among_any test m names kinds d.0, among_differs test names kinds d.1)) (λ e. rw e (among_differs test names kinds d.1))
 
 -- what holds of each name holds of some
 pub among_all : (P : List ℕ → Type 0) (test : Kind → Bool) (names : List (List ℕ)) (kinds : List Kind) → AllByRecursion P names → AllByRecursion P (among test names kinds)
 among_all P test [] kinds h = tt
 among_all P test (m ∷ names) [] h = tt
 among_all P test (m ∷ names) (k ∷ kinds) h =
-    elim (test k) as (λ v. test k ≡ v → AllByRecursion P (among test (m ∷ names) (k ∷ kinds))) [ true ↦ λ e. rw e (h.0, among_all P test names kinds h.1) | false ↦ λ e. rw e (among_all P test names kinds h.1) ] refl
-
--- a name among others isn't one that is none of them
-other_name : (name : List ℕ) (names : List (List ℕ)) (k : ℕ) (m : List ℕ) → list_any (bytes_eq name) names ≡ false → slice_get names k ≡ Some m → bytes_eq m name ≡ false
-other_name name [] k m none e = cc
-other_name name (n ∷ names) zero m none e =
-    let same : n ≡ m = cc in
-    elim (bytes_eq m name) as (λ v. bytes_eq m name ≡ v → bytes_eq m name ≡ false) [
-      | true ↦ λ is.
-          let found : bytes_eq name n ≡ true = ap (bytes_eq name) (same ∙ bytes_are m name is) ∙ bytes_same name in
-          let no : bytes_eq name n ≡ false = (or_parts (bytes_eq name n) _ none).0 in
-          absurd cc
-      | false ↦ λ no. no
-    ] refl
-other_name name (n ∷ names) (suc k) m none e = other_name name names k m (or_parts (bytes_eq name n) _ none).1 e
+    bool_cases (test k) (λ e. rw e (h.0, among_all P test names kinds h.1)) (λ e. rw e (among_all P test names kinds h.1))
 
 -- a name whose kind doesn't pass isn't among those that do
 pub among_none : (test : Kind → Bool) (names : List (List ℕ)) (kinds : List Kind) (at : ℕ) (name : List ℕ) (k : Kind) → AreDifferent names → slice_get names at ≡ Some name → slice_get kinds at ≡ Some k → test k ≡ false → list_any (bytes_eq name) (among test names kinds) ≡ false
@@ -115,9 +100,9 @@ among_none test (n ∷ names) (l ∷ kinds) zero name k d e f fails_so =
     let fails : test l ≡ false = ap test kind_is ∙ fails_so in
     rw fails (among_any test name names kinds (ap (λ m. list_any (bytes_eq m) names) (sym same) ∙ d.0))
 among_none test (n ∷ names) (l ∷ kinds) (suc at) name k d e f fails_so =
-    let other : bytes_eq name n ≡ false = other_name n names at name d.0 e in
+    let other : bytes_eq name n ≡ false = among_differ n names at name d.0 e in
     let rest : list_any (bytes_eq name) (among test names kinds) ≡ false = among_none test names kinds at name k d.1 e f fails_so in
-    elim (test l) as (λ v. test l ≡ v → list_any (bytes_eq name) (among test (n ∷ names) (l ∷ kinds)) ≡ false) [ true ↦ λ g. rw g (rw other rest) | false ↦ λ g. rw g rest ] refl
+    bool_cases (test l) (λ g. rw g (rw other rest)) (λ g. rw g rest)
 
 -- where a name among those that pass stands
 pub record Found (test : Kind → Bool) (names : List (List ℕ)) (kinds : List Kind) (name : List ℕ) : Type 0 where
@@ -136,10 +121,7 @@ pub among_found : (test : Kind → Bool) (names : List (List ℕ)) (kinds : List
 among_found test [] kinds j name e = cc
 among_found test (n ∷ names) [] j name e = cc
 among_found test (n ∷ names) (k ∷ kinds) j name e =
-    elim (test k) as (λ v. test k ≡ v → Found test (n ∷ names) (k ∷ kinds) name) [
-      | true ↦ λ g. first j g (rw g at e) (λ i f. among_found test names kinds i name f)
-      | false ↦ λ g. found_next n k (among_found test names kinds j name (rw g at e))
-    ] refl where
+    bool_cases (test k) (λ g. first j g (rw g at e) (λ i f. among_found test names kinds i name f)) (λ g. found_next n k (among_found test names kinds j name (rw g at e))) where
       first : (i : ℕ) → test k ≡ true → slice_get (n ∷ among test names kinds) i ≡ Some name → ((i : ℕ) → slice_get (among test names kinds) i ≡ Some name → Found test names kinds name) → Found test (n ∷ names) (k ∷ kinds) name
       first zero g f rec = record { at = 0; kind = k; name_is = f; kind_is = refl; so = g }
       first (suc i) g f rec = found_next n k (rec i f)

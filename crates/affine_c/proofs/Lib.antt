@@ -3,6 +3,5 @@ pub mod TreeGrows
 pub mod StatementsKept
 pub mod Among
 pub mod TreeFits
-pub mod Ways
 pub mod Made
 pub mod OneProgram

@@ -1,9 +1,10 @@
 -- Rows as forms, and what holds of each member of a list.
-use Rattle.std.proofs.Common.{◌≡◌, sym, ◌∙◌, ap, ℕ, zero, suc, ◌+◌, ◌<◌, List, [], ◌∷◌, length, map, take, drop, get_or, ◌≤◌, ◌++◌, arith, ℤ}
-use Rattle.std.proofs.lemmas.List.{drop_more, length-append, length-take-le, length-drop}
+use Rattle.std.proofs.Common.{ℕ, ◌+◌, ◌<◌, List, [], ◌∷◌, map, take, drop, ◌≤◌, ◌++◌, arith, ℤ}
+use Rattle.std.proofs.lemmas.List.{length-append, length-take-le, length-drop}
 use Rattle.std.specs.List.{AllByRecursion}
 use Rattle.std.specs.Prelude.{unsigned_abs}
-use Rattle.base_laws.proofs.Lists.{All-append, All-weaken}
+use Rattle.base_laws.proofs.Lists.{All-append, All-map, All-weaken}
+use Rattle.c_grammar.proofs.Lists.{All-take, All-drop}
 use Rattle.iolb_model.specs.Program.{IsOver}
 use Rattle.affine_form.specs.Form.{IsSmall, IsSmallForm}
 use Rattle.c_reading.specs.Numbers.{constant_of}
@@ -11,30 +12,11 @@ use Rattle.c_grammar.specs.Well.{IsRowOver}
 use Rattle.c_grammar.specs.Program.{narrowed}
 use Rattle.iolb_model.specs.declared.limits.TheConstants.{LOOPS, PARAMETERS, NUMBER_SIZE, COEFFICIENT_SIZE}
 
-pub All-take : {X : Type 0} (P : X → Type 0) (n : ℕ) (xs : List X) → AllByRecursion P xs → AllByRecursion P (take n xs)
-All-take P zero xs h = tt
-All-take P (suc n) [] h = tt
-All-take P (suc n) (x ∷ xs) h = (h.0, All-take P n xs h.1)
-
-pub All-drop : {X : Type 0} (P : X → Type 0) (n : ℕ) (xs : List X) → AllByRecursion P xs → AllByRecursion P (drop n xs)
-All-drop P zero xs h = h
-All-drop P (suc n) [] h = tt
-All-drop P (suc n) (x ∷ xs) h = All-drop P n xs h.1
-
 pub All-mapped : {X Y : Type 0} (f : X → Y) (P : Y → Type 0) (Q : X → Type 0) → ((x : X) → Q x → P (f x)) → (xs : List X) → AllByRecursion Q xs → AllByRecursion P (map f xs)
-All-mapped f P Q g [] h = tt
-All-mapped f P Q g (x ∷ xs) h = (g x h.0, All-mapped f P Q g xs h.1)
-
--- what is left from a place on that is there
-pub dropped : {X : Type 0} (xs : List X) (k : ℕ) (x : X) → k < length xs → x ≡ get_or xs k x → drop k xs ≡ x ∷ drop (k + 1) xs
-dropped xs k x below e = drop_more xs k x below ∙ ap (λ y. y ∷ drop (k + 1) xs) (sym e)
-
--- a small number is below the size of computed ones
-smaller : (n : ℤ) → unsigned_abs n < NUMBER_SIZE → unsigned_abs n < COEFFICIENT_SIZE
-smaller n h = omega (arith, h)
+All-mapped f P Q g xs h = All-map P f xs (All-weaken Q (λ x. P (f x)) xs g h)
 
 pub smaller_all : (ns : List ℤ) → AllByRecursion (λ n. unsigned_abs n < NUMBER_SIZE) ns → AllByRecursion (IsSmall COEFFICIENT_SIZE) ns
-smaller_all ns h = All-weaken (λ n. unsigned_abs n < NUMBER_SIZE) (IsSmall COEFFICIENT_SIZE) ns smaller h
+smaller_all ns h = All-weaken (λ n. unsigned_abs n < NUMBER_SIZE) (IsSmall COEFFICIENT_SIZE) ns (λ n h. omega (arith, h)) h
 
 -- the coefficients of a row's form are small
 pub parts_small : (P : ℤ → Type 0) (p d : ℕ) (row : List ℤ) → AllByRecursion P row → AllByRecursion P (take p (drop 1 row) ++ take d (drop (1 + PARAMETERS) row))

@@ -3,7 +3,7 @@ use Rattle.std.proofs.Common.{◌≡◌, sym, ◌∙◌, ap, subst, ℕ, zero, s
 use Rattle.std.proofs.lemmas.List.{map_push, length-append}
 use Rattle.std.specs.Prelude.{Some}
 use Rattle.std.specs.List.{AllByRecursion, enumerate_from}
-use Rattle.base_laws.proofs.Lists.{All-push, All-weaken}
+use Rattle.base_laws.proofs.Lists.{All-push, All-weaken, rest_at}
 use Rattle.iolb_model.specs.Path.{row_path}
 use Rattle.iolb_model.specs.Program.{Row, Statement as ModelStatement}
 use Rattle.iolb_model.specs.declared.limits.TheConstants.{LOOPS}
@@ -19,7 +19,6 @@ use Rattle.affine_program.specs.Parts.{statement_of}
 use Rattle.affine_program.specs.declared.statement.Statement.{Statement}
 use Rattle.c_grammar.specs.Program.{narrowed_statement, statements_among}
 use Rattle.affine_c.specs.Built.{AreRowsOver}
-use Rattle.affine_c.proofs.Rows.{dropped}
 
 -- a statement's bounds are those on the way to it in the tree
 abbrev pub StandsIn : Row → ℕ × Statement → Type 0
@@ -42,7 +41,7 @@ placed_push P first (y ∷ xs) x h p = (h.0, placed_push P (first + 1) xs x h.1 
 pub at_line : (reading : Reading) (p : ℕ) (tree : Row) (made : List Statement) (depth : ℕ) (items : List Line) (k : ℕ) (x line : Line)
     → Kept reading p tree made depth (drop k items) → k < length items → x ≡ get_or items k x → x ≡ line → Kept reading p tree made depth (line ∷ drop (k + 1) items)
 at_line reading p tree made depth items k x line h below e is =
-    subst (λ (ls : List Line). Kept reading p tree made depth ls) (dropped items k x below e ∙ ap (λ (l : Line). l ∷ drop (k + 1) items) is) h
+    subst (λ (ls : List Line). Kept reading p tree made depth ls) (rest_at items k x below e ∙ ap (λ (l : Line). l ∷ drop (k + 1) items) is) h
 
 -- what a statement's line says
 pub rows_there : (reading : Reading) (depth : ℕ) (accesses : List Access) → AllByRecursion (IsAccessIn reading depth) accesses → AllByRecursion (AreRowsOver (length (parameters_of reading)) depth) accesses
@@ -50,12 +49,9 @@ rows_there reading depth accesses h = All-weaken (IsAccessIn reading depth) (Are
 
 pub kept_begin : (reading : Reading) (p : ℕ) (tree : Row) (made : List Statement) (depth : ℕ) (l : Loop) (rest : List Line) → Kept reading p tree made depth (Begin l ∷ rest)
     → Kept reading p tree made (depth + 1) rest
-kept_begin reading p tree made depth l rest h = subst (λ (n : ℕ). Kept reading p tree made n rest) one kept where
-  one : suc depth ≡ depth + 1
-  one = omega arith
-
-  kept : Kept reading p tree made (suc depth) rest
-  kept = record { well = h.well.4; inner = omega (arith, h.well.1); statements = h.statements; count = h.count; bounds = h.bounds; limits = h.limits }
+kept_begin reading p tree made depth l rest h =
+    let one : suc depth ≡ depth + 1 = omega arith in
+    subst (λ (n : ℕ). Kept reading p tree made n rest) one (record { well = h.well.4; inner = omega (arith, h.well.1); statements = h.statements; count = h.count; bounds = h.bounds; limits = h.limits })
 
 pub kept_end : (reading : Reading) (p : ℕ) (tree : Row) (made : List Statement) (depth : ℕ) (rest : List Line) → Kept reading p tree made depth (End ∷ rest)
     → Kept reading p tree made (depth - 1) rest

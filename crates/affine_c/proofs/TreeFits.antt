@@ -1,9 +1,10 @@
 -- The program that a well-read text means is well formed, printable, and its loops are within the limits.
-use Rattle.std.proofs.Common.{◌≡◌, refl, sym, ◌∙◌, ap, subst, ℕ, zero, suc, ◌+◌, ◌-◌, ◌<◌, ◌≤◌, List, [], ◌∷◌, ◌++◌, map, length, drop, append_assoc, arith, length-append}
-use Rattle.std.proofs.lemmas.List.{append-nil, length-map}
+use Rattle.std.proofs.Common.{◌≡◌, refl, sym, ◌∙◌, ap, subst, ℕ, zero, suc, ◌+◌, ◌-◌, ◌<◌, ◌≤◌, List, [], ◌∷◌, ◌++◌, map, length, drop, get_or, append_assoc, arith, length-append}
+use Rattle.std.proofs.lemmas.List.{append-nil, length-map, length-drop, drop-drop, get_or-drop}
+use Rattle.std.proofs.lemmas.Option.{slice_get-get_or}
 use Rattle.std.specs.Prelude.{bytes_eq, true, false, Some, IsSomeAnd, slice_get, slice_index_or}
 use Rattle.std.specs.List.{AllByRecursion, list_any, range_with_len}
-use Rattle.base_laws.proofs.Lists.{All-append}
+use Rattle.base_laws.proofs.Lists.{All-append, All-weaken}
 use Rattle.iolb_model.specs.Form.{AffineForm}
 use Rattle.iolb_model.specs.Program.{Item, assign, loop, Row, done, next, Array, Statement, AffineProgram, IsOver, AccessFits, StatementFits, ItemFits, RowFits, item_statements, row_statements, no_statement, IsWellFormed}
 use Rattle.iolb_model.specs.declared.limits.TheConstants.{LOOPS, PARAMETERS, NUMBER_SIZE}
@@ -19,28 +20,13 @@ use Rattle.affine_form.specs.Form.{IsSmallForm}
 use Rattle.affine_program.specs.Parts.{array_of}
 use Rattle.affine_program.specs.Printable.{AreDifferent, access_numbers, statement_numbers, IsOrdered, IsPrintableHeader, IsPrintableItem, IsPrintableRow, IsPrintable}
 use Rattle.c_grammar.specs.Well.{IsRowOver, AreLinesIn, IsAccessIn, IsStatementIn, IsWellRead, parameters_of, arrays_of, numbers_of, line_numbers, Nests, IsLoop, IsLoopLine}
-use Rattle.c_grammar.proofs.Dictionary.{bytes_are}
 use Rattle.c_grammar.specs.Program.{TreeLine, begins, does, ends, narrowed, narrowed_access, narrowed_statement, item_lines, row_lines, tree_lines, statements_among, IsReadingOf}
 use Rattle.affine_c.proofs.Rows.{All-mapped, narrowed_over, narrowed_small, narrowed_all_over}
-use Rattle.affine_c.proofs.Among.{among, is_parameter, is_array, parameters-among, arrays-among, distinct-different, among_differs, among_all, among_none, Found, among_found, different_arrays, all_named}
+use Rattle.affine_c.proofs.Among.{none_any, among, is_parameter, is_array, parameters-among, arrays-among, distinct-different, among_differs, among_all, among_none, Found, among_found, different_arrays, all_named}
 use Rattle.c_printing.proofs.Roles.{names_of}
 use Rattle.c_printing.proofs.Readable.{array_names}
 use Rattle.c_grammar.proofs.NameKinds.{All-get}
-
-range_more : (first m n : ℕ) → range_with_len first m ++ range_with_len (first + m) n ≡ range_with_len first (m + n)
-range_more first zero n = ap (λ (k : ℕ). range_with_len k n) none ∙ ap (range_with_len first) some where
-  none : first + 0 ≡ first
-  none = omega arith
-
-  some : n ≡ 0 + n
-  some = omega arith
-range_more first (suc m) n =
-    ap (λ (k : ℕ). first ∷ (range_with_len (first + 1) m ++ range_with_len k n)) moved ∙ ap (λ (ns : List ℕ). first ∷ ns) (range_more (first + 1) m n) ∙ ap (range_with_len first) grown where
-      moved : first + suc m ≡ first + 1 + m
-      moved = omega arith
-
-      grown : suc (m + n) ≡ suc m + n
-      grown = omega arith
+use Rattle.c_grammar.proofs.Lists.{range_more}
 
 -- ---- a statement
 
@@ -63,10 +49,9 @@ access_fits r program depth a says few inner is =
 
 -- what stands at a place
 pub at_front : {X : Type 0} (xs rest : List X) (k : ℕ) (x d : X) → drop k xs ≡ x ∷ rest → (k < length xs) × (slice_index_or xs k d ≡ x)
-at_front [] rest zero x d e = absurd cc
-at_front [] rest (suc k) x d e = absurd cc
-at_front (y ∷ xs) rest zero x d e = (omega arith, cc)
-at_front (y ∷ xs) rest (suc k) x d e = let inner = at_front xs rest k x d e in (omega (arith, inner.0), inner.1)
+at_front {X} xs rest k x d e =
+    let none : k + 0 ≡ k = omega arith in
+    (omega (arith, length-drop k xs, ap (λ (l : List X). length l) e), sym (get_or-drop k xs 0 d ∙ ap (λ n. get_or xs n d) none) ∙ ap (λ (l : List X). get_or l 0 d) e)
 
 statement_fits : (r : Reading) (program : AffineProgram) (depth number : ℕ) (s : ReadStatement) (rest : List Statement) → IsReadingOf r program → length program.parameters ≤ PARAMETERS → depth ≤ LOOPS → IsStatementIn r depth s
     → drop number program.statements ≡ narrowed_statement (length program.parameters) depth s ∷ rest → StatementFits program (length program.parameters + depth) number
@@ -82,14 +67,6 @@ statement_fits r program depth number s rest says few inner is e =
 
 -- ---- items and rows
 
-pub drop_next : {X : Type 0} (xs rest : List X) (k : ℕ) (x : X) → drop k xs ≡ x ∷ rest → drop (k + 1) xs ≡ rest
-drop_next [] rest zero x e = absurd cc
-drop_next [] rest (suc k) x e = absurd cc
-drop_next (y ∷ xs) rest zero x e = cc
-drop_next (y ∷ xs) rest (suc k) x e = ap (λ (n : ℕ). drop n (y ∷ xs)) more ∙ drop_next xs rest k x e where
-  more : suc k + 1 ≡ suc (k + 1)
-  more = omega arith
-
 -- the numbers of the arrays of a text's statements are those of its lines
 numbers_mapped : (p depth : ℕ) (accesses : List ReadAccess) → access_numbers (map (narrowed_access p depth) accesses) ≡ numbers_of accesses
 numbers_mapped p depth [] = refl
@@ -101,12 +78,6 @@ numbers_among p depth [] = refl
 numbers_among p depth (Begin l ∷ lines) = numbers_among p (suc depth) lines
 numbers_among p depth (Does s ∷ lines) = ap (λ ns. s.writes.array ∷ (ns ++ statement_numbers (statements_among p depth lines))) (numbers_mapped p depth s.reads) ∙ ap (λ ns. s.writes.array ∷ (numbers_of s.reads ++ ns)) (numbers_among p depth lines)
 numbers_among p depth (End ∷ lines) = numbers_among p (depth - 1) lines
-
--- a name that is there
-name_there : (names : List (List ℕ)) (at : ℕ) (name : List ℕ) → at < length names → slice_index_or names at [] ≡ name → slice_get names at ≡ Some name
-name_there [] at name below e = absurd (omega (arith, below))
-name_there (n ∷ names) zero name below e = ap (λ (x : List ℕ). Some x) e
-name_there (n ∷ names) (suc at) name below e = name_there names at name (omega (arith, below)) e
 
 -- a loop's name is neither a parameter nor an array, and an array's is no parameter
 loop_no_parameter : (k : Kind) → IsLoop k → (is_parameter k ≡ false) × (is_array k ≡ false)
@@ -149,20 +120,11 @@ module _ (r : Reading) (program : AffineProgram) (well : IsWellRead r) (says : I
   abbrev IsAround : List ℕ → List ℕ → Type 0
   IsAround stack name = (at : ℕ) × (k : ℕ) × (slice_get r.names at ≡ Some name) × (slice_get stack k ≡ Some at)
 
-  -- one loop more is open
-  deeper : (stack : List ℕ) (at : ℕ) (around : List (List ℕ)) → AllByRecursion (IsAround stack) around → AllByRecursion (IsAround (at ∷ stack)) around
-  deeper stack at [] h = tt
-  deeper stack at (name ∷ around) h = ((h.0.0, suc h.0.1, h.0.2, h.0.3), deeper stack at around h.1)
-
   -- no loop around has the name of one that begins
   none_around : (stack : List ℕ) (at : ℕ) (name : List ℕ) (around : List (List ℕ)) → AllByRecursion (IsAround stack) around → AllByRecursion (λ n. n ≡ at → ⊥) stack → slice_get r.names at ≡ Some name → list_any (bytes_eq name) around ≡ false
-  none_around stack at name [] h apart e = refl
-  none_around stack at name (n ∷ around) h apart e = elim (bytes_eq name n) as (λ v. bytes_eq name n ≡ v → list_any (bytes_eq name) (n ∷ around) ≡ false) [
-    | true ↦ λ g.
-        let same : h.0.0 ≡ at = well.distinct h.0.0 at name (h.0.2 ∙ ap Some (sym (bytes_are name n g))) e in
-        absurd (All-get (λ m. m ≡ at → ⊥) stack h.0.1 h.0.0 apart h.0.3 same)
-    | false ↦ λ g. rw g (none_around stack at name around h.1 apart e)
-  ] refl
+  none_around stack at name around h apart e = none_any name around (λ k there.
+      let open_loop = All-get (IsAround stack) around k name h there in
+      All-get (λ m. m ≡ at → ⊥) stack open_loop.1 open_loop.0 apart open_loop.3 (well.distinct open_loop.0 at name open_loop.2 e))
 
   -- ---- items and rows
 
@@ -214,7 +176,7 @@ module _ (r : Reading) (program : AffineProgram) (well : IsWellRead r) (says : I
           inner = inner;
           same = ap (λ (k : ℕ). tree_lines r.names (length program.parameters) depth k lines) (sym one) ∙ rest_is;
           within = omega (arith, fits.there);
-          statements = drop_next program.statements (statements_among (length program.parameters) depth lines) number (narrowed_statement (length program.parameters) depth s) table;
+          statements = sym (drop-drop 1 number program.statements) ∙ ap (drop 1) table;
           nests = nests;
           loops = loops.1;
         };
@@ -242,7 +204,7 @@ module _ (r : Reading) (program : AffineProgram) (well : IsWellRead r) (says : I
       let name_is : slice_index_or r.names l.name [] ≡ name = cc in
       let lower_is : narrowed p depth l.lower ≡ lower = cc in
       let upper_is : narrowed p depth l.upper ≡ upper = cc in
-      let there : slice_get r.names l.name ≡ Some name = name_there r.names l.name name fine.0 name_is in
+      let there : slice_get r.names l.name ≡ Some name = slice_get-get_or r.names l.name [] fine.0 ∙ ap Some name_is in
       let neither = loop_no_parameter loops.0.0 loops.0.2 in
       let low_over : IsRowOver p depth l.lower = subst (λ (n : ℕ). IsRowOver n depth l.lower) params fine.2 in
       let up_over : IsRowOver p depth l.upper = subst (λ (n : ℕ). IsRowOver n depth l.upper) params fine.3 in
@@ -293,7 +255,7 @@ module _ (r : Reading) (program : AffineProgram) (well : IsWellRead r) (says : I
         let p = length program.parameters in
         let inside : begins name lower upper ∷ (row_lines body ++ ends ∷ []) ++ rest ≡ begins name lower upper ∷ (row_lines body ++ ends ∷ rest) = ap (λ (ls : List TreeLine). begins name lower upper ∷ ls) (append_assoc (row_lines body) (ends ∷ []) rest) in
         let in_loop = entered around stack depth number name lower upper left.lines (row_lines body ++ ends ∷ rest) e names left.fine left.within (left.same ∙ inside) left.statements left.nests left.loops in
-        let inner_names : AllByRecursion (IsAround (in_loop.at ∷ stack)) (around ++ name ∷ []) = All-append (IsAround (in_loop.at ∷ stack)) around (name ∷ []) (deeper stack in_loop.at around names) ((in_loop.at, 0, in_loop.there, refl), tt) in
+        let inner_names : AllByRecursion (IsAround (in_loop.at ∷ stack)) (around ++ name ∷ []) = All-append (IsAround (in_loop.at ∷ stack)) around (name ∷ []) (All-weaken (IsAround stack) (IsAround (in_loop.at ∷ stack)) around (λ n i. (i.0, suc i.1, i.2, i.3)) names) ((in_loop.at, 0, in_loop.there, refl), tt) in
         let taken = row_taken (around ++ name ∷ []) (in_loop.at ∷ stack) (suc depth) number body (ends ∷ rest) (omega (arith, e, length-append around (name ∷ []))) inner_names in_loop.left in
         let one_more : p + suc depth ≡ suc (p + depth) = omega arith in
         record {
@@ -330,12 +292,6 @@ no_lines r p depth number (Begin l ∷ lines) e = absurd cc
 no_lines r p depth number (Does s ∷ lines) e = absurd cc
 no_lines r p depth number (End ∷ lines) e = absurd cc
 
--- no statement is left
-all_dropped : {X : Type 0} (xs : List X) (k : ℕ) → drop k xs ≡ [] → length xs ≤ k
-all_dropped [] k e = omega arith
-all_dropped (x ∷ xs) zero e = absurd cc
-all_dropped (x ∷ xs) (suc k) e = let inner = all_dropped xs k e in omega (arith, inner)
-
 -- a well-read text's program is well formed, and printable
 pub program_fits : (r : Reading) (program : AffineProgram) → IsWellRead r → IsReadingOf r program → IsWellFormed program × IsPrintable program
 program_fits r program well says =
@@ -348,9 +304,9 @@ program_fits r program well says =
     let table : program.statements ≡ statements_among p 0 r.lines = says.statements ∙ ap (λ (n : ℕ). statements_among n 0 r.lines) count in
     let taken = row_taken r program well says [] [] 0 0 program.tree [] refl tt (record { lines = r.lines; fine = well.lines; inner = omega arith; same = same; within = omega arith; statements = table; nests = well.nested; loops = well.loops }) in
     let none : drop (0 + taken.many) program.statements ≡ [] = taken.left.statements ∙ no_lines r p 0 (0 + taken.many) taken.left.lines taken.left.same in
-    let most = all_dropped program.statements (0 + taken.many) none in
-    let many : taken.many ≡ length program.statements = omega (arith, most, taken.left.within) in
+    let many : taken.many ≡ length program.statements = omega (arith, length-drop (0 + taken.many) program.statements, ap (λ (l : List Statement). length l) none, taken.left.within) in
     let start : p + 0 ≡ p = omega arith in
+    let over : length (parameters_of r) + 0 ≡ p = omega (arith, count) in
     let found : (k : ℕ) (name : List ℕ) → slice_get (names_of program.arrays) k ≡ Some name → IsName name × (list_any (bytes_eq name) program.parameters ≡ false) =
     λ (k : ℕ) (name : List ℕ) (e : slice_get (names_of program.arrays) k ≡ Some name).
     let f : Found is_array r.names r.kinds name = among_found is_array r.names r.kinds k name (ap (λ ns. slice_get ns k) (sym arrays) ∙ e) in
@@ -359,7 +315,7 @@ program_fits r program well says =
       record {
         numbered = taken.numbers ∙ ap (range_with_len 0) many;
         assumptions = subst (AllByRecursion (IsOver p)) (sym says.assumptions)
-            (subst (λ (n : ℕ). AllByRecursion (IsOver n) (map (narrowed (length (parameters_of r)) 0) r.assumptions)) (params_over count)
+            (subst (λ (n : ℕ). AllByRecursion (IsOver n) (map (narrowed (length (parameters_of r)) 0) r.assumptions)) over
             (narrowed_all_over (length (parameters_of r)) 0 r.assumptions well.parameters (omega arith) well.assumptions));
         tree = subst (λ (n : ℕ). RowFits program n program.tree) start taken.fits;
       },
@@ -373,6 +329,4 @@ program_fits r program well says =
             (subst (λ ns. IsOrdered 0 ns (length program.arrays)) (sym (numbers_among (length (parameters_of r)) 0 r.lines)) (subst (λ n. IsOrdered 0 (line_numbers r.lines) n) (sym ranked) well.order));
         loops = taken.printable;
       },
-    ) where
-      params_over : {n p : ℕ} → n ≡ p → n + 0 ≡ p
-      params_over e = omega (arith, e)
+    )

@@ -73,36 +73,30 @@ pub record Kept (reading : Reading) (parameters : ℕ) (so_far : List TreeLine) 
 pub kept_begin : (reading : Reading) (p : ℕ) (so new : List TreeLine) (depth number : ℕ) (l : Loop) (rest : List Line) (name : List ℕ) (lower upper : AffineForm)
     → Kept reading p so depth number (Begin l ∷ rest) → new ≡ so ++ begins name lower upper ∷ [] → name ≡ slice_index_or reading.names l.name [] → lower ≡ narrowed p depth l.lower → upper ≡ narrowed p depth l.upper
     → Kept reading p new (depth + 1) number rest
-kept_begin reading p so new depth number l rest name lower upper h grown e f g = subst (λ (n : ℕ). Kept reading p new n number rest) one kept where
-  one : suc depth ≡ depth + 1
-  one = omega arith
-
-  kept : Kept reading p new (suc depth) number rest
-  kept = record {
-    well = h.well.4;
-    lines = ap (λ (x : List TreeLine). x ++ tree_lines reading.names p (suc depth) number rest) grown
-        ∙ append_assoc so (begins name lower upper ∷ []) (tree_lines reading.names p (suc depth) number rest)
-        ∙ ap (λ (n : List ℕ). so ++ begins n lower upper ∷ tree_lines reading.names p (suc depth) number rest) e
-        ∙ ap (λ (x : AffineForm). so ++ begins (slice_index_or reading.names l.name []) x upper ∷ tree_lines reading.names p (suc depth) number rest) f
-        ∙ ap (λ (x : AffineForm). so ++ begins (slice_index_or reading.names l.name []) (narrowed p depth l.lower) x ∷ tree_lines reading.names p (suc depth) number rest) g
-        ∙ h.lines;
-    count = h.count;
-  }
+kept_begin reading p so new depth number l rest name lower upper h grown e f g =
+    let one : suc depth ≡ depth + 1 = omega arith in
+    subst (λ (n : ℕ). Kept reading p new n number rest) one (record {
+      well = h.well.4;
+      lines = ap (λ (x : List TreeLine). x ++ tree_lines reading.names p (suc depth) number rest) grown
+          ∙ append_assoc so (begins name lower upper ∷ []) (tree_lines reading.names p (suc depth) number rest)
+          ∙ ap (λ (n : List ℕ). so ++ begins n lower upper ∷ tree_lines reading.names p (suc depth) number rest) e
+          ∙ ap (λ (x : AffineForm). so ++ begins (slice_index_or reading.names l.name []) x upper ∷ tree_lines reading.names p (suc depth) number rest) f
+          ∙ ap (λ (x : AffineForm). so ++ begins (slice_index_or reading.names l.name []) (narrowed p depth l.lower) x ∷ tree_lines reading.names p (suc depth) number rest) g
+          ∙ h.lines;
+      count = h.count;
+    })
 
 pub kept_does : (reading : Reading) (p : ℕ) (so new : List TreeLine) (depth number : ℕ) (s : Statement) (rest : List Line)
     → Kept reading p so depth number (Does s ∷ rest) → new ≡ so ++ does number ∷ [] → Kept reading p new depth (number + 1) rest
-kept_does reading p so new depth number s rest h grown = subst (λ (n : ℕ). Kept reading p new depth n rest) one kept where
-  one : suc number ≡ number + 1
-  one = omega arith
-
-  kept : Kept reading p new depth (suc number) rest
-  kept = record {
-    well = h.well.1;
-    lines = ap (λ (x : List TreeLine). x ++ tree_lines reading.names p depth (suc number) rest) grown
-        ∙ append_assoc so (does number ∷ []) (tree_lines reading.names p depth (suc number) rest)
-        ∙ h.lines;
-    count = omega (arith, h.count);
-  }
+kept_does reading p so new depth number s rest h grown =
+    let one : suc number ≡ number + 1 = omega arith in
+    subst (λ (n : ℕ). Kept reading p new depth n rest) one (record {
+      well = h.well.1;
+      lines = ap (λ (x : List TreeLine). x ++ tree_lines reading.names p depth (suc number) rest) grown
+          ∙ append_assoc so (does number ∷ []) (tree_lines reading.names p depth (suc number) rest)
+          ∙ h.lines;
+      count = omega (arith, h.count);
+    })
 
 deep : (reading : Reading) (depth : ℕ) (rest : List Line) → AreLinesIn reading depth (End ∷ rest) → (0 < depth) × AreLinesIn reading (depth - 1) rest
 deep reading zero rest h = absurd h

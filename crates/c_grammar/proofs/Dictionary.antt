@@ -4,12 +4,12 @@ use Rattle.std.specs.Prelude.{bytes_eq, position, Some, None, Option, option_map
 use Rattle.std.specs.List.{position_or_len}
 use Rattle.std.proofs.lemmas.Bool.Decides.{nat_tests}
 use Rattle.std.proofs.lemmas.Slice.Eq.{bytes_eq-Decides}
-use Rattle.c_grammar.specs.Well.{IsLoop}
 use Rattle.c_reading.specs.declared.named.Kind.{Kind}
 use Rattle.c_reading.specs.declared.named.Kind.TheVariants.{Parameter, OpenLoop, ClosedLoop, Array}
 use Rattle.c_reading.specs.Input.{Input}
 use Rattle.c_reading.specs.Names.{if_parameter, if_array, parameters_among, arrays_among}
 use Rattle.c_reading.specs.Affine.{kind_of}
+use Rattle.c_grammar.proofs.Steps.{bool_cases}
 
 -- the place of a name among these
 abbrev pub place_of : List ℕ → List (List ℕ) → Option ℕ
@@ -39,10 +39,7 @@ position-more t n names =
     let m : ℕ = position_or_len t names in
     let below : nat_lt 0 (suc (length names)) ≡ true = grind (arith, nat_tests) in
     let same : nat_lt (1 + m) (suc (length names)) ≡ nat_lt m (length names) = same_below m (length names) in
-    elim (t n) as (λ v. t n ≡ v → position t (n ∷ names) ≡ cond (t n) (Some 0) (option_map suc (position t names))) [
-      | true ↦ λ e. rw (e, below) refl
-      | false ↦ λ e. rw e (ap (λ b. cond b (Some (1 + m)) None) same ∙ one_more (nat_lt m (length names)) m)
-    ] refl
+    bool_cases (t n) (λ e. rw (e, below) refl) (λ e. rw e (ap (λ b. cond b (Some (1 + m)) None) same ∙ one_more (nat_lt m (length names)) m))
 
 -- the reader's place of a name is its place
 pub position-place : (name : List ℕ) (names : List (List ℕ)) → position (bytes_eq name) names ≡ place_of name names
@@ -59,10 +56,7 @@ place-lookup : (name : List ℕ) (names : List (List ℕ)) (kinds : List Kind) �
 place-lookup name [] kinds same = refl
 place-lookup name (n ∷ names) [] same = absurd (omega arith)
 place-lookup name (n ∷ names) (k ∷ kinds) same =
-    elim (bytes_eq name n) as (λ v. bytes_eq name n ≡ v → option_and_then (λ at. slice_get (k ∷ kinds) at) (place_of name (n ∷ names)) ≡ lookup name (n ∷ names) (k ∷ kinds)) [
-      | true ↦ λ e. rw e refl
-      | false ↦ λ e. rw e (get_next (place_of name names) k kinds ∙ place-lookup name names kinds (omega arith))
-    ] refl
+    bool_cases (bytes_eq name n) (λ e. rw e refl) (λ e. rw e (get_next (place_of name names) k kinds ∙ place-lookup name names kinds (omega arith)))
 
 -- the reader's kind of a name is its kind
 pub kind_of-lookup : (name : List ℕ) (i : Input) → length i.kinds ≡ length i.names → kind_of name i ≡ lookup name i.names i.kinds
@@ -80,7 +74,7 @@ pub bytes_are : (a b : List ℕ) → bytes_eq a b ≡ true → a ≡ b
 bytes_are a b e = (bytes_eq-Decides a b).0 e
 
 -- what isn't found in front is not in front
-cond_none : {A : Type 0} (b : Bool) (x : A) (o : Option A) → cond b (Some x) o ≡ None → (b ≡ false) × (o ≡ None)
+pub cond_none : {A : Type 0} (b : Bool) (x : A) (o : Option A) → cond b (Some x) o ≡ None → (b ≡ false) × (o ≡ None)
 cond_none true x o e = cc
 cond_none false x o e = (refl, e)
 
@@ -110,37 +104,28 @@ place-new name (n ∷ names) (l ∷ kinds) same none =
     let other : bytes_eq name n ≡ false = parts.0 in
     rw other (ap (option_map suc) (place-new name names kinds (omega arith) parts.1))
 
--- more names change no place
-map_suc : (o : Option ℕ) (at : ℕ) → option_map suc o ≡ Some at → (before : ℕ) × (o ≡ Some before) × (at ≡ suc before)
-map_suc None at e = absurd cc
-map_suc (Some n) at e = (n, refl, let same : suc n ≡ at = cc in sym same)
+-- where a name stands: in front, or behind the first
+place_parts : {P : Type 0} (name n : List ℕ) (names : List (List ℕ)) (at : ℕ) → place_of name (n ∷ names) ≡ Some at → (bytes_eq name n ≡ true → at ≡ 0 → P)
+    → ((before : ℕ) → bytes_eq name n ≡ false → place_of name names ≡ Some before → at ≡ suc before → P) → P
+place_parts {P} name n names at e here behind = cases (bytes_eq name n) (place_of name names) refl refl e where
+  cases : (b : Bool) (o : Option ℕ) → bytes_eq name n ≡ b → place_of name names ≡ o → cond b (Some 0) (option_map suc o) ≡ Some at → P
+  cases true o is there f = here is (let same : 0 ≡ at = cc in sym same)
+  cases false (Some before) other there f = behind before other there (let same : suc before ≡ at = cc in sym same)
+  cases false None other there f = cc
 
 -- names behind it change no place
 pub place-more : (name : List ℕ) (names more : List (List ℕ)) (at : ℕ) → place_of name names ≡ Some at → place_of name (names ++ more) ≡ Some at
 place-more name [] more at e = cc
-place-more name (n ∷ names) more at e =
-    elim (bytes_eq name n) as (λ v. bytes_eq name n ≡ v → place_of name ((n ∷ names) ++ more) ≡ Some at) [
-      | true ↦ λ is. let here : ◌≡◌ {A = Option ℕ} (Some 0) (Some at) = rw is at e in rw is here
-      | false ↦ λ other.
-          let there : option_map suc (place_of name names) ≡ Some at = rw other at e in
-          let before = map_suc (place_of name names) at there in
-          rw other (ap (option_map suc) (place-more name names more before.0 before.1) ∙ ap Some (sym before.2))
-    ] refl
+place-more name (n ∷ names) more at e = place_parts name n names at e
+    (λ is first. rw is (ap Some (sym first)))
+    (λ before other there next. rw other (ap (option_map suc) (place-more name names more before there) ∙ ap Some (sym next)))
 
 -- at its place stands the name
 pub place-get : (name : List ℕ) (names : List (List ℕ)) (at : ℕ) → place_of name names ≡ Some at → slice_get names at ≡ Some name
 place-get name [] at e = cc
-place-get name (n ∷ names) at e =
-    elim (bytes_eq name n) as (λ v. bytes_eq name n ≡ v → slice_get (n ∷ names) at ≡ Some name) [
-      | true ↦ λ is.
-          let here : ◌≡◌ {A = Option ℕ} (Some 0) (Some at) = rw is at e in
-          let zero_is : 0 ≡ at = cc in
-          ap (slice_get (n ∷ names)) (sym zero_is) ∙ ap Some (sym (bytes_are name n is))
-      | false ↦ λ other.
-          let there : option_map suc (place_of name names) ≡ Some at = rw other at e in
-          let before = map_suc (place_of name names) at there in
-          ap (slice_get (n ∷ names)) before.2 ∙ place-get name names before.0 before.1
-    ] refl
+place-get name (n ∷ names) at e = place_parts name n names at e
+    (λ is first. ap (slice_get (n ∷ names)) first ∙ ap Some (sym (bytes_are name n is)))
+    (λ before other there next. ap (slice_get (n ∷ names)) next ∙ place-get name names before there)
 
 -- ---- another kind
 
@@ -148,35 +133,17 @@ place-get name (n ∷ names) at e =
 pub lookup-set : (name : List ℕ) (k : Kind) (names : List (List ℕ)) (kinds : List Kind) (at : ℕ) → length kinds ≡ length names → place_of name names ≡ Some at → lookup name names (set kinds at k) ≡ Some k
 lookup-set name k [] kinds at same e = cc
 lookup-set name k (n ∷ names) [] at same e = absurd (omega arith)
-lookup-set name k (n ∷ names) (l ∷ kinds) at same e =
-    elim (bytes_eq name n) as (λ v. bytes_eq name n ≡ v → lookup name (n ∷ names) (set (l ∷ kinds) at k) ≡ Some k) [
-      | true ↦ λ is.
-          let here : ◌≡◌ {A = Option ℕ} (Some 0) (Some at) = rw is at e in
-          let zero_is : 0 ≡ at = cc in
-          ap (λ m. lookup name (n ∷ names) (set (l ∷ kinds) m k)) (sym zero_is) ∙ rw is refl
-      | false ↦ λ other.
-          let there : option_map suc (place_of name names) ≡ Some at = rw other at e in
-          let before = map_suc (place_of name names) at there in
-          ap (λ m. lookup name (n ∷ names) (set (l ∷ kinds) m k)) before.2 ∙ rw other (lookup-set name k names kinds before.0 (omega arith) before.1)
-    ] refl
+lookup-set name k (n ∷ names) (l ∷ kinds) at same e = place_parts name n names at e
+    (λ is first. ap (λ m. lookup name (n ∷ names) (set (l ∷ kinds) m k)) first ∙ rw is refl)
+    (λ before other there next. ap (λ m. lookup name (n ∷ names) (set (l ∷ kinds) m k)) next ∙ rw other (lookup-set name k names kinds before (omega arith) there))
 
 -- a kind that is set changes no other name
 pub lookup-set_other : (other name : List ℕ) (k : Kind) (names : List (List ℕ)) (kinds : List Kind) (at : ℕ) → bytes_eq other name ≡ false → place_of name names ≡ Some at → lookup other names (set kinds at k) ≡ lookup other names kinds
 lookup-set_other other name k [] kinds at differ e = refl
 lookup-set_other other name k (n ∷ names) [] at differ e = refl
-lookup-set_other other name k (n ∷ names) (l ∷ kinds) at differ e =
-    elim (bytes_eq name n) as (λ v. bytes_eq name n ≡ v → lookup other (n ∷ names) (set (l ∷ kinds) at k) ≡ lookup other (n ∷ names) (l ∷ kinds)) [
-      | true ↦ λ is.
-          let here : ◌≡◌ {A = Option ℕ} (Some 0) (Some at) = rw is at e in
-          let zero_is : 0 ≡ at = cc in
-          let apart : bytes_eq other n ≡ false = ap (bytes_eq other) (sym (bytes_are name n is)) ∙ differ in
-          ap (λ m. lookup other (n ∷ names) (set (l ∷ kinds) m k)) (sym zero_is) ∙ rw apart refl
-      | false ↦ λ no.
-          let there : option_map suc (place_of name names) ≡ Some at = rw no at e in
-          let before = map_suc (place_of name names) at there in
-          ap (λ m. lookup other (n ∷ names) (set (l ∷ kinds) m k)) before.2
-          ∙ ap (λ o. cond (bytes_eq other n) (Some l) o) (lookup-set_other other name k names kinds before.0 differ before.1)
-    ] refl
+lookup-set_other other name k (n ∷ names) (l ∷ kinds) at differ e = place_parts name n names at e
+    (λ is first. let apart : bytes_eq other n ≡ false = ap (bytes_eq other) (sym (bytes_are name n is)) ∙ differ in ap (λ m. lookup other (n ∷ names) (set (l ∷ kinds) m k)) first ∙ rw apart refl)
+    (λ before no there next. ap (λ m. lookup other (n ∷ names) (set (l ∷ kinds) m k)) next ∙ ap (λ o. cond (bytes_eq other n) (Some l) o) (lookup-set_other other name k names kinds before differ there))
 
 -- ---- parameters and arrays
 
@@ -208,37 +175,19 @@ arrays-new name k [] (l ∷ kinds) same = absurd (omega arith)
 arrays-new name k (n ∷ names) [] same = absurd (omega arith)
 arrays-new name k (n ∷ names) (l ∷ kinds) same = ap (if_array l n) (arrays-new name k names kinds (omega arith)) ∙ if_array-append l n (arrays_among names kinds) (if_array k name [])
 
--- a loop is no parameter
-loop-no_parameter : (k : Kind) (name : List ℕ) (names : List (List ℕ)) → IsLoop k → if_parameter k name names ≡ names
-loop-no_parameter (Parameter n) name names is = absurd is
-loop-no_parameter (OpenLoop depth) name names is = refl
-loop-no_parameter ClosedLoop name names is = refl
-loop-no_parameter (Array n count) name names is = absurd is
+-- a kind that makes a name as much a parameter as the one before changes no parameter
+pub parameters-set : (k old : Kind) (names : List (List ℕ)) (kinds : List Kind) (at : ℕ) → ((name : List ℕ) (ns : List (List ℕ)) → if_parameter k name ns ≡ if_parameter old name ns) → slice_get kinds at ≡ Some old → parameters_among names (set kinds at k) ≡ parameters_among names kinds
+parameters-set k old [] kinds at alike e = refl
+parameters-set k old (n ∷ names) [] at alike e = refl
+parameters-set k old (n ∷ names) (l ∷ kinds) zero alike e = let same : old ≡ l = cc in alike n (parameters_among names kinds) ∙ ap (λ m. if_parameter m n (parameters_among names kinds)) same
+parameters-set k old (n ∷ names) (l ∷ kinds) (suc at) alike e = ap (if_parameter l n) (parameters-set k old names kinds at alike e)
 
--- a loop is no array
-loop-no_array : (k : Kind) (name : List ℕ) (arrays : List (List ℕ × ℕ)) → IsLoop k → if_array k name arrays ≡ arrays
-loop-no_array (Parameter n) name arrays is = absurd is
-loop-no_array (OpenLoop depth) name arrays is = refl
-loop-no_array ClosedLoop name arrays is = refl
-loop-no_array (Array n count) name arrays is = absurd is
-
--- a loop's kind changes no parameter
-pub parameters-set : (k old : Kind) (names : List (List ℕ)) (kinds : List Kind) (at : ℕ) → IsLoop k → IsLoop old → slice_get kinds at ≡ Some old → parameters_among names (set kinds at k) ≡ parameters_among names kinds
-parameters-set k old [] kinds at is was e = refl
-parameters-set k old (n ∷ names) [] at is was e = refl
-parameters-set k old (n ∷ names) (l ∷ kinds) zero is was e =
-    let same : l ≡ old = cc in
-    loop-no_parameter k n (parameters_among names kinds) is ∙ sym (ap (λ m. if_parameter m n (parameters_among names kinds)) same ∙ loop-no_parameter old n (parameters_among names kinds) was)
-parameters-set k old (n ∷ names) (l ∷ kinds) (suc at) is was e = ap (if_parameter l n) (parameters-set k old names kinds at is was e)
-
--- a loop's kind changes no array
-pub arrays-set : (k old : Kind) (names : List (List ℕ)) (kinds : List Kind) (at : ℕ) → IsLoop k → IsLoop old → slice_get kinds at ≡ Some old → arrays_among names (set kinds at k) ≡ arrays_among names kinds
-arrays-set k old [] kinds at is was e = refl
-arrays-set k old (n ∷ names) [] at is was e = refl
-arrays-set k old (n ∷ names) (l ∷ kinds) zero is was e =
-    let same : l ≡ old = cc in
-    loop-no_array k n (arrays_among names kinds) is ∙ sym (ap (λ m. if_array m n (arrays_among names kinds)) same ∙ loop-no_array old n (arrays_among names kinds) was)
-arrays-set k old (n ∷ names) (l ∷ kinds) (suc at) is was e = ap (if_array l n) (arrays-set k old names kinds at is was e)
+-- one that makes it as much an array changes no array
+pub arrays-set : (k old : Kind) (names : List (List ℕ)) (kinds : List Kind) (at : ℕ) → ((name : List ℕ) (arrays : List (List ℕ × ℕ)) → if_array k name arrays ≡ if_array old name arrays) → slice_get kinds at ≡ Some old → arrays_among names (set kinds at k) ≡ arrays_among names kinds
+arrays-set k old [] kinds at alike e = refl
+arrays-set k old (n ∷ names) [] at alike e = refl
+arrays-set k old (n ∷ names) (l ∷ kinds) zero alike e = let same : old ≡ l = cc in alike n (arrays_among names kinds) ∙ ap (λ m. if_array m n (arrays_among names kinds)) same
+arrays-set k old (n ∷ names) (l ∷ kinds) (suc at) alike e = ap (if_array l n) (arrays-set k old names kinds at alike e)
 
 -- the kind that stands at a name's place
 pub lookup-get : (name : List ℕ) (names : List (List ℕ)) (kinds : List Kind) (at : ℕ) (k : Kind) → length kinds ≡ length names → place_of name names ≡ Some at → lookup name names kinds ≡ Some k → slice_get kinds at ≡ Some k
@@ -249,15 +198,9 @@ pub lookup-place : (name : List ℕ) (names : List (List ℕ)) (kinds : List Kin
 lookup-place name [] kinds k same e = absurd cc
 lookup-place name (n ∷ names) [] k same e = absurd (omega arith)
 lookup-place name (n ∷ names) (l ∷ kinds) k same e =
-    elim (bytes_eq name n) as (λ v. bytes_eq name n ≡ v → (number : ℕ) × (place_of name (n ∷ names) ≡ Some number)) [
-      | true ↦ λ is. (0, rw is refl)
-      | false ↦ λ other.
-          let behind : lookup name names kinds ≡ Some k = rw other at e in
-          let found = lookup-place name names kinds k (omega arith) behind in
-          (suc found.0, rw other (ap (option_map suc) found.1))
-    ] refl
-
--- a kind is replaced at the end
-pub set-last : (kinds : List Kind) (a b : Kind) → set (kinds ++ a ∷ []) (length kinds) b ≡ kinds ++ b ∷ []
-set-last [] a b = refl
-set-last (k ∷ kinds) a b = ap (λ ks. k ∷ ks) (set-last kinds a b)
+    bool_cases (bytes_eq name n)
+    (λ is. (0, rw is refl))
+    (λ other.
+    let behind : lookup name names kinds ≡ Some k = rw other at e in
+    let found = lookup-place name names kinds k (omega arith) behind in
+    (suc found.0, rw other (ap (option_map suc) found.1)))

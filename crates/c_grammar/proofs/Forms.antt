@@ -1,11 +1,10 @@
 -- Small numbers: a form of them is kept, every form that is meant is one, and its negative is small.
 use Rattle.std.proofs.Common.{◌≡◌, ℕ, zero, suc, ◌≤◌, Bool, true, false, not, List, [], ◌∷◌, length, map, replicate, refl, sym, ap, ◌∙◌, Option, Some, None, arith, subst}
-use Rattle.std.specs.Prelude.{if◌then◌else◌, ℤ, pos, negsuc, neg_ℤ, ◌+ℤ◌, ◌-ℤ◌, ◌*ℤ◌, option_map, ◌&&◌, ◌||◌, nat_lt, Ok}
+use Rattle.std.specs.Prelude.{if◌then◌else◌, ℤ, pos, negsuc, neg_ℤ, ◌+ℤ◌, ◌-ℤ◌, ◌*ℤ◌, option_map, ◌&&◌, nat_lt, Ok}
 use Rattle.std.specs.List.{AllByRecursion}
 use Rattle.std.proofs.lemmas.Int.{ints}
 use Rattle.std.proofs.lemmas.List.{length-set}
-use Rattle.c_reading.specs.Numbers.{is_small, if_small, small_number, number_before, plus_times, combined, zeros, single, width, is_integer, value_from, constant_of}
-use Rattle.c_grammar.proofs.Steps.{bool_cases}
+use Rattle.c_reading.specs.Numbers.{is_small, if_small, small_number, number_before, plus_times, combined, zeros, single, width, is_integer, value_from}
 use Rattle.std.proofs.lemmas.Bool.{and_parts}
 use Rattle.c_reading.specs.Affine as rule
 use Rattle.c_reading.specs.Affine.{Affine}
@@ -17,6 +16,7 @@ use Rattle.c_grammar.proofs.Spelled.{then_some, given_some, given_last, some_if,
 use Rattle.iolb_model.specs.declared.limits.TheConstants.{NUMBER_SIZE}
 use Rattle.c_grammar.proofs.NameKinds.{All-set}
 use Rattle.base_laws.proofs.Lists.{All-replicate}
+use Rattle.c_grammar.proofs.Steps.{if_ok}
 
 -- numbers of a row at most, each small
 pub record AreSmall (ns : List ℤ) : Type 0 where
@@ -49,11 +49,23 @@ negative_kept : (y : ℤ) → is_small y ≡ true → small_number (negsuc 0) (p
 unfolding small_number
 negative_kept y small = ap (λ (n : ℤ). if_small n) (minus_once y) ∙ ap (λ (t : Bool). if t then Some (neg_ℤ y) else None) (negative_small y ∙ small)
 
-number_small : (k less x y n : ℤ) → small_number k less x y ≡ Some n → is_small n ≡ true
+-- the first number of a sum, and those behind it
+pub record IsFront (k less x y : ℤ) (more : Option (List ℤ)) (zs : List ℤ) : Type 0 where
+  pub number : ℤ
+  pub rest : List ℤ
+  pub all : zs ≡ number ∷ rest
+  pub behind : more ≡ Some rest
+  pub small : is_small number ≡ true
+  pub is : number ≡ (x +ℤ (k *ℤ y)) -ℤ less
+
+-- a sum has a small number in front
+pub front_is : (k less x y : ℤ) (more : Option (List ℤ)) (zs : List ℤ) → number_before (small_number k less x y) more ≡ Some zs → IsFront k less x y more zs
 unfolding small_number
-number_small k less x y n e = at ((x +ℤ (k *ℤ y)) -ℤ less) e where
-  at : (m : ℤ) → if_small m ≡ Some n → is_small n ≡ true
-  at m f = bool_cases (is_small m) (λ small. let g = rw small at f in let same : m ≡ n = cc in ap is_small (sym same) ∙ small) (λ large. let g = rw large at f in absurd cc)
+front_is k less x y more zs e = cases (is_small ((x +ℤ (k *ℤ y)) -ℤ less)) refl more e where
+  cases : (b : Bool) → is_small ((x +ℤ (k *ℤ y)) -ℤ less) ≡ b → (o : Option (List ℤ)) → number_before (if b then Some ((x +ℤ (k *ℤ y)) -ℤ less) else None) o ≡ Some zs → IsFront k less x y o zs
+  cases true small (Some rest) f = record { number = (x +ℤ (k *ℤ y)) -ℤ less; rest = rest; all = sym (same_some f); behind = refl; small = small; is = refl }
+  cases true small None f = absurd cc
+  cases false small o f = absurd cc
 
 -- ---- lists
 
@@ -102,32 +114,21 @@ negative_twice (y ∷ ys) = ap (λ (n : ℤ). n ∷ map neg_ℤ (map neg_ℤ ys)
 AreBehind : List ℤ → List ℤ → Type 0
 AreBehind xs zs = (length zs ≤ length xs) × AllByRecursion (λ n. is_small n ≡ true) zs
 
-before_are : (x : ℤ) (xs zs : List ℤ) (o : Option ℤ) (more : Option (List ℤ)) → ((n : ℤ) → o ≡ Some n → is_small n ≡ true) → ((ns : List ℤ) → more ≡ Some ns → AreBehind xs ns) → number_before o more ≡ Some zs → AreBehind (x ∷ xs) zs
+front_are : {k less x y : ℤ} {zs : List ℤ} {more : Option (List ℤ)} (xs : List ℤ) (f : IsFront k less x y more zs) → AreBehind xs f.rest → AreBehind (x ∷ xs) zs
 unfolding AreBehind
-before_are x xs zs None more h k e = absurd cc
-before_are x xs zs (Some n) None h k e = absurd cc
-before_are x xs [] (Some n) (Some ns) h k e = absurd cc
-before_are x xs (z ∷ zs) (Some n) (Some ns) h k e =
-    let first : n ≡ z = cc in
-    let rest : ns ≡ zs = cc in
-    let more = k zs (ap (λ (l : List ℤ). Some l) rest) in
-    (omega (arith, more.0), (ap is_small (sym first) ∙ h n refl, more.1))
+front_are {x = x} xs f h = subst (AreBehind (x ∷ xs)) (sym f.all) (omega (arith, h.0), (f.small, h.1))
 
 plus_times_are : (k : ℤ) (xs ys zs : List ℤ) → plus_times k xs ys ≡ Some zs → AreBehind xs zs
 unfolding AreBehind
-plus_times_are k [] ys [] e = (omega arith, tt)
-plus_times_are k (x ∷ xs) [] [] e = (omega arith, tt)
-plus_times_are k [] ys (z ∷ zs) e = absurd cc
-plus_times_are k (x ∷ xs) [] (z ∷ zs) e = absurd cc
-plus_times_are k (x ∷ xs) (y ∷ ys) zs e = before_are x xs zs (small_number k (pos 0) x y) (plus_times k xs ys) (number_small k (pos 0) x y) (plus_times_are k xs ys) e
+plus_times_are k [] ys zs e = subst (AreBehind []) (same_some e) (omega arith, tt)
+plus_times_are k (x ∷ xs) [] zs e = subst (AreBehind (x ∷ xs)) (same_some e) (omega arith, tt)
+plus_times_are k (x ∷ xs) (y ∷ ys) zs e = let f = front_is k (pos 0) x y (plus_times k xs ys) zs e in front_are xs f (plus_times_are k xs ys f.rest f.behind)
 
 combined_behind : (k less : ℤ) (xs ys zs : List ℤ) → combined k less xs ys ≡ Some zs → AreBehind xs zs
 unfolding AreBehind
-combined_behind k less [] ys [] e = (omega arith, tt)
-combined_behind k less (x ∷ xs) [] [] e = (omega arith, tt)
-combined_behind k less [] ys (z ∷ zs) e = absurd cc
-combined_behind k less (x ∷ xs) [] (z ∷ zs) e = absurd cc
-combined_behind k less (x ∷ xs) (y ∷ ys) zs e = before_are x xs zs (small_number k less x y) (plus_times k xs ys) (number_small k less x y) (plus_times_are k xs ys) e
+combined_behind k less [] ys zs e = subst (AreBehind []) (same_some e) (omega arith, tt)
+combined_behind k less (x ∷ xs) [] zs e = subst (AreBehind (x ∷ xs)) (same_some e) (omega arith, tt)
+combined_behind k less (x ∷ xs) (y ∷ ys) zs e = let f = front_is k less x y (plus_times k xs ys) zs e in front_are xs f (plus_times_are k xs ys f.rest f.behind)
 
 pub combined_are : (k less : ℤ) (xs ys zs : List ℤ) → length xs ≤ width → combined k less xs ys ≡ Some zs → AreSmall zs
 unfolding AreBehind
@@ -166,12 +167,8 @@ from_zeros : (k : ℤ) (ys zs : List ℤ) → combined k (pos 0) zeros ys ≡ So
 from_zeros k ys zs e = combined_are k (pos 0) zeros ys zs (omega arith) e
 
 times_are : (a b c : Form) → mean.times a b ≡ Some c → AreSmall c.numbers
-times_are a b c e = cases (a.has_name && b.has_name) b.has_name e where
-  cases : (both second : Bool) → (if both then None else form (a.has_name || b.has_name)
-      (if second then combined (constant_of a.numbers) (pos 0) zeros b.numbers else combined (constant_of b.numbers) (pos 0) zeros a.numbers)) ≡ Some c → AreSmall c.numbers
-  cases true second f = absurd cc
-  cases false true f = form_are _ _ c (λ ns g. from_zeros _ b.numbers ns g) f
-  cases false false f = form_are _ _ c (λ ns g. from_zeros _ a.numbers ns g) f
+times_are a b c e = if_ok None _ (a.has_name && b.has_name) e (λ _ f. absurd cc) (λ _ f.
+    form_are _ _ c (λ ns g. if_ok _ _ b.has_name g (λ _ h. from_zeros _ b.numbers ns h) (λ _ h. from_zeros _ a.numbers ns h)) f)
 
 integer_small : (bytes : List ℕ) (n : ℤ) → mean.integer_means bytes ≡ Some n → is_small n ≡ true
 unfolding mean.integer_means

@@ -1,7 +1,8 @@
 -- What the names and lines so far keep, and what a meaning adds to them.
-use Rattle.std.proofs.Common.{◌≡◌, refl, sym, ◌∙◌, ap, subst, cond, ℕ, zero, suc, ◌+◌, ◌≤◌, List, [], ◌∷◌, ◌++◌, length, arith, append_assoc, append-nil, Bool, true, false, ⊎_elim, inl, inr, length-append, leb-true, ◌<◌}
-use Rattle.std.specs.Prelude.{⊤, ◌⊎◌, ℤ, bytes_eq, slice_get, option_and_then, Option, Some, None, if◌then◌else◌, nat_le}
-use Rattle.std.specs.List.{AllByRecursion}
+use Rattle.std.proofs.Common.{◌≡◌, refl, sym, ◌∙◌, ap, subst, ℕ, zero, suc, ◌+◌, ◌≤◌, List, [], ◌∷◌, ◌++◌, length, arith, append_assoc, append-nil, Bool, true, false, ⊎_elim, inl, inr, length-append, length-set, leb-true, ◌<◌}
+use Rattle.std.specs.Prelude.{⊤, ◌⊎◌, ℤ, bytes_eq, slice_get, slice_set, option_and_then, Option, Some, None, if◌then◌else◌, nat_le, flat_map}
+use Rattle.std.specs.List.{AllByRecursion, range_with_len}
+use Rattle.std.proofs.lemmas.Grind.{flat_map-append}
 use Rattle.std.proofs.lemmas.Bool.{and_parts}
 use Rattle.base_laws.proofs.Lists.{All-append, All-weaken}
 use Rattle.iolb_model.specs.declared.limits.TheConstants.{PARAMETERS, STATEMENTS, ARRAYS, NAME_BYTES, LOOPS, READS}
@@ -17,11 +18,12 @@ use Rattle.c_grammar.specs.Well.{AreDistinct, numbers_of, line_numbers, Nests, I
 use Rattle.c_grammar.specs.Meaning.{Names, Meaning, then_in, given, end}
 use Rattle.c_grammar.proofs.Lists.{All-first, All-second}
 use Rattle.c_grammar.proofs.Rows.{IsWhereSome, IsRow, more_row}
-use Rattle.c_grammar.proofs.NameKinds.{KindFits, parameter_count, ranks, AreNumbered, more_fits, count-append, ranks-append, numbered-append, All-get, get-append}
-use Rattle.c_grammar.proofs.Dictionary.{lookup, kind_of-lookup, bytes_same}
+use Rattle.c_grammar.proofs.NameKinds.{KindFits, parameter_count, ranks, AreNumbered, more_fits, rank_of, parameter_of, array_number, flat_map-set, All-get, get-append}
+use Rattle.c_grammar.proofs.Dictionary.{lookup, kind_of-lookup, bytes_same, cond_none}
 use Rattle.c_reading.specs.declared.lines.Loop.{Loop}
 use Rattle.c_reading.specs.declared.lines.Line.{Line}
 use Rattle.c_reading.specs.declared.lines.Line.TheVariants.{Begin, Does, End}
+use Rattle.c_grammar.proofs.Steps.{if_holds}
 
 -- ---- words that are names
 
@@ -52,12 +54,26 @@ pub record State (depth : ℕ) (i : Names) : Type 0 where
   pub fit : AllByRecursion (KindFits i.parameters depth) i.kinds
   pub parameters : parameter_count i.kinds ≡ i.parameters
   pub few_parameters : i.parameters ≤ PARAMETERS
-  pub numbered : AreNumbered 0 i.kinds
-  pub arrays : length (ranks i.kinds) ≡ i.arrays
+  pub numbered : AreNumbered i.arrays i.kinds
   pub few_arrays : i.arrays ≤ ARRAYS
   pub few_statements : i.statements ≤ STATEMENTS
   pub names : AllByRecursion IsName i.names
   pub distinct : AreDistinct i.names
+
+-- the state with another kind of one name, which counts as much, and other lines
+pub set_state : {depth deeper : ℕ} (i : Names) (at : ℕ) (old k : Kind) (ls : List Line) → State depth i → slice_get i.kinds at ≡ Some old → parameter_of k ≡ parameter_of old → array_number k ≡ array_number old
+    → AllByRecursion (KindFits i.parameters deeper) (slice_set i.kinds at k) → State deeper (record i { kinds = slice_set i.kinds at k; lines = ls })
+set_state i at old k ls s there parameters numbers fit = record {
+  kinds = length-set i.kinds at k ∙ s.kinds;
+  fit = fit;
+  parameters = ap length (flat_map-set parameter_of i.kinds at old k there parameters) ∙ s.parameters;
+  few_parameters = s.few_parameters;
+  numbered = flat_map-set array_number i.kinds at old k there numbers ∙ s.numbered;
+  few_arrays = s.few_arrays;
+  few_statements = s.few_statements;
+  names = s.names;
+  distinct = s.distinct;
+}
 
 -- names are added, and none of them is that of a loop that is open
 pub record Grown (i j : Names) : Type 0 where
@@ -129,7 +145,7 @@ pub record AccessIn (depth : ℕ) (i : Names) (access : Access) : Type 0 where
 pub rank-grown : {i j : Names} (n s : ℕ) → Grown i j → slice_get (ranks i.kinds) n ≡ Some s → slice_get (ranks j.kinds) n ≡ Some s
 rank-grown {i} {j} n s g e =
     subst (λ (l : List Kind). slice_get (ranks l) n ≡ Some s) (sym g.kinds)
-    (subst (λ (l : List ℕ). slice_get l n ≡ Some s) (sym (ranks-append i.kinds g.more)) (get-append (ranks i.kinds) (ranks g.more) n s e))
+    (subst (λ (l : List ℕ). slice_get l n ≡ Some s) (sym (flat_map-append rank_of i.kinds g.more)) (get-append (ranks i.kinds) (ranks g.more) n s e))
 
 -- there is at least what there was
 pub record Wider (i j : Names) : Type 0 where
@@ -177,10 +193,7 @@ not_there name (n ∷ names) (k ∷ kinds) zero same none e =
     let here : n ≡ name = cc in
     let yes : bytes_eq name n ≡ true = ap (bytes_eq name) here ∙ bytes_same name in
     let found : ◌≡◌ {A = Option Kind} (Some k) None = rw yes at none in cc
-not_there name (n ∷ names) (k ∷ kinds) (suc at) same none e = not_there name names kinds at (omega arith) (other_none (bytes_eq name n) none) e where
-  other_none : (b : Bool) → cond b (Some k) (lookup name names kinds) ≡ None → lookup name names kinds ≡ None
-  other_none true f = cc
-  other_none false f = f
+not_there name (n ∷ names) (k ∷ kinds) (suc at) same none e = not_there name names kinds at (omega arith) (cond_none (bytes_eq name n) k (lookup name names kinds) none).1 e
 
 -- what stands in a list that one more ends
 pub at_end : (names : List (List ℕ)) (name other : List ℕ) (k : ℕ) → slice_get (names ++ name ∷ []) k ≡ Some other → (slice_get names k ≡ Some other) ⊎ ((k ≡ length names) × (other ≡ name))
@@ -208,23 +221,20 @@ with_new name k parameters arrays i = record i { names = i.names ++ name ∷ [];
 
 -- they keep what the state keeps
 pub new_state : {depth : ℕ} (i : Names) (name : List ℕ) (k : Kind) (p a : ℕ) → State depth i → IsName name → kind_of name i ≡ None → KindFits p depth k → i.parameters ≤ p → i.parameters + parameter_count (k ∷ []) ≡ p → p ≤ PARAMETERS
-    → AreNumbered i.arrays (k ∷ []) → i.arrays + length (ranks (k ∷ [])) ≡ a → a ≤ ARRAYS → State depth (with_new name k p a i)
-new_state {depth} i name k p a s is none fits more counts few numbered arrays few_arrays =
+    → range_with_len 0 i.arrays ++ flat_map array_number (k ∷ []) ≡ range_with_len 0 a → a ≤ ARRAYS → State depth (with_new name k p a i)
+new_state {depth} i name k p a s is none fits more counts few numbered few_arrays =
     let unknown : lookup name i.names i.kinds ≡ None = sym (kind_of-lookup name i s.kinds) ∙ none in
     record {
       kinds = omega (arith, length-append i.kinds (k ∷ []), length-append i.names (name ∷ []), s.kinds);
       fit = All-append (KindFits p depth) i.kinds (k ∷ []) (All-weaken (KindFits i.parameters depth) (KindFits p depth) i.kinds (more_fits i.parameters depth p depth more (omega arith)) s.fit) (fits, tt);
-      parameters = count-append i.kinds (k ∷ []) ∙ ap (λ (n : ℕ). n + parameter_count (k ∷ [])) s.parameters ∙ counts;
+      parameters = ap length (flat_map-append parameter_of i.kinds (k ∷ [])) ∙ length-append (flat_map parameter_of i.kinds) (flat_map parameter_of (k ∷ [])) ∙ ap (λ (n : ℕ). n + parameter_count (k ∷ [])) s.parameters ∙ counts;
       few_parameters = few;
-      numbered = numbered-append 0 i.kinds (k ∷ []) s.numbered (subst (λ n. AreNumbered n (k ∷ [])) (sym s.arrays ∙ none_before (length (ranks i.kinds))) numbered);
-      arrays = ap (λ (l : List ℕ). length l) (ranks-append i.kinds (k ∷ [])) ∙ length-append (ranks i.kinds) (ranks (k ∷ [])) ∙ ap (λ (n : ℕ). n + length (ranks (k ∷ []))) s.arrays ∙ arrays;
+      numbered = flat_map-append array_number i.kinds (k ∷ []) ∙ ap (λ l. l ++ flat_map array_number (k ∷ [])) s.numbered ∙ numbered;
       few_arrays = few_arrays;
       few_statements = s.few_statements;
       names = All-append IsName i.names (name ∷ []) s.names (is, tt);
       distinct = distinct_more name i.names i.kinds s.kinds unknown s.distinct;
-    } where
-      none_before : (n : ℕ) → n ≡ 0 + n
-      none_before n = omega arith
+    }
 
 -- they are grown
 pub new_grown : (i : Names) (name : List ℕ) (k : Kind) (p a : ℕ) → KindFits p 0 k → i.parameters ≤ p → Grown i (with_new name k p a i)
@@ -261,13 +271,11 @@ weaken None g h = nothing
 
 -- one of two
 pub either : {A : Type 0} (b : Bool) {x y : Option (A × Names)} {Q : A → Names → Type 0} → (b ≡ true → Gives x Q) → (b ≡ false → Gives y Q) → Gives (if b then x else y) Q
-either true f g = f refl
-either false f g = g refl
+either b {Q = Q} f g = if_holds (λ o. Gives o Q) _ _ b f g
 
 -- one of two meanings
 pub either_of : {A : Type 0} (b : Bool) (m n : Meaning A) {i : Names} {Q : A → Names → Type 0} → (b ≡ true → Gives (m i) Q) → (b ≡ false → Gives (n i) Q) → Gives ((if b then m else n) i) Q
-either_of true m n f g = f refl
-either_of false m n f g = g refl
+either_of {A} b m n {i} {Q} f g = if_holds (λ (k : Meaning A). Gives (k i) Q) m n b f g
 
 -- the state afterwards, how it came from the one before, and what holds of the value
 pub record After (depth : ℕ) (j : Names) (K V : Type 0) : Type 0 where

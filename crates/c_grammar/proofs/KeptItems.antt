@@ -1,10 +1,11 @@
 -- Items add lines that end at the depth at which they begin, over names that are there.
-use Rattle.std.proofs.Common.{◌≡◌, refl, sym, ◌∙◌, ap, subst, ℕ, zero, suc, ◌+◌, ◌-◌, ◌<◌, List, [], ◌∷◌, ◌++◌, length, arith, append_assoc, append-nil, Bool, true, false, length-set, leb-false}
+use Rattle.std.proofs.Common.{◌≡◌, refl, sym, ◌∙◌, ap, subst, ℕ, zero, suc, ◌+◌, ◌-◌, ◌<◌, List, [], ◌∷◌, ◌++◌, length, arith, append_assoc, append-nil, Bool, true, false, leb-false}
 use Rattle.std.specs.Prelude.{ℤ, pos, slice_get, slice_set, nat_lt, nat_le, not, Option, Some, None, ◌||◌, codes}
-use Rattle.std.specs.List.{AllByRecursion}
+use Rattle.std.specs.List.{AllByRecursion, range_with_len}
 use Rattle.std.proofs.lemmas.Bool.{or_parts}
 use Rattle.std.proofs.lemmas.Bool.Decides.{nat_tests}
-use Rattle.std.proofs.lemmas.Option.{slice_get_within}
+use Rattle.std.proofs.lemmas.Option.{slice_get_within, slice_get-get_or}
+use Rattle.std.proofs.lemmas.List.{get_or_push, length-append}
 use Rattle.base_laws.proofs.Lists.{All-append, All-weaken}
 use Rattle.iolb_model.specs.declared.limits.TheConstants.{LOOPS, STATEMENTS}
 use Rattle.c_reading.specs.declared.named.Kind.{Kind}
@@ -19,7 +20,7 @@ use Rattle.c_reading.specs.Numbers.{most_loops, zeros}
 use Rattle.c_reading.specs.Refs.{with_kind}
 use Rattle.c_grammar.specs.Words.{Word, a_name, a_symbol}
 use Rattle.c_tokens.specs.Names.{IsWord}
-use Rattle.affine_program.specs.Printable.{IsOrdered, next_seen}
+use Rattle.affine_program.specs.Printable.{IsOrdered}
 use Rattle.c_grammar.specs.Well.{numbers_of, line_numbers, Nests, IsLoop, IsLoopAt, IsLoopLine, statement_count}
 use Rattle.c_grammar.specs.Affine.{affine_words, reference_words}
 use Rattle.c_grammar.specs.Value.{value_words}
@@ -28,9 +29,10 @@ use Rattle.c_grammar.specs.Item.{assigner_word, assign_words, int_words, bounds_
 use Rattle.c_grammar.specs.Meaning as mean
 use Rattle.c_grammar.specs.Meaning.{Names, Meaning, then_in, affine_means, reference_means, value_means, updates, assign_means, statement_means, loop_by, header_means, begin, end, item_means, items_means}
 use Rattle.c_grammar.proofs.Rows.{IsWhereSome, IsRow, more_row, combined_row, zeros_row}
-use Rattle.c_grammar.proofs.NameKinds.{KindFits, more_fits, get-append, loop-set, All-set, get-set, set-back}
-use Rattle.c_grammar.proofs.Kept.{AreNamed, first_named, second_named, short_word, State, Grown, grown-same, grown-trans, Kept, kept-trans, kept_self, ordered_both, row-grown, AccessIn, accesses-grown, Wider, wider, access-wider, kind_found, new_state, new_grown, Gives, nothing, ok, chained, weaken, either, Reads, stays, BeginsIn, Goes, goes-wider, goes-append, count-lines, lines_both, nests_both, loop_lines_more, IsOpenAt, opens_stay}
+use Rattle.c_grammar.proofs.NameKinds.{KindFits, more_fits, get-append, rank_of, flat_map-set, All-set, get-set, set-back}
+use Rattle.c_grammar.proofs.Kept.{AreNamed, first_named, second_named, short_word, State, set_state, Grown, grown-same, grown-trans, Kept, kept-trans, kept_self, ordered_both, row-grown, AccessIn, accesses-grown, Wider, wider, access-wider, kind_found, new_state, new_grown, Gives, nothing, ok, chained, weaken, either, Reads, stays, BeginsIn, Goes, goes-wider, goes-append, count-lines, lines_both, nests_both, loop_lines_more, IsOpenAt, opens_stay}
 use Rattle.c_grammar.proofs.KeptRefs.{affine_form, reference_in, AreReads, value_read}
+use Rattle.c_grammar.proofs.Steps.{bool_cases}
 
 -- ---- meanings that add lines
 
@@ -82,7 +84,7 @@ statement_adds depth n i l w u reads numbers few counts s k fits reads_fit same 
     let last : Names = record l { lines = l.lines ++ line ∷ []; statements = n } in
     let here : Grown l last = grown-same l last refl refl refl in
     record {
-      state = record { kinds = s.kinds; fit = s.fit; parameters = s.parameters; few_parameters = s.few_parameters; numbered = s.numbered; arrays = s.arrays; few_arrays = s.few_arrays; few_statements = omega arith; names = s.names; distinct = s.distinct };
+      state = record { kinds = s.kinds; fit = s.fit; parameters = s.parameters; few_parameters = s.few_parameters; numbered = s.numbered; few_arrays = s.few_arrays; few_statements = omega arith; names = s.names; distinct = s.distinct };
       grown = grown-trans k.grown here;
       new = line ∷ [];
       lines = ap (λ (ls : List Line). ls ++ line ∷ []) k.lines;
@@ -95,10 +97,12 @@ statement_adds depth n i l w u reads numbers few counts s k fits reads_fit same 
       -- what is written is read first, or not
       read_first : (u : Bool) → IsOrdered i.arrays (w.array ∷ numbers) l.arrays → IsOrdered i.arrays (w.array ∷ (numbers_of (first_reads u w) ++ numbers)) l.arrays
       read_first false h = h
-      read_first true h = (h.0, again (nat_lt w.array i.arrays) refl) where
-        again : (b : Bool) → nat_lt w.array i.arrays ≡ b → IsOrdered (next_seen i.arrays w.array) (w.array ∷ numbers) l.arrays
-        again true e = (let below : w.array < i.arrays = grind (arith, nat_tests) in rw e (omega arith, rw e (rw e at h).1))
-        again false e = (let after : nat_lt w.array (suc i.arrays) ≡ true = (let le = h.0 in grind (arith, nat_tests)) in rw e (omega (arith, h.0), rw after (rw e at h).1))
+      read_first true h = (
+        h.0,
+        bool_cases (nat_lt w.array i.arrays)
+            (λ e. let below : w.array < i.arrays = grind (arith, nat_tests) in rw e (omega arith, rw e (rw e at h).1))
+            (λ e. let after : nat_lt w.array (suc i.arrays) ≡ true = (let le = h.0 in grind (arith, nat_tests)) in rw e (omega (arith, h.0), rw after (rw e at h).1)),
+      )
 
 -- a statement adds its line
 statement_writes : {depth : ℕ} (b : ℕ) (a : item.Assign) (i : Names) → AreNamed (assign_words a) → State depth i → Writes depth i (statement_means b a i)
@@ -126,22 +130,16 @@ record HeaderIn (depth : ℕ) (i : Names) (h : Loop) (j : Names) : Type 0 where
   pub lower : IsRow j.parameters depth h.lower
   pub upper : IsRow j.parameters depth h.upper
 
--- the last of some kinds
-get_last : (kinds : List Kind) (k : Kind) → slice_get (kinds ++ k ∷ []) (length kinds) ≡ Some k
-get_last [] k = refl
-get_last (l ∷ kinds) k = get_last kinds k
-
 -- a loop's name is closed
 loop_by_closed : (depth : ℕ) (name : List ℕ) (o : Option Kind) (i : Names) → kind_of name i ≡ o → IsWord name → State depth i → Reads depth i (loop_by name o i) (λ at j. slice_get j.kinds at ≡ Some ClosedLoop)
 unfolding with_name
 loop_by_closed depth name None i e w s = either (is_short name)
     (λ short.
     let none : i.parameters + 0 ≡ i.parameters = omega arith in
-    let none_arrays : i.arrays + 0 ≡ i.arrays = omega arith in
     ok (record {
-      state = new_state i name ClosedLoop i.parameters i.arrays s (short_word name w short) e tt (omega arith) none s.few_parameters tt none_arrays s.few_arrays;
+      state = new_state i name ClosedLoop i.parameters i.arrays s (short_word name w short) e tt (omega arith) none s.few_parameters (append-nil (range_with_len 0 i.arrays)) s.few_arrays;
       kept = record { grown = new_grown i name ClosedLoop i.parameters i.arrays tt (omega arith); order = refl; lines = refl; statements = refl };
-      value = ap (slice_get (i.kinds ++ ClosedLoop ∷ [])) (sym s.kinds) ∙ get_last i.kinds ClosedLoop;
+      value = ap (slice_get (i.kinds ++ ClosedLoop ∷ [])) (sym s.kinds) ∙ slice_get-get_or (i.kinds ++ ClosedLoop ∷ []) (length i.kinds) ClosedLoop (omega (arith, length-append i.kinds (ClosedLoop ∷ []))) ∙ ap Some (get_or_push i.kinds ClosedLoop ClosedLoop (length i.kinds) refl);
     }))
     (λ _. nothing)
 loop_by_closed depth name (Some (Parameter k)) i e w s = nothing
@@ -204,21 +202,8 @@ closed_at h l = record l { kinds = slice_set l.kinds h.name ClosedLoop; lines = 
 -- the state inside a loop that begins
 opened_state : (depth : ℕ) (h : Loop) (j : Names) → State depth j → slice_get j.kinds h.name ≡ Some ClosedLoop → State (suc depth) (opened_at depth h j)
 opened_state depth h j s closed =
-    let set = loop-set j.kinds h.name ClosedLoop (OpenLoop depth) closed tt tt in
-    record {
-      kinds = length-set j.kinds h.name (OpenLoop depth) ∙ s.kinds;
-      fit = All-set (KindFits j.parameters (suc depth)) j.kinds h.name (OpenLoop depth) (omega arith)
-          (All-weaken (KindFits j.parameters depth) (KindFits j.parameters (suc depth)) j.kinds
-          (more_fits j.parameters depth j.parameters (suc depth) (omega arith) (omega arith)) s.fit);
-      parameters = set.1 ∙ s.parameters;
-      few_parameters = s.few_parameters;
-      numbered = set.3 0 s.numbered;
-      arrays = ap (λ (l : List ℕ). length l) set.2 ∙ s.arrays;
-      few_arrays = s.few_arrays;
-      few_statements = s.few_statements;
-      names = s.names;
-      distinct = s.distinct;
-    }
+    set_state j h.name ClosedLoop (OpenLoop depth) (j.lines ++ Begin h ∷ []) s closed refl refl
+    (All-set (KindFits j.parameters (suc depth)) j.kinds h.name (OpenLoop depth) (omega arith) (All-weaken (KindFits j.parameters depth) (KindFits j.parameters (suc depth)) j.kinds (more_fits j.parameters depth j.parameters (suc depth) (omega arith) (omega arith)) s.fit))
 
 -- a loop behind its header
 module _ (depth : ℕ) (h : Loop) (i j l : Names) (few : depth < LOOPS) (f : HeaderIn depth i h j) (b : Adds (suc depth) (opened_at depth h j) l) where
@@ -228,7 +213,7 @@ module _ (depth : ℕ) (h : Loop) (i j l : Names) (few : depth < LOOPS) (f : Hea
 
   -- the name of the loop is still that of an open loop
   still_open : slice_get l.kinds h.name ≡ Some (OpenLoop depth)
-  still_open = subst (λ (k : List Kind). slice_get k h.name ≡ Some (OpenLoop depth)) (sym b.grown.kinds) (get-set j.kinds b.grown.more h.name ClosedLoop (OpenLoop depth) f.closed)
+  still_open = subst (λ (k : List Kind). slice_get k h.name ≡ Some (OpenLoop depth)) (sym b.grown.kinds) (get-append (slice_set j.kinds h.name (OpenLoop depth)) b.grown.more h.name (OpenLoop depth) (get-set j.kinds h.name ClosedLoop (OpenLoop depth) f.closed))
 
   -- the whole loop adds names
   closed_grown : Grown j (closed_at h l)
@@ -236,32 +221,16 @@ module _ (depth : ℕ) (h : Loop) (i j l : Names) (few : depth < LOOPS) (f : Hea
 
   -- the end of a loop takes nothing away
   closed_wider : Wider l (closed_at h l)
-  closed_wider =
-      let set = loop-set l.kinds h.name (OpenLoop depth) ClosedLoop still_open tt tt in
-      record { parameters = omega arith; names = omega arith; ranks = λ n r e. subst (λ (k : List ℕ). slice_get k n ≡ Some r) (sym set.2) e }
+  closed_wider = record { parameters = omega arith; names = omega arith; ranks = λ n r e. subst (λ (k : List ℕ). slice_get k n ≡ Some r) (sym (flat_map-set rank_of l.kinds h.name (OpenLoop depth) ClosedLoop still_open refl)) e }
 
   -- the state behind the loop
   closed_state : State depth (closed_at h l)
   closed_state =
-      let set = loop-set l.kinds h.name (OpenLoop depth) ClosedLoop still_open tt tt in
-      let t : State (suc depth) l = b.state in
-      record {
-        kinds = length-set l.kinds h.name ClosedLoop ∙ t.kinds;
-        fit = subst (AllByRecursion (KindFits l.parameters depth)) (sym kinds_back)
-            (All-append (KindFits l.parameters depth) j.kinds b.grown.more
-            (All-weaken (KindFits j.parameters depth) (KindFits l.parameters depth) j.kinds
-            (more_fits j.parameters depth l.parameters depth b.grown.parameters (omega arith)) f.state.fit)
-            (All-weaken (KindFits l.parameters 0) (KindFits l.parameters depth) b.grown.more
-            (more_fits l.parameters 0 l.parameters depth (omega arith) (omega arith)) b.grown.settled));
-        parameters = set.1 ∙ t.parameters;
-        few_parameters = t.few_parameters;
-        numbered = set.3 0 t.numbered;
-        arrays = ap (λ (k : List ℕ). length k) set.2 ∙ t.arrays;
-        few_arrays = t.few_arrays;
-        few_statements = t.few_statements;
-        names = t.names;
-        distinct = t.distinct;
-      }
+      set_state l h.name (OpenLoop depth) ClosedLoop (l.lines ++ End ∷ []) b.state still_open refl refl
+      (subst (AllByRecursion (KindFits l.parameters depth)) (sym kinds_back)
+      (All-append (KindFits l.parameters depth) j.kinds b.grown.more
+      (All-weaken (KindFits j.parameters depth) (KindFits l.parameters depth) j.kinds (more_fits j.parameters depth l.parameters depth b.grown.parameters (omega arith)) f.state.fit)
+      (All-weaken (KindFits l.parameters 0) (KindFits l.parameters depth) b.grown.more (more_fits l.parameters 0 l.parameters depth (omega arith) (omega arith)) b.grown.settled)))
 
   -- the line on which the loop begins
   begins : BeginsIn depth (closed_at h l) h
@@ -287,19 +256,14 @@ module _ (depth : ℕ) (h : Loop) (i j l : Names) (few : depth < LOOPS) (f : Hea
         let opens : AllByRecursion (IsOpenAt j.kinds) around = opens_stay f.kept.grown around o in (
           All-weaken (IsOpenAt j.kinds) (λ n. n ≡ h.name → ⊥) around (λ n p. open_apart j.kinds h.name n f.closed p) opens,
           nests_both (h.name ∷ around) (h.name ∷ around) around b.new (End ∷ [])
-              (b.nested (h.name ∷ around) ((depth, opened), All-weaken (IsOpenAt j.kinds) (IsOpenAt (slice_set j.kinds h.name (OpenLoop depth))) around (λ n o. (o.0, get_other j.kinds h.name n (OpenLoop o.0) (OpenLoop depth) (open_apart j.kinds h.name n f.closed o) o.1)) opens)) refl,
+              (b.nested (h.name ∷ around) ((depth, get-set j.kinds h.name ClosedLoop (OpenLoop depth) f.closed), All-weaken (IsOpenAt j.kinds) (IsOpenAt (slice_set j.kinds h.name (OpenLoop depth))) around (λ n o. (o.0, get_other j.kinds h.name n (OpenLoop o.0) (OpenLoop depth) (open_apart j.kinds h.name n f.closed o) o.1)) opens)) refl,
         );
     loops = (
-      (ClosedLoop, closed_there, tt),
+      (ClosedLoop, get-set l.kinds h.name (OpenLoop depth) ClosedLoop still_open, tt),
       All-append (IsLoopLine (slice_set l.kinds h.name ClosedLoop)) b.new (End ∷ []) (loop_lines_more l.kinds (slice_set l.kinds h.name ClosedLoop) (λ at k. loop_set l.kinds h.name ClosedLoop at tt k) b.new b.loops) (tt, tt),
     );
     order = subst (λ n. IsOrdered n (line_numbers (b.new ++ End ∷ [])) l.arrays) (sym f.kept.order) (subst (λ ns. IsOrdered j.arrays ns l.arrays) (sym (lines_both b.new (End ∷ []) ∙ append-nil (line_numbers b.new))) b.order);
-  } where
-    opened : slice_get (slice_set j.kinds h.name (OpenLoop depth)) h.name ≡ Some (OpenLoop depth)
-    opened = ap (λ ks. slice_get ks h.name) (sym (append-nil (slice_set j.kinds h.name (OpenLoop depth)))) ∙ get-set j.kinds [] h.name ClosedLoop (OpenLoop depth) f.closed
-
-    closed_there : slice_get (slice_set l.kinds h.name ClosedLoop) h.name ≡ Some ClosedLoop
-    closed_there = ap (λ ks. slice_get ks h.name) (sym (append-nil (slice_set l.kinds h.name ClosedLoop))) ∙ get-set l.kinds [] h.name (OpenLoop depth) ClosedLoop still_open
+  }
 
 -- the names of a header
 header_named : (h : item.Header) (ws : List Word) → AreNamed (header_words h ++ ws) → IsWord h.name × AreNamed (affine_words h.lower) × AreNamed (affine_words h.upper)

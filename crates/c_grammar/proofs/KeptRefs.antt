@@ -1,11 +1,11 @@
 -- Affine expressions mean rows, and references mean arrays that are there, with as many subscripts as these have.
-use Rattle.std.proofs.Common.{◌≡◌, refl, ℕ, zero, suc, ◌+◌, ◌<◌, List, [], ◌∷◌, arith, Bool, true, false, lit<, ltb-true, sym, ◌∙◌, ap, subst, ◌≤◌, ◌++◌, length, append_assoc, append-nil, length-append, length-set, leb-false, inl, inr}
-use Rattle.std.specs.Prelude.{ℤ, pos, negsuc, nat_lt, Option, Some, None, if◌then◌else◌, ◌&&◌, ◌||◌, codes, slice_get, slice_set, nat_le, ◌==◌}
+use Rattle.std.proofs.Common.{◌≡◌, refl, ℕ, zero, suc, ◌+◌, ◌<◌, List, [], ◌∷◌, arith, Bool, true, false, lit<, ltb-true, sym, ◌∙◌, ap, ◌≤◌, ◌++◌, length, append_assoc, append-nil, length-append, leb-false, inl, inr}
+use Rattle.std.specs.Prelude.{ℤ, pos, negsuc, nat_lt, Option, Some, None, if◌then◌else◌, ◌&&◌, codes, slice_get, slice_set, nat_le, ◌==◌}
 use Rattle.std.proofs.lemmas.Bool.{and_parts, eqb-true}
 use Rattle.iolb_model.specs.declared.limits.TheConstants.{PARAMETERS, NUMBER_SIZE, ARRAYS, SUBSCRIPTS, READS}
 use Rattle.c_reading.specs.declared.named.Kind.{Kind}
 use Rattle.c_reading.specs.declared.named.Kind.TheVariants.{Parameter, OpenLoop, ClosedLoop, Array}
-use Rattle.c_reading.specs.Numbers.{single, combined, zeros, constant_of, value_from, is_integer}
+use Rattle.c_reading.specs.Numbers.{single, zeros, constant_of, value_from, is_integer}
 use Rattle.c_reading.specs.Affine.{kind_of, with_name, is_short, sign_of}
 use Rattle.c_grammar.specs.Words.{a_symbol}
 use Rattle.c_tokens.specs.Names.{IsWord}
@@ -14,11 +14,12 @@ use Rattle.c_grammar.specs.Affine.{affine_words, sums_words, term_words, product
 use Rattle.c_grammar.specs.Meaning as mean
 use Rattle.c_grammar.specs.Meaning.{Names, Form, form, slot_by, slot, affine_means, sums_means, term_means, products_means, factor_means, Meaning, then_in, subscripts_means, array_by, access_by, access_from, reference_means, with_read, plain_means, named_means, name_means, value_means, operands_means, unary_means, arguments_means}
 use Rattle.c_grammar.proofs.Rows.{IsWhereSome, IsAbsent, IsRow, combined_row, zeros_row, single_row, first_there, parameter_there}
-use Rattle.c_grammar.proofs.Kept.{AreNamed, first_named, second_named, short_word, State, row-grown, kind_fits, new_state, new_grown, nothing, ok, either, Reads, bind, stays, gives, Kept, kept-trans, kept_self, rows-grown, rank-grown, AccessIn, accesses-grown, kind_found, with_new, Gives, chained, weaken, either_of}
-use Rattle.std.specs.List.{AllByRecursion}
+use Rattle.c_grammar.proofs.Kept.{AreNamed, first_named, second_named, short_word, State, set_state, row-grown, kind_fits, new_state, new_grown, nothing, ok, either, Reads, bind, stays, gives, Kept, kept-trans, kept_self, rows-grown, rank-grown, AccessIn, accesses-grown, kind_found, with_new, Gives, chained, weaken, either_of}
+use Rattle.std.specs.List.{AllByRecursion, range_with_len}
 use Rattle.std.proofs.lemmas.Bool.Decides.{nat_tests}
 use Rattle.std.proofs.lemmas.Option.{slice_get_within}
 use Rattle.base_laws.proofs.Lists.{All-append}
+use Rattle.c_grammar.proofs.Lists.{range_more}
 use Rattle.c_reading.specs.Access.{Access}
 use Rattle.c_reading.specs.Refs.{with_kind, most_arrays, most_subscripts}
 use Rattle.c_reading.specs.Values.{Accesses, most_reads}
@@ -26,7 +27,8 @@ use Rattle.affine_program.specs.Printable.{IsOrdered}
 use Rattle.c_grammar.specs.Well.{numbers_of}
 use Rattle.c_grammar.specs.Value as value
 use Rattle.c_grammar.specs.Value.{value_words, operands_words, unary_words, arguments_words}
-use Rattle.c_grammar.proofs.NameKinds.{KindFits, parameter_count, ranks, AreNumbered, rank_at, get-behind, set-behind, rank-counts, numbered-rank, fits-rank}
+use Rattle.c_grammar.proofs.NameKinds.{KindFits, ranks, ranks-length, rank_at, get-behind, set-behind, All-set, get-set}
+use Rattle.c_grammar.proofs.Steps.{if_holds}
 
 -- ---- names
 
@@ -42,7 +44,7 @@ slot_by_there depth name None i e w s = either (is_short name && nat_lt i.parame
     let both = and_parts (is_short name) (nat_lt i.parameters PARAMETERS) h in
     let few : i.parameters < PARAMETERS = ltb-true _ _ both.1 in
     ok (record {
-      state = new_state i name (Parameter i.parameters) (i.parameters + 1) i.arrays s (short_word name w both.0) e (omega arith) (omega arith) refl (omega arith) tt (omega arith) s.few_arrays;
+      state = new_state i name (Parameter i.parameters) (i.parameters + 1) i.arrays s (short_word name w both.0) e (omega arith) (omega arith) refl (omega arith) (append-nil (range_with_len 0 i.arrays)) s.few_arrays;
       kept = record { grown = new_grown i name (Parameter i.parameters) (i.parameters + 1) i.arrays (omega arith) (omega arith); order = refl; lines = refl; statements = refl };
       value = parameter_there (i.parameters + 1) depth i.parameters (omega arith) (omega arith);
     }))
@@ -70,12 +72,8 @@ form_row parameters depth has_name (Some row) h = h
 
 -- a product of rows is a row
 times_row : (parameters depth : ℕ) (a b : Form) → IsRow parameters depth a.numbers → IsRow parameters depth b.numbers → IsWhereSome (λ (c : Form). IsRow parameters depth c.numbers) (mean.times a b)
-times_row parameters depth a b p q = which (a.has_name && b.has_name) b.has_name where
-  which : (both second : Bool) → IsWhereSome (λ (c : Form). IsRow parameters depth c.numbers) (if both then None else form (a.has_name || b.has_name)
-      (if second then combined (constant_of a.numbers) (pos 0) zeros b.numbers else combined (constant_of b.numbers) (pos 0) zeros a.numbers))
-  which true second = tt
-  which false true = form_row parameters depth _ _ (combined_row (constant_of a.numbers) (pos 0) zeros b.numbers (zeros_row parameters depth) q)
-  which false false = form_row parameters depth _ _ (combined_row (constant_of b.numbers) (pos 0) zeros a.numbers (zeros_row parameters depth) p)
+times_row parameters depth a b p q = if_holds (IsWhereSome (λ (c : Form). IsRow parameters depth c.numbers)) None _ (a.has_name && b.has_name) (λ _. tt) (λ _.
+    form_row parameters depth _ _ (if_holds (IsWhereSome (IsRow parameters depth)) _ _ b.has_name (λ _. combined_row (constant_of a.numbers) (pos 0) zeros b.numbers (zeros_row parameters depth) q) (λ _. combined_row (constant_of b.numbers) (pos 0) zeros a.numbers (zeros_row parameters depth) p)))
 
 -- a sum of rows is a row
 plus_row : (parameters depth : ℕ) (negative : Bool) (a b : Form) → IsRow parameters depth a.numbers → IsRow parameters depth b.numbers → IsWhereSome (λ (c : Form). IsRow parameters depth c.numbers) (mean.plus negative a b)
@@ -84,10 +82,8 @@ plus_row parameters depth negative a b p q = form_row parameters depth _ _ (comb
 -- digits mean a small number
 integer_row : (parameters depth : ℕ) (bytes : List ℕ) → IsWhereSome (λ (n : ℤ). IsRow parameters depth (single 0 n)) (mean.integer_means bytes)
 unfolding mean.integer_means
-integer_row parameters depth bytes = which (is_integer bytes && nat_lt (value_from 0 bytes) NUMBER_SIZE) (λ h. h) where
-  which : (b : Bool) → (b ≡ true → (is_integer bytes && nat_lt (value_from 0 bytes) NUMBER_SIZE) ≡ true) → IsWhereSome (λ (n : ℤ). IsRow parameters depth (single 0 n)) (if b then Some (pos (value_from 0 bytes)) else None)
-  which true h = single_row parameters depth 0 (pos (value_from 0 bytes)) (ltb-true _ _ (and_parts (is_integer bytes) _ (h refl)).1) (first_there parameters depth)
-  which false h = tt
+integer_row parameters depth bytes = if_holds (IsWhereSome (λ (n : ℤ). IsRow parameters depth (single 0 n))) _ None (is_integer bytes && nat_lt (value_from 0 bytes) NUMBER_SIZE)
+    (λ h. single_row parameters depth 0 (pos (value_from 0 bytes)) (ltb-true _ _ (and_parts (is_integer bytes) _ h).1) (first_there parameters depth)) (λ _. tt)
 
 -- ---- expressions
 
@@ -161,29 +157,14 @@ module _ (depth : ℕ) (i k : Names) (more : List Kind) (rank : ℕ) (s : State 
       ∙ ap (λ (l : List Kind). slice_set l (length i.kinds) (Array i.arrays rank)) b.kinds
       ∙ set-behind i.kinds more (Array i.arrays 0) (Array i.arrays rank)
 
-  -- the arrays stay numbered
-  numbered : AreNumbered 0 ((i.kinds ++ Array i.arrays rank ∷ []) ++ more)
-  numbered = numbered-rank 0 i.kinds more i.arrays 0 rank few (subst (AreNumbered 0) b.kinds t.numbered)
+  -- the new array is there
+  there : slice_get k.kinds (length i.names) ≡ Some (Array i.arrays 0)
+  there = ap (slice_get k.kinds) (sym s.kinds) ∙ ap (λ (l : List Kind). slice_get l (length i.kinds)) b.kinds ∙ get-behind i.kinds more (Array i.arrays 0)
 
   -- the state with the new array
   ranked_state : State depth (with_kind (length i.names) (Array i.arrays rank) k)
   unfolding with_kind
-  ranked_state = record {
-    kinds = length-set k.kinds (length i.names) (Array i.arrays rank) ∙ t.kinds;
-    fit = subst (AllByRecursion (KindFits k.parameters depth)) (sym kinds_are)
-        (fits-rank (KindFits k.parameters depth) i.kinds more (Array i.arrays 0) (Array i.arrays rank) tt
-        (subst (AllByRecursion (KindFits k.parameters depth)) b.kinds t.fit));
-    parameters = ap parameter_count kinds_are ∙ (rank-counts i.kinds more i.arrays 0 rank).0 ∙ sym (ap parameter_count b.kinds) ∙ t.parameters;
-    few_parameters = t.few_parameters;
-    numbered = subst (AreNumbered 0) (sym kinds_are) numbered;
-    arrays =
-        ap (λ (l : List Kind). length (ranks l)) kinds_are ∙ (rank-counts i.kinds more i.arrays 0 rank).1
-        ∙ sym (ap (λ (l : List Kind). length (ranks l)) b.kinds) ∙ t.arrays;
-    few_arrays = t.few_arrays;
-    few_statements = t.few_statements;
-    names = t.names;
-    distinct = t.distinct;
-  }
+  ranked_state = set_state k (length i.names) (Array i.arrays 0) (Array i.arrays rank) k.lines t there refl refl (All-set (KindFits k.parameters depth) k.kinds (length i.names) (Array i.arrays rank) few t.fit)
 
   -- the next array was referred to
   next_order : IsOrdered i.arrays (i.arrays ∷ []) k.arrays
@@ -196,7 +177,7 @@ module _ (depth : ℕ) (i k : Names) (more : List Kind) (rank : ℕ) (s : State 
     grown = record {
       more = Array i.arrays rank ∷ more;
       kinds = kinds_are ∙ append_assoc i.kinds (Array i.arrays rank ∷ []) more;
-      settled = (tt, b.settled);
+      settled = (few, b.settled);
       parameters = b.parameters;
       names = b.names;
     };
@@ -209,7 +190,7 @@ module _ (depth : ℕ) (i k : Names) (more : List Kind) (rank : ℕ) (s : State 
   ranked_access : (rows : List (List ℤ)) → length rows ≡ rank → AllByRecursion (IsRow k.parameters depth) rows → AccessIn depth (with_kind (length i.names) (Array i.arrays rank) k) (record { array = i.arrays; subscripts = rows })
   unfolding with_kind
   ranked_access rows long h = record {
-    rank = subst (λ (l : List Kind). slice_get (ranks l) i.arrays ≡ Some (length rows)) (sym kinds_are) (rank_at ((i.kinds ++ Array i.arrays rank ∷ []) ++ more) (length i.kinds) i.arrays rank numbered (get-behind i.kinds more (Array i.arrays rank)) ∙ ap Some (sym long));
+    rank = rank_at k.arrays _ (length i.names) i.arrays rank ranked_state.numbered (get-set k.kinds (length i.names) (Array i.arrays 0) (Array i.arrays rank) there) ∙ ap Some (sym long);
     rows = h;
   }
 
@@ -223,8 +204,7 @@ pub record IsReference (depth : ℕ) (i : Names) (a : Access) (j : Names) : Type
 
 -- a meaning behind one of two
 either_then : {A B : Type 0} (c : Bool) (x y : Option (A × Names)) (f : A → Meaning B) {Q : B → Names → Type 0} → (c ≡ true → Gives (then_in x f) Q) → (c ≡ false → Gives (then_in y f) Q) → Gives (then_in (if c then x else y) f) Q
-either_then true x y p f g = f refl
-either_then false x y p f g = g refl
+either_then c x y p {Q} f g = if_holds (λ o. Gives (then_in o p) Q) x y c f g
 
 -- a reference by the kind of its name
 reference_by : (depth b : ℕ) (name : List ℕ) (ss : tree.Subscripts) (o : Option Kind) (i : Names) → kind_of name i ≡ o → IsWord name → AreNamed (subscripts_words ss) → State depth i
@@ -235,8 +215,9 @@ reference_by depth b name ss None i e w n s = either_then (is_short name && nat_
     let both = and_parts (is_short name) (nat_lt i.arrays most_arrays) h in
     let few : i.arrays < ARRAYS = ltb-true _ _ both.1 in
     let none : i.parameters + 0 ≡ i.parameters = omega arith in
+    let at_end : i.arrays ≡ 0 + i.arrays = omega arith in
     let j : Names = with_new name (Array i.arrays 0) i.parameters (i.arrays + 1) i in
-    let t : State depth j = new_state i name (Array i.arrays 0) i.parameters (i.arrays + 1) s (short_word name w both.0) e tt (omega arith) none s.few_parameters (refl, omega arith, tt) refl (omega arith) in
+    let t : State depth j = new_state i name (Array i.arrays 0) i.parameters (i.arrays + 1) s (short_word name w both.0) e (omega arith) (omega arith) none s.few_parameters (ap (λ n. range_with_len 0 i.arrays ++ n ∷ []) at_end ∙ range_more 0 i.arrays 1) (omega arith) in
     chained (subscripts_means b [] ss j) (subscripts_are depth b [] ss j n t (record { few = omega arith; each = tt })) (λ rows k after.
     let behind : IsBehind i k after.kept.grown.more = record {
       kinds = after.kept.grown.kinds;
@@ -259,8 +240,8 @@ reference_by depth b name ss (Some ClosedLoop) i e w n s = nothing
 reference_by depth b name ss (Some (Array number r)) i e w n s =
     chained (subscripts_means b [] ss i) (subscripts_are depth b [] ss i n s (record { few = omega arith; each = tt })) (λ rows j after.
     either (length rows == r) (λ same.
-    let rank : slice_get (ranks i.kinds) number ≡ Some r = (let found = kind_found name i (Array number r) e in rank_at i.kinds found.0 number r s.numbered found.2) in
-    let below : number < i.arrays = omega (arith, slice_get_within (ranks i.kinds) number r rank, s.arrays) in
+    let rank : slice_get (ranks i.kinds) number ≡ Some r = (let found = kind_found name i (Array number r) e in rank_at i.arrays i.kinds found.0 number r s.numbered found.2) in
+    let below : number < i.arrays = omega (arith, slice_get_within (ranks i.kinds) number r rank, ranks-length i.arrays i.kinds s.numbered) in
     let seen : nat_lt number i.arrays ≡ true = grind (arith, nat_tests) in
     ok (record {
       state = after.state;

@@ -26,11 +26,13 @@ use Rattle.c_grammar.specs.Meaning as mean
 use Rattle.c_grammar.specs.Meaning.{Names, affine_means, with_compare, row_count, compare_means, slot, items_means, parameters_mean, compares_mean, lines_mean, whole_means, text_means}
 use Rattle.affine_program.specs.Printable.{IsOrdered}
 use Rattle.c_grammar.specs.Well.{IsRowOver, parameters_of, arrays_of, IsAccessIn, AreLinesIn, statement_count, Nests, IsLoopLine, line_numbers, IsWellRead, ReadingsAreWellRead}
-use Rattle.c_grammar.proofs.Steps.{AreLexical, IsSpelled, all_spelled, named_word}
+use Rattle.c_grammar.proofs.Steps.{AreLexical, IsSpelled, all_spelled, named_word, if_holds}
 use Rattle.c_grammar.proofs.Lexical.{text_lexical}
 use Rattle.c_grammar.proofs.SoundItems.{accepted}
 use Rattle.c_grammar.proofs.Rows.{IsWhereSome, IsRow, combined_row, stated_row, all_rows}
-use Rattle.c_grammar.proofs.NameKinds.{ranks, AreNumbered, parameters-length}
+use Rattle.c_grammar.proofs.NameKinds.{KindFits, ranks, ranks-length, parameters-length}
+use Rattle.std.proofs.lemmas.Option.{slice_get-map}
+use Rattle.std.proofs.lemmas.List.{length-map}
 use Rattle.c_grammar.proofs.Kept.{IsNamed, AreNamed, first_named, second_named, State, Kept, kept-trans, rows-grown, AccessIn, Gives, nothing, ok, chained, Reads, bind, stays, Goes}
 use Rattle.c_grammar.proofs.KeptRefs.{slot_there, affine_form}
 use Rattle.c_grammar.proofs.KeptItems.{Adds, items_add}
@@ -132,35 +134,31 @@ lines_kept h (text.assumptions head cs ls) i n s g =
 
 -- ---- arrays by their names
 
+-- names that are arrays have the numbers of subscripts of their kinds
+arrays_ranks : (names : List (List ℕ)) (kinds : List Kind) → length kinds ≡ length names → map (λ (array : List ℕ × ℕ). array.1) (arrays_among names kinds) ≡ ranks kinds
+arrays_ranks [] [] e = refl
+arrays_ranks [] (k ∷ kinds) e = absurd (omega (arith, e))
+arrays_ranks (name ∷ names) [] e = refl
+arrays_ranks (name ∷ names) (Parameter k ∷ kinds) e = arrays_ranks names kinds (omega (arith, e))
+arrays_ranks (name ∷ names) (OpenLoop d ∷ kinds) e = arrays_ranks names kinds (omega (arith, e))
+arrays_ranks (name ∷ names) (ClosedLoop ∷ kinds) e = arrays_ranks names kinds (omega (arith, e))
+arrays_ranks (name ∷ names) (Array m s ∷ kinds) e = ap (λ (ns : List ℕ). s ∷ ns) (arrays_ranks names kinds (omega (arith, e)))
+
 -- an array has its number of subscripts by its name
 ranked : (names : List (List ℕ)) (kinds : List Kind) (n r : ℕ) → length kinds ≡ length names → slice_get (ranks kinds) n ≡ Some r → IsSomeAnd (slice_get (arrays_among names kinds) n) (λ array. r ≡ array.1)
-ranked [] [] n r e g = cc
-ranked [] (k ∷ kinds) n r e g = absurd (omega (arith, e))
-ranked (name ∷ names) [] n r e g = cc
-ranked (name ∷ names) (Parameter k ∷ kinds) n r e g = ranked names kinds n r (omega (arith, e)) g
-ranked (name ∷ names) (OpenLoop d ∷ kinds) n r e g = ranked names kinds n r (omega (arith, e)) g
-ranked (name ∷ names) (ClosedLoop ∷ kinds) n r e g = ranked names kinds n r (omega (arith, e)) g
-ranked (name ∷ names) (Array m s ∷ kinds) zero r e g = (let same : s ≡ r = cc in sym same)
-ranked (name ∷ names) (Array m s ∷ kinds) (suc n) r e g = ranked names kinds n r (omega (arith, e)) g
-
--- as many names are arrays as kinds are
-arrays-length : (names : List (List ℕ)) (kinds : List Kind) → length kinds ≡ length names → length (arrays_among names kinds) ≡ length (ranks kinds)
-arrays-length [] [] e = refl
-arrays-length [] (k ∷ kinds) e = absurd (omega (arith, e))
-arrays-length (name ∷ names) [] e = refl
-arrays-length (name ∷ names) (Parameter k ∷ kinds) e = arrays-length names kinds (omega (arith, e))
-arrays-length (name ∷ names) (OpenLoop d ∷ kinds) e = arrays-length names kinds (omega (arith, e))
-arrays-length (name ∷ names) (ClosedLoop ∷ kinds) e = arrays-length names kinds (omega (arith, e))
-arrays-length (name ∷ names) (Array m s ∷ kinds) e = ap suc (arrays-length names kinds (omega (arith, e)))
+ranked names kinds n r e g = by (slice_get (arrays_among names kinds) n) (sym (slice_get-map _ (arrays_among names kinds) n) ∙ ap (λ (l : List ℕ). slice_get l n) (arrays_ranks names kinds e) ∙ g) where
+  by : (o : Option (List ℕ × ℕ)) → option_map (λ (array : List ℕ × ℕ). array.1) o ≡ Some r → IsSomeAnd o (λ array. r ≡ array.1)
+  by None f = cc
+  by (Some array) f = (let same : array.1 ≡ r = cc in sym same)
 
 -- each array has few subscripts
-few_ranks : (first : ℕ) (names : List (List ℕ)) (kinds : List Kind) → AreNumbered first kinds → AllByRecursion (λ (array : List ℕ × ℕ). array.1 ≤ SUBSCRIPTS) (arrays_among names kinds)
-few_ranks first [] kinds h = tt
-few_ranks first (name ∷ names) [] h = tt
-few_ranks first (name ∷ names) (Parameter k ∷ kinds) h = few_ranks first names kinds h
-few_ranks first (name ∷ names) (OpenLoop d ∷ kinds) h = few_ranks first names kinds h
-few_ranks first (name ∷ names) (ClosedLoop ∷ kinds) h = few_ranks first names kinds h
-few_ranks first (name ∷ names) (Array m s ∷ kinds) h = (h.1, few_ranks (suc first) names kinds h.2)
+few_ranks : (parameters depth : ℕ) (names : List (List ℕ)) (kinds : List Kind) → AllByRecursion (KindFits parameters depth) kinds → AllByRecursion (λ (array : List ℕ × ℕ). array.1 ≤ SUBSCRIPTS) (arrays_among names kinds)
+few_ranks parameters depth [] kinds h = tt
+few_ranks parameters depth (name ∷ names) [] h = tt
+few_ranks parameters depth (name ∷ names) (Parameter k ∷ kinds) h = few_ranks parameters depth names kinds h.1
+few_ranks parameters depth (name ∷ names) (OpenLoop d ∷ kinds) h = few_ranks parameters depth names kinds h.1
+few_ranks parameters depth (name ∷ names) (ClosedLoop ∷ kinds) h = few_ranks parameters depth names kinds h.1
+few_ranks parameters depth (name ∷ names) (Array m s ∷ kinds) h = (h.0, few_ranks parameters depth names kinds h.1)
 
 -- ---- what is read, as it is stated
 
@@ -212,13 +210,9 @@ rows-length (suc k) = omega (arith, length-append (all_at_least_one k) (at_least
 -- the rows that are assumed, of which there is one where there is a parameter
 assumed_few : (h : Head) (i : Names) → State 0 i → IsHead h i → AreFew i.parameters ASSUMPTIONS (assumptions_of h i) × (0 < i.parameters → 0 < length (assumptions_of h i))
 unfolding assumptions_of
-assumed_few h i s e = which h.assumed refl where
-  which : (b : Bool) → h.assumed ≡ b → AreFew i.parameters ASSUMPTIONS (if b then h.rows else all_at_least_one i.parameters) × (0 < i.parameters → 0 < length (if b then h.rows else all_at_least_one i.parameters))
-  which true is = (e.few, λ _. e.some is)
-  which false is = (
-    record { few = omega (arith, rows-length i.parameters, s.few_parameters); each = all_rows i.parameters i.parameters (omega arith) s.few_parameters },
-    λ some. omega (arith, rows-length i.parameters),
-  )
+assumed_few h i s e = if_holds (λ (rows : Rows). AreFew i.parameters ASSUMPTIONS rows × (0 < i.parameters → 0 < length rows)) h.rows (all_at_least_one i.parameters) h.assumed
+    (λ is. (e.few, λ _. e.some is))
+    (λ _. (record { few = omega (arith, rows-length i.parameters, s.few_parameters); each = all_rows i.parameters i.parameters (omega arith) s.few_parameters }, λ some. omega (arith, rows-length i.parameters)))
 
 -- what is meant is well read
 module _ (h : Head) (j k : Names) (g : IsHead h j) (lines : j.lines ≡ []) (counts : j.statements ≡ 0) (arrays : j.arrays ≡ 0) (a : Adds 0 j k) where
@@ -230,14 +224,14 @@ module _ (h : Head) (j k : Names) (g : IsHead h j) (lines : j.lines ≡ []) (cou
       let assumed = assumed_few h k s head in
       let only : k.lines ≡ a.new = a.lines ∙ ap (λ (ls : List Line). ls ++ a.new) lines in
       let params : length (parameters_of (reading_at rows k)) ≡ k.parameters = parameters_are rows k s in
-      let many : length (arrays_of (reading_at rows k)) ≡ k.arrays = arrays-length k.names k.kinds s.kinds ∙ s.arrays in
+      let many : length (arrays_of (reading_at rows k)) ≡ k.arrays = sym (length-map (arrays_among k.names k.kinds) (λ (array : List ℕ × ℕ). array.1)) ∙ ap length (arrays_ranks k.names k.kinds s.kinds) ∙ ranks-length k.arrays k.kinds s.numbered in
       record {
         kinds = s.kinds;
         parameters = omega (arith, params, s.few_parameters);
         few_assumptions = assumed.0.few;
         assumptions = rows_over rows k s 0 rows assumed.0.each;
         few_arrays = omega (arith, many, s.few_arrays);
-        ranks = few_ranks 0 k.names k.kinds s.numbered;
+        ranks = few_ranks k.parameters 0 k.names k.kinds s.fit;
         statements = omega (arith, ap statement_count only, a.statements, s.few_statements);
         lines = lines_over rows k s 0 k.lines (subst (λ (ls : List Line). Goes 0 k ls 0) (sym only) a.goes);
         names = s.names;
@@ -254,7 +248,7 @@ unfolding whole_means
 whole_well t n =
     let ws = items_words t.items ++ (program_end ∷ []) in
     chained (lines_mean (record { assumed = false; rows = [] }) t.lines (start_of [] []))
-    (lines_kept (record { assumed = false; rows = [] }) t.lines (start_of [] []) (first_named (lines_words t.lines) ws n) (record { kinds = refl; fit = tt; parameters = refl; few_parameters = omega arith; numbered = tt; arrays = refl; few_arrays = omega arith; few_statements = omega arith; names = tt; distinct = λ a b name e f. cc }) (record { few = record { few = omega arith; each = tt }; some = λ e. cc })) (λ h j q.
+    (lines_kept (record { assumed = false; rows = [] }) t.lines (start_of [] []) (first_named (lines_words t.lines) ws n) (record { kinds = refl; fit = tt; parameters = refl; few_parameters = omega arith; numbered = refl; few_arrays = omega arith; few_statements = omega arith; names = tt; distinct = λ a b name e f. cc }) (record { few = record { few = omega arith; each = tt }; some = λ e. cc })) (λ h j q.
     chained (items_means most_loops most_brackets t.items j) (items_add most_loops 0 most_brackets t.items j refl (first_named (items_words t.items) (program_end ∷ []) (second_named (lines_words t.lines) ws n)) q.state) (λ _ k a.
     ok (meant_well h j k q.value q.kept.lines q.kept.statements (sym q.kept.order) a)))
 

@@ -1,6 +1,6 @@
 -- The words of every text are lexical: the bytes of each have its kind, and the end stands last.
 use Rattle.std.proofs.Common.{◌≡◌, ℕ, zero, suc, ◌+◌, ◌-◌, ◌≤◌, Bool, true, false, List, [], ◌∷◌, ◌++◌, length, map, take, drop, refl, sym, ap, ◌∙◌, Option, Some, None, subst, arith}
-use Rattle.std.specs.Prelude.{◌==◌, ◌&&◌, ◌||◌, if◌then◌else◌, codes, option_map, find}
+use Rattle.std.specs.Prelude.{◌==◌, ◌&&◌, ◌||◌, codes, option_map, find}
 use Rattle.std.specs.List.{prefix_len, list_all, AllByRecursion}
 use Rattle.std.proofs.lemmas.List.{drop-drop, take-append-le, take-append-drop, append_assoc, append-nil, length-append, take_at, drop_at}
 use Rattle.std.proofs.lemmas.List.Sums.{prefix_len-le-length}
@@ -13,45 +13,23 @@ use Rattle.c_tokens.specs.Words.{begins_with, directive_words, pragma_words, pas
 use Rattle.c_tokens.specs.Pieces.{is_among, is_keyword, name_kind, name_at, begins_number, number_rest, is_pair, symbol_at, block_comment, comment_end, slash_at, newline_at, piece_from, piece_of, has_comments, piece_length}
 use Rattle.c_tokens.specs.Tokens.{end_kind, tokens_in, token_at, piece_tokens}
 use Rattle.c_grammar.specs.Words.{Word, word_of}
-use Rattle.c_grammar.proofs.Steps.{spelled_kind, class, goes_on, is_last, AreLexical, IsSpelled, all_spelled, bool_cases}
+use Rattle.c_grammar.proofs.Steps.{spelled_kind, class, goes_on, is_last, AreLexical, IsSpelled, all_spelled, bool_cases, if_holds, domain}
 use Rattle.std.proofs.lemmas.Option.{option_and_then_some}
 use Rattle.c_tokens.specs.Lines.{Line, in_front, lines, lines_from, line_end}
 use Rattle.c_tokens.specs.Text.{opens, closes, directive_of, assumption_tokens, line_tokens, head_tokens, part, scop_tokens, tokens_behind, tokens_of}
 
 -- ---- pieces
 
--- what a piece gives: nothing, a token with its length, or the last token
-data Gives : Type 0 where
-  no_token : ℕ → Gives
-  token_of : TokenKind → ℕ → Gives
-  last_token : TokenKind → ℕ → Gives
+-- a piece gives no token at its place, one of so many bytes that have its kind, or the last
+abbrev IsLexicalAs : List ℕ → ℕ → List Token → Option ℕ → Type 0
+IsLexicalAs bytes place [] None = ⊥
+IsLexicalAs bytes place [] (Some n) = Unit {0}
+IsLexicalAs bytes place (t ∷ ts) None = (t ∷ ts ≡ token_at t.kind t.place 0 ∷ []) × (class t.kind ≡ token.End) × (is_last t.kind ≡ false) × (goes_on t.kind ≡ false)
+IsLexicalAs bytes place (t ∷ ts) (Some n) = (t ∷ ts ≡ token_at t.kind place n ∷ []) × (n ≤ length bytes) × (class t.kind ≡ spelled_kind (take n bytes)) × (is_last t.kind ≡ false)
 
--- the tokens that it gives at a place
-abbrev gives_tokens : ℕ → Gives → List Token
-gives_tokens place (no_token n) = []
-gives_tokens place (token_of kind n) = token_at kind place n ∷ []
-gives_tokens place (last_token kind n) = token_at kind (place + n) 0 ∷ []
-
--- its length, where it isn't the last
-abbrev gives_length : Gives → Option ℕ
-gives_length (no_token n) = Some n
-gives_length (token_of kind n) = Some n
-gives_length (last_token kind n) = None
-
--- the bytes of its token have the token's kind
-abbrev IsLexical : List ℕ → Gives → Type 0
-IsLexical bytes (no_token n) = Unit {0}
-IsLexical bytes (token_of k n) = (n ≤ length bytes) × (class k ≡ spelled_kind (take n bytes)) × (is_last k ≡ false)
-IsLexical bytes (last_token k n) = (class k ≡ token.End) × (is_last k ≡ false) × (goes_on k ≡ false)
-
--- a piece, by its tokens and its length, whose bytes have its kind
-LexicalAs : List ℕ → (ℕ → List Token) → Option ℕ → Type 0
-LexicalAs bytes tokens len = (m : Gives) × ((place : ℕ) → tokens place ≡ gives_tokens place m) × (len ≡ gives_length m) × IsLexical bytes m
-
--- what holds of both sides of a test
-pub if_holds : {A : Type 0} (P : A → Type 0) (x y : A) (c : Bool) → (c ≡ true → P x) → (c ≡ false → P y) → P (if c then x else y)
-if_holds P x y true t f = t refl
-if_holds P x y false t f = f refl
+-- the same of a piece in front of these bytes
+abbrev IsLexical : List ℕ → ℕ → domain piece_length → Type 0
+IsLexical bytes place p = IsLexicalAs bytes place (piece_tokens place p) (piece_length p)
 
 -- one of two tests succeeded
 pub or_cases : {P : Type 0} (a b : Bool) → (a || b) ≡ true → (a ≡ true → P) → (b ≡ true → P) → P
@@ -68,46 +46,32 @@ unfolding spelled_kind
 symbol_kind b rest n m s h = rw (n, m, s, h) refl
 
 -- a symbol's bytes have its kind
-symbol_lexical : (b : ℕ) (rest : List ℕ) → is_name_start b ≡ false → begins_number b rest ≡ false → is_space b ≡ false → LexicalAs (b ∷ rest) (λ place. piece_tokens place (symbol_at b rest)) (piece_length (symbol_at b rest))
-unfolding LexicalAs
-symbol_lexical b [] n m s = if_holds (λ (p : _). LexicalAs (b ∷ []) (λ place. piece_tokens place p) (piece_length p)) _ _ (is_among (codes "()[]{};,=+-*/%<>!&|?:.") b)
-    (λ is. (token_of token.Symbol 1, (λ place. refl), refl, (omega arith, symbol_kind b [] n m s (not_byte (codes "()[]{};,=+-*/%<>!&|?:.") 35 b refl is), refl))) (λ _. (last_token token.Bad 0, (λ place. refl), refl, (refl, refl, refl)))
-symbol_lexical b (c ∷ rest) n m s = if_holds (λ (p : _). LexicalAs (b ∷ c ∷ rest) (λ place. piece_tokens place p) (piece_length p)) _ _ (is_pair b c)
-    (λ is. (token_of token.Symbol 2, (λ place. refl), refl, (omega arith, symbol_kind b (c ∷ []) n m s (or_cases _ _ is (λ e. not_byte (codes "+-*/<>=!") 35 b refl (and_parts (c == 61) _ e).1) (λ e. not_byte (codes "+-&|") 35 b refl (and_parts (c == b) _ e).1)), refl)))
-    (λ _. if_holds (λ (p : _). LexicalAs (b ∷ c ∷ rest) (λ place. piece_tokens place p) (piece_length p)) _ _ (is_among (codes "()[]{};,=+-*/%<>!&|?:.") b)
-    (λ is. (token_of token.Symbol 1, (λ place. refl), refl, (omega arith, symbol_kind b [] n (alone b c m) s (not_byte (codes "()[]{};,=+-*/%<>!&|?:.") 35 b refl is), refl))) (λ _. (last_token token.Bad 0, (λ place. refl), refl, (refl, refl, refl)))) where
+symbol_lexical : (place : ℕ) (b : ℕ) (rest : List ℕ) → is_name_start b ≡ false → begins_number b rest ≡ false → is_space b ≡ false → IsLexical (b ∷ rest) place (symbol_at b rest)
+symbol_lexical place b [] n m s = if_holds (IsLexical (b ∷ []) place) _ _ (is_among (codes "()[]{};,=+-*/%<>!&|?:.") b)
+    (λ is. (refl, omega arith, symbol_kind b [] n m s (not_byte (codes "()[]{};,=+-*/%<>!&|?:.") 35 b refl is), refl)) (λ _. (refl, refl, refl, refl))
+symbol_lexical place b (c ∷ rest) n m s = if_holds (IsLexical (b ∷ c ∷ rest) place) _ _ (is_pair b c)
+    (λ is. (refl, omega arith, symbol_kind b (c ∷ []) n m s (or_cases _ _ is (λ e. not_byte (codes "+-*/<>=!") 35 b refl (and_parts (c == 61) _ e).1) (λ e. not_byte (codes "+-&|") 35 b refl (and_parts (c == b) _ e).1)), refl))
+    (λ _. if_holds (IsLexical (b ∷ c ∷ rest) place) _ _ (is_among (codes "()[]{};,=+-*/%<>!&|?:.") b)
+    (λ is. (refl, omega arith, symbol_kind b [] n (alone b c m) s (not_byte (codes "()[]{};,=+-*/%<>!&|?:.") 35 b refl is), refl)) (λ _. (refl, refl, refl, refl))) where
       alone : (b c : ℕ) → (is_digit b || (b == 46 && is_digit c)) ≡ false → (is_digit b || (b == 46 && false)) ≡ false
-      alone b c m = rw (or_parts (is_digit b) _ m).0 (no (b == 46)) where
-        no : (t : Bool) → (t && false) ≡ false
-        no true = refl
-        no false = refl
+      alone b c m = rw (or_parts (is_digit b) _ m).0 (bool_cases (b == 46) (λ e. rw e refl) (λ e. rw e refl))
 
 -- a comment gives no token, or the last
-comment_lexical : (bytes : List ℕ) (o : Option ℕ) → LexicalAs bytes (λ place. piece_tokens place (block_comment o)) (piece_length (block_comment o))
-unfolding LexicalAs
-comment_lexical bytes None = (last_token token.Bad 0, (λ place. refl), refl, (refl, refl, refl))
-comment_lexical bytes (Some n) = (no_token _, (λ place. refl), refl, tt)
+comment_lexical : (place : ℕ) (bytes : List ℕ) (o : Option ℕ) → IsLexical bytes place (block_comment o)
+comment_lexical place bytes None = (refl, refl, refl, refl)
+comment_lexical place bytes (Some n) = tt
 
 -- what a `/` begins
-slash_lexical : (rest : List ℕ) → LexicalAs (47 ∷ rest) (λ place. piece_tokens place (slash_at rest)) (piece_length (slash_at rest))
-unfolding LexicalAs
-slash_lexical [] = symbol_lexical 47 [] refl refl refl
-slash_lexical (c ∷ rest) = if_holds (λ (p : _). LexicalAs (47 ∷ c ∷ rest) (λ place. piece_tokens place p) (piece_length p)) _ _ (c == 47) (λ _. (no_token _, (λ place. refl), refl, tt)) (λ _.
-    if_holds (λ (p : _). LexicalAs (47 ∷ c ∷ rest) (λ place. piece_tokens place p) (piece_length p)) _ _ (c == 42) (λ _. comment_lexical (47 ∷ c ∷ rest) (comment_end 0 rest)) (λ _. symbol_lexical 47 (c ∷ rest) refl refl refl))
+slash_lexical : (place : ℕ) (rest : List ℕ) → IsLexical (47 ∷ rest) place (slash_at rest)
+slash_lexical place [] = symbol_lexical place 47 [] refl refl refl
+slash_lexical place (c ∷ rest) = if_holds (IsLexical (47 ∷ c ∷ rest) place) _ _ (c == 47) (λ _. tt) (λ _.
+    if_holds (IsLexical (47 ∷ c ∷ rest) place) _ _ (c == 42) (λ _. comment_lexical place (47 ∷ c ∷ rest) (comment_end 0 rest)) (λ _. symbol_lexical place 47 (c ∷ rest) refl refl refl))
 
 -- what a newline begins
-newline_lexical : (bytes rest : List ℕ) → LexicalAs bytes (λ place. piece_tokens place (newline_at rest)) (piece_length (newline_at rest))
-unfolding LexicalAs
-newline_lexical bytes rest = if_holds (λ (p : _). LexicalAs bytes (λ place. piece_tokens place p) (piece_length p)) _ _ (begins_with (codes "#") (first_line rest)) (λ _. if_holds (λ (p : _). LexicalAs bytes (λ place. piece_tokens place p) (piece_length p)) _ _ (begins_with directive_words (first_line rest)) (λ _. (last_token token.Directive (1 + prefix_len is_space (first_line rest)), (λ place. refl), refl, (refl, refl, refl))) (λ _. if_holds (λ (p : _). LexicalAs bytes (λ place. piece_tokens place p) (piece_length p)) _ _ (begins_with pragma_words (first_line rest)) (λ _. (no_token _, (λ place. refl), refl, tt)) (λ _. (last_token token.Bad (1 + prefix_len is_space (first_line rest)), (λ place. refl), refl, (refl, refl, refl))))) (λ _. (no_token _, (λ place. refl), refl, tt))
+newline_lexical : (place : ℕ) (bytes rest : List ℕ) → IsLexical bytes place (newline_at rest)
+newline_lexical place bytes rest = if_holds (IsLexical bytes place) _ _ (begins_with (codes "#") (first_line rest)) (λ _. if_holds (IsLexical bytes place) _ _ (begins_with directive_words (first_line rest)) (λ _. (refl, refl, refl, refl)) (λ _. if_holds (IsLexical bytes place) _ _ (begins_with pragma_words (first_line rest)) (λ _. tt) (λ _. (refl, refl, refl, refl)))) (λ _. tt)
 
 -- names
-
--- a name's kind stands for itself, and isn't the last
-name_kind_class : (word : List ℕ) → (class (name_kind word) ≡ name_kind word) × (is_last (name_kind word) ≡ false)
-name_kind_class word = cases (is_keyword word) where
-  cases : (t : Bool) → (class (if t then token.Word else token.Name) ≡ (if t then token.Word else token.Name)) × (is_last (if t then token.Word else token.Name) ≡ false)
-  cases true = (refl, refl)
-  cases false = (refl, refl)
 
 -- the bytes in front that go on with a name
 front_all : (p : ℕ → Bool) (bytes : List ℕ) → list_all p (take (prefix_len p bytes) bytes) ≡ true
@@ -117,22 +81,14 @@ front_all p (b ∷ bytes) = bool_cases (p b)
     (λ e. rw e refl)
 
 -- a name's bytes have its kind
-name_lexical : (b : ℕ) (rest : List ℕ) → is_name_start b ≡ true → LexicalAs (b ∷ rest) (λ place. piece_tokens place (name_at (b ∷ rest))) (piece_length (name_at (b ∷ rest)))
-unfolding LexicalAs spelled_kind
-name_lexical b rest is =
+name_lexical : (place : ℕ) (b : ℕ) (rest : List ℕ) → is_name_start b ≡ true → IsLexical (b ∷ rest) place (name_at (b ∷ rest))
+unfolding spelled_kind
+name_lexical place b rest is =
     let first : prefix_len is_name_byte (b ∷ rest) ≡ suc (prefix_len is_name_byte rest) = rw is (omega arith) in
     let all : list_all is_name_byte (take (prefix_len is_name_byte rest) rest) ≡ true = front_all is_name_byte rest in
     let spelled : name_kind (b ∷ take (prefix_len is_name_byte rest) rest) ≡ spelled_kind (b ∷ take (prefix_len is_name_byte rest) rest) = rw (is, all) refl in
-    let kinds = name_kind_class (take (prefix_len is_name_byte (b ∷ rest)) (b ∷ rest)) in (
-      token_of (name_kind (take (prefix_len is_name_byte (b ∷ rest)) (b ∷ rest))) (prefix_len is_name_byte (b ∷ rest)),
-      (λ place. refl),
-      refl,
-      (
-        prefix_len-le-length is_name_byte (b ∷ rest),
-        kinds.0 ∙ ap (λ (n : ℕ). name_kind (take n (b ∷ rest))) first ∙ spelled ∙ ap (λ (n : ℕ). spelled_kind (take n (b ∷ rest))) (sym first),
-        kinds.1,
-      ),
-    )
+    let kinds = if_holds (λ k. (class k ≡ k) × (is_last k ≡ false)) token.Word token.Name (is_keyword (take (prefix_len is_name_byte (b ∷ rest)) (b ∷ rest))) (λ _. (refl, refl)) (λ _. (refl, refl)) in
+    (refl, prefix_len-le-length is_name_byte (b ∷ rest), kinds.0 ∙ ap (λ (n : ℕ). name_kind (take n (b ∷ rest))) first ∙ spelled ∙ ap (λ (n : ℕ). spelled_kind (take n (b ∷ rest))) (sym first), kinds.1)
 
 -- numbers
 
@@ -154,34 +110,25 @@ number_begins b (c ∷ rest) is = or_cases (is_digit b) (b == 46 && is_digit c) 
     ap (λ (n : ℕ). begins_number b (take n (c ∷ rest))) more ∙ is)
 
 -- a number's bytes have its kind
-number_lexical : (b : ℕ) (rest : List ℕ) → is_name_start b ≡ false → begins_number b rest ≡ true → LexicalAs (b ∷ rest) (λ place. token_at token.Number place (1 + number_rest b rest) ∷ []) (Some (1 + number_rest b rest))
-unfolding LexicalAs spelled_kind
-number_lexical b rest n m =
+number_lexical : (place : ℕ) (b : ℕ) (rest : List ℕ) → is_name_start b ≡ false → begins_number b rest ≡ true → IsLexicalAs (b ∷ rest) place (token_at token.Number place (1 + number_rest b rest) ∷ []) (Some (1 + number_rest b rest))
+unfolding spelled_kind
+number_lexical place b rest n m =
     let begins : begins_number b (take (number_rest b rest) rest) ≡ true = number_begins b rest m in
     let spelled : token.Number ≡ spelled_kind (b ∷ take (number_rest b rest) rest) = rw (n, begins) refl in
-    let more : 1 + number_rest b rest ≡ suc (number_rest b rest) = omega arith in (
-      token_of token.Number (1 + number_rest b rest),
-      (λ place. refl),
-      refl,
-      (
-        omega (arith, number_rest-le b rest),
-        spelled ∙ ap (λ (n : ℕ). spelled_kind (take n (b ∷ rest))) (sym more),
-        refl,
-      ),
-    )
+    let more : 1 + number_rest b rest ≡ suc (number_rest b rest) = omega arith in
+    (refl, omega (arith, number_rest-le b rest), spelled ∙ ap (λ (n : ℕ). spelled_kind (take n (b ∷ rest))) (sym more), refl)
 
 -- the bytes of every piece have its kind
-piece_lexical : (r : _) (b : ℕ) (rest : List ℕ) → LexicalAs (b ∷ rest) (λ place. piece_tokens place (piece_from r b rest)) (piece_length (piece_from r b rest))
-unfolding LexicalAs
-piece_lexical r b rest =
-    if_holds (λ (p : _). LexicalAs (b ∷ rest) (λ place. piece_tokens place p) (piece_length p)) _ _ (is_space b) (λ _. (no_token _, (λ place. refl), refl, tt)) (λ space.
-    if_holds (λ (p : _). LexicalAs (b ∷ rest) (λ place. piece_tokens place p) (piece_length p)) _ _ (b == 10) (λ _. newline_lexical (b ∷ rest) rest) (λ _.
-    if_holds (λ (p : _). LexicalAs (b ∷ rest) (λ place. piece_tokens place p) (piece_length p)) _ _ (is_name_start b) (λ is. name_lexical b rest is) (λ name.
-    if_holds (λ (p : _). LexicalAs (b ∷ rest) (λ place. piece_tokens place p) (piece_length p)) _ _ (begins_number b rest) (λ is. number_lexical b rest name is) (λ number.
-    if_holds (λ (p : _). LexicalAs (b ∷ rest) (λ place. piece_tokens place p) (piece_length p)) _ _ (b == 47 && has_comments r) (λ slash.
+piece_lexical : (place : ℕ) (r : _) (b : ℕ) (rest : List ℕ) → IsLexical (b ∷ rest) place (piece_from r b rest)
+piece_lexical place r b rest =
+    if_holds (IsLexical (b ∷ rest) place) _ _ (is_space b) (λ _. tt) (λ space.
+    if_holds (IsLexical (b ∷ rest) place) _ _ (b == 10) (λ _. newline_lexical place (b ∷ rest) rest) (λ _.
+    if_holds (IsLexical (b ∷ rest) place) _ _ (is_name_start b) (λ is. name_lexical place b rest is) (λ name.
+    if_holds (IsLexical (b ∷ rest) place) _ _ (begins_number b rest) (λ is. number_lexical place b rest name is) (λ number.
+    if_holds (IsLexical (b ∷ rest) place) _ _ (b == 47 && has_comments r) (λ slash.
     let same : b ≡ 47 = eqb-true b 47 (and_parts (b == 47) _ slash).0 in
-    subst (λ (x : ℕ). LexicalAs (x ∷ rest) (λ place. piece_tokens place (slash_at rest)) (piece_length (slash_at rest))) (sym same) (slash_lexical rest))
-    (λ _. symbol_lexical b rest name number space)))))
+    subst (λ (x : ℕ). IsLexical (x ∷ rest) place (slash_at rest)) (sym same) (slash_lexical place rest))
+    (λ _. symbol_lexical place b rest name number space)))))
 
 -- ---- tokens
 
@@ -204,30 +151,29 @@ pub front : (text rest tail : List ℕ) (place n : ℕ) → drop place text ≡ 
 front text rest tail place n e few = sym (ap (take n) e ∙ take-append-le n rest tail few)
 
 -- what stands behind the first byte
-pub behind : (text bytes tail : List ℕ) (place b : ℕ) → drop place text ≡ b ∷ (bytes ++ tail) → drop (place + 1) text ≡ bytes ++ tail
-behind text bytes tail place b e = sym (drop-drop 1 place text) ∙ ap (drop 1) e
+pub behind : (text bytes : List ℕ) (place b : ℕ) → drop place text ≡ b ∷ bytes → drop (place + 1) text ≡ bytes
+behind text bytes place b e = sym (drop-drop 1 place text) ∙ ap (drop 1) e
 
 -- a piece in front of lexical words
-piece_words : (text bytes tail : List ℕ) (place : ℕ) (more : List Token) (rest : ℕ → List Token) (tokens : ℕ → List Token) (len : Option ℕ) → LexicalAs bytes tokens len → drop place text ≡ bytes ++ tail
+piece_words : (text bytes tail : List ℕ) (place : ℕ) (more : List Token) (rest : ℕ → List Token) (tokens : List Token) (len : Option ℕ) → IsLexicalAs bytes place tokens len → drop place text ≡ bytes ++ tail
     → AllByRecursion IsSpelled (map (word_of text) more) → ((n : ℕ) → AreLexical (map (word_of text) (rest n ++ more)))
-    → AreLexical (map (word_of text) ((tokens place ++ (elim len as (λ _. List Token) [ None ↦ [] | Some n ↦ rest n ])) ++ more))
-unfolding LexicalAs
-piece_words text bytes tail place more rest tokens len (no_token n, tokens_are, len_is, l) e all below =
-    rw (len_is, tokens_are place) (below n)
-piece_words text bytes tail place more rest tokens len (token_of k n, tokens_are, len_is, l) e all below =
-    rw (len_is, tokens_are place) ((l.1 ∙ ap spelled_kind (front text bytes tail place n e l.0), all_spelled (map (word_of text) (rest n ++ more)) (below n)), (λ last. absurd cc), (λ _. below n))
-piece_words text bytes tail place more rest tokens len (last_token k n, tokens_are, len_is, l) e all below =
-    rw (len_is, tokens_are place) ((l.0 ∙ none_spelled, all), (λ last. absurd cc), (λ goes. absurd cc))
+    → AreLexical (map (word_of text) ((tokens ++ (elim len as (λ _. List Token) [ None ↦ [] | Some n ↦ rest n ])) ++ more))
+piece_words text bytes tail place more rest [] None l e all below = absurd l
+piece_words text bytes tail place more rest [] (Some n) l e all below = below n
+piece_words text bytes tail place more rest (t ∷ ts) None l e all below =
+    subst (λ ts. AreLexical (map (word_of text) ((ts ++ []) ++ more))) (sym l.0) ((l.1 ∙ none_spelled, all), (λ last. absurd cc), (λ goes. absurd cc))
+piece_words text bytes tail place more rest (t ∷ ts) (Some n) l e all below =
+    subst (λ ts. AreLexical (map (word_of text) ((ts ++ rest n) ++ more))) (sym l.0) ((l.2 ∙ ap spelled_kind (front text bytes tail place n e l.1), all_spelled (map (word_of text) (rest n ++ more)) (below n)), (λ last. absurd cc), (λ _. below n))
 
 -- the tokens of a part are lexical, where those behind it are
 pub tokens_lexical : (text : List ℕ) (r : _) (skip place : ℕ) (rest tail : List ℕ) (more : List Token) → drop place text ≡ rest ++ tail → Ends (end_kind r) (map (word_of text) more)
     → AreLexical (map (word_of text) (tokens_in r skip place rest ++ more))
 unfolding Ends
 tokens_lexical text r skip place [] tail more e ends = ((ends.0 ∙ none_spelled, ends.1), ends.2, ends.3)
-tokens_lexical text r (suc skip) place (b ∷ bytes) tail more e ends = tokens_lexical text r skip (place + 1) bytes tail more (behind text bytes tail place b e) ends
+tokens_lexical text r (suc skip) place (b ∷ bytes) tail more e ends = tokens_lexical text r skip (place + 1) bytes tail more (behind text (bytes ++ tail) place b e) ends
 tokens_lexical text r zero place (b ∷ bytes) tail more e ends =
-    piece_words text (b ∷ bytes) tail place more (λ n. tokens_in r (n - 1) (place + 1) bytes) (λ place. piece_tokens place (piece_of r (b ∷ bytes))) (piece_length (piece_of r (b ∷ bytes))) (piece_lexical r b bytes) e ends.1
-    (λ n. tokens_lexical text r (n - 1) (place + 1) bytes tail more (behind text bytes tail place b e) ends)
+    piece_words text (b ∷ bytes) tail place more (λ n. tokens_in r (n - 1) (place + 1) bytes) (piece_tokens place (piece_of r (b ∷ bytes))) (piece_length (piece_of r (b ∷ bytes))) (piece_lexical place r b bytes) e ends.1
+    (λ n. tokens_lexical text r (n - 1) (place + 1) bytes tail more (behind text (bytes ++ tail) place b e) ends)
 
 -- ---- lines
 
@@ -245,8 +191,7 @@ in_front_at : (text bytes : List ℕ) (place b : ℕ) (ls : List Line) → drop 
 unfolding AreAt IsAt
 in_front_at text bytes place b [] e at = tt
 in_front_at text bytes place b (l ∷ ls) e at =
-    let rest : drop (place + 1) text ≡ bytes = sym (drop-drop 1 place text) ∙ ap (drop 1) e in
-    (refl, (at.1.0, e ∙ ap (λ (r : List ℕ). b ∷ r) (sym rest ∙ ap (λ (n : ℕ). drop n text) (sym at.0) ∙ at.1.1)), at.2)
+    (refl, (at.1.0, e ∙ ap (λ (r : List ℕ). b ∷ r) (sym (behind text bytes place b e) ∙ ap (λ (n : ℕ). drop n text) (sym at.0) ∙ at.1.1)), at.2)
 
 -- each line stands at its place
 all_at : (text : List ℕ) (place : ℕ) (ls : List Line) → AreAt text place ls → AllByRecursion (IsAt text) ls
@@ -259,7 +204,7 @@ lines_at : (text bytes : List ℕ) (place : ℕ) → drop place text ≡ bytes �
 unfolding AreAt IsAt
 lines_at text [] place e = (refl, ([], e), tt)
 lines_at text (b ∷ bytes) place e =
-    let rest : drop (place + 1) text ≡ bytes = sym (drop-drop 1 place text) ∙ ap (drop 1) e in
+    let rest = behind text bytes place b e in
     if_holds (λ (ls : List Line). AreAt text place ls) _ _ (b == 10)
     (λ _. (refl, (b ∷ bytes, e), all_at text (place + 1) (lines (place + 1) bytes) (lines_at text bytes (place + 1) rest)))
     (λ _. in_front_at text bytes place b (lines (place + 1) bytes) e (lines_at text bytes (place + 1) rest))

@@ -5,16 +5,12 @@ pub mod Dictionary
 pub mod Steps
 pub mod Forms
 pub mod SoundAffine
-pub mod SoundRefs
 pub mod SoundValues
-pub mod SoundHeaders
 pub mod SoundItems
 pub mod Lexical
 pub mod Spelled
 pub mod RunAffine
-pub mod RunRefs
 pub mod RunValues
-pub mod RunHeaders
 pub mod RunItems
 pub mod KeptRefs
 pub mod Kept

@@ -1,13 +1,14 @@
 -- Rows: how many numbers they have, how big these are, and which of them are 0.
-use Rattle.std.proofs.Common.{◌≡◌, refl, ◌∙◌, ap, subst, inl, inr, ℕ, zero, suc, ◌+◌, ◌-◌, ◌<◌, ◌≤◌, List, [], ◌∷◌, length, replicate, take, drop, arith, lit<, true, false, ltb-true}
-use Rattle.std.specs.Prelude.{◌⊎◌, ⊤, ℤ, pos, negsuc, ◌+ℤ◌, ◌-ℤ◌, ◌*ℤ◌, unsigned_abs, slice_set, Option, Some, None, if◌then◌else◌}
+use Rattle.std.proofs.Common.{◌≡◌, refl, sym, ◌∙◌, ap, subst, inl, inr, ℕ, zero, suc, ◌+◌, ◌-◌, ◌<◌, ◌≤◌, List, [], ◌∷◌, length, replicate, take, drop, arith, lit<, ltb-true}
+use Rattle.std.specs.Prelude.{◌⊎◌, ⊤, ℤ, pos, negsuc, ◌+ℤ◌, ◌-ℤ◌, ◌*ℤ◌, unsigned_abs, slice_set, Option, Some, None}
 use Rattle.std.specs.List.{AllByRecursion}
 use Rattle.std.proofs.lemmas.Int.{ints}
 use Rattle.std.proofs.lemmas.List.{length-set, length-drop}
 use Rattle.base_laws.proofs.Lists.{All-append}
-use Rattle.c_reading.specs.Numbers.{is_small, small_number, number_before, plus_times, combined, single, zeros}
+use Rattle.c_reading.specs.Numbers.{plus_times, combined, single, zeros}
 use Rattle.c_reading.specs.Text.{at_least_one, all_at_least_one}
 use Rattle.c_grammar.specs.Well.{IsRowOver}
+use Rattle.c_grammar.proofs.Forms.{front_is}
 use Rattle.iolb_model.specs.declared.limits.TheConstants.{PARAMETERS, LOOPS, NUMBER_SIZE}
 
 -- ---- what holds of a value, where there is one
@@ -42,23 +43,10 @@ pub record IsRow (parameters depth : ℕ) (row : List ℤ) : Type 0 where
   pub width : length row ≡ row_width
   pub numbers : AreNumbers parameters depth 0 row
 
--- a number of a sum of rows
-sum_small : (k less x y : ℤ) → IsWhereSome (λ z. (unsigned_abs z < NUMBER_SIZE) × (z ≡ (x +ℤ (k *ℤ y)) -ℤ less)) (small_number k less x y)
-unfolding small_number
-sum_small k less x y =
-    elim (is_small ((x +ℤ (k *ℤ y)) -ℤ less)) as
-    (λ b. is_small ((x +ℤ (k *ℤ y)) -ℤ less) ≡ b → IsWhereSome (λ z. (unsigned_abs z < NUMBER_SIZE) × (z ≡ (x +ℤ (k *ℤ y)) -ℤ less))
-    (if b then Some ((x +ℤ (k *ℤ y)) -ℤ less) else None)) [
-      | true ↦ λ h. (ltb-true _ _ h, refl)
-      | false ↦ λ _. tt
-    ] refl
-
--- a number in front of others
-before_all : (P : ℤ → Type 0) (Q R : List ℤ → Type 0) (o : Option ℤ) (more : Option (List ℤ)) → IsWhereSome P o → IsWhereSome Q more
-    → ((z : ℤ) (zs : List ℤ) → P z → Q zs → R (z ∷ zs)) → IsWhereSome R (number_before o more)
-before_all P Q R None more p q f = tt
-before_all P Q R (Some z) None p q f = tt
-before_all P Q R (Some z) (Some zs) p q f = f z zs p q
+-- what holds of each value that there may be
+where_some : {X : Type 0} (P : X → Type 0) (o : Option X) → ((x : X) → o ≡ Some x → P x) → IsWhereSome P o
+where_some P None f = tt
+where_some P (Some x) f = f x refl
 
 -- a sum of zeros is 0
 sum_zero : (k x y : ℤ) → x ≡ pos 0 → y ≡ pos 0 → (x +ℤ (k *ℤ y)) -ℤ pos 0 ≡ pos 0
@@ -69,28 +57,22 @@ times_row : (parameters depth at : ℕ) (k : ℤ) (xs ys : List ℤ) → AreNumb
     → IsWhereSome (λ zs. AreNumbers parameters depth at zs × (length xs ≡ length ys → length zs ≡ length xs)) (plus_times k xs ys)
 times_row parameters depth at k [] ys p q = (tt, λ _. refl)
 times_row parameters depth at k (x ∷ xs) [] p q = (tt, λ e. absurd (omega (arith, e)))
-times_row parameters depth at k (x ∷ xs) (y ∷ ys) p q =
-    before_all (λ z. (unsigned_abs z < NUMBER_SIZE) × (z ≡ (x +ℤ (k *ℤ y)) -ℤ pos 0))
-    (λ zs. AreNumbers parameters depth (suc at) zs × (length xs ≡ length ys → length zs ≡ length xs))
-    (λ zs. AreNumbers parameters depth at zs × (suc (length xs) ≡ suc (length ys) → length zs ≡ suc (length xs))) (small_number k (pos 0) x y)
-    (plus_times k xs ys)
-    (sum_small k (pos 0) x y) (times_row parameters depth (suc at) k xs ys p.1 q.1)
-    (λ z zs h g. ((record { small = h.0; absent = λ a. h.1 ∙ sum_zero k x y (p.0.absent a) (q.0.absent a) }, g.0), λ e. ap suc (g.1 (omega (arith, e)))))
+times_row parameters depth at k (x ∷ xs) (y ∷ ys) p q = where_some _ (plus_times k (x ∷ xs) (y ∷ ys)) (λ all e.
+    let f = front_is k (pos 0) x y (plus_times k xs ys) all e in
+    let r = subst (IsWhereSome (λ zs. AreNumbers parameters depth (suc at) zs × (length xs ≡ length ys → length zs ≡ length xs))) f.behind (times_row parameters depth (suc at) k xs ys p.1 q.1) in
+    subst (λ zs. AreNumbers parameters depth at zs × (suc (length xs) ≡ suc (length ys) → length zs ≡ suc (length xs))) (sym f.all)
+    ((record { small = ltb-true _ _ f.small; absent = λ a. f.is ∙ sum_zero k x y (p.0.absent a) (q.0.absent a) }, r.0), λ e. ap suc (r.1 (omega (arith, e)))))
 
 -- a sum of rows is a row
 pub combined_row : {parameters depth : ℕ} (k less : ℤ) (xs ys : List ℤ) → IsRow parameters depth xs → IsRow parameters depth ys
     → IsWhereSome (IsRow parameters depth) (combined k less xs ys)
 combined_row k less [] ys p q = absurd (omega (arith, p.width))
 combined_row k less (x ∷ xs) [] p q = absurd (omega (arith, q.width))
-combined_row {parameters} {depth} k less (x ∷ xs) (y ∷ ys) p q =
-    before_all (λ z. (unsigned_abs z < NUMBER_SIZE) × (z ≡ (x +ℤ (k *ℤ y)) -ℤ less))
-    (λ zs. AreNumbers parameters depth 1 zs × (length xs ≡ length ys → length zs ≡ length xs))
-    (IsRow parameters depth) (small_number k less x y) (plus_times k xs ys)
-    (sum_small k less x y) (times_row parameters depth 1 k xs ys p.numbers.1 q.numbers.1)
-    (λ z zs h g. record {
-      width = (let same : length zs ≡ length xs = g.1 (omega (arith, p.width, q.width)) in omega (arith, p.width));
-      numbers = (record { small = h.0; absent = λ a. absurd (elim a [ inl b ↦ omega arith | inr b ↦ omega arith ]) }, g.0);
-    })
+combined_row {parameters} {depth} k less (x ∷ xs) (y ∷ ys) p q = where_some (IsRow parameters depth) (combined k less (x ∷ xs) (y ∷ ys)) (λ all e.
+    let f = front_is k less x y (plus_times k xs ys) all e in
+    let r = subst (IsWhereSome (λ zs. AreNumbers parameters depth 1 zs × (length xs ≡ length ys → length zs ≡ length xs))) f.behind (times_row parameters depth 1 k xs ys p.numbers.1 q.numbers.1) in
+    let same : length f.rest ≡ length xs = r.1 (omega (arith, p.width, q.width)) in
+    subst (IsRow parameters depth) (sym f.all) (record { width = omega (arith, same, p.width); numbers = (record { small = ltb-true _ _ f.small; absent = λ a. absurd (elim a [ inl b ↦ omega arith | inr b ↦ omega arith ]) }, r.0) }))
 
 -- ---- the numbers of a variable
 
@@ -107,25 +89,17 @@ zeros_row parameters depth = record { width = refl; numbers = zeros_are paramete
 set_are : (parameters depth at : ℕ) (xs : List ℤ) (slot : ℕ) (n : ℤ) → AreNumbers parameters depth at xs → IsNumber parameters depth (at + slot) n
     → AreNumbers parameters depth at (slice_set xs slot n)
 set_are parameters depth at [] slot n h g = tt
-set_are parameters depth at (x ∷ xs) zero n h g = (subst (λ k. IsNumber parameters depth k n) none g, h.1) where
-  none : at + 0 ≡ at
-  none = omega arith
+set_are parameters depth at (x ∷ xs) zero n h g = (let none : at + 0 ≡ at = omega arith in subst (λ k. IsNumber parameters depth k n) none g, h.1)
 set_are parameters depth at (x ∷ xs) (suc slot) n h g =
-    (h.0, set_are parameters depth (suc at) xs slot n h.1 (subst (λ k. IsNumber parameters depth k n) moved g)) where
-      moved : at + suc slot ≡ suc at + slot
-      moved = omega arith
+    let moved : at + suc slot ≡ suc at + slot = omega arith in
+    (h.0, set_are parameters depth (suc at) xs slot n h.1 (subst (λ k. IsNumber parameters depth k n) moved g))
 
 -- one number more in a row
 pub set_row : (parameters depth : ℕ) (row : List ℤ) (slot : ℕ) (n : ℤ) → IsRow parameters depth row → unsigned_abs n < NUMBER_SIZE
     → (IsAbsent parameters depth slot → ⊥) → IsRow parameters depth (slice_set row slot n)
-set_row parameters depth row slot n h small there = record {
-  width = length-set row slot n ∙ h.width;
-  numbers =
-      set_are parameters depth 0 row slot n h.numbers (record { small = small; absent = λ a. absurd (there (subst (IsAbsent parameters depth) none a)) });
-}
-  where
-    none : 0 + slot ≡ slot
-    none = omega arith
+set_row parameters depth row slot n h small there =
+    let none : 0 + slot ≡ slot = omega arith in
+    record { width = length-set row slot n ∙ h.width; numbers = set_are parameters depth 0 row slot n h.numbers (record { small = small; absent = λ a. absurd (there (subst (IsAbsent parameters depth) none a)) }) }
 
 -- the row of one variable, or of a constant
 pub single_row : (parameters depth slot : ℕ) (n : ℤ) → unsigned_abs n < NUMBER_SIZE → (IsAbsent parameters depth slot → ⊥) → IsRow parameters depth (single slot n)
@@ -175,14 +149,11 @@ all_small parameters depth at (x ∷ xs) h = (h.0.small, all_small parameters de
 
 -- the numbers behind some
 drop_are : (parameters depth at n : ℕ) (xs : List ℤ) → AreNumbers parameters depth at xs → AreNumbers parameters depth (at + n) (drop n xs)
-drop_are parameters depth at zero xs h = subst (λ k. AreNumbers parameters depth k xs) none h where
-  none : at ≡ at + 0
-  none = omega arith
+drop_are parameters depth at zero xs h = let none : at ≡ at + 0 = omega arith in subst (λ k. AreNumbers parameters depth k xs) none h
 drop_are parameters depth at (suc n) [] h = tt
 drop_are parameters depth at (suc n) (x ∷ xs) h =
-    subst (λ k. AreNumbers parameters depth k (drop n xs)) moved (drop_are parameters depth (suc at) n xs h.1) where
-      moved : suc at + n ≡ at + suc n
-      moved = omega arith
+    let moved : suc at + n ≡ at + suc n = omega arith in
+    subst (λ k. AreNumbers parameters depth k (drop n xs)) moved (drop_are parameters depth (suc at) n xs h.1)
 
 -- numbers at places where nothing is there are 0
 take_zeros : (parameters depth at n : ℕ) (xs : List ℤ) → AreNumbers parameters depth at xs → n ≤ length xs

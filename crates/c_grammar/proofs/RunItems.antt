@@ -1,34 +1,32 @@
--- Statements, loops, blocks and whole texts that are spelled within the limits are read, with their meaning.
-use Rattle.std.proofs.Common.{◌≡◌, ℕ, zero, suc, ◌+◌, ◌-◌, ◌≤◌, Bool, true, false, not, List, [], ◌∷◌, ◌++◌, length, refl, ap, ◌∙◌, Option, Some, None, arith, map, sym, subst}
-use Rattle.std.proofs.lemmas.List.{length-append, append_assoc}
-use Rattle.std.specs.Prelude.{◌||◌, nat_le, if◌then◌else◌, Ok, codes, option_map}
-use Rattle.std.proofs.lemmas.Bool.{or_parts, not-false}
-use Rattle.c_reading.specs.declared.named.Kind.TheVariants.{OpenLoop, ClosedLoop}
-use Rattle.c_reading.specs.declared.lines.Loop.{Loop}
-use Rattle.c_reading.specs.declared.lines.Line.TheVariants.{Begin, End, Does}
-use Rattle.c_reading.specs.Input.{Input, kind, spelling, next, sees, left}
-use Rattle.c_reading.specs.Numbers.{most_loops}
-use Rattle.c_reading.specs.Affine.{kind_of}
-use Rattle.c_reading.specs.Refs.{with_kind}
-use Rattle.c_reading.specs.Access.{Access}
-use Rattle.c_reading.specs.Values.{Accesses}
+-- Headers of loops, statements, blocks and whole texts that are spelled within the limits are read, with their meaning.
+use Rattle.std.proofs.Common.{◌≡◌, ℕ, suc, Bool, true, false, List, [], ◌∷◌, ◌++◌, refl, sym, ap, ◌∙◌, Option, Some, None, subst, zero, ◌+◌, ◌-◌, ◌≤◌, not, length, arith, map}
+use Rattle.std.specs.Prelude.{ℤ, pos, Ok, codes, ◌||◌, nat_le, if◌then◌else◌, option_map}
+use Rattle.c_tokens.specs.declared.token.TokenKind.TheVariants as token
+use Rattle.c_reading.specs.declared.named.Kind.{Kind}
+use Rattle.c_reading.specs.declared.named.Kind.TheVariants.{Parameter, OpenLoop, ClosedLoop, Array}
+use Rattle.c_reading.specs.Input.{Input, spelling, next, sees, place, Outcome, kind, left}
+use Rattle.c_reading.specs.Numbers.{combined, zeros, most_loops}
+use Rattle.c_reading.specs.Affine.{kind_of, number_of, with_name, affine, slot}
 use Rattle.c_reading.specs.Items as rule
-use Rattle.c_reading.specs.Items.{most_statements, first_reads, is_array, with_line}
-use Rattle.c_grammar.specs.Words.{Word, a_symbol, word_of, a_name, line_end, program_end}
-use Rattle.c_grammar.specs.Affine.{reference_words, compare_words}
-use Rattle.c_grammar.specs.Value.{value_words}
+use Rattle.c_grammar.specs.Words.{Word, a_name, a_symbol, word_of, line_end, program_end}
+use Rattle.c_grammar.specs.Affine.{affine_words, reference_words, compare_words}
 use Rattle.c_grammar.specs.Item as tree
-use Rattle.c_grammar.specs.Item.{assigner_word, assign_words, header_words, item_words, items_words}
+use Rattle.c_grammar.specs.Item.{step_words, int_words, bound_word, bounds_words, header_words, assigner_word, assign_words, item_words, items_words}
 use Rattle.c_grammar.specs.Meaning as mean
-use Rattle.c_grammar.specs.Meaning.{Names, reference_means, value_means, assign_means, statement_means, header_means, item_means, items_means, compare_means, parameters_mean, compares_mean, lines_mean, whole_means, text_means}
-use Rattle.c_grammar.proofs.Steps.{bare, spelled_kind, first, AreLexical, IsSpelled, all_spelled}
-use Rattle.c_grammar.proofs.Spelled.{longer, At, Gave, fewer, at_kind, at_spelling, at_sees, at_next, at_as, at_assoc, some_left, name_not_symbol, name_not_keyword, then_some, then_ok, same_some}
-use Rattle.c_grammar.proofs.RunRefs.{NoBracket, access_read, compare_read}
-use Rattle.c_grammar.proofs.RunValues.{EndsValue, value_read, expect_run}
-use Rattle.c_grammar.proofs.RunHeaders.{header_run}
+use Rattle.c_grammar.specs.Meaning.{Names, affine_means, header_means, reference_means, value_means, assign_means, statement_means, item_means, items_means, compare_means, parameters_mean, compares_mean, lines_mean, whole_means, text_means}
+use Rattle.c_grammar.proofs.Steps.{one_less, bare, spelled_kind, first, AreLexical, IsSpelled, all_spelled}
+use Rattle.c_grammar.proofs.Spelled.{At, at_kind, at_spelling, at_sees, at_next, at_as, at_assoc, other_bytes, same_seen, name_not_keyword, then_ok, Runs, none_meant, runs_end, runs_then, runs_inside, runs_given, runs_when, at_name, longer, fewer, some_left, name_not_symbol, same_some, runs_after}
+use Rattle.c_grammar.proofs.RunAffine.{affine_read, closed_by_run, slot_run}
+use Rattle.c_grammar.proofs.RunValues.{expect_run, open_run, EndsValue, value_read, NoBracket, access_read, compare_read}
+use Rattle.std.proofs.lemmas.List.{length-append, append_assoc}
+use Rattle.c_reading.specs.declared.lines.Line.TheVariants.{Begin}
+use Rattle.c_reading.specs.Refs.{access, with_kind}
+use Rattle.c_reading.specs.Values.{Accesses, value}
+use Rattle.c_reading.specs.Items.{most_statements, first_reads, is_array, with_line}
+use Rattle.c_grammar.specs.Value.{value_words}
 use Rattle.std.specs.List.{AllByRecursion}
 use Rattle.c_tokens.specs.declared.token.Token.{Token}
-use Rattle.c_reading.specs.Compare.{Rows, most_brackets}
+use Rattle.c_reading.specs.Compare.{Rows, most_brackets, compare}
 use Rattle.c_reading.specs.Head as head_rule
 use Rattle.c_reading.specs.Head.{Head, is_parameters, is_assumptions}
 use Rattle.c_reading.specs.Text as whole
@@ -36,7 +34,114 @@ use Rattle.c_reading.specs.Text.{Reading, start_of}
 use Rattle.c_grammar.specs.Text as text_tree
 use Rattle.c_grammar.specs.Text.{Text, compares_words, lines_words, text_words}
 use Rattle.c_grammar.proofs.Lists.{All-first}
-use Rattle.c_grammar.proofs.RunAffine.{slot_run}
+
+-- the name of a loop that was left is taken
+loop_again_run : (i : Input) (o : Option ℕ) (rest : List Word) → At i (a_name (spelling i) ∷ rest) → Runs (λ a. a) (rule.loop_again o i) rest (mean.loop_again o (bare i))
+unfolding next
+loop_again_run i None rest at = none_meant
+loop_again_run i (Some n) rest at = runs_end (at_next at) refl
+
+-- a loop's name is taken, by its kind
+loop_by_run : (i : Input) (k : Option Kind) (rest : List Word) → At i (a_name (spelling i) ∷ rest) → Runs (λ a. a) (rule.loop_name_by (number_of (spelling i) i) k i) rest (mean.loop_by (spelling i) k (bare i))
+unfolding rule.new_loop with_name next
+loop_by_run i None rest at = runs_when _ _ (runs_end (at_as _ refl (at_next at)) refl)
+loop_by_run i (Some ClosedLoop) rest at = loop_again_run i (number_of (spelling i) i) rest at
+loop_by_run i (Some (Parameter k)) rest at = none_meant
+loop_by_run i (Some (OpenLoop depth)) rest at = none_meant
+loop_by_run i (Some (Array number count)) rest at = none_meant
+
+-- a loop's name is read
+loop_name_run : (i : Input) (name : List ℕ) (rest : List Word) → At i (a_name name ∷ rest) → Runs (λ a. a) (rule.loop_name i) rest (mean.loop_name name (bare i))
+unfolding mean.loop_name kind_of rule.loop_name
+loop_name_run i name rest at = at_name (λ n. mean.loop_by n (kind_of n (bare i)) (bare i)) at (λ named. rw (at_kind at) (loop_by_run i (kind_of (spelling i) i) rest named))
+
+-- a bound's comparison is read
+comparison_run : (excludes : Bool) (i : Input) (ws : List Word) → At i (bound_word excludes ∷ ws) → rule.comparison i ≡ Ok (mean.excluded excludes, next i)
+unfolding rule.comparison
+comparison_run true i ws at = rw (at_sees (codes "<") at) refl
+comparison_run false i ws at = rw (at_sees (codes "<") at, at_sees (codes "<=") at) refl
+
+-- a word of a step is taken
+in_step_run : (start : ℕ) (word : List ℕ) (i : Input) → sees word i ≡ true → rule.expect_in_step start word i ≡ Ok (tt, next i)
+unfolding rule.expect_in_step
+in_step_run start word i seen = rw seen refl
+
+-- the name that a step begins with is taken
+step_behind : (name : List ℕ) (i : Input) → sees name i ≡ true → rule.step name i ≡ rule.step_behind_name (place i) name (next i)
+unfolding rule.step
+step_behind name i seen = rw seen refl
+
+-- a step is read
+step_run : (name : List ℕ) (s : tree.Step) (rest : List Word) (i : Input) → token.Name ≡ spelled_kind name → At i (step_words name s ++ rest) → (q : Unit {0} × Input) × (rule.step name i ≡ Ok q) × At q.1 rest × (bare q.1 ≡ bare i)
+unfolding rule.step rule.step_behind_name next spelled_kind
+step_run name tree.name_plus_plus rest i named at =
+    let one = at_next at in
+    let a : sees (codes "++") (next i) ≡ true = at_sees (codes "++") one in
+    ((tt, next (next i)), step_behind name i (same_seen at) ∙ rw a refl, at_next one, refl)
+step_run name tree.plus_plus_name rest i named at =
+    let one = at_next at in
+    let other : sees name i ≡ false = at_sees name at ∙ other_bytes (codes "++") name token.Symbol refl (λ e. let no : token.Symbol ≡ token.Name = e ∙ sym named in absurd cc) in
+    let a : sees (codes "++") i ≡ true = at_sees (codes "++") at in
+    ((tt, next (next i)), rw (other, a) (in_step_run (place i) name (next i) (same_seen one)), at_next one, refl)
+step_run name tree.name_plus_one rest i named at =
+    let one = at_next at in
+    let two = at_next one in
+    let a : sees (codes "++") (next i) ≡ false = at_sees (codes "++") one in
+    let b : sees (codes "+=") (next i) ≡ true = at_sees (codes "+=") one in
+    ((tt, next (next (next i))), step_behind name i (same_seen at) ∙ rw (a, b) (in_step_run (place i) (codes "1") (next (next i)) (at_sees (codes "1") two)), at_next two, refl)
+step_run name tree.name_is_name_plus_one rest i named at =
+    let one = at_next at in
+    let two = at_next one in
+    let three = at_next two in
+    let four = at_next three in
+    let a : sees (codes "++") (next i) ≡ false = at_sees (codes "++") one in
+    let b : sees (codes "+=") (next i) ≡ false = at_sees (codes "+=") one in
+    let c : sees (codes "=") (next i) ≡ true = at_sees (codes "=") one in (
+      (tt, next (next (next (next (next i))))),
+      step_behind name i (same_seen at) ∙ rw (a, b, c) (then_ok _ _ (then_ok _ _ (in_step_run (place i) name (next (next i)) (same_seen two)) (in_step_run (place i) (codes "+") (next (next (next i))) (at_sees (codes "+") three)))
+          (in_step_run (place i) (codes "1") (next (next (next (next i)))) (at_sees (codes "1") four))),
+      at_next four,
+      refl,
+    )
+
+-- a bound with small numbers is given
+bound_is : (start : ℕ) (less : ℤ) (numbers out : List ℤ) → combined (pos 1) less zeros numbers ≡ Some out → rule.bound start less numbers ≡ Ok out
+unfolding rule.bound
+bound_is start less numbers out e = rw e refl
+
+-- what stands behind a header's bracket is read
+header_of_run : (b : ℕ) (h : tree.Header) (rest : List Word) (i : Input) → At i (a_name h.name ∷ (bounds_words h ++ rest)) → Runs (λ a. a) (rule.header_of b h.name i) rest (header_means b h (bare i))
+unfolding rule.header_of rule.lower_bound rule.upper_bound rule.upper_from header_means next
+header_of_run b h rest i at =
+    let upper_part : List Word = a_symbol (codes ";") ∷ (step_words h.name h.step ++ (a_symbol (codes ")") ∷ [])) in
+    let lower_part : List Word = a_symbol (codes ";") ∷ a_name h.name ∷ bound_word h.excludes ∷ (affine_words h.upper ++ upper_part) in
+    runs_then (rule.loop_name i) _ (mean.loop_name h.name (bare i)) _ (loop_name_run i h.name (bounds_words h ++ rest) at) (λ n at1.
+    rw (expect_run (codes "=") n.1 (at_sees (codes "=") at1)) (runs_inside (affine b None (next n.1)) _ _ (
+    runs_then (affine b None (next n.1)) _ (affine_means b h.lower (bare n.1)) _ (affine_read b h.lower (lower_part ++ rest) (next n.1) (at_assoc (affine_words h.lower) lower_part rest (at_next at1)) (record { times = refl; plus = refl; minus = refl })) (λ l at2.
+    let named = at_next at2 in
+    let compared = at_next named in
+    rw (closed_by_run (codes ";") l.0 l.1 (at_sees (codes ";") at2), expect_run h.name (next l.1) (same_seen named), comparison_run h.excludes (next (next l.1)) _ compared) (runs_inside (affine b None (next (next (next l.1)))) _ _ (
+    runs_then (affine b None (next (next (next l.1)))) _ (affine_means b h.upper (bare l.1)) _ (affine_read b h.upper (upper_part ++ rest) (next (next (next l.1))) (at_assoc (affine_words h.upper) upper_part rest (at_next compared)) (record { times = refl; plus = refl; minus = refl })) (λ u at3.
+    runs_given (mean.upper_bound h.excludes u.0.numbers) (bare u.1) _ (λ numbers e.
+    let s = step_run h.name h.step (a_symbol (codes ")") ∷ rest) (next u.1) at.spelled.0 (at_assoc (step_words h.name h.step) (a_symbol (codes ")") ∷ []) rest (at_next at3)) in
+    rw (bound_is (place (next (next (next l.1)))) (mean.excluded h.excludes) u.0.numbers numbers e, closed_by_run (codes ";") u.0 u.1 (at_sees (codes ";") at3), s.1, expect_run (codes ")") s.0.1 (at_sees (codes ")") s.2)) (
+    runs_end (at_next s.2) (ap (λ (names : Names). Some (record { name = n.0; lower = l.0.numbers; upper = numbers }, names)) (sym s.3)))))))))))
+
+-- `int` is passed over
+skip_run : (has_int : Bool) (name : List ℕ) (ws : List Word) (i : Input) → At i (int_words has_int ++ (a_name name ∷ ws)) → At (rule.skip_int i) (a_name name ∷ ws) × (bare (rule.skip_int i) ≡ bare i)
+unfolding rule.skip_int next spelled_kind
+skip_run true name ws i at = let is : sees (codes "int") i ≡ true = at_sees (codes "int") at in rw is (at_next at, refl)
+skip_run false name ws i at = let other : sees (codes "int") i ≡ false = name_not_keyword (codes "int") refl at in rw other (at, refl)
+
+-- a header is read
+pub header_run : (b : ℕ) (h : tree.Header) (rest : List Word) (i : Input) → At i (header_words h ++ rest) → Runs (λ a. a) (rule.header (suc b) i) rest (header_means b h (bare i))
+unfolding rule.header rule.for_bracket next
+header_run b h rest i at =
+    let one = at_next at in
+    let seen : sees (codes "(") (next i) ≡ true = at_sees (codes "(") one in
+    let s = skip_run h.has_int h.name (bounds_words h ++ rest) (next (next i)) (at_assoc (int_words h.has_int) (a_name h.name ∷ bounds_words h) rest (at_next one)) in
+    rw (seen, open_run b (next i), one_less b, at_spelling s.0) (
+    subst (λ (names : Names). Runs (λ a. a) (rule.header_of b h.name (rule.skip_int (next (next i)))) rest (header_means b h names)) s.1 (header_of_run b h rest (rule.skip_int (next (next i))) s.0))
 
 -- ---- statements
 
@@ -58,41 +163,29 @@ assigner_no_bracket tree.multiplies ws = refl
 assigner_no_bracket tree.divides ws = refl
 
 -- an assignment is read
-assign_run : (b : ℕ) (a : tree.Assign) (rest : List Word) (i : Input) (x : Unit {0} × Names) → At i (assign_words a ++ rest) → EndsValue rest → assign_means b a (bare i) ≡ Some x → Gave (rule.assign b i) rest x
+assign_run : (b : ℕ) (a : tree.Assign) (rest : List Word) (i : Input) → At i (assign_words a ++ rest) → EndsValue rest → Runs (λ a. a) (rule.assign b i) rest (assign_means b a (bare i))
 unfolding rule.assign rule.add_statement assign_means with_line next
-assign_run b a rest i x at ends e =
-    then_some _ (reference_means b a.target (bare i)) e (λ p e1 e2.
-    let front = at_assoc (reference_words a.target) (assigner_word a.assigner ∷ value_words a.value) rest at in
-    let w = access_read b a.target (assigner_word a.assigner ∷ (value_words a.value ++ rest)) i p front (assigner_no_bracket a.assigner (value_words a.value ++ rest)) e1 in
-    then_some _ (value_means b (first_reads (mean.updates a.assigner) p.0) a.value p.1) e2 (λ r e3 e4.
-    let v = value_read b (first_reads (mean.updates a.assigner) w.0.0) a.value rest (next w.0.1) r (at_next w.2) ends
-    (ap (λ (y : Access × Names). value_means b (first_reads (mean.updates a.assigner) y.0) a.value y.1) w.3 ∙ e3) in
-    let line : Access → Accesses × Names → Unit {0} × Names = λ writes y. (tt, with_line (Does (record { writes = writes; reads = y.0 })) y.1) in (
-      (tt, with_line (Does (record { writes = w.0.0; reads = v.0.0 })) v.0.1),
-      then_ok _ _ w.1 (then_ok _ _ (operator_run a.assigner w.0.1 _ w.2) (then_ok _ _ v.1 refl)),
-      at_as _ refl v.2,
-      ap (line w.0.0) v.3 ∙ ap (λ (y : Access × Names). line y.0 r) w.3 ∙ same_some e4,
-    )))
+assign_run b a rest i at ends =
+    runs_then (access b i) _ (reference_means b a.target (bare i)) _
+    (access_read b a.target (assigner_word a.assigner ∷ (value_words a.value ++ rest)) i (at_assoc (reference_words a.target) (assigner_word a.assigner ∷ value_words a.value) rest at) (assigner_no_bracket a.assigner (value_words a.value ++ rest))) (λ w at1.
+    let before : Accesses = first_reads (mean.updates a.assigner) w.0 in
+    rw (operator_run a.assigner w.1 _ at1) (
+    runs_then (value b before (next w.1)) _ (value_means b before a.value (bare w.1)) _ (value_read b before a.value rest (next w.1) (at_next at1) ends) (λ v at2. runs_end (at_as _ refl at2) refl)))
 
--- a test that failed, where else nothing is meant
-none_else : {A P : Type 0} (c : Bool) (o : Option A) (x : A) → (if c then None else o) ≡ Some x → (c ≡ false → o ≡ Some x → P) → P
-none_else true o x e k = absurd cc
-none_else false o x e k = k refl e
+-- two tests that fail, where else nothing is meant
+unless_either : {A V : Type 0} {view : A → V} {o : Outcome A} {rest : List Word} {m : Option (V × Names)} (c d : Bool) (x y : Outcome A) → Runs view o rest m → Runs view (if c then x else (if d then y else o)) rest (if c || d then None else m)
+unless_either true d x y h = none_meant
+unless_either false true x y h = none_meant
+unless_either false false x y h = h
 
 -- a statement is read
-statement_run : (b : ℕ) (a : tree.Assign) (rest : List Word) (i : Input) (x : Unit {0} × Names) → At i (assign_words a ++ (a_symbol (codes ";") ∷ rest)) → statement_means b a (bare i) ≡ Some x → Gave (rule.statement b i) rest x
+statement_run : (b : ℕ) (a : tree.Assign) (rest : List Word) (i : Input) → At i (assign_words a ++ (a_symbol (codes ";") ∷ rest)) → Runs (λ a. a) (rule.statement b i) rest (statement_means b a (bare i))
 unfolding rule.statement rule.count_statements statement_means kind_of next
-statement_run b a rest i x at e = none_else (not (is_array (kind_of a.target.name (bare i))) || nat_le most_statements i.statements) _ x e (λ within e0.
-    let both = or_parts (not (is_array (kind_of a.target.name (bare i)))) _ within in
-    then_some _ (assign_means b a (bare i)) e0 (λ p e1 e2.
-    let w = assign_run b a (a_symbol (codes ";") ∷ rest) i p at (record { plus = refl; minus = refl; times = refl; slash = refl; percent = refl; last = record { bracket = refl; paren = refl } }) e1 in
-    let is : is_array (kind_of (spelling i) i) ≡ true = ap (λ (n : List ℕ). is_array (kind_of n i)) (at_spelling at) ∙ not-false _ both.0 in
-    let counted : At (record w.0.1 { statements = i.statements + 1 }) (a_symbol (codes ";") ∷ rest) = at_as _ refl w.2 in (
-      (tt, next (record w.0.1 { statements = i.statements + 1 })),
-      rw (is, both.1) (then_ok _ _ (then_ok _ _ w.1 refl) (expect_run (codes ";") (record w.0.1 { statements = i.statements + 1 }) (at_sees (codes ";") counted))),
-      at_next counted,
-      ap (λ (y : Unit {0} × Names). (tt, record y.1 { statements = i.statements + 1 })) w.3 ∙ same_some e2,
-    )))
+statement_run b a rest i at =
+    rw (at_spelling at) (unless_either (not (is_array (kind_of a.target.name i))) (nat_le most_statements i.statements) _ _ (runs_inside (rule.assign b i) _ _ (
+    runs_then (rule.assign b i) _ (assign_means b a (bare i)) _ (assign_run b a (a_symbol (codes ";") ∷ rest) i at (record { plus = refl; minus = refl; times = refl; slash = refl; percent = refl; last = record { bracket = refl; paren = refl } })) (λ w at1.
+    let counted : At (record w.1 { statements = i.statements + 1 }) (a_symbol (codes ";") ∷ rest) = at_as _ refl at1 in
+    rw (expect_run (codes ";") (record w.1 { statements = i.statements + 1 }) (at_sees (codes ";") counted)) (runs_end (at_next counted) refl)))))
 
 -- ---- loops and blocks
 
@@ -114,39 +207,31 @@ some_word (tree.statement a) = omega arith
 mutual
   unfolding item_means items_means mean.begin mean.end rule.item rule.item_over rule.item_by rule.block rule.block_items rule.all_block_items rule.loops rule.for_loop rule.opened rule.closed with_kind with_line next spelled_kind
 
-  item_run : (more b : ℕ) (t : tree.Item) (rest : List Word) (i : Input) (x : Unit {0} × Names) → At i (item_words t ++ rest) → item_means more b t (bare i) ≡ Some x → Gave (rule.item more b i) rest x
-  item_run more b tree.nothing rest i x at e =
-      ((tt, next i), rw (at_sees (codes ";") at) refl, at_next at, same_some e)
-  item_run more zero (tree.block ts) rest i x at e = absurd cc
-  item_run more (suc b) (tree.block ts) rest i x at e =
-      let r = block_run more b ts (left (next i)) rest (next i) x (at_assoc (items_words ts) (a_symbol (codes "}") ∷ []) rest (at_next at)) e (omega arith) in
-      (r.0, rw (at_sees (codes ";") at, at_sees (codes "{") at) r.1, r.2, r.3)
-  item_run zero b (tree.loop h t) rest i x at e = absurd cc
-  item_run (suc more) zero (tree.loop h t) rest i x at e = absurd cc
-  item_run (suc more) (suc b) (tree.loop h t) rest i x at e = then_some _ (header_means b h (bare i)) e (λ p e1 e2. then_some _ (item_means more (suc b) t (with_kind p.0.name (OpenLoop (most_loops - 1 - more)) (with_line (Begin p.0) p.1))) e2 (λ r e3 e4.
-      let front = at_assoc (header_words h) (item_words t) rest at in
-      let l = header_run b h (item_words t ++ rest) i p front e1 in
-      let inside : Loop × Names → Names = λ y. with_kind y.0.name (OpenLoop (most_loops - 1 - more)) (with_line (Begin y.0) y.1) in
-      let outside : Loop × Names → Unit {0} × Names → Unit {0} × Names = λ y s. (tt, with_kind y.0.name ClosedLoop (with_line End s.1)) in
-      let u = item_run more (suc b) t rest (with_kind l.0.0.name (OpenLoop (most_loops - 1 - more)) (with_line (Begin l.0.0) l.0.1)) r (at_as _ refl l.2) (ap (λ (y : Loop × Names). item_means more (suc b) t (inside y)) l.3 ∙ e3) in (
-        (tt, with_kind l.0.0.name ClosedLoop (with_line End u.0.1)),
-        rw (at_sees (codes ";") at, at_sees (codes "{") at, at_sees (codes "for") at) (then_ok _ _ l.1 (then_ok _ _ u.1 refl)),
-        at_as _ refl u.2,
-        ap (outside (l.0.0, bare l.0.1)) u.3 ∙ ap (λ (y : Loop × Names). outside y r) l.3 ∙ same_some e4,
-      )))
-  item_run more b (tree.statement a) rest i x at e =
-      let r = statement_run b a rest i x (at_assoc (assign_words a) (a_symbol (codes ";") ∷ []) rest at) e in
-      (r.0, rw (name_not_symbol (codes ";") refl at, name_not_symbol (codes "{") refl at, name_not_keyword (codes "for") refl at, name_not_keyword (codes "if") refl at, at_kind at) r.1, r.2, r.3)
+  item_run : (more b : ℕ) (t : tree.Item) (rest : List Word) (i : Input) → At i (item_words t ++ rest) → Runs (λ a. a) (rule.item more b i) rest (item_means more b t (bare i))
+  item_run more b tree.nothing rest i at = rw (at_sees (codes ";") at) (runs_end (at_next at) refl)
+  item_run more zero (tree.block ts) rest i at = none_meant
+  item_run more (suc b) (tree.block ts) rest i at =
+      rw (at_sees (codes ";") at, at_sees (codes "{") at) (block_run more b ts (left (next i)) rest (next i) (at_assoc (items_words ts) (a_symbol (codes "}") ∷ []) rest (at_next at)) (omega arith))
+  item_run zero b (tree.loop h t) rest i at = none_meant
+  item_run (suc more) zero (tree.loop h t) rest i at = none_meant
+  item_run (suc more) (suc b) (tree.loop h t) rest i at =
+      rw (at_sees (codes ";") at, at_sees (codes "{") at, at_sees (codes "for") at) (
+      runs_then (rule.header (suc b) i) _ (header_means b h (bare i)) _ (header_run b h (item_words t ++ rest) i (at_assoc (header_words h) (item_words t) rest at)) (λ l at1.
+      let j : Input = with_kind l.0.name (OpenLoop (most_loops - 1 - more)) (with_line (Begin l.0) l.1) in
+      runs_then (rule.item more (suc b) j) _ (item_means more (suc b) t (bare j)) _ (item_run more (suc b) t rest j (at_as _ refl at1)) (λ u at2. runs_end (at_as _ refl at2) refl)))
+  item_run more b (tree.statement a) rest i at =
+      rw (name_not_symbol (codes ";") refl at, name_not_symbol (codes "{") refl at, name_not_keyword (codes "for") refl at, name_not_keyword (codes "if") refl at, at_kind at) (
+      statement_run b a rest i (at_assoc (assign_words a) (a_symbol (codes ";") ∷ []) rest at))
 
-  block_run : (more b : ℕ) (ts : tree.Items) (n : ℕ) (rest : List Word) (i : Input) (x : Unit {0} × Names) → At i (items_words ts ++ (a_symbol (codes "}") ∷ rest)) → items_means more b ts (bare i) ≡ Some x → left i ≤ n
-      → Gave (rule.block_items (rule.item more b) n i) rest x
-  block_run more b ts zero rest i x at e few = let some = some_left at in absurd (omega arith)
-  block_run more b tree.item_end (suc n) rest i x at e few = ((tt, next i), rw (at_sees (codes "}") at) refl, at_next at, same_some e)
-  block_run more b (tree.item t ts) (suc n) rest i x at e few = then_some _ (item_means more b t (bare i)) e (λ p e1 e2.
+  block_run : (more b : ℕ) (ts : tree.Items) (n : ℕ) (rest : List Word) (i : Input) → At i (items_words ts ++ (a_symbol (codes "}") ∷ rest)) → left i ≤ n
+      → Runs (λ a. a) (rule.block_items (rule.item more b) n i) rest (items_means more b ts (bare i))
+  block_run more b ts zero rest i at few = let some = some_left at in absurd (omega arith)
+  block_run more b tree.item_end (suc n) rest i at few = rw (at_sees (codes "}") at) (runs_end (at_next at) refl)
+  block_run more b (tree.item t ts) (suc n) rest i at few =
+      let behind : List Word = items_words ts ++ (a_symbol (codes "}") ∷ rest) in
       let front = at_assoc (item_words t) (items_words ts) (a_symbol (codes "}") ∷ rest) at in
-      let u = item_run more b t (items_words ts ++ (a_symbol (codes "}") ∷ rest)) i p front e1 in
-      let r = block_run more b ts n rest u.0.1 x u.2 (ap (λ (y : Unit {0} × Names). items_means more b ts y.1) u.3 ∙ e2) (fewer front u.2 few (omega (arith, length-append (item_words t) (items_words ts ++ (a_symbol (codes "}") ∷ rest)), some_word t))) in
-      (r.0, rw (opens_item i t _ front) (then_ok _ _ u.1 r.1), r.2, r.3))
+      rw (opens_item i t _ front) (runs_then (rule.item more b i) _ (item_means more b t (bare i)) _ (item_run more b t behind i front) (λ u at1.
+      block_run more b ts n rest u.1 at1 (fewer front at1 few (omega (arith, length-append (item_words t) behind, some_word t)))))
 
 -- an item isn't the end
 not_end : (i : Input) (t : tree.Item) (rest : List Word) → At i (item_words t ++ rest) → rule.is_end (kind i) ≡ false
@@ -156,44 +241,37 @@ not_end i (tree.loop h t) rest at = ap rule.is_end (at_kind at)
 not_end i (tree.statement a) rest at = ap rule.is_end (at_kind at)
 
 -- the items of a program are read
-items_run : (ts : tree.Items) (n : ℕ) (i : Input) (x : Unit {0} × Names) → At i (items_words ts) → items_means most_loops 64 ts (bare i) ≡ Some x → left i ≤ n → Gave (rule.items n i) [] x
+items_run : (ts : tree.Items) (n : ℕ) (i : Input) → At i (items_words ts) → left i ≤ n → Runs (λ a. a) (rule.items n i) [] (items_means most_loops 64 ts (bare i))
 unfolding items_means rule.items
-items_run ts zero i x at e few = let some = some_left at in absurd (omega arith)
-items_run tree.item_end (suc n) i x at e few = ((tt, i), rw (ap rule.is_end (at_kind at)) refl, at, same_some e)
-items_run (tree.item t ts) (suc n) i x at e few = then_some _ (item_means most_loops 64 t (bare i)) e (λ p e1 e2.
-    let u = item_run most_loops 64 t (items_words ts) i p at e1 in
-    let r = items_run ts n u.0.1 x u.2 (ap (λ (y : Unit {0} × Names). items_means most_loops 64 ts y.1) u.3 ∙ e2) (fewer at u.2 few (omega (arith, length-append (item_words t) (items_words ts), some_word t))) in
-    (r.0, rw (not_end i t _ at) (then_ok _ _ u.1 r.1), r.2, r.3))
+items_run ts zero i at few = let some = some_left at in absurd (omega arith)
+items_run tree.item_end (suc n) i at few = rw (ap rule.is_end (at_kind at)) (runs_end at refl)
+items_run (tree.item t ts) (suc n) i at few =
+    rw (not_end i t _ at) (runs_then (rule.item most_loops 64 i) _ (item_means most_loops 64 t (bare i)) _ (item_run most_loops 64 t (items_words ts) i at) (λ u at1.
+    items_run ts n u.1 at1 (fewer at at1 few (omega (arith, length-append (item_words t) (items_words ts), some_word t)))))
 
 -- ---- lines that name parameters
 
 -- a line's names are read
-parameter_names_run : (names : List (List ℕ)) (n : ℕ) (rest : List Word) (i : Input) (x : Unit {0} × Names) → At i (map a_name names ++ (line_end ∷ rest)) → parameters_mean names (bare i) ≡ Some x → left i ≤ n
-    → Gave (head_rule.parameter_names n i) rest x
+parameter_names_run : (names : List (List ℕ)) (n : ℕ) (rest : List Word) (i : Input) → At i (map a_name names ++ (line_end ∷ rest)) → left i ≤ n → Runs (λ a. a) (head_rule.parameter_names n i) rest (parameters_mean names (bare i))
 unfolding parameters_mean head_rule.parameter_names next
-parameter_names_run names zero rest i x at e few = let some = some_left at in absurd (omega arith)
-parameter_names_run [] (suc n) rest i x at e few = ((tt, next i), rw (at_kind at) refl, at_next at, same_some e)
-parameter_names_run (name ∷ names) (suc n) rest i x at e few = then_some _ (mean.slot name (bare i)) e (λ p e1 e2.
-    let s = slot_run i name (map a_name names ++ (line_end ∷ rest)) p at e1 in
-    let r = parameter_names_run names n rest s.0.1 x s.2 (ap (λ (y : ℕ × Names). parameters_mean names y.1) s.3 ∙ e2) (fewer at s.2 few (omega arith)) in
-    (r.0, rw (at_kind at) (then_ok _ _ s.1 r.1), r.2, r.3))
+parameter_names_run names zero rest i at few = let some = some_left at in absurd (omega arith)
+parameter_names_run [] (suc n) rest i at few = rw (at_kind at) (runs_end (at_next at) refl)
+parameter_names_run (name ∷ names) (suc n) rest i at few =
+    rw (at_kind at) (runs_then (slot i) _ (mean.slot name (bare i)) _ (slot_run i name (map a_name names ++ (line_end ∷ rest)) at) (λ s at1.
+    parameter_names_run names n rest s.1 at1 (fewer at at1 few (omega arith))))
 
 -- ---- lines that assume
 
 -- a line's compares are read
-compares_run : (cs : text_tree.Compares) (n : ℕ) (rows : Rows) (rest : List Word) (i : Input) (x : Rows × Names) → At i (compares_words cs ++ (line_end ∷ rest)) → compares_mean rows cs (bare i) ≡ Some x → left i ≤ n
-    → Gave (head_rule.compares n rows i) rest x
+compares_run : (cs : text_tree.Compares) (n : ℕ) (rows : Rows) (rest : List Word) (i : Input) → At i (compares_words cs ++ (line_end ∷ rest)) → left i ≤ n → Runs (λ a. a) (head_rule.compares n rows i) rest (compares_mean rows cs (bare i))
 unfolding compares_mean head_rule.compares head_rule.closed_line next
-compares_run cs zero rows rest i x at e few = let some = some_left at in absurd (omega arith)
-compares_run (text_tree.last_compare c) (suc n) rows rest i x at e few =
-    let r = compare_read rows c (line_end ∷ rest) i x at (record { times = refl; plus = refl; minus = refl }) e in
-    ((r.0.0.rows, next r.0.1), then_ok _ _ r.1 (rw (at_sees (codes "&&") r.2, at_kind r.2) refl), at_next r.2, r.3)
-compares_run (text_tree.compare c cs) (suc n) rows rest i x at e few = then_some _ (compare_means rows c (bare i)) e (λ p e1 e2.
-    let front = at_assoc (compare_words c) (a_symbol (codes "&&") ∷ compares_words cs) (line_end ∷ rest) at in
-    let r = compare_read rows c (a_symbol (codes "&&") ∷ (compares_words cs ++ (line_end ∷ rest))) i p front (record { times = refl; plus = refl; minus = refl }) e1 in
-    let after = at_next r.2 in
-    let s = compares_run cs n r.0.0.rows rest (next r.0.1) x after (ap (λ (y : Rows × Names). compares_mean y.0 cs y.1) r.3 ∙ e2) (fewer at after few (omega (arith, longer (compare_words c) (a_symbol (codes "&&") ∷ compares_words cs) (line_end ∷ rest)))) in
-    (s.0, then_ok _ _ r.1 (rw (at_sees (codes "&&") r.2) s.1), s.2, s.3))
+compares_run cs zero rows rest i at few = let some = some_left at in absurd (omega arith)
+compares_run (text_tree.last_compare c) (suc n) rows rest i at few =
+    runs_after (compare rows i) _ (compare_read rows c (line_end ∷ rest) i at (record { times = refl; plus = refl; minus = refl })) (λ r at1. rw (at_sees (codes "&&") at1, at_kind at1) (runs_end (at_next at1) refl))
+compares_run (text_tree.compare c cs) (suc n) rows rest i at few =
+    let behind : List Word = a_symbol (codes "&&") ∷ (compares_words cs ++ (line_end ∷ rest)) in
+    runs_then (compare rows i) _ (compare_means rows c (bare i)) _ (compare_read rows c behind i (at_assoc (compare_words c) (a_symbol (codes "&&") ∷ compares_words cs) (line_end ∷ rest) at) (record { times = refl; plus = refl; minus = refl })) (λ r at1.
+    rw (at_sees (codes "&&") at1) (compares_run cs n r.0.rows rest (next r.1) (at_next at1) (fewer at (at_next at1) few (omega (arith, longer (compare_words c) (a_symbol (codes "&&") ∷ compares_words cs) (line_end ∷ rest))))))
 
 -- ---- directives
 
@@ -203,22 +281,17 @@ record NoDirective (ws : List Word) : Type 0 where
   assumptions : is_assumptions (first ws).kind ≡ false
 
 -- the lines in front of a program are read
-directives_run : (ls : text_tree.Lines) (n : ℕ) (h : Head) (rest : List Word) (i : Input) (x : Head × Names) → At i (lines_words ls ++ rest) → NoDirective rest → lines_mean h ls (bare i) ≡ Some x → left i ≤ n → Gave (head_rule.directives n h i) rest x
+directives_run : (ls : text_tree.Lines) (n : ℕ) (h : Head) (rest : List Word) (i : Input) → At i (lines_words ls ++ rest) → NoDirective rest → left i ≤ n → Runs (λ a. a) (head_rule.directives n h i) rest (lines_mean h ls (bare i))
 unfolding lines_mean head_rule.directives head_rule.all_parameter_names head_rule.all_compares next
-directives_run ls zero h rest i x at other e few = let some = some_left at in absurd (omega arith)
-directives_run text_tree.line_none (suc n) h rest i x at other e few =
-    ((h, i), rw (ap is_parameters (at_kind at) ∙ other.parameters, ap is_assumptions (at_kind at) ∙ other.assumptions) refl, at, same_some e)
-directives_run (text_tree.parameters head names ls) (suc n) h rest i x at other e few = then_some _ (parameters_mean names (bare i)) e (λ p e1 e2.
-    let front = at_assoc (map a_name names) (line_end ∷ lines_words ls) rest (at_next at) in
-    let r = parameter_names_run names (left (next i)) (lines_words ls ++ rest) (next i) p front e1 (omega arith) in
-    let s = directives_run ls n h rest r.0.1 x r.2 other (ap (λ (y : Unit {0} × Names). lines_mean h ls y.1) r.3 ∙ e2) (fewer at r.2 few (omega (arith, longer (map a_name names) (line_end ∷ lines_words ls) rest))) in
-    (s.0, rw (at_kind at) (then_ok _ _ r.1 s.1), s.2, s.3))
-directives_run (text_tree.assumptions head cs ls) (suc n) h rest i x at other e few = then_some _ (compares_mean h.rows cs (bare i)) e (λ p e1 e2.
-    let front = at_assoc (compares_words cs) (line_end ∷ lines_words ls) rest (at_next at) in
-    let r = compares_run cs (left (next i)) h.rows (lines_words ls ++ rest) (next i) p front e1 (omega arith) in
-    let s = directives_run ls n (record { assumed = true; rows = r.0.0 }) rest r.0.1 x r.2 other (ap (λ (y : Rows × Names). lines_mean (record { assumed = true; rows = y.0 }) ls y.1) r.3 ∙ e2)
-    (fewer at r.2 few (omega (arith, longer (compares_words cs) (line_end ∷ lines_words ls) rest))) in
-    (s.0, rw (at_kind at) (then_ok _ _ r.1 s.1), s.2, s.3))
+directives_run ls zero h rest i at other few = let some = some_left at in absurd (omega arith)
+directives_run text_tree.line_none (suc n) h rest i at other few =
+    rw (ap is_parameters (at_kind at) ∙ other.parameters, ap is_assumptions (at_kind at) ∙ other.assumptions) (runs_end at refl)
+directives_run (text_tree.parameters head names ls) (suc n) h rest i at other few =
+    rw (at_kind at) (runs_then (head_rule.parameter_names (left (next i)) (next i)) _ (parameters_mean names (bare i)) _ (parameter_names_run names (left (next i)) (lines_words ls ++ rest) (next i) (at_assoc (map a_name names) (line_end ∷ lines_words ls) rest (at_next at)) (omega arith)) (λ r at1.
+    directives_run ls n h rest r.1 at1 other (fewer at at1 few (omega (arith, longer (map a_name names) (line_end ∷ lines_words ls) rest)))))
+directives_run (text_tree.assumptions head cs ls) (suc n) h rest i at other few =
+    rw (at_kind at) (runs_then (head_rule.compares (left (next i)) h.rows (next i)) _ (compares_mean h.rows cs (bare i)) _ (compares_run cs (left (next i)) h.rows (lines_words ls ++ rest) (next i) (at_assoc (compares_words cs) (line_end ∷ lines_words ls) rest (at_next at)) (omega arith)) (λ r at1.
+    directives_run ls n (record { assumed = true; rows = r.0 }) rest r.1 at1 other (fewer at at1 few (omega (arith, longer (compares_words cs) (line_end ∷ lines_words ls) rest)))))
 
 -- ---- texts
 
@@ -231,13 +304,12 @@ no_directive (tree.item (tree.loop h t) ts) = record { parameters = refl; assump
 no_directive (tree.item (tree.statement a) ts) = record { parameters = refl; assumptions = refl }
 
 -- a text's words are read
-text_rule_run : (t : Text) (i : Input) (x : Head × Names) → At i (lines_words t.lines ++ items_words t.items) → whole_means t (bare i) ≡ Some x → Gave (whole.text_rule i) [] x
+text_rule_run : (t : Text) (i : Input) → At i (lines_words t.lines ++ items_words t.items) → Runs (λ a. a) (whole.text_rule i) [] (whole_means t (bare i))
 unfolding whole.text_rule head_rule.head whole_means rule.all_items
-text_rule_run t i x at e = then_some _ (lines_mean (record { assumed = false; rows = [] }) t.lines (bare i)) e (λ p e1 e2.
-    then_some _ (items_means most_loops most_brackets t.items p.1) e2 (λ r e3 e4.
-    let l = directives_run t.lines (left i) (record { assumed = false; rows = [] }) (items_words t.items) i p at (no_directive t.items) e1 (omega arith) in
-    let s = items_run t.items (left l.0.1) l.0.1 r l.2 (ap (λ (y : Head × Names). items_means most_loops most_brackets t.items y.1) l.3 ∙ e3) (omega arith) in
-    ((l.0.0, s.0.1), then_ok _ _ l.1 (then_ok _ _ s.1 refl), s.2, ap (λ (y : Unit {0} × Names). (l.0.0, y.1)) s.3 ∙ ap (λ (y : Head × Names). (y.0, r.1)) l.3 ∙ same_some e4)))
+text_rule_run t i at =
+    let h : Head = record { assumed = false; rows = [] } in
+    runs_then (head_rule.directives (left i) h i) _ (lines_mean h t.lines (bare i)) _ (directives_run t.lines (left i) h (items_words t.items) i at (no_directive t.items) (omega arith)) (λ l at1.
+    runs_then (rule.items (left l.1) l.1) _ (items_means most_loops most_brackets t.items (bare l.1)) _ (items_run t.items (left l.1) l.1 at1 (omega arith)) (λ s at2. runs_end at2 refl))
 
 -- what spells the grammar within the limits is accepted, where its words are lexical
 pub spelled : (bytes : List ℕ) (t : Text) (r : Reading) (o : Option (List Token)) → ((tokens : List Token) → o ≡ Some tokens → AreLexical (map (word_of bytes) tokens))
@@ -251,6 +323,6 @@ spelled bytes t r (Some tokens) lexical e f =
       read : (o : Option (Head × Names)) → whole_means t (start_of [] []) ≡ o → mean.reading_from o ≡ Some r → At (start_of bytes tokens) (lines_words t.lines ++ items_words t.items) → whole.reading_from (whole.text_rule (start_of bytes tokens)) ≡ Ok r
       read None is f at = absurd cc
       read (Some x) is f at =
-          let s = text_rule_run t (start_of bytes tokens) x at is in
+          let s = (text_rule_run t (start_of bytes tokens) at).run x is tt in
           let reading : Head × Names → Reading = λ y. record { names = y.1.names; kinds = y.1.kinds; assumptions = whole.assumptions_of y.0 y.1; lines = y.1.lines } in
           ap whole.reading_from s.1 ∙ ap (λ (y : Head × Names). Ok (reading y)) s.3 ∙ ap (λ (r : Reading). Ok r) (same_some f)

@@ -1,25 +1,31 @@
--- Statements, loops, blocks and whole texts that are read spell the grammar, and mean what was read.
-use Rattle.std.proofs.Common.{◌≡◌, ℕ, zero, suc, ◌+◌, ◌-◌, Bool, true, false, List, [], ◌∷◌, refl, sym, ap, ◌∙◌, Option, Some, ◌++◌, map, None}
-use Rattle.std.specs.Prelude.{nat_le, Ok, codes, Err, option_map}
-use Rattle.c_reading.specs.declared.named.Kind.TheVariants.{OpenLoop}
-use Rattle.c_reading.specs.declared.lines.Line.TheVariants.{Begin}
+-- Headers of loops, statements, blocks and whole texts that are read spell the grammar, and mean what was read.
+use Rattle.std.proofs.Common.{◌≡◌, ℕ, suc, ◌-◌, Bool, true, false, List, [], ◌∷◌, ◌++◌, refl, sym, ap, ◌∙◌, Option, Some, None, subst, zero, ◌+◌, map}
+use Rattle.std.specs.Prelude.{◌||◌, ℤ, pos, Ok, codes, nat_le, Err, option_map}
+use Rattle.c_tokens.specs.declared.token.TokenKind.{TokenKind}
 use Rattle.c_tokens.specs.declared.token.TokenKind.TheVariants as token
-use Rattle.c_reading.specs.Input.{Input, Rule, kind, spelling, next, sees, left, is_name_kind, Outcome, place}
-use Rattle.c_reading.specs.Numbers.{most_loops}
-use Rattle.c_reading.specs.Affine.{kind_of, slot}
-use Rattle.c_reading.specs.Refs.{access, with_kind}
+use Rattle.c_reading.specs.declared.named.Kind.{Kind}
+use Rattle.c_reading.specs.declared.named.Kind.TheVariants.{Parameter, OpenLoop, ClosedLoop, Array}
+use Rattle.c_reading.specs.declared.lines.Loop.{Loop}
+use Rattle.c_reading.specs.Input.{Input, and_then, kind, spelling, next, sees, place, is_name_kind, Rule, left, Outcome}
+use Rattle.std.proofs.lemmas.List.{append_assoc}
+use Rattle.c_reading.specs.Numbers.{combined, zeros, most_loops}
+use Rattle.c_reading.specs.Affine.{kind_of, number_of, with_name, affine, closed_by, slot}
 use Rattle.c_reading.specs.Values.{expect, value}
 use Rattle.c_reading.specs.Items as rule
-use Rattle.c_reading.specs.Items.{most_statements, first_reads, is_array, with_line, is_end, all_items}
-use Rattle.c_grammar.specs.Words.{a_symbol, program_end, Word, word_of, a_name, line_end}
+use Rattle.c_reading.proofs.TokenKinds.{name_kind_is}
+use Rattle.c_grammar.specs.Words.{Word, a_name, a_number, a_symbol, a_keyword, program_end, word_of, line_end}
+use Rattle.c_grammar.specs.Affine.{affine_words}
+use Rattle.c_grammar.specs.Affine as affine_tree
 use Rattle.c_grammar.specs.Item as tree
-use Rattle.c_grammar.specs.Item.{assigner_word, assign_words, item_words, items_words}
+use Rattle.c_grammar.specs.Item.{step_words, bound_word, bounds_words, header_words, assigner_word, assign_words, item_words, items_words}
 use Rattle.c_grammar.specs.Meaning as mean
-use Rattle.c_grammar.specs.Meaning.{Names, assign_means, statement_means, header_means, item_means, items_means, parameters_mean, compares_mean, lines_mean, whole_means, text_means}
-use Rattle.c_grammar.proofs.Steps.{Spells, words, bare, spelled_kind, AreLexical, Took, took_then, took_none, took_symbol, took_as, at_end, and_then_ok, if_ok, ok_is, ok_if, bool_cases, means_then, took_line_end, took_kind, parameters_is, assumptions_is}
-use Rattle.c_grammar.proofs.SoundRefs.{access_sound, compare_from_sound}
-use Rattle.c_grammar.proofs.SoundValues.{expect_sound, value_sound}
-use Rattle.c_grammar.proofs.SoundHeaders.{HeaderSound, header_sound}
+use Rattle.c_grammar.specs.Meaning.{Names, Form, affine_means, header_means, assign_means, statement_means, item_means, items_means, parameters_mean, compares_mean, lines_mean, whole_means, text_means}
+use Rattle.c_grammar.proofs.Steps.{Passed, one_less, words, bare, spelled_kind, AreLexical, Took, IsPlain, names, numbers, keywords, symbols, took_then, took_symbol, took_word, took_name, took_as, kind_spelled, Reads, fails, gives, gives_if, reads_map, reads_then, reads_given, reads_if, bool_cases, means_then, means_given, class, Spells, SpellsUpTo, took_none, at_end, same_ok, took_line_end, took_kind, parameters_is, assumptions_is, NamedAs}
+use Rattle.c_grammar.proofs.SoundAffine.{form_of, affine_sound, closed_by_sound, slot_sound}
+use Rattle.c_grammar.proofs.SoundValues.{expect_sound, open_bracket_sound, value_sound, access_sound, compare_from_sound}
+use Rattle.c_reading.specs.declared.lines.Line.TheVariants.{Begin}
+use Rattle.c_reading.specs.Refs.{access, with_kind}
+use Rattle.c_reading.specs.Items.{most_statements, first_reads, is_array, with_line, is_end, all_items}
 use Rattle.c_tokens.specs.declared.token.Token.{Token}
 use Rattle.c_reading.specs.Compare.{Rows, compare}
 use Rattle.c_reading.specs.Head as head_rule
@@ -28,39 +34,198 @@ use Rattle.c_reading.specs.Text as whole
 use Rattle.c_reading.specs.Text.{Reading, start_of}
 use Rattle.c_grammar.specs.Text as text_tree
 use Rattle.c_grammar.specs.Text.{Text, compares_words, lines_words, text_words}
-use Rattle.c_grammar.proofs.SoundAffine.{slot_sound}
+
+-- the name of a loop that was left is one
+loop_again_sound : (i : Input) (at : Option ℕ) → number_of (spelling i) i ≡ at → AreLexical (words i) → is_name_kind (kind i) ≡ true → Reads (rule.loop_again at i) (NamedAs i (mean.loop_by (spelling i) (Some ClosedLoop)))
+unfolding next
+loop_again_sound i None found g is = fails
+loop_again_sound i (Some at) found g is = gives (took_name i g is, ap (λ (o : Option ℕ). mean.loop_again o (bare i)) found)
+
+-- a loop's name that was read is one, by its kind
+loop_name_by_sound : (i : Input) (k : Option Kind) → AreLexical (words i) → is_name_kind (kind i) ≡ true → Reads (rule.loop_name_by (number_of (spelling i) i) k i) (NamedAs i (mean.loop_by (spelling i) k))
+unfolding rule.new_loop with_name next
+loop_name_by_sound i None g is = gives_if _ _ _ (λ short. (took_as _ refl (took_name i g is), rw short refl))
+loop_name_by_sound i (Some ClosedLoop) g is = loop_again_sound i (number_of (spelling i) i) refl g is
+loop_name_by_sound i (Some (Parameter k)) g is = fails
+loop_name_by_sound i (Some (OpenLoop depth)) g is = fails
+loop_name_by_sound i (Some (Array number count)) g is = fails
+
+-- a loop's name was taken that means this number
+abbrev LoopNameSound : Input → ℕ × Input → Type 0
+LoopNameSound i q = Took i (a_name (spelling i) ∷ []) q.1 × (mean.loop_name (spelling i) (bare i) ≡ Some (q.0, bare q.1)) × (is_name_kind (kind i) ≡ true)
+
+-- a loop's name that was read is one
+loop_name_sound : (i : Input) → AreLexical (words i) → Reads (rule.loop_name i) (LoopNameSound i)
+unfolding rule.loop_name mean.loop_name kind_of
+loop_name_sound i g = reads_if (is_name_kind (kind i)) (λ is. reads_map (loop_name_by_sound i (kind_of (spelling i) i) g is) (λ q n. (n.0, n.1, is))) (λ _. fails)
+
+-- a bound's comparison that was read is spelled
+comparison_sound : (i : Input) → AreLexical (words i) → Reads (rule.comparison i) (Passed (λ (x : Bool). bound_word x ∷ []) mean.excluded i)
+unfolding rule.comparison next spelled_kind
+comparison_sound i g =
+    reads_if (sees (codes "<") i) (λ is. gives (true, took_symbol (codes "<") refl i g is, refl, refl)) (λ _.
+    reads_if (sees (codes "<=") i) (λ is. gives (false, took_symbol (codes "<=") refl i g is, refl, refl)) (λ _.
+    reads_if (sees (codes ">") i || sees (codes ">=") i) (λ _. fails) (λ _. fails)))
+
+-- a word that has to follow
+abbrev WordSound : TokenKind → List ℕ → Input → Unit {0} × Input → Type 0
+WordSound k word i q = Took i (record { kind = k; bytes = word } ∷ []) q.1 × (bare q.1 ≡ bare i)
+
+-- a word that had to follow is spelled
+word_sound : (k : TokenKind) → IsPlain k → (word : List ℕ) → spelled_kind word ≡ class k → (i : Input) → AreLexical (words i) → Reads (expect word i) (WordSound k word i)
+unfolding expect next
+word_sound k plain word is i g = gives_if _ _ _ (λ seen. (took_word word k plain is i g seen, refl))
+
+-- a word of a step is spelled
+in_step_sound : (start : ℕ) (k : TokenKind) → IsPlain k → (word : List ℕ) → spelled_kind word ≡ class k → (i : Input) → AreLexical (words i) → Reads (rule.expect_in_step start word i) (WordSound k word i)
+unfolding rule.expect_in_step next
+in_step_sound start k plain word is i g = gives_if _ _ _ (λ seen. (took_word word k plain is i g seen, refl))
+
+-- a step was taken
+abbrev StepSound : List ℕ → Input → Unit {0} × Input → Type 0
+StepSound name i q = (s : tree.Step) × Took i (step_words name s) q.1 × (bare q.1 ≡ bare i)
+
+-- what stands behind a step's name is spelled
+behind_name_sound : (start : ℕ) (name : List ℕ) (i : Input) → spelled_kind name ≡ token.Name → AreLexical (words i)
+    → Reads (rule.step_behind_name start name i) (λ q. (s : tree.Step) × (ws : List Word) × (step_words name s ≡ a_name name ∷ ws) × Took i ws q.1 × (bare q.1 ≡ bare i))
+unfolding rule.step_behind_name next spelled_kind
+behind_name_sound start name i named g =
+    reads_if (sees (codes "++") i) (λ is. gives (tree.name_plus_plus, a_symbol (codes "++") ∷ [], refl, took_symbol (codes "++") refl i g is, refl)) (λ _.
+    reads_if (sees (codes "+=") i) (λ is.
+    let t = took_symbol (codes "+=") refl i g is in
+    reads_map (in_step_sound start token.Number numbers (codes "1") refl (next i) t.lexical) (λ q o. (tree.name_plus_one, a_symbol (codes "+=") ∷ a_number (codes "1") ∷ [], refl, took_then t o.0, o.1))) (λ _.
+    reads_if (sees (codes "=") i) (λ is.
+    let t = took_symbol (codes "=") refl i g is in
+    reads_then (and_then (rule.expect_in_step start name (next i)) (λ _. rule.expect_in_step start (codes "+"))) _ {Q = λ (p : Unit {0} × Input). Took (next i) (a_name name ∷ a_symbol (codes "+") ∷ []) p.1 × (bare p.1 ≡ bare i)}
+    (reads_then (rule.expect_in_step start name (next i)) _ (in_step_sound start token.Name names name named (next i) t.lexical) (λ r n.
+    reads_map (in_step_sound start token.Symbol symbols (codes "+") refl r.1 n.0.lexical) (λ p s. (took_then n.0 s.0, s.1 ∙ n.1)))) (λ p s.
+    reads_map (in_step_sound start token.Number numbers (codes "1") refl p.1 s.0.lexical) (λ q o.
+    (tree.name_is_name_plus_one, a_symbol (codes "=") ∷ a_name name ∷ a_symbol (codes "+") ∷ a_number (codes "1") ∷ [], refl, took_then t (took_then s.0 o.0), o.1 ∙ s.1))))
+    (λ _. fails)))
+
+-- a step that was read is spelled
+step_sound : (name : List ℕ) (i : Input) → spelled_kind name ≡ token.Name → AreLexical (words i) → Reads (rule.step name i) (StepSound name i)
+unfolding rule.step next spelled_kind
+step_sound name i named g = reads_if (sees name i)
+    (λ is.
+    let t = took_word name token.Name names named i g is in
+    reads_map (behind_name_sound (place i) name (next i) named t.lexical) (λ q s. (s.0, subst (λ (ws : List Word). Took i ws q.1) (sym s.2) (took_then t s.3), s.4)))
+    (λ _. reads_if (sees (codes "++") i)
+    (λ is.
+    let t = took_symbol (codes "++") refl i g is in
+    reads_map (in_step_sound (place i) token.Name names name named (next i) t.lexical) (λ q n. (tree.plus_plus_name, took_then t n.0, n.1)))
+    (λ _. fails))
+
+-- a bound with small numbers was given
+bound_sound : (start : ℕ) (o : Option (List ℤ)) (numbers : List ℤ) → rule.bound_of start o ≡ Ok numbers → o ≡ Some numbers
+bound_sound start None numbers e = absurd cc
+bound_sound start (Some ns) numbers e = cc
+
+-- a bound, up to its `;`
+BoundSound : ℕ → List Word → (List ℤ → List ℤ → Type 0) → Input → List ℤ × Input → Type 0
+BoundSound b ws gives i q = (a : affine_tree.Affine) × (f : Form) × Took i (ws ++ (affine_words a ++ (a_symbol (codes ";") ∷ []))) q.1 × (affine_means b a (bare i) ≡ Some (f, bare q.1)) × gives f.numbers q.0
+
+-- a lower bound that was read is spelled
+lower_sound : (b : ℕ) (i : Input) → AreLexical (words i) → Reads (rule.lower_bound b i) (BoundSound b (a_symbol (codes "=") ∷ []) (λ ns row. ns ≡ row) i)
+unfolding rule.lower_bound BoundSound spelled_kind
+lower_sound b i g =
+    reads_then (expect (codes "=") i) _ (expect_sound (codes "=") i refl g) (λ x s.
+    reads_then (affine b None x.1) _ (affine_sound b None x.1 s.0.lexical) (λ p a.
+    reads_then (closed_by (codes ";") p.0 p.1) _ (closed_by_sound (codes ";") p.0 p.1 refl a.1.lexical) (λ r c. gives (
+      a.0,
+      form_of p.0,
+      took_then s.0 (took_then a.1 c.0),
+      ap (affine_means b a.0) (sym s.1) ∙ a.2 ∙ ap (λ (s : Names). Some (form_of p.0, s)) (sym c.2),
+      ap (λ (f : Form). f.numbers) (sym c.1),
+    ))))
+
+-- an upper bound that was read is spelled
+upper_sound : (b : ℕ) (name : List ℕ) (i : Input) → spelled_kind name ≡ token.Name → AreLexical (words i)
+    → Reads (rule.upper_bound b name i) (λ q. (x : Bool) × BoundSound b (a_name name ∷ bound_word x ∷ []) (λ ns row. mean.upper_bound x ns ≡ Some row) i q)
+unfolding rule.upper_bound rule.upper_from rule.bound BoundSound spelled_kind
+upper_sound b name i named g =
+    reads_then (expect name i) _ (word_sound token.Name names name named i g) (λ n s.
+    reads_then (rule.comparison n.1) _ (comparison_sound n.1 s.0.lexical) (λ r c.
+    reads_then (affine b None r.1) _ (affine_sound b None r.1 c.1.lexical) (λ p a.
+    reads_given (rule.bound (place r.1) r.0 p.0.numbers) _ p.1 (λ numbers e.
+    reads_then (closed_by (codes ";") p.0 p.1) _ (closed_by_sound (codes ";") p.0 p.1 refl a.1.lexical) (λ k d.
+    let given_is : mean.upper_bound c.0 p.0.numbers ≡ Some numbers = ap (λ (z : ℤ). combined (pos 1) z zeros p.0.numbers) (sym c.3) ∙ bound_sound (place r.1) _ numbers e in
+    gives (c.0, (a.0, form_of p.0, took_then (took_then s.0 c.1) (took_then a.1 d.0), ap (affine_means b a.0) (sym s.1 ∙ sym c.2) ∙ a.2 ∙ ap (λ (s : Names). Some (form_of p.0, s)) (sym d.2), given_is)))))))
+
+-- a header was taken behind its bracket and its `int`
+HeaderOfSound : ℕ → Bool → Input → Loop × Input → Type 0
+HeaderOfSound b has_int i q = (h : tree.Header) × (h.has_int ≡ has_int) × Took i (a_name h.name ∷ bounds_words h) q.1 × (header_means b h (bare i) ≡ Some (q.0, bare q.1))
+
+-- a header that was read is spelled, behind its bracket and its `int`
+header_of_sound : (b : ℕ) (has_int : Bool) (i : Input) → AreLexical (words i) → Reads (rule.header_of b (spelling i) i) (HeaderOfSound b has_int i)
+unfolding rule.header_of BoundSound HeaderOfSound header_means spelled_kind
+header_of_sound b has_int i g =
+    reads_then (rule.loop_name i) _ (loop_name_sound i g) (λ p n.
+    let named : spelled_kind (spelling i) ≡ token.Name = sym (kind_spelled i g) ∙ ap class (name_kind_is (kind i) n.2) in
+    reads_then (rule.lower_bound b p.1) _ (lower_sound b p.1 n.0.lexical) (λ lower l.
+    reads_then (rule.upper_bound b (spelling i) lower.1) _ (upper_sound b (spelling i) lower.1 named l.2.lexical) (λ upper u.
+    reads_then (rule.step (spelling i) upper.1) _ (step_sound (spelling i) upper.1 named u.1.2.lexical) (λ r s.
+    reads_then (expect (codes ")") r.1) _ (expect_sound (codes ")") r.1 refl s.1.lexical) (λ c x. gives (
+      record { has_int = has_int; name = spelling i; lower = l.0; excludes = u.0; upper = u.1.0; step = s.0 },
+      refl,
+      subst (λ (ws : List Word). Took i ws c.1) (simp append_assoc) (took_then n.0 (took_then l.2 (took_then u.1.2 (took_then s.1 x.0)))),
+      means_then _ _ n.1 (means_then _ _ l.3 (means_then _ _ u.1.3 (means_given _ _ _ u.1.4
+          (ap (λ (ns : List ℤ). Some (record { name = p.0; lower = ns; upper = upper.0 }, bare upper.1)) l.4
+          ∙ ap (λ (s : Names). Some (record { name = p.0; lower = lower.0; upper = upper.0 }, s)) (sym (x.1 ∙ s.2)))))),
+    ))))))
+
+-- a header was taken that means this loop, where one bracket more could be opened
+unfoldable pub HeaderSound : ℕ → Input → Loop × Input → Type 0
+HeaderSound b i q = (d : ℕ) × (b ≡ suc d) × (h : tree.Header) × Took i (header_words h) q.1 × (header_means d h (bare i) ≡ Some (q.0, bare q.1))
+
+-- `for`, its bracket and `int` stand in front of it
+header_joined : (b d : ℕ) (has_int : Bool) (i j : Input) (q : Loop × Input) → b ≡ suc d → Took i (a_keyword (codes "for") ∷ a_symbol (codes "(") ∷ tree.int_words has_int) j → bare j ≡ bare i → HeaderOfSound d has_int j q
+    → HeaderSound b i q
+unfolding HeaderOfSound HeaderSound
+header_joined b d has_int i j q is t same h = (
+  d,
+  is,
+  h.0,
+  took_then (subst (λ (x : Bool). Took i (a_keyword (codes "for") ∷ a_symbol (codes "(") ∷ tree.int_words x) j) (sym h.1) t) h.2,
+  ap (header_means d h.0) (sym same) ∙ h.3,
+)
+
+-- a header that was read is spelled
+pub header_sound : (b : ℕ) (i : Input) → AreLexical (words i) → sees (codes "for") i ≡ true → Reads (rule.header b i) (HeaderSound b i)
+unfolding rule.header rule.for_bracket rule.skip_int next spelled_kind
+header_sound b i g seen = reads_then (rule.for_bracket b i) _ {Q = λ (p : Unit {0} × Input). (d : ℕ) × (b ≡ suc d) × (p.1 ≡ next (next i)) × (sees (codes "(") (next i) ≡ true)}
+    (reads_if (sees (codes "(") (next i)) (λ is. reads_map (open_bracket_sound b (next i)) (λ p o. (o.0, o.1, o.2, is))) (λ _. fails)) (λ p o.
+    let t = took_word (codes "for") token.Word keywords refl i g seen in
+    let u = took_symbol (codes "(") refl (next i) t.lexical o.3 in
+    let less : b - 1 ≡ o.0 = ap (λ (n : ℕ). n - 1) o.1 ∙ one_less o.0 in
+    rw (o.2, less) (bool_cases (sees (codes "int") (next (next i))) (λ int.
+    let w = took_word (codes "int") token.Word keywords refl (next (next i)) u.lexical int in
+    rw int (reads_map (header_of_sound o.0 true (next (next (next i))) w.lexical) (λ q h. header_joined b o.0 true i (next (next (next i))) q o.1 (took_then t (took_then u w)) refl h)))
+    (λ none. rw none (reads_map (header_of_sound o.0 false (next (next i)) u.lexical) (λ q h. header_joined b o.0 false i (next (next i)) q o.1 (took_then t u) refl h)))))
 
 -- ---- statements
 
--- an assignment's operator was taken
-abbrev OperatorSound : Input → Bool × Input → Type 0
-OperatorSound i q = (o : tree.Assigner) × Took i (assigner_word o ∷ []) q.1 × (bare q.1 ≡ bare i) × (q.0 ≡ mean.updates o)
-
 -- an operator that was read is spelled
-operator_sound : (i : Input) (q : Bool × Input) → AreLexical (words i) → rule.operator i ≡ Ok q → OperatorSound i q
+operator_sound : (i : Input) → AreLexical (words i) → Reads (rule.operator i) (Passed (λ (o : tree.Assigner). assigner_word o ∷ []) mean.updates i)
 unfolding rule.operator next spelled_kind
-operator_sound i q g e =
-    bool_cases (sees (codes "=") i) (λ is. let e0 = rw is at e in ok_is (OperatorSound i) q e0 (tree.sets, took_symbol (codes "=") refl i g is, refl, refl)) (λ no. let e1 = rw no at e in
-    bool_cases (sees (codes "+=") i) (λ is. let e0 = rw is at e1 in ok_is (OperatorSound i) q e0 (tree.adds, took_symbol (codes "+=") refl i g is, refl, refl)) (λ no. let e2 = rw no at e1 in
-    bool_cases (sees (codes "-=") i) (λ is. let e0 = rw is at e2 in ok_is (OperatorSound i) q e0 (tree.subtracts, took_symbol (codes "-=") refl i g is, refl, refl)) (λ no. let e3 = rw no at e2 in
-    bool_cases (sees (codes "*=") i) (λ is. let e0 = rw is at e3 in ok_is (OperatorSound i) q e0 (tree.multiplies, took_symbol (codes "*=") refl i g is, refl, refl)) (λ no. let e4 = rw no at e3 in
-    ok_if (OperatorSound i) q _ (sees (codes "/=") i) e4 (λ is. (tree.divides, took_symbol (codes "/=") refl i g is, refl, refl))))))
+operator_sound i g =
+    reads_if (sees (codes "=") i) (λ is. gives (tree.sets, took_symbol (codes "=") refl i g is, refl, refl)) (λ _.
+    bool_cases (sees (codes "+=") i) (λ is. rw is (gives (tree.adds, took_symbol (codes "+=") refl i g is, refl, refl))) (λ no1. rw no1 (
+    bool_cases (sees (codes "-=") i) (λ is. rw is (gives (tree.subtracts, took_symbol (codes "-=") refl i g is, refl, refl))) (λ no2. rw no2 (
+    bool_cases (sees (codes "*=") i) (λ is. rw is (gives (tree.multiplies, took_symbol (codes "*=") refl i g is, refl, refl))) (λ no3. rw no3 (
+    gives_if (sees (codes "/=") i) _ _ (λ is. (tree.divides, took_symbol (codes "/=") refl i g is, refl, refl)))))))))
 
 -- an assignment was taken that means this
 abbrev AssignSound : ℕ → Input → Unit {0} × Input → Type 0
 AssignSound b i q = (a : tree.Assign) × Took i (assign_words a) q.1 × (assign_means b a (bare i) ≡ Some (tt, bare q.1)) × (a.target.name ≡ spelling i)
 
 -- an assignment that was read is spelled
-assign_sound : (b : ℕ) (i : Input) (q : Unit {0} × Input) → AreLexical (words i) → is_name_kind (kind i) ≡ true → rule.assign b i ≡ Ok q → AssignSound b i q
+assign_sound : (b : ℕ) (i : Input) → AreLexical (words i) → is_name_kind (kind i) ≡ true → Reads (rule.assign b i) (AssignSound b i)
 unfolding rule.assign rule.add_statement with_line assign_means
-assign_sound b i q g is e =
-    and_then_ok _ (access b i) e (λ p e1 e2.
-    let w = access_sound b i p g is e1 in
-    and_then_ok _ (rule.operator p.1) e2 (λ o e3 e4.
-    let t = operator_sound p.1 o w.1.lexical e3 in
-    and_then_ok _ (value b (first_reads o.0 p.0) o.1) e4 (λ r e5 e6.
-    let v = value_sound b (first_reads o.0 p.0) o.1 r t.1.lexical e5 in
-    ok_is (AssignSound b i) q e6 (
+assign_sound b i g is =
+    reads_then (access b i) _ (access_sound b i g is) (λ p w.
+    reads_then (rule.operator p.1) _ (operator_sound p.1 w.1.lexical) (λ o t.
+    reads_then (value b (first_reads o.0 p.0) o.1) _ (value_sound b (first_reads o.0 p.0) o.1 t.1.lexical) (λ r v. gives (
       record { target = w.0; assigner = t.0; value = v.0 },
       took_as _ refl (took_then w.1 (took_then t.1 v.1)),
       means_then _ _ w.2 (means_then _ _ (ap (λ (u : Bool). mean.value_means b (first_reads u p.0) v.0 (bare p.1)) (sym t.3) ∙ ap (mean.value_means b (first_reads o.0 p.0) v.0) (sym t.2) ∙ v.2) refl),
@@ -68,20 +233,16 @@ assign_sound b i q g is e =
     ))))
 
 -- a statement that was read is an item
-statement_sound : (more b : ℕ) (i : Input) (q : Unit {0} × Input) → AreLexical (words i) → is_name_kind (kind i) ≡ true → rule.statement b i ≡ Ok q → Spells item_words (item_means more b) i q
+statement_sound : (more b : ℕ) (i : Input) → AreLexical (words i) → is_name_kind (kind i) ≡ true → Reads (rule.statement b i) (Spells item_words (item_means more b) i)
 unfolding rule.statement rule.count_statements item_means statement_means kind_of spelled_kind
-statement_sound more b i q g is e =
-    bool_cases (is_array (kind_of (spelling i) i)) (λ array. let e0 = rw array at e in
-    bool_cases (nat_le most_statements i.statements) (λ full. let e1 = rw full at e0 in absurd cc) (λ few. let e1 = rw few at e0 in
-    and_then_ok _ _ e1 (λ p e2 e3. and_then_ok _ (rule.assign b i) e2 (λ r e4 e5.
-    let a = assign_sound b i r g is e4 in
-    ok_is (λ (p : Unit {0} × Input). expect (codes ";") p.1 ≡ Ok q → Spells item_words (item_means more b) i q) p e5 (λ e6.
-    let c = expect_sound (codes ";") (record r.1 { statements = i.statements + 1 }) q refl a.1.lexical e6 in (
-      tree.statement a.0,
-      took_then (took_as (record r.1 { statements = i.statements + 1 }) refl a.1) c.0,
-      rw (ap (λ (n : List ℕ). is_array (kind_of n (bare i))) a.3 ∙ array, few) (means_then _ _ a.2 (ap (λ (s : Names). Some (tt, s)) (sym c.1))),
-    )) e3))))
-    (λ other. let e0 = rw other at e in absurd cc)
+statement_sound more b i g is =
+    bool_cases (is_array (kind_of (spelling i) i)) (λ array. rw array (
+    bool_cases (nat_le most_statements i.statements) (λ full. rw full fails) (λ few. rw few (
+    reads_then (and_then (rule.assign b i) (λ _. rule.count_statements (i.statements + 1))) _ {Q = λ (p : Unit {0} × Input). (a : tree.Assign) × Took i (assign_words a) p.1 × (statement_means b a (bare i) ≡ Some (tt, bare p.1))}
+    (reads_then (rule.assign b i) _ (assign_sound b i g is) (λ r a.
+    gives (a.0, took_as (record r.1 { statements = i.statements + 1 }) refl a.1, rw (ap (λ (n : List ℕ). is_array (kind_of n (bare i))) a.3 ∙ array, few) (means_then _ _ a.2 refl)))) (λ p a.
+    reads_map (expect_sound (codes ";") p.1 refl a.1.lexical) (λ q c. (tree.statement a.0, took_then a.1 c.0, a.2 ∙ ap (λ (s : Names). Some (tt, s)) (sym c.1))))))))
+    (λ other. rw other fails)
 
 -- ---- loops and blocks
 
@@ -93,149 +254,113 @@ unfolding item_means
 loop_is more b d h t s o is e = let f = rw is at e in rw is f
 
 -- a loop that was read is an item
-for_loop_sound : (more b : ℕ) (item : Rule (Unit {0})) → ((i : Input) (q : Unit {0} × Input) → AreLexical (words i) → item i ≡ Ok q → Spells item_words (item_means more b) i q)
-    → (i : Input) (q : Unit {0} × Input) → AreLexical (words i) → sees (codes "for") i ≡ true → rule.for_loop item (most_loops - 1 - more) b i ≡ Ok q → Spells item_words (item_means (suc more) b) i q
+for_loop_sound : (more b : ℕ) (item : Rule (Unit {0})) → ((i : Input) → AreLexical (words i) → Reads (item i) (Spells item_words (item_means more b) i))
+    → (i : Input) → AreLexical (words i) → sees (codes "for") i ≡ true → Reads (rule.for_loop item (most_loops - 1 - more) b i) (Spells item_words (item_means (suc more) b) i)
 unfolding rule.for_loop rule.opened rule.closed HeaderSound mean.begin mean.end with_kind with_line
-for_loop_sound more b item below i q g seen e =
-    and_then_ok _ (rule.header b i) e (λ p e1 e2.
-    let h = header_sound b i p g seen e1 in
-    and_then_ok _ (item (with_kind p.0.name (OpenLoop (most_loops - 1 - more)) (with_line (Begin p.0) p.1))) e2 (λ r e3 e4.
-    let t = below (with_kind p.0.name (OpenLoop (most_loops - 1 - more)) (with_line (Begin p.0) p.1)) r h.3.lexical e3 in
+for_loop_sound more b item below i g seen =
+    reads_then (rule.header b i) _ (header_sound b i g seen) (λ p h.
+    let j : Input = with_kind p.0.name (OpenLoop (most_loops - 1 - more)) (with_line (Begin p.0) p.1) in
+    reads_then (item j) _ (below j h.3.lexical) (λ r t.
     let inner : Took p.1 (item_words t.0) r.1 = record { spelled = t.1.spelled; lexical = t.1.lexical } in
-    ok_is (Spells item_words (item_means (suc more) b) i) q e4 (
-      tree.loop h.2 t.0,
-      took_as _ refl (took_then h.3 inner),
-      loop_is more b h.0 h.2 t.0 (bare i) _ h.1 (means_then _ _ h.4 (means_then _ _ t.2 refl)),
-    )))
-
--- items up to the bracket that closes their block
-BlockItemsSound : ℕ → ℕ → Input → Unit {0} × Input → Type 0
-BlockItemsSound more b i q = (ts : tree.Items) × (j : Input) × Took i (items_words ts) j × Took j (a_symbol (codes "}") ∷ []) q.1 × (items_means more b ts (bare i) ≡ Some (tt, bare q.1))
+    gives (tree.loop h.2 t.0, took_as _ refl (took_then h.3 inner), loop_is more b h.0 h.2 t.0 (bare i) _ h.1 (means_then _ _ h.4 (means_then _ _ t.2 refl)))))
 
 -- items of a block that were read are spelled
-block_items_sound : (more b : ℕ) (item : Rule (Unit {0})) → ((i : Input) (q : Unit {0} × Input) → AreLexical (words i) → item i ≡ Ok q → Spells item_words (item_means more b) i q)
-    → (n : ℕ) (i : Input) (q : Unit {0} × Input) → AreLexical (words i) → rule.block_items item n i ≡ Ok q → BlockItemsSound more b i q
-unfolding rule.block_items BlockItemsSound items_means next spelled_kind
-block_items_sound more b item below zero i q g e = absurd cc
-block_items_sound more b item below (suc n) i q g e = if_ok _ _ (sees (codes "}") i) e
-    (λ is e0. ok_is (BlockItemsSound more b i) q e0 (tree.item_end, i, took_none g, took_symbol (codes "}") refl i g is, refl))
-    (λ _ e0. and_then_ok _ (item i) e0 (λ p e1 e2.
-    let t = below i p g e1 in
-    let r = block_items_sound more b item below n p.1 q t.1.lexical e2 in
-    (tree.item t.0 r.0, r.1, took_then t.1 r.2, r.3, means_then _ _ t.2 r.4)))
+block_items_sound : (more b : ℕ) (item : Rule (Unit {0})) → ((i : Input) → AreLexical (words i) → Reads (item i) (Spells item_words (item_means more b) i))
+    → (n : ℕ) (i : Input) → AreLexical (words i) → Reads (rule.block_items item n i) (SpellsUpTo (a_symbol (codes "}")) items_words (items_means more b) i)
+unfolding rule.block_items items_means next spelled_kind
+block_items_sound more b item below zero i g = fails
+block_items_sound more b item below (suc n) i g = reads_if (sees (codes "}") i) (λ is. gives (tree.item_end, i, took_none g, took_symbol (codes "}") refl i g is, refl)) (λ _.
+    reads_then (item i) _ (below i g) (λ p t.
+    reads_map (block_items_sound more b item below n p.1 t.1.lexical) (λ q r. (tree.item t.0 r.0, r.1, took_then t.1 r.2, r.3, means_then _ _ t.2 r.4))))
 
 module _ (more : ℕ) (loop : ℕ → Rule (Unit {0}))
-    (loop_sound : (b : ℕ) (i : Input) (q : Unit {0} × Input) → AreLexical (words i) → sees (codes "for") i ≡ true → loop b i ≡ Ok q → Spells item_words (item_means more b) i q) where
+    (loop_sound : (b : ℕ) (i : Input) → AreLexical (words i) → sees (codes "for") i ≡ true → Reads (loop b i) (Spells item_words (item_means more b) i)) where
   -- an item that was read is spelled, where blocks are
-  item_by_sound : (b : ℕ) (block : Rule (Unit {0})) → ((i : Input) (q : Unit {0} × Input) → AreLexical (words i) → sees (codes "{") i ≡ true → block i ≡ Ok q → Spells item_words (item_means more b) i q)
-      → (i : Input) (q : Unit {0} × Input) → AreLexical (words i) → rule.item_by block (loop b) b i ≡ Ok q → Spells item_words (item_means more b) i q
+  item_by_sound : (b : ℕ) (block : Rule (Unit {0})) → ((i : Input) → AreLexical (words i) → sees (codes "{") i ≡ true → Reads (block i) (Spells item_words (item_means more b) i))
+      → (i : Input) → AreLexical (words i) → Reads (rule.item_by block (loop b) b i) (Spells item_words (item_means more b) i)
   unfolding rule.item_by item_means next spelled_kind
-  item_by_sound b block below i q g e = if_ok _ _ (sees (codes ";") i) e
-      (λ is e0. ok_is (Spells item_words (item_means more b) i) q e0 (tree.nothing, took_symbol (codes ";") refl i g is, refl))
-      (λ _ e0. if_ok _ _ (sees (codes "{") i) e0 (λ is e1. below i q g is e1)
-      (λ _ e1. if_ok _ _ (sees (codes "for") i) e1 (λ is e2. loop_sound b i q g is e2)
-      (λ _ e2. if_ok _ _ (sees (codes "if") i) e2 (λ _ e3. absurd cc)
-      (λ _ e3. if_ok _ _ (is_name_kind (kind i)) e3 (λ is e4. statement_sound more b i q g is e4) (λ _ e4. absurd cc)))))
+  item_by_sound b block below i g = reads_if (sees (codes ";") i) (λ is. gives (tree.nothing, took_symbol (codes ";") refl i g is, refl)) (λ _.
+      reads_if (sees (codes "{") i) (λ is. below i g is) (λ _.
+      reads_if (sees (codes "for") i) (λ is. loop_sound b i g is) (λ _.
+      reads_if (sees (codes "if") i) (λ _. fails) (λ _.
+      reads_if (is_name_kind (kind i)) (λ is. statement_sound more b i g is) (λ _. fails)))))
 
   -- a block that was read is an item
-  block_sound : (b : ℕ) (i : Input) (q : Unit {0} × Input) → AreLexical (words i) → sees (codes "{") i ≡ true → rule.block loop b i ≡ Ok q → Spells item_words (item_means more b) i q
-  unfolding rule.block rule.all_block_items BlockItemsSound item_means next spelled_kind
-  block_sound zero i q g is e = absurd cc
-  block_sound (suc b) i q g is e =
+  block_sound : (b : ℕ) (i : Input) → AreLexical (words i) → sees (codes "{") i ≡ true → Reads (rule.block loop b i) (Spells item_words (item_means more b) i)
+  unfolding rule.block rule.all_block_items item_means next spelled_kind
+  block_sound zero i g is = fails
+  block_sound (suc b) i g is =
       let t = took_symbol (codes "{") refl i g is in
-      let r = block_items_sound more b (rule.item_by (rule.block loop b) (loop b) b) (item_by_sound b (rule.block loop b) (block_sound b)) (left (next i)) (next i) q t.lexical e in
-      (tree.block r.0, took_then t (took_then r.2 r.3), r.4)
+      reads_map (block_items_sound more b (rule.item_by (rule.block loop b) (loop b) b) (item_by_sound b (rule.block loop b) (block_sound b)) (left (next i)) (next i) t.lexical) (λ q r. (tree.block r.0, took_then t (took_then r.2 r.3), r.4))
 
   -- an item that was read is spelled
-  item_over_sound : (b : ℕ) (i : Input) (q : Unit {0} × Input) → AreLexical (words i) → rule.item_over loop b i ≡ Ok q → Spells item_words (item_means more b) i q
+  item_over_sound : (b : ℕ) (i : Input) → AreLexical (words i) → Reads (rule.item_over loop b i) (Spells item_words (item_means more b) i)
   unfolding rule.item_over
-  item_over_sound b i q g e = item_by_sound b (rule.block loop b) (block_sound b) i q g e
+  item_over_sound b i g = item_by_sound b (rule.block loop b) (block_sound b) i g
 
 -- a loop that was read is an item, where so many may be opened
-loops_sound : (more b : ℕ) (i : Input) (q : Unit {0} × Input) → AreLexical (words i) → sees (codes "for") i ≡ true → rule.loops more b i ≡ Ok q → Spells item_words (item_means more b) i q
+loops_sound : (more b : ℕ) (i : Input) → AreLexical (words i) → sees (codes "for") i ≡ true → Reads (rule.loops more b i) (Spells item_words (item_means more b) i)
 unfolding rule.loops
-loops_sound zero b i q g is e = absurd cc
-loops_sound (suc more) b i q g is e = for_loop_sound more b (rule.item_over (rule.loops more) b) (item_over_sound more (rule.loops more) (loops_sound more) b) i q g is e
+loops_sound zero b i g is = fails
+loops_sound (suc more) b i g is = for_loop_sound more b (rule.item_over (rule.loops more) b) (item_over_sound more (rule.loops more) (loops_sound more) b) i g is
 
 -- items up to the closing line
 abbrev pub ItemsSound : Input → Unit {0} × Input → Type 0
 ItemsSound i q = (ts : tree.Items) × Took i (items_words ts) q.1 × (words q.1 ≡ program_end ∷ []) × (items_means most_loops 64 ts (bare i) ≡ Some (tt, bare q.1))
 
 -- items that were read are spelled
-items_sound : (n : ℕ) (i : Input) (q : Unit {0} × Input) → AreLexical (words i) → rule.items n i ≡ Ok q → ItemsSound i q
+items_sound : (n : ℕ) (i : Input) → AreLexical (words i) → Reads (rule.items n i) (ItemsSound i)
 unfolding rule.items rule.item items_means
-items_sound zero i q g e = absurd cc
-items_sound (suc n) i q g e = if_ok _ _ (is_end (kind i)) e
-    (λ is e0. ok_is (ItemsSound i) q e0 (tree.item_end, took_none g, at_end i g is, refl))
-    (λ _ e0. and_then_ok _ (rule.item most_loops 64 i) e0 (λ p e1 e2.
-    let t = item_over_sound most_loops (rule.loops most_loops) (loops_sound most_loops) 64 i p g e1 in
-    let r = items_sound n p.1 q t.1.lexical e2 in
-    (tree.item t.0 r.0, took_then t.1 r.1, r.2, means_then _ _ t.2 r.3)))
-
--- names up to the line's end
-ParametersSound : Input → Unit {0} × Input → Type 0
-ParametersSound i q = (names : List (List ℕ)) × (j : Input) × Took i (map a_name names) j × Took j (line_end ∷ []) q.1 × (parameters_mean names (bare i) ≡ Some (tt, bare q.1))
+items_sound zero i g = fails
+items_sound (suc n) i g = reads_if (is_end (kind i)) (λ is. gives (tree.item_end, took_none g, at_end i g is, refl)) (λ _.
+    reads_then (rule.item most_loops 64 i) _ (item_over_sound most_loops (rule.loops most_loops) (loops_sound most_loops) 64 i g) (λ p t.
+    reads_map (items_sound n p.1 t.1.lexical) (λ q r. (tree.item t.0 r.0, took_then t.1 r.1, r.2, means_then _ _ t.2 r.3))))
 
 -- a line's names that were read are spelled
-parameter_names_sound : (n : ℕ) (i : Input) (q : Unit {0} × Input) → AreLexical (words i) → head_rule.parameter_names n i ≡ Ok q → ParametersSound i q
-unfolding head_rule.parameter_names ParametersSound parameters_mean next
-parameter_names_sound zero i q g e = absurd cc
-parameter_names_sound (suc n) i q g e = if_ok _ _ (is_line_end (kind i)) e
-    (λ is e0. ok_is (ParametersSound i) q e0 ([], i, took_none g, took_line_end i g is, refl))
-    (λ _ e0. if_ok _ _ (is_name_kind (kind i)) e0
-    (λ is e1. and_then_ok _ (slot i) e1 (λ p e2 e3.
-    let s = slot_sound i p g is e2 in
-    let r = parameter_names_sound n p.1 q s.0.lexical e3 in
-    (spelling i ∷ r.0, r.1, took_then s.0 r.2, r.3, means_then _ _ s.1 r.4)))
-    (λ _ e1. absurd cc))
-
--- compares up to the line's end
-ComparesSound : Rows → Input → Rows × Input → Type 0
-ComparesSound rows i q = (cs : text_tree.Compares) × (j : Input) × Took i (compares_words cs) j × Took j (line_end ∷ []) q.1 × (compares_mean rows cs (bare i) ≡ Some (q.0, bare q.1))
+parameter_names_sound : (n : ℕ) (i : Input) → AreLexical (words i) → Reads (head_rule.parameter_names n i) (SpellsUpTo line_end (map a_name) parameters_mean i)
+unfolding head_rule.parameter_names parameters_mean next
+parameter_names_sound zero i g = fails
+parameter_names_sound (suc n) i g = reads_if (is_line_end (kind i)) (λ is. gives ([], i, took_none g, took_line_end i g is, refl)) (λ _.
+    reads_if (is_name_kind (kind i)) (λ is. reads_then (slot i) _ (slot_sound i g is) (λ p s.
+    reads_map (parameter_names_sound n p.1 s.0.lexical) (λ q r. (spelling i ∷ r.0, r.1, took_then s.0 r.2, r.3, means_then _ _ s.1 r.4)))) (λ _. fails))
 
 -- a line's compares that were read are spelled
-compares_sound : (n : ℕ) (rows : Rows) (i : Input) (q : Rows × Input) → AreLexical (words i) → head_rule.compares n rows i ≡ Ok q → ComparesSound rows i q
-unfolding head_rule.compares head_rule.closed_line ComparesSound compares_mean compare next spelled_kind
-compares_sound zero rows i q g e = absurd cc
-compares_sound (suc n) rows i q g e = and_then_ok _ (compare rows i) e (λ p e1 e2.
-    let c = compare_from_sound (place i) rows i p g e1 in
-    if_ok _ _ (sees (codes "&&") p.1) e2
-    (λ is e3.
+compares_sound : (n : ℕ) (rows : Rows) (i : Input) → AreLexical (words i) → Reads (head_rule.compares n rows i) (SpellsUpTo line_end compares_words (compares_mean rows) i)
+unfolding head_rule.compares head_rule.closed_line compares_mean compare next spelled_kind
+compares_sound zero rows i g = fails
+compares_sound (suc n) rows i g = reads_then (compare rows i) _ (compare_from_sound (place i) rows i g) (λ p c. reads_if (sees (codes "&&") p.1)
+    (λ is.
     let t = took_symbol (codes "&&") refl p.1 c.1.lexical is in
-    let r = compares_sound n p.0.rows (next p.1) q t.lexical e3 in
-    (text_tree.compare c.0 r.0, r.1, took_then c.1 (took_then t r.2), r.3, means_then _ _ c.2 r.4))
-    (λ _ e3. ok_if (ComparesSound rows i) q _ (is_line_end (kind p.1)) e3 (λ is. (text_tree.last_compare c.0, p.1, c.1, took_line_end p.1 c.1.lexical is, c.2))))
+    reads_map (compares_sound n p.0.rows (next p.1) t.lexical) (λ q r. (text_tree.compare c.0 r.0, r.1, took_then c.1 (took_then t r.2), r.3, means_then _ _ c.2 r.4)))
+    (λ _. gives_if (is_line_end (kind p.1)) _ _ (λ is. (text_tree.last_compare c.0, p.1, c.1, took_line_end p.1 c.1.lexical is, c.2))))
 
 -- the lines in front of a program that were read are spelled
-directives_sound : (n : ℕ) (h : Head) (i : Input) (q : Head × Input) → AreLexical (words i) → head_rule.directives n h i ≡ Ok q → Spells lines_words (lines_mean h) i q
-unfolding head_rule.directives head_rule.all_parameter_names head_rule.all_compares ParametersSound ComparesSound lines_mean next
-directives_sound zero h i q g e = absurd cc
-directives_sound (suc n) h i q g e = if_ok _ _ (is_parameters (kind i)) e
-    (λ is e0. and_then_ok _ (head_rule.all_parameter_names (next i)) e0 (λ p e1 e2.
+directives_sound : (n : ℕ) (h : Head) (i : Input) → AreLexical (words i) → Reads (head_rule.directives n h i) (Spells lines_words (lines_mean h) i)
+unfolding head_rule.directives head_rule.all_parameter_names head_rule.all_compares lines_mean next
+directives_sound zero h i g = fails
+directives_sound (suc n) h i g = reads_if (is_parameters (kind i))
+    (λ is.
     let t = took_kind token.Parameters i refl g (parameters_is (kind i) is) in
-    let s = parameter_names_sound (left (next i)) (next i) p t.lexical e1 in
-    let r = directives_sound n h p.1 q s.3.lexical e2 in
-    (text_tree.parameters (spelling i) s.0 r.0, took_then t (took_then s.2 (took_then s.3 r.1)), means_then _ _ s.4 r.2)))
-    (λ _ e0. if_ok _ _ (is_assumptions (kind i)) e0
-    (λ is e1. and_then_ok _ (head_rule.all_compares h.rows (next i)) e1 (λ p e2 e3.
+    reads_then (head_rule.parameter_names (left (next i)) (next i)) _ (parameter_names_sound (left (next i)) (next i) t.lexical) (λ p s.
+    reads_map (directives_sound n h p.1 s.3.lexical) (λ q r. (text_tree.parameters (spelling i) s.0 r.0, took_then t (took_then s.2 (took_then s.3 r.1)), means_then _ _ s.4 r.2))))
+    (λ _. reads_if (is_assumptions (kind i))
+    (λ is.
     let t = took_kind token.Assumptions i refl g (assumptions_is (kind i) is) in
-    let s = compares_sound (left (next i)) h.rows (next i) p t.lexical e2 in
-    let r = directives_sound n (record { assumed = true; rows = p.0 }) p.1 q s.3.lexical e3 in
-    (text_tree.assumptions (spelling i) s.0 r.0, took_then t (took_then s.2 (took_then s.3 r.1)), means_then _ _ s.4 r.2)))
-    (λ _ e1. ok_is (Spells lines_words (lines_mean h) i) q e1 (text_tree.line_none, took_none g, refl)))
+    reads_then (head_rule.compares (left (next i)) h.rows (next i)) _ (compares_sound (left (next i)) h.rows (next i) t.lexical) (λ p s.
+    reads_map (directives_sound n (record { assumed = true; rows = p.0 }) p.1 s.3.lexical) (λ q r. (text_tree.assumptions (spelling i) s.0 r.0, took_then t (took_then s.2 (took_then s.3 r.1)), means_then _ _ s.4 r.2))))
+    (λ _. gives (text_tree.line_none, took_none g, refl)))
 
 -- a text's words are spelled, and mean this
 abbrev TextSound : Input → Head × Input → Type 0
 TextSound i q = (t : Text) × (words i ≡ text_words t) × (whole_means t (bare i) ≡ Some (q.0, bare q.1))
 
 -- a text's words that were read are spelled
-text_rule_sound : (i : Input) (q : Head × Input) → AreLexical (words i) → whole.text_rule i ≡ Ok q → TextSound i q
+text_rule_sound : (i : Input) → AreLexical (words i) → Reads (whole.text_rule i) (TextSound i)
 unfolding whole.text_rule head_rule.head whole_means all_items
-text_rule_sound i q g e = and_then_ok _ (head_rule.head i) e (λ p e1 e2.
-    and_then_ok _ (all_items p.1) e2 (λ r e3 e4.
-    let ls = directives_sound (left i) (record { assumed = false; rows = [] }) i p g e1 in
-    let ts = items_sound (left p.1) p.1 r ls.1.lexical e3 in
-    ok_is (TextSound i) q e4 (
+text_rule_sound i g =
+    let h : Head = record { assumed = false; rows = [] } in
+    reads_then (head_rule.directives (left i) h i) _ (directives_sound (left i) h i g) (λ p ls.
+    reads_then (rule.items (left p.1) p.1) _ (items_sound (left p.1) p.1 ls.1.lexical) (λ r ts. gives (
       record { lines = ls.0; items = ts.0 },
       ls.1.spelled ∙ ap (λ (ws : List Word). lines_words ls.0 ++ ws) (ts.1.spelled ∙ ap (λ (ws : List Word). items_words ts.0 ++ ws) ts.2),
       means_then _ _ ls.2 (means_then _ _ ts.3 refl),
@@ -247,8 +372,8 @@ reading_sound : (bytes : List ℕ) (tokens : List Token) (r : Reading) (o : Outc
 unfolding whole.assumptions_of
 reading_sound bytes tokens r (Err x) is g e = absurd cc
 reading_sound bytes tokens r (Ok q) is g e =
-    let t = text_rule_sound (start_of bytes tokens) q g is in
-    ok_is (λ (r : Reading). (t : Text) × (words (start_of bytes tokens) ≡ text_words t) × (text_means t ≡ Some r)) r e (t.0, t.1, ap mean.reading_from t.2)
+    let t = (text_rule_sound (start_of bytes tokens) g).reads q is in
+    (t.0, t.1, ap mean.reading_from t.2 ∙ ap Some (same_ok e))
 
 -- what is accepted spells the grammar, where the words are lexical
 pub accepted : (bytes : List ℕ) (r : Reading) (o : Option (List Token)) → ((tokens : List Token) → o ≡ Some tokens → AreLexical (map (word_of bytes) tokens)) → whole.reading_by bytes o ≡ Ok r

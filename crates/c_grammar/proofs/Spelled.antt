@@ -1,15 +1,14 @@
 -- What a rule of the reading sees where words are spelled.
-use Rattle.std.proofs.Common.{◌≡◌, ℕ, suc, ◌<◌, ◌≤◌, Bool, true, false, List, [], ◌∷◌, ◌++◌, length, drop, refl, ap, ◌∙◌, Option, Some, None, subst, arith}
-use Rattle.std.specs.Prelude.{if◌then◌else◌, Result, Ok, bytes_eq}
+use Rattle.std.proofs.Common.{◌≡◌, ℕ, suc, ◌<◌, ◌≤◌, Bool, true, false, List, [], ◌∷◌, ◌++◌, length, drop, refl, sym, ap, ◌∙◌, Option, Some, None, subst, arith}
+use Rattle.std.specs.Prelude.{if◌then◌else◌, Ok, Err, bytes_eq}
 use Rattle.std.specs.List.{AllByRecursion}
 use Rattle.std.proofs.lemmas.List.{append_assoc, length-append}
 use Rattle.std.proofs.lemmas.Slice.Eq.{bytes_eq-Decides}
 use Rattle.c_tokens.specs.declared.token.TokenKind.{TokenKind}
 use Rattle.c_tokens.specs.declared.token.TokenKind.TheVariants as token
-use Rattle.c_reading.specs.declared.error.ReadFault.{ReadFault}
-use Rattle.c_reading.specs.Input.{Input, Rule, Outcome, and_then, kind, spelling, next, sees, left, given as rule_given}
+use Rattle.c_reading.specs.Input.{Input, Rule, Outcome, and_then, kind, spelling, next, sees, left}
 use Rattle.c_grammar.specs.Words.{Word, a_name, a_number, program_end}
-use Rattle.c_grammar.specs.Meaning.{Names, Meaning, then_in, given}
+use Rattle.c_grammar.specs.Meaning.{Names, Meaning, then_in, given, none}
 use Rattle.c_grammar.proofs.Steps.{words, bare, first, spelled_kind, IsSpelled, kind_is, spelling_is, next_is, left_is, bool_cases}
 
 -- these words, whose bytes have their kinds, are left in front of the end of the program
@@ -20,10 +19,6 @@ pub record At (i : Input) (ws : List Word) : Type 0 where
 -- the rule gives this, and these words are left
 abbrev pub Ran : {A V : Type 0} → (A → V) → Outcome A → List Word → V × Names → Type 0
 Ran {A} {V} view o rest x = (q : A × Input) × (o ≡ Ok q) × At q.1 rest × ◌≡◌ {A = V × Names} (view q.0, bare q.1) x
-
--- the same, where it gives what is meant
-abbrev pub Gave : {A : Type 0} → Outcome A → List Word → A × Names → Type 0
-Gave {A} o rest x = Ran (λ (a : A). a) o rest x
 
 -- the first word, with the end or without
 first_end : (ws : List Word) → first (ws ++ program_end ∷ []) ≡ first ws
@@ -114,10 +109,6 @@ given_last None s e k = absurd cc
 pub then_ok : {A B : Type 0} (r : Outcome A) (f : A → Rule B) {p : A × Input} {o : Outcome B} → r ≡ Ok p → f p.0 p.1 ≡ o → and_then r f ≡ o
 then_ok r f e g = ap (λ o. and_then o f) e ∙ g
 
--- what was given, and what follows
-pub then_given : {A B : Type 0} (r : Result A ReadFault) (f : A → Rule B) (j : Input) {a : A} {o : Outcome B} → r ≡ Ok a → f a j ≡ o → and_then (rule_given r j) f ≡ o
-then_given r f j e g = ap (λ o. and_then (rule_given o j) f) e ∙ g
-
 -- a test that succeeded, where else nothing is meant
 pub some_if : {A P : Type 0} (y : A) {x : A} (c : Bool) → ◌≡◌ {A = Option A} (if c then Some y else None) (Some x) → (c ≡ true → y ≡ x → P) → P
 some_if y true e k = k refl cc
@@ -131,3 +122,84 @@ option_cases None s n = n refl
 -- the same is there
 pub same_some : {A : Type 0} {x y : A} → ◌≡◌ {A = Option A} (Some x) (Some y) → x ≡ y
 same_some e = cc
+
+-- ---- rules that give what is meant
+
+-- where something is meant of which this holds, the rule gives it, and these words are left
+pub record RunsIf {A V : Type 0} (P : V → Type 0) (view : A → V) (o : Outcome A) (rest : List Word) (m : Option (V × Names)) : Type 0 where
+  pub run : (x : V × Names) → m ≡ Some x → P x.0 → Ran view o rest x
+
+-- the same, of all that is meant
+abbrev pub Runs : {A V : Type 0} → (A → V) → Outcome A → List Word → Option (V × Names) → Type 0
+Runs view o rest m = RunsIf (λ _. Unit {0}) view o rest m
+
+-- nothing is meant
+pub none_meant : {A V : Type 0} {P : V → Type 0} {view : A → V} {o : Outcome A} {rest : List Word} → RunsIf P view o rest None
+none_meant = record { run = λ x e h. absurd cc }
+
+-- what is given is meant
+pub runs_end : {A V : Type 0} {P : V → Type 0} {view : A → V} {q : A × Input} {rest : List Word} {m : Option (V × Names)} → At q.1 rest → m ≡ Some (view q.0, bare q.1) → RunsIf P view (Ok q) rest m
+runs_end {q = q} at is = record { run = λ x e h. (q, refl, at, same_some (sym is ∙ e)) }
+
+-- a rule, and what follows, where this holds of what the rule gives
+pub runs_if_then : {A B V W : Type 0} {P : V → Type 0} {Q : W → Type 0} {view : A → V} {last : B → W} {ws rest : List Word} (o : Outcome A) (f : A → Rule B) (m : Option (V × Names)) (g : V → Meaning W)
+    → ((p : V × Names) (x : W × Names) → g p.0 p.1 ≡ Some x → Q x.0 → P p.0) → RunsIf P view o ws m → ((q : A × Input) → At q.1 ws → RunsIf Q last (f q.0 q.1) rest (g (view q.0) (bare q.1)))
+    → RunsIf Q last (and_then o f) rest (then_in m g)
+runs_if_then {V = V} o f m g holds r k = record {
+  run = λ x e h. then_some g m e (λ p e1 e2.
+      let first = r.run p e1 (holds p x e2 h) in
+      let others = (k first.0 first.2).run x (ap (λ (y : V × Names). g y.0 y.1) first.3 ∙ e2) h in
+      (others.0, then_ok o f first.1 others.1, others.2, others.3));
+}
+
+-- a rule, and what follows
+pub runs_then : {A B V W : Type 0} {Q : W → Type 0} {view : A → V} {last : B → W} {ws rest : List Word} (o : Outcome A) (f : A → Rule B) (m : Option (V × Names)) (g : V → Meaning W) → Runs view o ws m
+    → ((q : A × Input) → At q.1 ws → RunsIf Q last (f q.0 q.1) rest (g (view q.0) (bare q.1))) → RunsIf Q last (and_then o f) rest (then_in m g)
+runs_then o f m g r k = runs_if_then o f m g (λ p x e h. tt) r k
+
+-- a rule, and what follows without a meaning
+pub runs_after : {A B W : Type 0} {P : W → Type 0} {view : A → W} {last : B → W} {ws rest : List Word} {m : Option (W × Names)} (o : Outcome A) (f : A → Rule B) → RunsIf P view o ws m
+    → ((q : A × Input) → At q.1 ws → RunsIf P last (f q.0 q.1) rest (Some (view q.0, bare q.1))) → RunsIf P last (and_then o f) rest m
+runs_after o f r k = record {
+  run = λ x e h.
+      let first = r.run x e h in
+      let others = (k first.0 first.2).run x (ap Some first.3) h in
+      (others.0, then_ok o f first.1 others.1, others.2, others.3);
+}
+
+-- a rule that stands inside another
+pub runs_inside : {A B C W : Type 0} {P : W → Type 0} {last : C → W} {rest : List Word} {m : Option (W × Names)} (o : Outcome A) (f : A → Rule B) (g : B → Rule C) → RunsIf P last (and_then o (λ a i. and_then (f a i) g)) rest m → RunsIf P last (and_then (and_then o f) g) rest m
+runs_inside (Ok p) f g h = h
+runs_inside (Err e) f g h = h
+
+-- what was given is meant, and what follows
+pub runs_given : {B V W : Type 0} {P : W → Type 0} {last : B → W} {out : Outcome B} {rest : List Word} (o : Option V) (s : Names) (g : V → Meaning W) → ((v : V) → o ≡ Some v → RunsIf P last out rest (g v s)) → RunsIf P last out rest (then_in (given o s) g)
+runs_given (Some v) s g k = k v refl
+runs_given None s g k = none_meant
+
+-- the same in the end
+pub runs_given_last : {B V : Type 0} {P : V → Type 0} {last : B → V} {out : Outcome B} {rest : List Word} (o : Option V) (s : Names) → ((v : V) → o ≡ Some v → RunsIf P last out rest (Some (v, s))) → RunsIf P last out rest (given o s)
+runs_given_last (Some v) s k = k v refl
+runs_given_last None s k = none_meant
+
+-- a test that succeeds, where else nothing is meant
+pub runs_when : {A V : Type 0} {P : V → Type 0} {view : A → V} {o : Outcome A} {rest : List Word} {m : Option (V × Names)} (c : Bool) (x : Outcome A) → RunsIf P view o rest m → RunsIf P view (if c then o else x) rest (if c then m else None)
+runs_when true x h = h
+runs_when false x h = none_meant
+
+-- the same of what means something
+pub runs_where : {A V : Type 0} {P : V → Type 0} {view : A → V} {o : Outcome A} {rest : List Word} (c : Bool) (x : Outcome A) (m : Meaning V) (s : Names) → RunsIf P view o rest (m s) → RunsIf P view (if c then o else x) rest ((if c then m else none) s)
+runs_where true x m s h = h
+runs_where false x m s h = none_meant
+
+-- a test that fails, where else nothing is meant
+pub runs_unless : {A V : Type 0} {P : V → Type 0} {view : A → V} {o : Outcome A} {rest : List Word} (c : Bool) (x : Outcome A) (m : Meaning V) (s : Names) → RunsIf P view o rest (m s) → RunsIf P view (if c then x else o) rest ((if c then none else m) s)
+runs_unless true x m s h = none_meant
+runs_unless false x m s h = h
+
+-- a name's bytes are those of the next token
+pub at_name : {A V : Type 0} {view : A → V} {o : Outcome A} {i : Input} {name : List ℕ} {ws rest : List Word} (m : List ℕ → Option (V × Names)) → At i (a_name name ∷ ws)
+    → (At i (a_name (spelling i) ∷ ws) → Runs view o rest (m (spelling i))) → Runs view o rest (m name)
+at_name {view = view} {o = o} {i = i} {name = name} {ws = ws} {rest = rest} m at h =
+    let same : spelling i ≡ name = at_spelling at in
+    subst (λ (n : List ℕ). Runs view o rest (m n)) same (h (subst (λ (n : List ℕ). At i (a_name n ∷ ws)) (sym same) at))

@@ -2,7 +2,7 @@
 use Rattle.std.proofs.Common.{◌≡◌, ℕ, suc, ◌-◌, arith, Bool, true, false, List, [], ◌∷◌, ◌++◌, length, map, drop, refl, sym, ap, ◌∙◌, Option, Some, subst}
 use Rattle.std.specs.Prelude.{◌==◌, ◌||◌, if◌then◌else◌, Result, Ok, Err}
 use Rattle.std.specs.List.{list_all, AllByRecursion}
-use Rattle.std.proofs.lemmas.List.{append_assoc, append-nil}
+use Rattle.std.proofs.lemmas.List.{append_assoc, append-nil, drop-map, length-map}
 use Rattle.std.proofs.lemmas.Bool.Decides.{nat_tests}
 use Rattle.std.proofs.lemmas.Slice.Eq.{bytes_eq-Decides}
 use Rattle.c_tokens.specs.declared.token.Token.{Token}
@@ -53,12 +53,7 @@ class token.Assumptions = token.Parameters
 class token.LineEnd = token.End
 class token.Directive = token.End
 class token.Bad = token.End
-class token.Parameters = token.Parameters
-class token.Name = token.Name
-class token.Word = token.Word
-class token.Number = token.Number
-class token.Symbol = token.Symbol
-class token.End = token.End
+class k = k
 
 -- the kind that stands last
 abbrev pub is_last : TokenKind → Bool
@@ -67,16 +62,10 @@ is_last _ = false
 
 -- the kinds behind which words follow
 abbrev pub goes_on : TokenKind → Bool
-goes_on token.Assumptions = true
-goes_on token.LineEnd = true
 goes_on token.Directive = false
 goes_on token.Bad = false
-goes_on token.Parameters = true
-goes_on token.Name = true
-goes_on token.Word = true
-goes_on token.Number = true
-goes_on token.Symbol = true
 goes_on token.End = false
+goes_on _ = true
 
 -- a word whose bytes have its kind
 abbrev pub IsSpelled : Word → Type 0
@@ -138,6 +127,18 @@ pub record Took (i : Input) (ws : List Word) (j : Input) : Type 0 where
 abbrev pub Spells : {T A : Type 0} → (T → List Word) → (T → Meaning A) → Input → A × Input → Type 0
 Spells {T} ws means i q = (t : T) × Took i (ws t) q.1 × (means t (bare i) ≡ Some (q.0, bare q.1))
 
+-- the same, up to this word behind it
+abbrev pub SpellsUpTo : {T A : Type 0} → Word → (T → List Word) → (T → Meaning A) → Input → A × Input → Type 0
+SpellsUpTo {T} last ws means i q = (t : T) × (j : Input) × Took i (ws t) j × Took j (last ∷ []) q.1 × (means t (bare i) ≡ Some (q.0, bare q.1))
+
+-- a tree was taken that says this, and no name
+abbrev pub Passed : {T A : Type 0} → (T → List Word) → (T → A) → Input → A × Input → Type 0
+Passed {T} ws says i q = (t : T) × Took i (ws t) q.1 × (bare q.1 ≡ bare i) × (q.0 ≡ says t)
+
+-- the name that stands there was taken, which means this
+abbrev pub NamedAs : {A : Type 0} → Input → Meaning A → A × Input → Type 0
+NamedAs i m q = Took i (a_name (spelling i) ∷ []) q.1 × (m (bare i) ≡ Some (q.0, bare q.1))
+
 -- words were taken, and then others
 pub took_then : {i j k : Input} {ws vs : List Word} → Took i ws j → Took j vs k → Took i (ws ++ vs) k
 took_then {i} {j} {k} {ws} {vs} a b = record { spelled = a.spelled ∙ ap (λ l. ws ++ l) b.spelled ∙ sym (append_assoc ws vs (words k)); lexical = b.lexical }
@@ -164,17 +165,11 @@ kind_is i = at i.tokens where
 -- without the next token the first word is gone
 pub next_is : (i : Input) → words (next i) ≡ drop 1 (words i)
 unfolding next
-next_is i = at i.tokens where
-  at : (ts : List Token) → map (word_of i.text) (drop 1 ts) ≡ drop 1 (map (word_of i.text) ts)
-  at [] = refl
-  at (t ∷ ts) = refl
+next_is i = sym (drop-map (word_of i.text) 1 i.tokens)
 
 -- as many tokens are left as words
 pub left_is : (i : Input) → left i ≡ length (words i)
-left_is i = at i.tokens where
-  at : (ts : List Token) → length ts ≡ length (map (word_of i.text) ts)
-  at [] = refl
-  at (t ∷ ts) = ap suc (at ts)
+left_is i = sym (length-map i.tokens (word_of i.text))
 
 -- a word of a kind behind which words follow
 taken : (k : TokenKind) (ws vs : List Word) → goes_on k ≡ true → (first ws).kind ≡ k → AreLexical ws → vs ≡ drop 1 ws → (ws ≡ record { kind = k; bytes = (first ws).bytes } ∷ vs) × AreLexical vs
@@ -241,32 +236,30 @@ took_name i g is = took_kind token.Name i refl g (name_kind_is (kind i) is)
 pub took_number : (i : Input) → AreLexical (words i) → is_number_kind (kind i) ≡ true → Took i (a_number (spelling i) ∷ []) (next i)
 took_number i g is = took_kind token.Number i refl g (number_kind_is (kind i) is)
 
+-- what holds of both sides of a test
+pub if_holds : {A : Type 0} (P : A → Type 0) (x y : A) (c : Bool) → (c ≡ true → P x) → (c ≡ false → P y) → P (if c then x else y)
+if_holds P x y true t f = t refl
+if_holds P x y false t f = f refl
+
+-- what holds of each kind that bytes may have holds of theirs
+spelled_cases : (P : TokenKind → Type 0) (b : ℕ) (rest : List ℕ) → (is_name_start b ≡ true → list_all is_name_byte (b ∷ rest) ≡ true → is_keyword (b ∷ rest) ≡ true → P token.Word) → (is_name_start b ≡ true → list_all is_name_byte (b ∷ rest) ≡ true → is_keyword (b ∷ rest) ≡ false → P token.Name)
+    → P token.Bad → P token.Number → P token.Parameters → P token.Symbol → P (spelled_kind (b ∷ rest))
+unfolding spelled_kind
+spelled_cases P b rest keyword name bad number head symbol = if_holds P _ _ (is_name_start b)
+    (λ s. if_holds P _ _ (list_all is_name_byte (b ∷ rest)) (λ a. if_holds P _ _ (is_keyword (b ∷ rest)) (keyword s a) (name s a)) (λ _. bad))
+    (λ _. if_holds P _ _ (begins_number b rest) (λ _. number) (λ _. if_holds P _ _ (is_space b || b == 35) (λ _. head) (λ _. symbol)))
+
 -- what has no bytes
 no_bytes : (bytes : List ℕ) → token.End ≡ spelled_kind bytes → bytes ≡ []
 unfolding spelled_kind
 no_bytes [] e = refl
-no_bytes (b ∷ rest) e = cases (is_name_start b) (list_all is_name_byte (b ∷ rest)) (is_keyword (b ∷ rest)) (begins_number b rest) (is_space b || b == 35) e where
-  cases : (n l k m h : Bool) → token.End ≡ (if n then (if l then (if k then token.Word else token.Name) else token.Bad) else (if m then token.Number else (if h then token.Parameters else token.Symbol))) → b ∷ rest ≡ []
-  cases true true true m h e = cc
-  cases true true false m h e = cc
-  cases true false k m h e = cc
-  cases false l k true h e = cc
-  cases false l k false true e = cc
-  cases false l k false false e = cc
+no_bytes (b ∷ rest) e = spelled_cases (λ k. token.End ≡ k → b ∷ rest ≡ []) b rest (λ _ _ _ e. cc) (λ _ _ _ e. cc) (λ e. cc) (λ e. cc) (λ e. cc) (λ e. cc) e
 
 -- bytes that are spelled as a name are one
 word_spelled : (bytes : List ℕ) → token.Name ≡ spelled_kind bytes → IsWord bytes
 unfolding spelled_kind
 word_spelled [] e = absurd cc
-word_spelled (b ∷ rest) e = cases (is_name_start b) (list_all is_name_byte (b ∷ rest)) (is_keyword (b ∷ rest)) (begins_number b rest) (is_space b || b == 35) refl refl refl e where
-  cases : (n l k m h : Bool) → is_name_start b ≡ n → list_all is_name_byte (b ∷ rest) ≡ l → is_keyword (b ∷ rest) ≡ k
-      → token.Name ≡ (if n then (if l then (if k then token.Word else token.Name) else token.Bad) else (if m then token.Number else (if h then token.Parameters else token.Symbol))) → IsWord (b ∷ rest)
-  cases true true true m h p q r e = absurd cc
-  cases true true false m h p q r e = record { begins = p; name = q; no_word = r }
-  cases true false k m h p q r e = absurd cc
-  cases false l k true h p q r e = absurd cc
-  cases false l k false true p q r e = absurd cc
-  cases false l k false false p q r e = absurd cc
+word_spelled (b ∷ rest) e = spelled_cases (λ k. token.Name ≡ k → IsWord (b ∷ rest)) b rest (λ _ _ _ e. absurd cc) (λ p q r _. record { begins = p; name = q; no_word = r }) (λ e. absurd cc) (λ e. absurd cc) (λ e. absurd cc) (λ e. absurd cc) e
 
 -- a lexical word that is a name is spelled as one
 pub named_word : (w : Word) → class w.kind ≡ spelled_kind w.bytes → w.kind ≡ token.Name → IsWord w.bytes
@@ -293,10 +286,44 @@ at_end i g is = end_words (words i) g (sym (kind_is i) ∙ end_is (kind i) is)
 
 -- ---- a rule's outcome, taken apart
 
--- steps that succeeded together did so one by one
-pub and_then_ok : {A B P : Type 0} (f : A → Rule B) {q : B × Input} (r : Outcome A) → and_then r f ≡ Ok q → ((p : A × Input) → r ≡ Ok p → f p.0 p.1 ≡ Ok q → P) → P
-and_then_ok f (Ok p) e k = k p refl e
-and_then_ok f (Err x) e k = absurd cc
+-- the same was given
+pub same_ok : {A : Type 0} {x z : A} → ◌≡◌ {A = Result A ReadFault} (Ok x) (Ok z) → x ≡ z
+same_ok e = cc
+
+-- what the rule gives is so
+pub record Reads {A : Type 0} (o : Outcome A) (Q : A × Input → Type 0) : Type 0 where
+  pub reads : (q : A × Input) → o ≡ Ok q → Q q
+
+-- a fault
+pub fails : {A : Type 0} {x : ReadFault} {Q : A × Input → Type 0} → Reads (Err x) Q
+fails = record { reads = λ q e. absurd cc }
+
+-- what is so was given
+pub gives : {A : Type 0} {p : A × Input} {Q : A × Input → Type 0} → Q p → Reads (Ok p) Q
+gives {Q = Q} h = record { reads = λ q e. subst Q (same_ok e) h }
+
+-- the same, behind a test that has to succeed
+pub gives_if : {A : Type 0} {Q : A × Input → Type 0} (c : Bool) (p : A × Input) (x : ReadFault) → (c ≡ true → Q p) → Reads (if c then Ok p else Err x) Q
+gives_if true p x h = gives (h refl)
+gives_if false p x h = fails
+
+-- what follows of what a rule gives
+pub reads_map : {A : Type 0} {o : Outcome A} {Q R : A × Input → Type 0} → Reads o Q → ((q : A × Input) → Q q → R q) → Reads o R
+reads_map r k = record { reads = λ q e. k q (r.reads q e) }
+
+-- one rule behind another
+pub reads_then : {A B : Type 0} (o : Outcome A) (f : A → Rule B) {Q : A × Input → Type 0} {R : B × Input → Type 0} → Reads o Q → ((p : A × Input) → Q p → Reads (f p.0 p.1) R) → Reads (and_then o f) R
+reads_then (Ok p) f r k = k p (r.reads p refl)
+reads_then (Err x) f r k = fails
+
+-- a rule behind what was given
+pub reads_given : {A B : Type 0} {R : B × Input → Type 0} (r : Result A ReadFault) (f : A → Rule B) (j : Input) → ((a : A) → r ≡ Ok a → Reads (f a j) R) → Reads (and_then (rule_given r j) f) R
+reads_given (Ok a) f j k = k a refl
+reads_given (Err x) f j k = fails
+
+-- one of two rules
+pub reads_if : {A : Type 0} {x y : Outcome A} {Q : A × Input → Type 0} (c : Bool) → (c ≡ true → Reads x Q) → (c ≡ false → Reads y Q) → Reads (if c then x else y) Q
+reads_if {Q = Q} c t f = if_holds (λ r. Reads r Q) _ _ c t f
 
 -- either side of a test
 pub if_ok : {A P : Type 0} (x y : A) {z : A} (c : Bool) → (if c then x else y) ≡ z → (c ≡ true → x ≡ z → P) → (c ≡ false → y ≡ z → P) → P
@@ -313,32 +340,9 @@ means_then m f e g = ap (λ o. then_in o f) e ∙ g
 pub means_given : {A B : Type 0} (o : Option A) (f : A → Meaning B) (s : Names) {a : A} {q : Option (B × Names)} → o ≡ Some a → f a s ≡ q → then_in (given o s) f ≡ q
 means_given o f s e g = ap (λ o. then_in (given o s) f) e ∙ g
 
--- the same was given
-pub same_ok : {A : Type 0} {x z : A} → ◌≡◌ {A = Result A ReadFault} (Ok x) (Ok z) → x ≡ z
-same_ok e = cc
-
--- what holds of a value holds of what was given
-pub ok_is : {A : Type 0} {x : A} (P : A → Type 0) (z : A) → ◌≡◌ {A = Result A ReadFault} (Ok x) (Ok z) → P x → P z
-ok_is P z e p = subst P (same_ok e) p
-
--- the same, behind a test that succeeded
-pub ok_if : {A : Type 0} {x : A} (P : A → Type 0) (z : A) (y : ReadFault) (c : Bool) → ◌≡◌ {A = Result A ReadFault} (if c then Ok x else Err y) (Ok z) → (c ≡ true → P x) → P z
-ok_if P z y true e p = subst P (same_ok e) (p refl)
-ok_if P z y false e p = absurd cc
-
--- what was given, before other steps
-pub given_ok : {A B P : Type 0} (r : Result A ReadFault) (f : A → Rule B) (j : Input) {q : B × Input} → and_then (rule_given r j) f ≡ Ok q → ((a : A) → r ≡ Ok a → f a j ≡ Ok q → P) → P
-given_ok (Ok a) f j e k = k a refl e
-given_ok (Err x) f j e k = absurd cc
-
 -- the same words are left elsewhere
 pub took_as : {i j : Input} {ws : List Word} (k : Input) → words k ≡ words j → Took i ws j → Took i ws k
 took_as {i} {j} {ws} k same t = record { spelled = t.spelled ∙ ap (λ l. ws ++ l) (sym same); lexical = subst AreLexical (sym same) t.lexical }
-
--- what was given in the end
-pub given_end : {A P : Type 0} (r : Result A ReadFault) (j : Input) {q : A × Input} → rule_given r j ≡ Ok q → ((a : A) → r ≡ Ok a → ◌≡◌ {A = Outcome A} (Ok (a, j)) (Ok q) → P) → P
-given_end (Ok a) j e k = k a refl e
-given_end (Err x) j e k = absurd cc
 
 -- a test succeeded or failed
 pub bool_cases : {P : Type 0} (c : Bool) → (c ≡ true → P) → (c ≡ false → P) → P

@@ -10,14 +10,16 @@ use Rattle.iolb_model.specs.declared.limits.TheConstants.{LOOPS, PARAMETERS, NUM
 use Rattle.c_reading.specs.declared.named.Kind.{Kind}
 use Rattle.c_reading.specs.declared.named.Kind.TheVariants.{Parameter, OpenLoop, ClosedLoop, Array}
 use Rattle.c_reading.specs.Affine.{kind_of, with_name, is_short, sign_of}
-use Rattle.c_reading.specs.Numbers.{is_small, small_number, number_before, plus_times, combined, single, zeros, width, constant_of, value_from, is_integer, most_parameters}
+use Rattle.c_reading.specs.Numbers.{plus_times, combined, single, zeros, width, constant_of, value_from, is_integer, most_parameters}
 use Rattle.c_grammar.specs.Affine as tree
 use Rattle.c_grammar.specs.Meaning as mean
 use Rattle.c_grammar.specs.Meaning.{Names, Form, form, then_in, given, slot_by, slot, affine_means, sums_means, term_means, products_means, factor_means}
 use Rattle.c_grammar.specs.Points.{Point, digits_value, affine_value, sums_value, term_value, products_value, factor_value, row_value, AreNumbersAt, HaveKinds, RowsHaveValues}
 use Rattle.c_grammar.proofs.Spelled.{then_some, given_some, given_last, same_some, some_if}
+use Rattle.c_grammar.proofs.Forms.{front_is}
 use Rattle.c_grammar.proofs.Dictionary.{kind_of-lookup, lookup-other, lookup-new, bytes_are}
 use Rattle.std.proofs.lemmas.Option.{slice_get_within}
+use Rattle.c_grammar.proofs.Steps.{bool_cases}
 
 -- ---- sums of rows
 
@@ -26,20 +28,6 @@ dot_zeros : (m : ℕ) (ns : List ℤ) → dot (replicate m (pos 0)) ns ≡ pos 0
 dot_zeros zero ns = refl
 dot_zeros (suc m) [] = refl
 dot_zeros (suc m) (n ∷ ns) = let rest = dot_zeros m ns in omega (arith, ints, zero-mul n)
-
--- a number of a sum
-number_is : (k less x y z : ℤ) → small_number k less x y ≡ Some z → z ≡ (x +ℤ (k *ℤ y)) -ℤ less
-unfolding small_number
-number_is k less x y z e = which (is_small ((x +ℤ (k *ℤ y)) -ℤ less)) e where
-  which : (b : Bool) → (if b then Some ((x +ℤ (k *ℤ y)) -ℤ less) else None) ≡ Some z → z ≡ (x +ℤ (k *ℤ y)) -ℤ less
-  which true f = let same : (x +ℤ (k *ℤ y)) -ℤ less ≡ z = cc in sym same
-  which false f = cc
-
--- a number in front of others
-front_parts : (o : Option ℤ) (more : Option (List ℤ)) (zs : List ℤ) → number_before o more ≡ Some zs → (z : ℤ) × (rest : List ℤ) × (o ≡ Some z) × (more ≡ Some rest) × (zs ≡ z ∷ rest)
-front_parts None more zs e = cc
-front_parts (Some z) None zs e = cc
-front_parts (Some z) (Some rest) zs e = (z, rest, refl, refl, let same : z ∷ rest ≡ zs = cc in sym same)
 
 -- what is added, at a number of its variable
 add_at : (k x y n z u v : ℤ) → z ≡ (x +ℤ (k *ℤ y)) -ℤ pos 0 → (z *ℤ n) +ℤ (u +ℤ (k *ℤ v)) ≡ ((x *ℤ n) +ℤ u) +ℤ (k *ℤ ((y *ℤ n) +ℤ v))
@@ -53,13 +41,13 @@ plus_value k [] [] zs ns same e = let none : [] ≡ zs = cc in (ap length (sym n
 plus_value k [] (y ∷ ys) zs ns same e = absurd (omega (arith, same))
 plus_value k (x ∷ xs) [] zs ns same e = absurd (omega (arith, same))
 plus_value k (x ∷ xs) (y ∷ ys) zs [] same e =
-    let parts = front_parts (small_number k (pos 0) x y) (plus_times k xs ys) zs e in
-    let rest = plus_value k xs ys parts.1 [] (omega (arith, same)) parts.3 in
-    (ap length parts.4 ∙ ap suc rest.0, ap (λ l. dot l []) parts.4 ∙ omega (arith, ints, mul-zero k))
+    let f = front_is k (pos 0) x y (plus_times k xs ys) zs e in
+    let rest = plus_value k xs ys f.rest [] (omega (arith, same)) f.behind in
+    (ap length f.all ∙ ap suc rest.0, ap (λ l. dot l []) f.all ∙ omega (arith, ints, mul-zero k))
 plus_value k (x ∷ xs) (y ∷ ys) zs (n ∷ ns) same e =
-    let parts = front_parts (small_number k (pos 0) x y) (plus_times k xs ys) zs e in
-    let rest = plus_value k xs ys parts.1 ns (omega (arith, same)) parts.3 in
-    (ap length parts.4 ∙ ap suc rest.0, ap (λ l. dot l (n ∷ ns)) parts.4 ∙ ap (λ d. (parts.0 *ℤ n) +ℤ d) rest.1 ∙ add_at k x y n parts.0 (dot xs ns) (dot ys ns) (number_is k (pos 0) x y parts.0 parts.2))
+    let f = front_is k (pos 0) x y (plus_times k xs ys) zs e in
+    let rest = plus_value k xs ys f.rest ns (omega (arith, same)) f.behind in
+    (ap length f.all ∙ ap suc rest.0, ap (λ l. dot l (n ∷ ns)) f.all ∙ ap (λ d. (f.number *ℤ n) +ℤ d) rest.1 ∙ add_at k x y n f.number (dot xs ns) (dot ys ns) f.is)
 
 -- a sum of rows, and less this much
 pub record IsSum (k less : ℤ) (xs ys zs : List ℤ) : Type 0 where
@@ -76,13 +64,12 @@ pub combined_sum : (k less : ℤ) (xs ys zs : List ℤ) → length xs ≡ width 
 combined_sum k less [] ys zs p q e = absurd (omega (arith, p))
 combined_sum k less (x ∷ xs) [] zs p q e = absurd (omega (arith, q))
 combined_sum k less (x ∷ xs) (y ∷ ys) zs p q e =
-    let parts = front_parts (small_number k less x y) (plus_times k xs ys) zs e in
-    let first = number_is k less x y parts.0 parts.2 in
-    let rest = λ (ns : List ℤ). plus_value k xs ys parts.1 ns (omega (arith, p, q)) parts.3 in
+    let f = front_is k less x y (plus_times k xs ys) zs e in
+    let rest = λ (ns : List ℤ). plus_value k xs ys f.rest ns (omega (arith, p, q)) f.behind in
     record {
-      size = ap length parts.4 ∙ ap suc (rest []).0;
-      value = λ ns. ap (λ l. dot l (pos 1 ∷ ns)) parts.4 ∙ ap (λ d. (parts.0 *ℤ pos 1) +ℤ d) (rest ns).1 ∙ first_at k less x y parts.0 (dot xs ns) (dot ys ns) first;
-      constant = ap constant_of parts.4 ∙ first;
+      size = ap length f.all ∙ ap suc (rest []).0;
+      value = λ ns. ap (λ l. dot l (pos 1 ∷ ns)) f.all ∙ ap (λ d. (f.number *ℤ pos 1) +ℤ d) (rest ns).1 ∙ first_at k less x y f.number (dot xs ns) (dot ys ns) f.is;
+      constant = ap constant_of f.all ∙ f.is;
     }
 
 -- the row of zeros
@@ -225,17 +212,16 @@ stays_large (b ∷ bytes) = let same : min (10 * NUMBER_SIZE + (b - 48)) NUMBER_
 -- digits that mean a number below the bound write it
 value_is : (n : ℕ) (bytes : List ℕ) → value_from n bytes < NUMBER_SIZE → value_from n bytes ≡ digits_value n bytes
 value_is n [] small = refl
-value_is n (b ∷ bytes) small = which (nat_lt (10 * n + (b - 48)) NUMBER_SIZE) (value_is (10 * n + (b - 48)) bytes) refl where
-  which : (t : Bool) → (value_from (10 * n + (b - 48)) bytes < NUMBER_SIZE → value_from (10 * n + (b - 48)) bytes ≡ digits_value (10 * n + (b - 48)) bytes) → nat_lt (10 * n + (b - 48)) NUMBER_SIZE ≡ t → value_from n (b ∷ bytes) ≡ digits_value n (b ∷ bytes)
-  which true rest e =
-      let below : 10 * n + (b - 48) < NUMBER_SIZE = grind (arith, nat_tests) in
-      let same : min (10 * n + (b - 48)) NUMBER_SIZE ≡ 10 * n + (b - 48) = omega arith in
-      ap (λ m. value_from m bytes) same ∙ rest (subst (λ m. value_from m bytes < NUMBER_SIZE) same small)
-  which false rest e =
-      let over : NUMBER_SIZE ≤ 10 * n + (b - 48) = grind (arith, nat_tests) in
-      let same : min (10 * n + (b - 48)) NUMBER_SIZE ≡ NUMBER_SIZE = omega arith in
-      let large : value_from (min (10 * n + (b - 48)) NUMBER_SIZE) bytes ≡ NUMBER_SIZE = ap (λ m. value_from m bytes) same ∙ stays_large bytes in
-      absurd (omega (arith, large, small))
+value_is n (b ∷ bytes) small = bool_cases (nat_lt (10 * n + (b - 48)) NUMBER_SIZE)
+    (λ e.
+    let below : 10 * n + (b - 48) < NUMBER_SIZE = grind (arith, nat_tests) in
+    let same : min (10 * n + (b - 48)) NUMBER_SIZE ≡ 10 * n + (b - 48) = omega arith in
+    ap (λ m. value_from m bytes) same ∙ value_is (10 * n + (b - 48)) bytes (subst (λ m. value_from m bytes < NUMBER_SIZE) same small))
+    (λ e.
+    let over : NUMBER_SIZE ≤ 10 * n + (b - 48) = grind (arith, nat_tests) in
+    let same : min (10 * n + (b - 48)) NUMBER_SIZE ≡ NUMBER_SIZE = omega arith in
+    let large : value_from (min (10 * n + (b - 48)) NUMBER_SIZE) bytes ≡ NUMBER_SIZE = ap (λ m. value_from m bytes) same ∙ stays_large bytes in
+    absurd (omega (arith, large, small)))
 
 -- an integer's number
 integer_is : (bytes : List ℕ) (n : ℤ) → mean.integer_means bytes ≡ Some n → n ≡ pos (digits_value 0 bytes)

@@ -1,6 +1,6 @@
 -- Comparisons and headers say what the rows that they mean say, at every point.
 use Rattle.std.proofs.Common.{◌≡◌, refl, sym, ◌∙◌, ap, subst, ℕ, ◌+◌, List, [], ◌∷◌, ◌++◌, length, arith, Bool, true, false, length-append, append_assoc}
-use Rattle.std.specs.Prelude.{ℤ, pos, negsuc, ◌-ℤ◌, ◌≤ℤ◌, ◌↔◌, nat_le, Option, Some, None, option_and_then, if◌then◌else◌}
+use Rattle.std.specs.Prelude.{ℤ, pos, negsuc, ◌-ℤ◌, ◌≤ℤ◌, ◌↔◌, nat_le, Option, Some, None, option_and_then}
 use Rattle.std.specs.List.{AllByRecursion}
 use Rattle.std.proofs.lemmas.Int.{ints}
 use Rattle.base_laws.proofs.Ring.{one-mul}
@@ -16,6 +16,7 @@ use Rattle.c_grammar.specs.Meaning.{Names, then_in, given, affine_means, row_beh
 use Rattle.c_grammar.specs.Points.{Point, affine_value, Compares, Holds, IsBelow, IsTaken, row_value, AreNumbersAt, HaveKinds, RowsHoldSo, LoopsTakeValues}
 use Rattle.c_grammar.proofs.Spelled.{then_some, given_some, given_last, same_some, some_if}
 use Rattle.c_grammar.proofs.Values.{combined_sum, zeros_value, minus-one, affine_valued}
+use Rattle.c_grammar.proofs.Steps.{bool_cases}
 
 -- ---- rows of comparisons
 
@@ -60,10 +61,7 @@ compares_so equal rows all a b p q e = which (with_row rows (pos 0) a b) refl e 
 
 -- rows that aren't too many
 few_rows : (rows all : Rows) (c : Comparison) (o : Option Rows) → if_rows rows c o ≡ Some all → o ≡ Some all
-few_rows rows all c o e = which (nat_le (length rows + row_count c) most_rows) e where
-  which : (t : Bool) → (if t then o else None) ≡ Some all → o ≡ Some all
-  which true f = f
-  which false f = cc
+few_rows rows all c o e = bool_cases (nat_le (length rows + row_count c) most_rows) (λ t. rw t at e) (λ t. let none = rw t at e in cc)
 
 -- a comparison holds at a point exactly where the rows that it means are at least 0 there
 pub rows_hold_so : RowsHoldSo
@@ -103,10 +101,6 @@ bounded_so : (excludes : Bool) (value u up : ℤ) → up ≡ u -ℤ excluded exc
 bounded_so true value u up is = (λ h. omega (arith, ints), λ h. omega (arith, ints))
 bounded_so false value u up is = (λ h. omega (arith, ints), λ h. omega (arith, ints))
 
--- a value is at least a lower one
-least_so : (value l low : ℤ) → low ≡ l → (low ≤ℤ value) ↔ (l ≤ℤ value)
-least_so value l low is = (λ h. omega (arith, ints), λ h. omega (arith, ints))
-
 -- the values of a loop are exactly those from its first value on for which its comparison holds
 pub loops_take_values : LoopsTakeValues
 unfolding header_means loop_name
@@ -123,6 +117,6 @@ loops_take_values b h s r l k e =
     let first = low.is at ns (high.back at ns m) in
     let last = high.is at ns m in
     let sum = combined_sum (pos 1) (excluded h.excludes) zeros z.0.numbers numbers refl high.size f4 in
-    let least = least_so value (affine_value at h.lower) (row_value y.0.numbers ns) first in
+    let least : (row_value y.0.numbers ns ≤ℤ value) ↔ (affine_value at h.lower ≤ℤ value) = (λ g. omega (arith, ints), λ g. omega (arith, ints)) in
     let most = bounded_so h.excludes value (affine_value at h.upper) (row_value numbers ns) (sum.value ns ∙ omega (arith, ints, zeros_value ns, one-mul (row_value z.0.numbers ns), last)) in
     (λ t. (least.0 t.0, most.0 t.1), λ t. (least.1 t.0, most.1 t.1)))))))

@@ -14,10 +14,10 @@ use Rattle.c_tokens.specs.declared.token.TokenKind.{TokenKind}
 use Rattle.c_tokens.specs.declared.token.TokenKind.TheVariants.{End, Name, Number, Symbol}
 use Rattle.c_tokens.proofs.Scanned.{tokens_in-more}
 use Rattle.c_grammar.specs.Words.{Word, word_of}
-use Rattle.c_grammar.proofs.Steps.{domain}
+use Rattle.c_grammar.proofs.Steps.{domain, bool_cases}
 use Rattle.std.proofs.lemmas.List.Folds.{list_all-append}
 use Rattle.std.proofs.lemmas.Fmt.{decimal_by_steps}
-use Rattle.std.proofs.lemmas.Bool.{and_from, and_parts, not-true, or_parts}
+use Rattle.std.proofs.lemmas.Bool.{and_from, and_parts, not-true}
 use Rattle.c_reading.specs.Numbers.{value_from, is_integer}
 use Rattle.c_tokens.specs.Names.{IsName}
 use Rattle.c_grammar.proofs.Lexical.{digit_goes_on}
@@ -202,14 +202,10 @@ name_fits (b ∷ bytes) rest is ends =
 -- what ends a number doesn't go on with it
 ends-number_byte : (before b : ℕ) → ends_number b ≡ true → is_number_byte before b ≡ false
 ends-number_byte before b h =
-    let apart = or_parts (is_name_byte b || b == 46) (is_sign b) (not-true _ h) in
-    let name = or_parts (is_name_byte b) (b == 46) apart.0 in
-    let start = or_parts (is_name_start b) (is_digit b) name.0 in
-    let letter = or_parts (is_letter b) (b == 95) start.0 in
-    let a : is_letter b ≡ false = letter.0 in
-    let d : is_digit b ≡ false = start.1 in
-    let p : (b == 46) ≡ false = name.1 in
-    let s : is_sign b ≡ false = apart.1 in
+    let a : is_letter b ≡ false = grind (arith, nat_tests) in
+    let d : is_digit b ≡ false = grind (arith, nat_tests) in
+    let p : (b == 46) ≡ false = grind (arith, nat_tests) in
+    let s : is_sign b ≡ false = grind (arith, nat_tests) in
     rw (a, d, p, s) refl
 
 -- a number goes on up to what ends it
@@ -248,19 +244,14 @@ is_symbol b = not (is_space b || b == 10 || b == 35 || is_name_byte b || b == 46
 pub single_fits : (b : ℕ) (rest : List ℕ) → is_symbol b ≡ true → begins_pair b rest ≡ false → IsWordAt Symbol (b ∷ []) rest
 single_fits b rest is pair =
     let both = and_parts _ (is_among (codes "()[]{};,=+-*/%<>!&|?:.") b) is in
-    let apart5 = or_parts (is_space b || b == 10 || b == 35 || is_name_byte b || b == 46) (b == 47) (not-true _ both.0) in
-    let apart4 = or_parts (is_space b || b == 10 || b == 35 || is_name_byte b) (b == 46) apart5.0 in
-    let apart3 = or_parts (is_space b || b == 10 || b == 35) (is_name_byte b) apart4.0 in
-    let apart2 = or_parts (is_space b || b == 10) (b == 35) apart3.0 in
-    let apart1 = or_parts (is_space b) (b == 10) apart2.0 in
-    let name = or_parts (is_name_start b) (is_digit b) apart3.1 in
-    let a : is_space b ≡ false = apart1.0 in
-    let n : (b == 10) ≡ false = apart1.1 in
-    let h : (b == 35) ≡ false = apart2.1 in
-    let s : is_name_start b ≡ false = name.0 in
-    let d : is_digit b ≡ false = name.1 in
-    let p : (b == 46) ≡ false = apart4.1 in
-    let c : (b == 47) ≡ false = apart5.1 in
+    let apart = both.0 in
+    let a : is_space b ≡ false = grind (arith, nat_tests) in
+    let n : (b == 10) ≡ false = grind (arith, nat_tests) in
+    let h : (b == 35) ≡ false = grind (arith, nat_tests) in
+    let s : is_name_start b ≡ false = grind (arith, nat_tests) in
+    let d : is_digit b ≡ false = grind (arith, nat_tests) in
+    let p : (b == 46) ≡ false = grind (arith, nat_tests) in
+    let c : (b == 47) ≡ false = grind (arith, nat_tests) in
     let among : is_among (codes "()[]{};,=+-*/%<>!&|?:.") b ≡ true = both.1 in
     record {
       begins = rw (a, n, h) refl;
@@ -272,12 +263,7 @@ single_fits b rest is pair =
 -- a byte that is in no pair of two
 pub never_pair : (b : ℕ) (rest : List ℕ) → is_among (codes "+-*/<>=!") b ≡ false → is_among (codes "+-&|") b ≡ false → begins_pair b rest ≡ false
 never_pair b [] first second = refl
-never_pair b (c ∷ rest) first second = rw (first, second) (none (c == 61) (c == b)) where
-  none : (x y : Bool) → (x && false || y && false) ≡ false
-  none true true = refl
-  none true false = refl
-  none false true = refl
-  none false false = refl
+never_pair b (c ∷ rest) first second = rw (first, second) (bool_cases (c == 61) (λ e. rw e (bool_cases (c == b) (λ f. rw f refl) (λ f. rw f refl))) (λ e. rw e (bool_cases (c == b) (λ f. rw f refl) (λ f. rw f refl))))
 
 -- a symbol that never is one of two bytes
 pub plain_fits : (b : ℕ) (rest : List ℕ) → is_symbol b ≡ true → is_among (codes "+-*/<>=!") b ≡ false → is_among (codes "+-&|") b ≡ false → IsWordAt Symbol (b ∷ []) rest

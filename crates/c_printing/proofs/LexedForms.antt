@@ -22,6 +22,7 @@ use Rattle.c_printing.proofs.Roles.{IsSmallForm, HasRoles, IsReadableAccess, Are
 use Rattle.c_printing.proofs.Lexed.{begins_so, goes_on, ends_name, ends_number, Piece, space, newline, word, text_in, words_in, IsWordAt, AreLexed, name_fits, number_fits, single_fits, plain_fits, minus_before, star_before, Writes, writes_decimal}
 use Rattle.c_printing.proofs.RowForms.{IsTerm, AreTerms, form_terms-are}
 use Rattle.iolb_model.specs.declared.limits.TheConstants.{NUMBER_SIZE, PARAMETERS, LOOPS}
+use Rattle.c_grammar.proofs.Steps.{bool_cases}
 
 -- ---- texts as words
 
@@ -68,14 +69,10 @@ symbol_then b fits ends l = record { ends = ends; lexes = word_then token.Symbol
 
 -- ---- what may follow
 
--- what ends a number ends a name
-ends_number-name : (b : ℕ) → ends_number b ≡ true → ends_name b ≡ true
-ends_number-name b h = grind (arith, nat_tests)
-
 -- what may follow a number may follow a name
 goes_on-name : (rest : List ℕ) → goes_on ends_number rest ≡ true → goes_on ends_name rest ≡ true
 goes_on-name [] h = refl
-goes_on-name (b ∷ rest) h = ends_number-name b h
+goes_on-name (b ∷ rest) h = grind (arith, nat_tests)
 
 -- ---- forms
 
@@ -109,39 +106,31 @@ decimal-begins n rest small = let w : Writes n (decimal n) = writes_decimal n sm
 size_begins : (t : ℤ × List ℕ) (rest : List ℕ) → IsTerm t → begins_so is_name_byte (size_text t.0 t.1 ++ rest) ≡ true
 size_begins (c, []) rest is = decimal-begins (unsigned_abs c) rest is.0
 size_begins (c, b ∷ name) rest is =
-    elim (unsigned_abs c == 1) as (λ v. (unsigned_abs c == 1) ≡ v → begins_so is_name_byte (size_text c (b ∷ name) ++ rest) ≡ true) [
-      | true ↦ λ e. rw e (name-begins (b ∷ name) rest is.1)
-      | false ↦ λ e. rw e (simp append_assoc (decimal-begins (unsigned_abs c) _ is.0))
-    ] refl
+    bool_cases (unsigned_abs c == 1) (λ e. rw e (name-begins (b ∷ name) rest is.1)) (λ e. rw e (simp append_assoc (decimal-begins (unsigned_abs c) _ is.0)))
 
 -- a term, and what follows it
 size_lexes : {last : TokenKind} {text : List ℕ} {ws : List Word} (t : ℤ × List ℕ) → IsTerm t → Follows last text ws → Lexes last true (size_text t.0 t.1 ++ text) (term_words (size_tree false t.0 t.1) ++ ws)
 size_lexes (c, []) is follows = number_lexes (unsigned_abs c) is.0 follows
 size_lexes {last} {text} {ws} (c, b ∷ name) is follows =
-    elim (unsigned_abs c == 1) as (λ v. (unsigned_abs c == 1) ≡ v → Lexes last true (size_text c (b ∷ name) ++ text) (term_words (size_tree false c (b ∷ name)) ++ ws)) [
-      | true ↦ λ e. rw e (name_lexes (b ∷ name) is.1 follows)
-      | false ↦ λ e. rw e (lexes_as (number_lexes (unsigned_abs c) is.0 (
-          symbol_then 42 (single_fits 42 (b ∷ (name ++ text)) refl (star_before (b ∷ (name ++ text)) (name-begins (b ∷ name) text is.1))) refl (name_lexes (b ∷ name) is.1 follows))) (simp append_assoc) refl)
-    ] refl
+    bool_cases (unsigned_abs c == 1)
+    (λ e. rw e (name_lexes (b ∷ name) is.1 follows))
+    (λ e. rw e (lexes_as (number_lexes (unsigned_abs c) is.0 (
+    symbol_then 42 (single_fits 42 (b ∷ (name ++ text)) refl (star_before (b ∷ (name ++ text)) (name-begins (b ∷ name) text is.1))) refl (name_lexes (b ∷ name) is.1 follows))) (simp append_assoc) refl))
 
 -- the terms after the first
 later_follow : {last : TokenKind} {text : List ℕ} {ws : List Word} (terms : List (ℤ × List ℕ)) → AreTerms terms → Follows last text ws → Follows last (later_terms_text terms ++ text) (sums_words (later_tree terms) ++ ws)
 later_follow [] are follows = follows
 later_follow {last} {text} {ws} (t ∷ terms) are follows =
     let rest = size_lexes t are.0 (later_follow terms are.1 follows) in
-    elim (is_below_zero t.0) as (λ v. is_below_zero t.0 ≡ v → Follows last (later_terms_text (t ∷ terms) ++ text) (sums_words (later_tree (t ∷ terms)) ++ ws)) [
-      | true ↦ λ e. rw e (follows_as (space_then (word_then token.Symbol (codes "-") (single_fits 45 (32 ∷ _) refl refl) (space_then rest).lexes)) (simp append_assoc) (simp append_assoc))
-      | false ↦ λ e. rw e (follows_as (space_then (word_then token.Symbol (codes "+") (single_fits 43 (32 ∷ _) refl refl) (space_then rest).lexes)) (simp append_assoc) (simp append_assoc))
-    ] refl
+    bool_cases (is_below_zero t.0)
+    (λ e. rw e (follows_as (space_then (word_then token.Symbol (codes "-") (single_fits 45 (32 ∷ _) refl refl) (space_then rest).lexes)) (simp append_assoc) (simp append_assoc)))
+    (λ e. rw e (follows_as (space_then (word_then token.Symbol (codes "+") (single_fits 43 (32 ∷ _) refl refl) (space_then rest).lexes)) (simp append_assoc) (simp append_assoc)))
 
 -- a term's words behind a minus
 minus_words : (c : ℤ) (name : List ℕ) → a_symbol (codes "-") ∷ term_words (size_tree false c name) ≡ term_words (size_tree true c name)
 minus_words c [] = refl
 minus_words c (b ∷ bytes) =
-    elim (unsigned_abs c == 1) as (λ v. (unsigned_abs c == 1) ≡ v → a_symbol (codes "-") ∷ term_words (size_tree false c (b ∷ bytes)) ≡ term_words (size_tree true c (b ∷ bytes))) [
-      | true ↦ λ e. rw e refl
-      | false ↦ λ e. rw e refl
-    ] refl
+    bool_cases (unsigned_abs c == 1) (λ e. rw e refl) (λ e. rw e refl)
 
 -- a term with its sign, and what follows it
 first_lexes : {last : TokenKind} {text : List ℕ} {ws : List Word} (below : Bool) (t : ℤ × List ℕ) → IsTerm t → Follows last text ws → Lexes last true ((if below then codes "-" else []) ++ (size_text t.0 t.1 ++ text)) (term_words (size_tree below t.0 t.1) ++ ws)

@@ -6,7 +6,7 @@ use Rattle.std.specs.List.{AllByRecursion}
 use Rattle.std.proofs.lemmas.Bool.Decides.{Decides-int_eq, nat_tests}
 use Rattle.std.proofs.lemmas.Bool.{eqb-true}
 use Rattle.std.proofs.lemmas.Int.{ints}
-use Rattle.std.proofs.lemmas.List.{set-get_or, get_or-replicate}
+use Rattle.std.proofs.lemmas.List.{set-get_or, get_or-replicate, get_or_at, set_at}
 use Rattle.std.proofs.lemmas.Fmt.{decimal_digit}
 use Rattle.iolb_model.specs.Form.{AffineForm}
 use Rattle.iolb_model.specs.declared.limits.TheConstants.{NUMBER_SIZE}
@@ -26,7 +26,7 @@ use Rattle.c_printing.proofs.Lexed.{Writes, writes_decimal}
 use Rattle.c_printing.proofs.RowForms.{IsTerm, AreTerms, form_terms-parts, form_terms-are, combined_single, length-padded}
 use Rattle.base_laws.proofs.Lists.{All-replicate}
 use Rattle.c_grammar.proofs.NameKinds.{All-set}
-use Rattle.c_grammar.proofs.Steps.{means_then, means_given}
+use Rattle.c_grammar.proofs.Steps.{means_then, means_given, bool_cases}
 
 -- ---- names and numbers
 
@@ -147,15 +147,11 @@ module _ (brackets : ℕ) (s : Names) where
   added_means true a b c t ss o e f g = means_then (term_means brackets t s) _ e (means_given _ _ s f g)
   added_means false a b c t ss o e f g = means_then (term_means brackets t s) _ e (means_given _ _ s f g)
 
-  -- no term more
-  none_means : (a : Form) → sums_means brackets a tree.sum_end s ≡ Some (a, s)
-  unfolding sums_means
-  none_means a = refl
-
   -- terms after the first
   later_means : (terms : List (ℤ × List ℕ)) (row last : List ℤ) (h : Bool) → length row ≡ width → AllByRecursion IsSmall row → AreTerms terms → FillsRow s row terms last
       → MeansRow (sums_means brackets (record { numbers = row; has_name = h }) (later_tree terms) s) last s
-  later_means [] row last h long small are fills = (h, none_means _ ∙ ap (λ ns. Some (record { numbers = ns; has_name = h }, s)) fills)
+  unfolding sums_means
+  later_means [] row last h long small are fills = (h, ap (λ ns. Some (record { numbers = ns; has_name = h }, s)) fills)
   later_means (t ∷ terms) row last h long small are fills =
       let size = size_means brackets s false t fills.0 (pos (unsigned_abs t.0)) are.0 fills.2 fills.1 (positive_size (unsigned_abs t.0)) are.0.0 in
       let b : Form = record { numbers = single fills.0 (pos (unsigned_abs t.0)); has_name = size.0 } in
@@ -164,21 +160,17 @@ module _ (brackets : ℕ) (s : Names) where
       let rest = later_means terms (set row fills.0 t.0) last (h || size.0) (length-set row fills.0 t.0 ∙ long) (All-set IsSmall row fills.0 t.0 are.0.0 small) are.1 fills.4 in
       (rest.0, added_means (is_below_zero t.0) _ b _ (size_tree false t.0 t.1) (later_tree terms) _ size.1 sums rest.1)
 
-  -- a sum
-  sum_means : (t : Term) (ss : Sums) (a : Form) (o : Option (Form × Names)) → term_means brackets t s ≡ Some (a, s) → sums_means brackets a ss s ≡ o → affine_means brackets (tree.sum t ss) s ≡ o
-  unfolding affine_means
-  sum_means t ss a o e f = means_then (term_means brackets t s) _ e f
-
   -- all terms
   pub terms_means : (terms : List (ℤ × List ℕ)) (last : List ℤ) → AreTerms terms → FillsRow s zeros terms last → MeansRow (affine_means brackets (terms_tree terms) s) last s
+  unfolding affine_means sums_means
   terms_means [] last are fills =
       let zero_is : decimal 0 ≡ codes "0" = decimal_digit 0 (omega arith) in
       let none : factor_means brackets (tree.integer (codes "0")) s ≡ Some (record { numbers = zeros; has_name = false }, s) = ap (λ ds. factor_means brackets (tree.integer ds) s) (sym zero_is) ∙ integer_factor brackets s 0 (omega arith) in
-      (false, sum_means _ _ _ _ (alone brackets s _ _ none) (none_means _) ∙ ap (λ ns. Some (record { numbers = ns; has_name = false }, s)) fills)
+      (false, means_then (term_means brackets (tree.product (tree.integer (codes "0")) tree.product_end) s) (λ a. sums_means brackets a tree.sum_end) (alone brackets s (tree.integer (codes "0")) _ none) (ap (λ ns. Some (record { numbers = ns; has_name = false }, s)) fills))
   terms_means (t ∷ terms) last are fills =
       let size = size_means brackets s (is_below_zero t.0) t fills.0 t.0 are.0 fills.2 fills.1 (signed_size t.0) are.0.0 in
       let rest = later_means terms (single fills.0 t.0) last size.0 (length-set zeros fills.0 t.0) (All-set IsSmall zeros fills.0 t.0 are.0.0 (All-replicate IsSmall width (pos 0) (omega arith))) are.1 fills.4 in
-      (rest.0, sum_means _ _ _ _ size.1 rest.1)
+      (rest.0, means_then _ _ size.1 rest.1)
 
 -- ---- rows
 
@@ -195,28 +187,17 @@ has_slot i (b ∷ name) s is e = e
 -- a term fills its place, unless it is 0
 fills_kept : (i : Names) (row last : List ℤ) (t : ℤ × List ℕ) (terms : List (ℤ × List ℕ)) (s : ℕ) → s < width → HasSlot i t.1 s → get_or row s (pos 0) ≡ pos 0 → FillsRow i (set row s t.0) (nonzero terms) last → FillsRow i row (nonzero (t ∷ terms)) last
 fills_kept i row last t terms s within has none rest =
-    elim (int_eq t.0 (pos 0)) as (λ v. int_eq t.0 (pos 0) ≡ v → FillsRow i row (nonzero (t ∷ terms)) last) [
-      | true ↦ λ e.
-          let zero_is : t.0 ≡ pos 0 = (Decides-int_eq t.0 (pos 0)).0 e in
-          let same : set row s t.0 ≡ row = ap (set row s) (zero_is ∙ sym none) ∙ set-get_or row s (pos 0) in
-          rw e (subst (λ r. FillsRow i r (nonzero terms) last) same rest)
-      | false ↦ λ e. rw e (s, within, has, none, rest)
-    ] refl
+    bool_cases (int_eq t.0 (pos 0))
+    (λ e.
+    let zero_is : t.0 ≡ pos 0 = (Decides-int_eq t.0 (pos 0)).0 e in
+    let same : set row s t.0 ≡ row = ap (set row s) (zero_is ∙ sym none) ∙ set-get_or row s (pos 0) in
+    rw e (subst (λ r. FillsRow i r (nonzero terms) last) same rest))
+    (λ e. rw e (s, within, has, none, rest))
 
 -- only zeros
 pub padded_none : (k : ℕ) → padded k [] ≡ replicate k (pos 0)
 padded_none zero = refl
 padded_none (suc k) = ap (λ ns. pos 0 ∷ ns) (padded_none k)
-
--- the number behind others
-get_behind : (front : List ℤ) (n : ℤ) (rest : List ℤ) → get_or (front ++ n ∷ rest) (length front) (pos 0) ≡ n
-get_behind [] n rest = refl
-get_behind (x ∷ front) n rest = get_behind front n rest
-
--- the number behind others is set
-set_behind : (front : List ℤ) (n m : ℤ) (rest : List ℤ) → set (front ++ n ∷ rest) (length front) m ≡ front ++ m ∷ rest
-set_behind [] n m rest = refl
-set_behind (x ∷ front) n m rest = ap (λ ns. x ∷ ns) (set_behind front n m rest)
 
 -- some names in order, whose places stand behind these numbers
 fills_names : (i : Names) (names : List (List ℕ)) (ns front rest : List ℤ) (k : ℕ) (later : List (ℤ × List ℕ)) (last : List ℤ) → length ns ≤ length names → length names ≤ k → length front + length names ≤ width → AllByRecursion IsName names
@@ -227,8 +208,8 @@ fills_names i (name ∷ names) (n ∷ ns) front rest zero later last fewer few w
 fills_names i (name ∷ names) (n ∷ ns) front rest (suc k) later last fewer few within all have fills =
     let longer : length (front ++ n ∷ []) ≡ suc (length front) = omega (arith, length-append front (n ∷ [])) in
     let zero_rest : List ℤ = replicate k (pos 0) ++ rest in
-    fills_kept i (front ++ (pos 0 ∷ zero_rest)) last (n, name) (zip ns names ++ later) (length front) (omega arith) (has_slot i name (length front) all.0 have.0) (get_behind front (pos 0) zero_rest)
-    (subst (λ r. FillsRow i r (nonzero (zip ns names ++ later)) last) (append_assoc front (n ∷ []) zero_rest ∙ sym (set_behind front (pos 0) n zero_rest))
+    fills_kept i (front ++ (pos 0 ∷ zero_rest)) last (n, name) (zip ns names ++ later) (length front) (omega arith) (has_slot i name (length front) all.0 have.0) (get_or_at front (pos 0) zero_rest (pos 0) (length front) refl)
+    (subst (λ r. FillsRow i r (nonzero (zip ns names ++ later)) last) (append_assoc front (n ∷ []) zero_rest ∙ sym (set_at front (pos 0) zero_rest n (length front) refl))
     (fills_names i names ns (front ++ n ∷ []) rest k later last (omega arith) (omega arith) (omega arith) all.1 (subst (HaveSlots i names) (sym longer) have.1)
     (subst (λ r. FillsRow i r (nonzero later) last) (sym (append_assoc front (n ∷ []) (padded k ns ++ rest))) fills)))
 

@@ -1,11 +1,9 @@
 -- What the trees of printed loops and rows mean.
-use Rattle.std.proofs.Common.{◌≡◌, refl, sym, ap, subst, ◌∙◌, ℕ, zero, suc, ◌+◌, ◌-◌, ◌≤◌, false, List, [], ◌∷◌, ◌++◌, append_assoc, append-nil, length, map, arith, length-append, ⊎_elim, ℤ, pos, take, drop, replicate}
-use Rattle.std.specs.Prelude.{bytes_eq, Some, Option, slice_index_or, ◌+ℤ◌, ◌-ℤ◌, ◌*ℤ◌}
+use Rattle.std.proofs.Common.{◌≡◌, refl, sym, ap, subst, ◌∙◌, ℕ, zero, suc, ◌+◌, ◌-◌, ◌≤◌, true, false, List, [], ◌∷◌, ◌++◌, append_assoc, append-nil, length, map, arith, length-append, ⊎_elim, ℤ, take, drop}
+use Rattle.std.specs.Prelude.{bytes_eq, Some, slice_index_or}
 use Rattle.std.specs.List.{AllByRecursion, list_any, range_with_len}
-use Rattle.std.proofs.lemmas.Int.{ints}
 use Rattle.iolb_model.specs.Form.{AffineForm}
-use Rattle.iolb_model.specs.Program.{Item, assign, loop, Row, done, next, AffineProgram, statement_at, IsOver, StatementFits, AccessFits, ItemFits, RowFits, item_statements, row_statements}
-use Rattle.iolb_model.specs.Program as program
+use Rattle.iolb_model.specs.Program.{Item, assign, loop, Row, done, next, AffineProgram, statement_at, IsOver, AccessFits, ItemFits, RowFits, item_statements, row_statements}
 use Rattle.c_reading.specs.declared.named.Kind.TheVariants.{OpenLoop, ClosedLoop}
 use Rattle.c_reading.specs.declared.lines.Loop.{Loop}
 use Rattle.c_reading.specs.declared.lines.Line.{Line}
@@ -13,33 +11,26 @@ use Rattle.c_reading.specs.declared.lines.Line.TheVariants.{Begin, Does, End}
 use Rattle.c_reading.specs.Affine.{with_name}
 use Rattle.c_reading.specs.Compare.{most_brackets}
 use Rattle.c_reading.specs.Items.{with_line, most_statements}
-use Rattle.c_reading.specs.Numbers.{most_parameters, most_loops, width, zeros, plus_times, number_before}
+use Rattle.c_reading.specs.Numbers.{most_parameters, most_loops, width, is_small}
 use Rattle.c_reading.specs.Refs.{with_kind}
-use Rattle.c_grammar.specs.Item as item
 use Rattle.c_grammar.specs.Meaning as mean
 use Rattle.c_grammar.specs.Meaning.{Names, affine_means, header_means, loop_by, item_means, items_means, begin, end, statement_means}
 use Rattle.c_grammar.specs.Program.{narrowed, narrowed_statement, TreeLine, begins, does, ends, item_lines, row_lines, tree_lines, statements_among}
-use Rattle.c_printing.specs.Tree.{statement_tree, header_tree, item_tree, row_tree}
+use Rattle.c_printing.specs.Tree.{header_tree, item_tree, row_tree}
 use Rattle.c_printing.proofs.Roles.{padded, widened, widened_statement, IsSmall, HasRoles, IsReadableHeader, IsReadableItem, IsReadableRow, item_seen, row_seen, statement_seen, other, role}
 use Rattle.c_tokens.specs.Names.{IsName}
-use Rattle.base_laws.proofs.Lists.{All-append}
-use Rattle.c_printing.proofs.RowForms.{small_number_is, combined-plus, form_back, form_statement_back, length-padded}
+use Rattle.base_laws.proofs.Lists.{All-append, All-weaken}
+use Rattle.c_printing.proofs.RowForms.{small_is, form_back, form_statement_back, length-padded}
 use Rattle.c_grammar.proofs.Dictionary.{place_of, lookup, position-place, kind_of-lookup, place-new, place-more, place-get, lookup-new, lookup-place}
-use Rattle.c_printing.proofs.State.{AreLoops, Knows, named, knows-variables, knows_loop, moved, changed, knows_opened, knows_closed}
+use Rattle.c_printing.proofs.State.{AreLoops, Knows, named, knows-variables, knows_loop, changed, knows_opened, knows_closed}
 use Rattle.c_printing.proofs.MeansForms.{KnowsVariables, form_means}
-use Rattle.c_printing.proofs.MeansRefs.{Means, Extends, extends_none, extends_both, short_name, get_index, statement_meant}
+use Rattle.c_printing.proofs.MeansRefs.{Means, Extends, extends_none, extends_both, short_name, statement_meant}
 use Rattle.std.proofs.lemmas.List.{map-append}
+use Rattle.std.proofs.lemmas.Option.{get_or_from_slice_get}
 use Rattle.c_grammar.proofs.Steps.{means_then, means_given}
+use Rattle.c_grammar.proofs.Forms.{combined_kept}
 
 -- ---- bounds
-
--- a row is added to zeros
-plus_zeros : (xs : List ℤ) → AllByRecursion IsSmall xs → plus_times (pos 1) (replicate (length xs) (pos 0)) xs ≡ Some xs
-plus_zeros [] small = refl
-plus_zeros (x ∷ xs) small =
-    ap (λ o. number_before o (plus_times (pos 1) (replicate (length xs) (pos 0)) xs)) (small_number_is (pos 1) (pos 0) x x (one_time x) small.0) ∙ ap (number_before (Some x)) (plus_zeros xs small.1) where
-      one_time : (z : ℤ) → (pos 0 +ℤ (pos 1 *ℤ z)) -ℤ pos 0 ≡ z
-      one_time z = omega (arith, ints)
 
 -- a row has a number for each variable that may be, and one more
 pub length-widened : (parameters depth : ℕ) (form : AffineForm) → length (widened parameters depth form) ≡ width
@@ -50,13 +41,13 @@ length-widened parameters depth form =
 
 -- a bound's row is kept
 bound_is : (row : List ℤ) → length row ≡ width → AllByRecursion IsSmall row → mean.upper_bound false row ≡ Some row
-bound_is row long small = combined-plus (pos 1) zeros row ∙ ap (λ n. plus_times (pos 1) (replicate n (pos 0)) row) (sym long) ∙ plus_zeros row small
+bound_is row long small = combined_kept row (record { few = omega (arith, long); small = All-weaken IsSmall (λ n. is_small n ≡ true) row small_is small })
 
 -- ---- headers
 
 -- what is known behind a loop's name
 pub record IsLoopNamed (p : AffineProgram) (around : List (List ℕ)) (seen count : ℕ) (i : Names) (name : List ℕ) (number : ℕ) (j : Names) : Type 0 where
-  pub knows : Knows p around seen count j
+  pub knows : Knows p (length p.parameters) around seen count j
   pub names : Extends i.names j.names
   pub lines : j.lines ≡ i.lines
   pub there : place_of name j.names ≡ Some number
@@ -64,7 +55,7 @@ pub record IsLoopNamed (p : AffineProgram) (around : List (List ℕ)) (seen coun
 
 module _ (p : AffineProgram) (around : List (List ℕ)) (is : HasRoles p) (loops : AreLoops p around) where
   -- a loop's name means its number
-  loop_named : (seen count : ℕ) (i : Names) (name : List ℕ) → Knows p around seen count i → IsName name → role p name ≡ other → list_any (bytes_eq name) around ≡ false
+  loop_named : (seen count : ℕ) (i : Names) (name : List ℕ) → Knows p (length p.parameters) around seen count i → IsName name → role p name ≡ other → list_any (bytes_eq name) around ≡ false
       → (number : ℕ) × Means (mean.loop_name name i) number (IsLoopNamed p around seen count i name number)
   unfolding mean.loop_name with_name
   loop_named seen count i name knows is_name is_other apart = ⊎_elim
@@ -73,29 +64,29 @@ module _ (p : AffineProgram) (around : List (List ℕ)) (is : HasRoles p) (loops
         length i.names,
         record {
           names = named name ClosedLoop i;
-          is = ap (λ o. loop_by name o i) (kind_of-lookup name i knows.same ∙ none) ∙ rw short refl;
-          so = record { knows = knows_loop p around seen count i is loops knows name is_other apart none; names = (name ∷ [], refl); lines = refl; there = place-new name i.names i.kinds knows.same none; closed = lookup-new name ClosedLoop i.names i.kinds knows.same none };
+          is = ap (λ o. loop_by name o i) (kind_of-lookup name i knows.0.same ∙ none) ∙ rw short refl;
+          so = record { knows = (knows_loop p is around name is_other apart seen i.names i.kinds knows.0 none, knows.1, knows.2, knows.3); names = (name ∷ [], refl); lines = refl; there = place-new name i.names i.kinds knows.0.same none; closed = lookup-new name ClosedLoop i.names i.kinds knows.0.same none };
         },
       ))
       (λ again.
-      let found = lookup-place name i.names i.kinds ClosedLoop knows.same again in (
+      let found = lookup-place name i.names i.kinds ClosedLoop knows.0.same again in (
         found.0,
         record {
           names = i;
-          is = ap (λ o. loop_by name o i) (kind_of-lookup name i knows.same ∙ again) ∙ ap (λ o. mean.loop_again o i) (position-place name i.names ∙ found.1);
+          is = ap (λ o. loop_by name o i) (kind_of-lookup name i knows.0.same ∙ again) ∙ ap (λ o. mean.loop_again o i) (position-place name i.names ∙ found.1);
           so = record { knows = knows; names = extends_none i.names; lines = refl; there = found.1; closed = again };
         },
       ))
-      (knows.other_names name is_other apart)
+      (knows.0.other_names name is_other apart)
 
   -- a printed header means its loop
-  header_meant : (brackets seen count : ℕ) (i : Names) (name : List ℕ) (lower upper : AffineForm) → Knows p around seen count i → IsReadableHeader p around name lower upper
+  header_meant : (brackets seen count : ℕ) (i : Names) (name : List ℕ) (lower upper : AffineForm) → Knows p (length p.parameters) around seen count i → IsReadableHeader p around name lower upper
       → (number : ℕ) × Means (header_means brackets (header_tree (p.parameters ++ around) name lower upper) i) (record { name = number; lower = widened (length p.parameters) (length around) lower; upper = widened (length p.parameters) (length around) upper }) (IsLoopNamed p around seen count i name number)
   unfolding header_means
   header_meant brackets seen count i name lower upper knows fits =
       let first = loop_named seen count i name knows fits.is_name fits.is_other fits.is_new in
       let j : Names = first.1.names in
-      let variables : KnowsVariables j p.parameters around = knows-variables p around seen count j is loops first.1.so.knows in
+      let variables : KnowsVariables j p.parameters around = knows-variables p around seen j is loops first.1.so.knows.0 in
       let low = form_means brackets j p.parameters around lower variables fits.lower_small in
       let high = form_means brackets j p.parameters around upper variables fits.upper_small in
       let wide : List ℤ = widened (length p.parameters) (length around) upper in (
@@ -112,9 +103,7 @@ module _ (p : AffineProgram) (around : List (List ℕ)) (is : HasRoles p) (loops
 
 -- numbers that rise by one, split
 pub split_numbers : (first : ℕ) (xs ys : List ℕ) → xs ++ ys ≡ range_with_len first (length (xs ++ ys)) → (xs ≡ range_with_len first (length xs)) × (ys ≡ range_with_len (first + length xs) (length ys))
-split_numbers first [] ys e = (refl, e ∙ ap (λ n. range_with_len n (length ys)) none) where
-  none : first ≡ first + 0
-  none = omega arith
+split_numbers first [] ys e = let none : first ≡ first + 0 = omega arith in (refl, e ∙ ap (λ n. range_with_len n (length ys)) none)
 split_numbers first (x ∷ xs) ys e =
     let here : x ≡ first = cc in
     let behind : xs ++ ys ≡ range_with_len (first + 1) (length (xs ++ ys)) = cc in
@@ -126,55 +115,13 @@ split_numbers first (x ∷ xs) ys e =
 
 -- A printed item, whose statements have these numbers, adds lines that are those of its tree.
 pub record IsItemMeant (p : AffineProgram) (around : List (List ℕ)) (seen first count : ℕ) (numbers : List ℕ) (i : Names) (tree : List TreeLine) (j : Names) : Type 0 where
-  pub knows : Knows p around seen count j
+  pub knows : Knows p (length p.parameters) around seen count j
   pub names : Extends i.names j.names
   pub new : List Line
   pub lines : j.lines ≡ i.lines ++ new
   pub same : (longer : List (List ℕ)) (later : List Line) → Extends j.names longer
       → tree_lines longer (length p.parameters) (length around) first (new ++ later) ≡ tree ++ tree_lines longer (length p.parameters) (length around) count later
   pub table : (later : List Line) → statements_among (length p.parameters) (length around) (new ++ later) ≡ map (statement_at p) numbers ++ statements_among (length p.parameters) (length around) later
-
--- the subscripts of each reference are over these variables
-forms_over : (p : AffineProgram) (variables : ℕ) (accesses : List program.Access) → AllByRecursion (AccessFits p variables) accesses → AllByRecursion (λ (a : program.Access). AllByRecursion (IsOver variables) a.subscripts) accesses
-forms_over p variables [] h = tt
-forms_over p variables (a ∷ accesses) h = (h.0.subscripts, forms_over p variables accesses h.1)
-
--- one name more
-length_more : (around : List (List ℕ)) (name : List ℕ) → length (around ++ name ∷ []) ≡ suc (length around)
-length_more around name = omega (arith, length-append around (name ∷ []))
-
--- an item of a row
-items_step : (more brackets : ℕ) (t : item.Item) (ts : item.Items) (i j : Names) (o : Option (Unit {0} × Names)) → item_means more brackets t i ≡ Some (tt, j) → items_means more brackets ts j ≡ o → items_means more brackets (item.item t ts) i ≡ o
-unfolding items_means
-items_step more brackets t ts i j o e f = means_then (item_means more brackets t i) _ e f
-
--- an item that is a statement
-statement_step : (more brackets : ℕ) (a : item.Assign) (i : Names) → item_means more brackets (item.statement a) i ≡ statement_means brackets a i
-unfolding item_means
-statement_step more brackets a i = refl
-
--- a row ends
-row_end : (more brackets : ℕ) (i : Names) → items_means more brackets item.item_end i ≡ Some (tt, i)
-unfolding items_means
-row_end more brackets i = refl
-
--- a loop is open
-begun_is : (depth : ℕ) (l : Loop) (j : Names) → begin depth l j ≡ Some (tt, changed l.name (OpenLoop depth) (record j { lines = j.lines ++ Begin l ∷ [] }))
-unfolding begin with_kind with_line
-begun_is depth l j = refl
-
--- it ends
-ended_is : (at : ℕ) (k : Names) → end at k ≡ Some (tt, changed at ClosedLoop (record k { lines = k.lines ++ End ∷ [] }))
-unfolding end with_kind with_line
-ended_is at k = refl
-
--- a loop over a block, from its parts
-loop_step : (more brackets : ℕ) (h : item.Header) (body : item.Items) (l : Loop) (i j second k last : Names) → header_means brackets h i ≡ Some (l, j) → begin (most_loops - 1 - more) l j ≡ Some (tt, second)
-    → items_means more brackets body second ≡ Some (tt, k) → end l.name k ≡ Some (tt, last) → item_means (suc more) (suc brackets) (item.loop h (item.block body)) i ≡ Some (tt, last)
-unfolding item_means
-loop_step more brackets h body l i j second k last e f g c =
-    means_then (header_means brackets h i) (λ (m : Loop). λ s. mean.then_in (mean.then_in (begin (most_loops - 1 - more) m s) (λ _. items_means more brackets body)) (λ _. end m.name)) e
-    (means_then (mean.then_in (begin (most_loops - 1 - more) l j) (λ _. items_means more brackets body)) (λ _. end l.name) (means_then (begin (most_loops - 1 - more) l j) (λ _. items_means more brackets body) f g) c)
 
 module _ (p : AffineProgram) (is : HasRoles p) where
   -- a loop more around
@@ -185,15 +132,11 @@ module _ (p : AffineProgram) (is : HasRoles p) where
     deep = omega (arith, fits.depth, length-append around (name ∷ []));
   }
 
-  -- a statement's line says the statement
-  statement_same : (depth number : ℕ) → length p.parameters ≤ most_parameters → depth ≤ most_loops → StatementFits p (length p.parameters + depth) number
-      → narrowed_statement (length p.parameters) depth (widened_statement (length p.parameters) depth (statement_at p number)) ≡ statement_at p number
-  statement_same depth number few deep fits =
-      form_statement_back (length p.parameters) depth (statement_at p number) few deep fits.writes.subscripts (forms_over p (length p.parameters + depth) (statement_at p number).reads fits.reads)
-
   mutual
+    unfolding item_means items_means begin end with_kind with_line
+
     -- a printed item means its lines
-    pub item_meant : (item : Item) (around : List (List ℕ)) (loops : AreLoops p around) (more brackets seen first : ℕ) (i : Names) → length around + more ≡ most_loops → brackets + length around ≡ most_brackets → Knows p around seen first i
+    pub item_meant : (item : Item) (around : List (List ℕ)) (loops : AreLoops p around) (more brackets seen first : ℕ) (i : Names) → length around + more ≡ most_loops → brackets + length around ≡ most_brackets → Knows p (length p.parameters) around seen first i
         → first + length (item_statements item) ≤ most_statements → IsReadableItem p around seen item → ItemFits p (length p.parameters + length around) item → item_statements item ≡ range_with_len first (length (item_statements item))
         → Means (item_means more brackets (item_tree p (p.parameters ++ around) item) i) tt (IsItemMeant p around (item_seen p seen item) first (first + length (item_statements item)) (item_statements item) i (item_lines item))
     item_meant (assign number) around loops more zero seen first i depth nested knows few fits over numbered = absurd (omega (arith, loops.deep))
@@ -202,12 +145,14 @@ module _ (p : AffineProgram) (is : HasRoles p) where
         let read = statement_meant p around is loops brackets seen first i (statement_at p number) (omega arith) knows fits in
         let here : number ≡ first = cc in
         let counts : suc first ≡ first + 1 = omega arith in
-        let same : narrowed_statement (length p.parameters) (length around) (widened_statement (length p.parameters) (length around) (statement_at p number)) ≡ statement_at p number = statement_same (length around) number is.few_parameters loops.deep over in
+        let same : narrowed_statement (length p.parameters) (length around) (widened_statement (length p.parameters) (length around) (statement_at p number)) ≡ statement_at p number =
+        form_statement_back (length p.parameters) (length around) (statement_at p number) is.few_parameters loops.deep over.writes.subscripts
+        (All-weaken (AccessFits p (length p.parameters + length around)) (λ a. AllByRecursion (IsOver (length p.parameters + length around)) a.subscripts) (statement_at p number).reads (λ a h. h.subscripts) over.reads) in
         record {
           names = read.names;
-          is = statement_step more (suc (suc brackets)) (statement_tree p (p.parameters ++ around) (statement_at p number)) i ∙ read.is;
+          is = read.is;
           so = record {
-            knows = subst (λ n. Knows p around (statement_seen seen (statement_at p number)) n read.names) counts read.so.0;
+            knows = subst (λ n. Knows p (length p.parameters) around (statement_seen seen (statement_at p number)) n read.names) counts read.so.0;
             names = read.so.1;
             new = Does (widened_statement (length p.parameters) (length around) (statement_at p number)) ∷ [];
             lines = read.so.2;
@@ -223,7 +168,7 @@ module _ (p : AffineProgram) (is : HasRoles p) where
         let D : ℕ = length around in
         let inner : List (List ℕ) = around ++ name ∷ [] in
         let count : ℕ = first + length (row_statements body) in
-        let deeper : length inner ≡ suc D = length_more around name in
+        let deeper : length inner ≡ suc D = omega (arith, length-append around (name ∷ [])) in
         let inner_loops : AreLoops p inner = loops_more around name lower upper loops fits.0 in
         let head = header_meant p around is loops brackets seen first i name lower upper knows fits.0 in
         let j : Names = head.1.names in
@@ -231,22 +176,22 @@ module _ (p : AffineProgram) (is : HasRoles p) where
         let l : Loop = record { name = head.0; lower = widened P D lower; upper = widened P D upper } in
         let begun : Names = record j { lines = j.lines ++ Begin l ∷ [] } in
         let second : Names = changed l.name (OpenLoop D) begun in
-        let knows_second : Knows p inner seen first second = knows_opened p is around name fits.0.is_other fits.0.is_new l.name seen first begun (moved p around seen first j is loops known.knows j.tokens (j.lines ++ Begin l ∷ []) j.statements first known.knows.statements_count) known.there known.closed in
+        let knows_second : Knows p (length p.parameters) inner seen first second = (knows_opened p is around name fits.0.is_other fits.0.is_new seen j.names j.kinds l.name known.knows.0 known.there known.closed, known.knows.1, known.knows.2, known.knows.3) in
         let at_depth : most_loops - 1 - more ≡ D = omega arith in
-        let variables : P + suc D ≡ P + length inner = omega arith in
-        let over_body : RowFits p (P + length inner) body = subst (λ n. RowFits p n body) (suc_variables P D ∙ variables) over.2 in
+        let variables : suc (P + D) ≡ P + length inner = omega arith in
+        let over_body : RowFits p (P + length inner) body = subst (λ n. RowFits p n body) variables over.2 in
         let rows = row_meant body inner inner_loops more brackets seen first second (omega arith) (omega arith) knows_second few fits.1 over_body numbered in
         let k : Names = rows.names in
         let ended : Names = record k { lines = k.lines ++ End ∷ [] } in
         let last : Names = changed l.name ClosedLoop ended in
         let place_k : place_of name k.names ≡ Some l.name = subst (λ ns. place_of name ns ≡ Some l.name) (sym rows.so.names.1) (place-more name j.names rows.so.names.0 l.name known.there) in
-        let knows_last : Knows p around (row_seen p seen body) count last =
-        knows_closed p is around name fits.0.is_other fits.0.is_new l.name (row_seen p seen body) count ended (moved p inner (row_seen p seen body) count k is inner_loops rows.so.knows k.tokens (k.lines ++ End ∷ []) k.statements count rows.so.knows.statements_count) place_k in
+        let knows_last : Knows p (length p.parameters) around (row_seen p seen body) count last = (knows_closed p is around name fits.0.is_other fits.0.is_new (row_seen p seen body) k.names k.kinds l.name rows.so.knows.0 place_k, rows.so.knows.1, rows.so.knows.2, rows.so.knows.3) in
         let body_tree = row_tree p ((p.parameters ++ around) ++ name ∷ []) body in
         let body_is : items_means more brackets body_tree second ≡ Some (tt, k) = ap (λ ns. items_means more brackets (row_tree p ns body) second) (append_assoc p.parameters around (name ∷ [])) ∙ rows.is in
         record {
           names = last;
-          is = loop_step more brackets (header_tree (p.parameters ++ around) name lower upper) body_tree l i j second k last head.1.is (begun_is (most_loops - 1 - more) l j ∙ ap (λ d. Some (tt, changed l.name (OpenLoop d) begun)) at_depth) body_is (ended_is l.name k);
+          is = means_then (header_means brackets (header_tree (p.parameters ++ around) name lower upper) i) _ head.1.is
+              (ap (λ d. mean.then_in (items_means more brackets body_tree (changed l.name (OpenLoop d) begun)) (λ _. end l.name)) at_depth ∙ means_then (items_means more brackets body_tree second) _ body_is refl);
           so = record {
             knows = knows_last;
             names = extends_both i.names j.names k.names known.names rows.so.names;
@@ -255,7 +200,7 @@ module _ (p : AffineProgram) (is : HasRoles p) where
                 ∙ append_assoc (i.lines ++ Begin l ∷ []) rows.so.new (End ∷ []) ∙ append_assoc i.lines (Begin l ∷ []) (rows.so.new ++ End ∷ []);
             same = λ longer later extends.
                 let found : place_of name longer ≡ Some l.name = subst (λ ns. place_of name ns ≡ Some l.name) (sym extends.1) (place-more name k.names extends.0 l.name place_k) in
-                let name_is : slice_index_or longer l.name [] ≡ name = get_index longer l.name name [] (place-get name longer l.name found) in
+                let name_is : slice_index_or longer l.name [] ≡ name = get_or_from_slice_get longer l.name name [] (place-get name longer l.name found) in
                 let low : narrowed P D (widened P D lower) ≡ lower = form_back P D lower is.few_parameters loops.deep over.0 in
                 let high : narrowed P D (widened P D upper) ≡ upper = form_back P D upper is.few_parameters loops.deep over.1 in
                 let shallow : length inner - 1 ≡ D = omega arith in
@@ -271,21 +216,19 @@ module _ (p : AffineProgram) (is : HasRoles p) where
                 ap (λ ls. statements_among P (suc D) ls) (append_assoc rows.so.new (End ∷ []) later) ∙ ap (λ d. statements_among P d (rows.so.new ++ (End ∷ later))) (sym deeper) ∙ rows.so.table (End ∷ later)
                 ∙ ap (λ d. map (statement_at p) (row_statements body) ++ statements_among P d later) shallow;
           };
-        } where
-          suc_variables : (m n : ℕ) → suc (m + n) ≡ m + suc n
-          suc_variables m n = omega arith
+        }
 
     -- a printed row means its lines
-    pub row_meant : (row : Row) (around : List (List ℕ)) (loops : AreLoops p around) (more brackets seen first : ℕ) (i : Names) → length around + more ≡ most_loops → brackets + length around ≡ most_brackets → Knows p around seen first i
+    pub row_meant : (row : Row) (around : List (List ℕ)) (loops : AreLoops p around) (more brackets seen first : ℕ) (i : Names) → length around + more ≡ most_loops → brackets + length around ≡ most_brackets → Knows p (length p.parameters) around seen first i
         → first + length (row_statements row) ≤ most_statements → IsReadableRow p around seen row → RowFits p (length p.parameters + length around) row → row_statements row ≡ range_with_len first (length (row_statements row))
         → Means (items_means more brackets (row_tree p (p.parameters ++ around) row) i) tt (IsItemMeant p around (row_seen p seen row) first (first + length (row_statements row)) (row_statements row) i (row_lines row))
     row_meant done around loops more brackets seen first i depth nested knows few fits over numbered =
         let counts : first ≡ first + 0 = omega arith in
         record {
           names = i;
-          is = row_end more brackets i;
+          is = refl;
           so = record {
-            knows = subst (λ n. Knows p around seen n i) counts knows;
+            knows = subst (λ n. Knows p (length p.parameters) around seen n i) counts knows;
             names = extends_none i.names;
             new = [];
             lines = sym (append-nil i.lines);
@@ -306,9 +249,9 @@ module _ (p : AffineProgram) (is : HasRoles p) where
         let counts : middle + length (row_statements row) ≡ first + length (item_statements item ++ row_statements row) = omega arith in
         record {
           names = k;
-          is = items_step more brackets (item_tree p (p.parameters ++ around) item) (row_tree p (p.parameters ++ around) row) i j (Some (tt, k)) one.is rest.is;
+          is = means_then (item_means more brackets (item_tree p (p.parameters ++ around) item) i) _ one.is rest.is;
           so = record {
-            knows = subst (λ n. Knows p around (row_seen p (item_seen p seen item) row) n k) counts rest.so.knows;
+            knows = subst (λ n. Knows p (length p.parameters) around (row_seen p (item_seen p seen item) row) n k) counts rest.so.knows;
             names = extends_both i.names j.names k.names one.so.names rest.so.names;
             new = one.so.new ++ rest.so.new;
             lines = rest.so.lines ∙ ap (λ ls. ls ++ rest.so.new) one.so.lines ∙ append_assoc i.lines one.so.new rest.so.new;

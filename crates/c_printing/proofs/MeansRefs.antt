@@ -1,9 +1,9 @@
 -- What the trees of printed references and statements mean.
-use Rattle.std.proofs.Common.{◌≡◌, refl, sym, ap, subst, ◌∙◌, ℕ, zero, suc, ◌+◌, ◌<◌, ◌≤◌, true, false, List, [], ◌∷◌, ◌++◌, append_assoc, append-nil, length, arith, length-append, ⊎_elim, ℤ}
-use Rattle.std.specs.Prelude.{Some, None, Option, slice_get, slice_set, slice_index_or, map, ◌==◌, nat_le, nat_lt, IsSomeAnd, ⊤}
+use Rattle.std.proofs.Common.{◌≡◌, refl, sym, ap, subst, ◌∙◌, ℕ, suc, ◌+◌, ◌<◌, ◌≤◌, true, false, List, [], ◌∷◌, ◌++◌, append_assoc, append-nil, length, arith, length-append, ⊎_elim, ℤ}
+use Rattle.std.specs.Prelude.{Some, None, Option, slice_get, slice_set, map, ◌==◌, nat_le, nat_lt, if◌then◌else◌, IsSomeAnd, ⊤}
 use Rattle.std.specs.List.{AllByRecursion}
 use Rattle.std.proofs.lemmas.Bool.Decides.{nat_tests}
-use Rattle.std.proofs.lemmas.List.{length-map}
+use Rattle.std.proofs.lemmas.List.{length-map, set_at}
 use Rattle.std.proofs.str.Laws.{order}
 use Rattle.iolb_model.specs.Form.{AffineForm}
 use Rattle.iolb_model.specs.Program.{AffineProgram}
@@ -25,10 +25,10 @@ use Rattle.c_printing.specs.Tree.{subscripts_tree, access_tree, read_tree, argum
 use Rattle.c_printing.proofs.Roles.{widened, widened_access, widened_statement, IsSmallForm, HasRoles, IsReadableAccess, AreReadableAccesses, access_seen, accesses_seen, IsReadableStatement, statement_seen}
 use Rattle.c_tokens.specs.Names.{IsName}
 use Rattle.c_printing.proofs.MeansForms.{KnowsVariables, form_means}
-use Rattle.c_grammar.proofs.Dictionary.{kind_of-lookup, set-last}
-use Rattle.c_printing.proofs.State.{AreLoops, Knows, named, knows-variables, array-variables, knows_array, moved}
+use Rattle.c_grammar.proofs.Dictionary.{kind_of-lookup}
+use Rattle.c_printing.proofs.State.{AreLoops, Knows, named, knows-variables, array-variables, knows_array, was_seen, not_seen}
 use Rattle.iolb_model.specs.declared.limits.TheConstants.{NAME_BYTES}
-use Rattle.std.proofs.lemmas.Option.{slice_get_within}
+use Rattle.std.proofs.lemmas.Option.{slice_get_within, get_or_from_slice_get}
 use Rattle.c_grammar.proofs.NameKinds.{All-get}
 use Rattle.c_grammar.proofs.Steps.{means_then}
 
@@ -38,12 +38,6 @@ use Rattle.c_grammar.proofs.Steps.{means_then}
 pub some_and : {X : Type 0} (P : X → Type 0) (o : Option X) → IsSomeAnd o P → (x : X) × (o ≡ Some x) × P x
 some_and P None h = absurd h
 some_and P (Some x) h = (x, refl, h)
-
--- a member that is there is the one at its index
-pub get_index : {X : Type 0} (xs : List X) (k : ℕ) (x none : X) → slice_get xs k ≡ Some x → slice_index_or xs k none ≡ x
-get_index [] k x none e = cc
-get_index (y ∷ xs) zero x none e = cc
-get_index (y ∷ xs) (suc k) x none e = get_index xs k x none e
 
 -- the names go on with others
 abbrev pub Extends : List (List ℕ) → List (List ℕ) → Type 0
@@ -94,43 +88,32 @@ subscripts_mean brackets i parameters around knows (form ∷ forms) rows small f
 same_count : (m n : ℕ) → m ≡ n → (m == n) ≡ true
 same_count m n h = grind (arith, nat_tests)
 
--- an array that was seen
-array_known : (name : List ℕ) (k rank : ℕ) (i : Names) → kind_of name i ≡ Some (Array k rank) → mean.array name i ≡ Some (record { array = k; subscripts = Some rank }, i)
-unfolding mean.array
-array_known name k rank i known = ap (λ o. array_by name o i) known
-
--- a new array
-array_new : (name : List ℕ) (i : Names) → kind_of name i ≡ None → is_short name ≡ true → i.arrays < most_arrays
-    → mean.array name i ≡ Some (record { array = i.arrays; subscripts = None }, record (named name (Array i.arrays 0) i) { arrays = i.arrays + 1 })
-unfolding mean.array with_name
-array_new name i none short few =
-    let below : nat_lt i.arrays most_arrays ≡ true = grind (arith, nat_tests) in
-    ap (λ o. array_by name o i) none ∙ rw (short, below) refl
-
 -- a reference to an array that was seen, from its parts
 access_known : (brackets k rank : ℕ) (rows : List (List ℤ)) (r : tree.Reference) (i : Names) → kind_of r.name i ≡ Some (Array k rank) → subscripts_means brackets [] r.subscripts i ≡ Some (rows, i) → length rows ≡ rank
     → reference_means brackets r i ≡ Some (record { array = k; subscripts = rows }, i)
-unfolding reference_means access_from
+unfolding reference_means access_from mean.array
 access_known brackets k rank rows r i known f same =
     let count : (length rows == rank) ≡ true = same_count (length rows) rank same in
-    means_then (mean.array r.name i) _ (array_known r.name k rank i known) (means_then (subscripts_means brackets [] r.subscripts i) _ f (rw count refl))
+    means_then (mean.array r.name i) _ (ap (λ o. array_by r.name o i) known) (means_then (subscripts_means brackets [] r.subscripts i) _ f (rw count refl))
 
 -- a reference to a new array, from its parts
 access_new : (brackets k rank : ℕ) (rows : List (List ℤ)) (r : tree.Reference) (i : Names) → kind_of r.name i ≡ None → is_short r.name ≡ true → length i.kinds ≡ length i.names → i.arrays ≡ k → k < most_arrays → length rows ≡ rank
     → subscripts_means brackets [] r.subscripts (record (named r.name (Array i.arrays 0) i) { arrays = i.arrays + 1 }) ≡ Some (rows, record (named r.name (Array i.arrays 0) i) { arrays = i.arrays + 1 })
     → reference_means brackets r i ≡ Some (record { array = k; subscripts = rows }, record (named r.name (Array k rank) i) { arrays = i.arrays + 1 })
-unfolding reference_means access_from with_kind
+unfolding reference_means access_from with_kind mean.array with_name
 access_new brackets k rank rows r i none short same count few long f =
     let kinds_are : slice_set (i.kinds ++ Array i.arrays 0 ∷ []) (length i.names) (Array i.arrays (length rows)) ≡ i.kinds ++ Array k rank ∷ [] =
-    ap (λ n. slice_set (i.kinds ++ Array i.arrays 0 ∷ []) n (Array i.arrays (length rows))) (sym same) ∙ set-last i.kinds (Array i.arrays 0) (Array i.arrays (length rows)) ∙ ap (λ n. i.kinds ++ Array n (length rows) ∷ []) count ∙ ap (λ n. i.kinds ++ Array k n ∷ []) long in
-    means_then (mean.array r.name i) _ (array_new r.name i none short (omega arith))
+    ap (λ n. slice_set (i.kinds ++ Array i.arrays 0 ∷ []) n (Array i.arrays (length rows))) (sym same) ∙ set_at i.kinds (Array i.arrays 0) [] (Array i.arrays (length rows)) (length i.kinds) refl ∙ ap (λ n. i.kinds ++ Array n (length rows) ∷ []) count ∙ ap (λ n. i.kinds ++ Array k n ∷ []) long in
+    let below : nat_lt i.arrays most_arrays ≡ true = (let fewer : i.arrays < most_arrays = omega arith in grind (arith, nat_tests)) in
+    let new : mean.array r.name i ≡ Some (record { array = i.arrays; subscripts = None }, record (named r.name (Array i.arrays 0) i) { arrays = i.arrays + 1 }) = rw (none, short, below) refl in
+    means_then (mean.array r.name i) _ new
     (means_then (subscripts_means brackets [] r.subscripts _) _ f
     (ap (λ ks. Some (record { array = i.arrays; subscripts = rows }, record (named r.name (Array i.arrays 0) i) { arrays = i.arrays + 1; kinds = ks })) kinds_are
     ∙ ap (λ n. Some (record { array = n; subscripts = rows }, record (named r.name (Array k rank) i) { arrays = i.arrays + 1 })) count))
 
 -- what is known behind references
 pub record IsSeen (p : AffineProgram) (around : List (List ℕ)) (seen count : ℕ) (i j : Names) : Type 0 where
-  pub knows : Knows p around seen count j
+  pub knows : Knows p (length p.parameters) around seen count j
   pub names : Extends i.names j.names
   pub lines : j.lines ≡ i.lines
 
@@ -165,10 +148,10 @@ module _ (p : AffineProgram) (around : List (List ℕ)) (is : HasRoles p) (loops
   array_named printed depth seen fits =
       let found = some_and _ (slice_get p.arrays printed.array) fits.rank in
       let fine = All-get _ p.arrays printed.array found.0 is.arrays found.1 in
-      (found.0, found.1, sym (ap (λ (b : program.Array). b.name) (get_index p.arrays printed.array found.0 (record { name = []; rank = 0 }) found.1)), fine.0, found.2, fine.1)
+      (found.0, found.1, sym (ap (λ (b : program.Array). b.name) (get_or_from_slice_get p.arrays printed.array found.0 (record { name = []; rank = 0 }) found.1)), fine.0, found.2, fine.1)
 
   -- a printed reference means itself
-  pub access_means : (brackets seen count : ℕ) (i : Names) (printed : program.Access) → Knows p around seen count i → IsReadableAccess p (length around) seen printed
+  pub access_means : (brackets seen count : ℕ) (i : Names) (printed : program.Access) → Knows p (length p.parameters) around seen count i → IsReadableAccess p (length around) seen printed
       → Means (reference_means (suc brackets) (access_tree p (p.parameters ++ around) printed) i) (widened_access (length p.parameters) (length around) printed) (IsSeen p around (access_seen seen printed) count i)
   access_means brackets seen count i printed knows fits =
       let found = array_named printed (length around) seen fits in
@@ -180,18 +163,18 @@ module _ (p : AffineProgram) (around : List (List ℕ)) (is : HasRoles p) (loops
       λ s variables. subscripts_mean brackets s p.parameters around variables printed.subscripts [] fits.subscripts (omega (arith, found.4, found.5)) in
       ⊎_elim
       (λ before.
-      let known : kind_of a.name i ≡ Some (Array printed.array a.rank) = kind_of-lookup a.name i knows.same ∙ knows.array_kinds printed.array a found.1 before in
+      let known : kind_of a.name i ≡ Some (Array printed.array a.rank) = kind_of-lookup a.name i knows.0.same ∙ knows.0.array_kinds printed.array a found.1 ∙ was_seen printed.array seen (Array printed.array a.rank) before in
       let below : nat_lt printed.array seen ≡ true = grind (arith, nat_tests) in
       let unchanged : access_seen seen printed ≡ seen = rw below refl in
       record {
         names = i;
-        is = ap (λ n. reference_means (suc brackets) (record { name = n; subscripts = r.subscripts }) i) (sym found.2) ∙ access_known (suc brackets) printed.array a.rank rows r i known (meant i (knows-variables p around seen count i is loops knows)) long;
-        so = record { knows = subst (λ n. Knows p around n count i) (sym unchanged) knows; names = extends_none i.names; lines = refl };
+        is = ap (λ n. reference_means (suc brackets) (record { name = n; subscripts = r.subscripts }) i) (sym found.2) ∙ access_known (suc brackets) printed.array a.rank rows r i known (meant i (knows-variables p around seen i is loops knows.0)) long;
+        so = record { knows = subst (λ n. Knows p (length p.parameters) around n count i) (sym unchanged) knows; names = extends_none i.names; lines = refl };
       })
       (λ after.
       let here : printed.array ≡ seen = omega (arith, fits.seen_first) in
       let there : slice_get p.arrays seen ≡ Some a = ap (slice_get p.arrays) (sym here) ∙ found.1 in
-      let none : kind_of a.name i ≡ None = kind_of-lookup a.name i knows.same ∙ knows.new_arrays seen a there (omega arith) in
+      let none : kind_of a.name i ≡ None = kind_of-lookup a.name i knows.0.same ∙ knows.0.array_kinds seen a there ∙ not_seen seen seen (Array seen a.rank) (omega arith) in
       let few : seen < most_arrays = omega (arith, slice_get_within p.arrays seen a there, is.few_arrays) in
       let above : nat_lt printed.array seen ≡ false = grind (arith, nat_tests) in
       let grown : access_seen seen printed ≡ suc seen = rw above refl in
@@ -199,23 +182,20 @@ module _ (p : AffineProgram) (around : List (List ℕ)) (is : HasRoles p) (loops
       record {
         names = last;
         is = ap (λ n. reference_means (suc brackets) (record { name = n; subscripts = r.subscripts }) i) (sym found.2)
-            ∙ access_new (suc brackets) seen a.rank rows r i none (short_name a.name found.3) knows.same knows.arrays_count few long (meant _ (array-variables p around seen count i is loops knows (Array i.arrays 0) a (i.arrays + 1) there))
+            ∙ access_new (suc brackets) seen a.rank rows r i none (short_name a.name found.3) knows.0.same knows.2 few long (meant _ (array-variables p is around loops seen i knows.0 a there (Array i.arrays 0) (i.arrays + 1)))
             ∙ ap (λ n. Some (record { array = n; subscripts = rows }, last)) (sym here);
-        so = record { knows = subst (λ n. Knows p around n count last) (sym grown) (knows_array p around seen count i is loops knows a there); names = (a.name ∷ [], refl); lines = refl };
+        so = record { knows = subst (λ n. Knows p (length p.parameters) around n count last) (sym grown) (knows_array p is around loops seen i knows.0 a there, knows.1, omega (arith, knows.2), knows.3); names = (a.name ∷ [], refl); lines = refl };
       })
       (order printed.array seen)
 
   -- the name of an array may be read
-  readable : (seen count : ℕ) (i : Names) (k : ℕ) (a : program.Array) → Knows p around seen count i → slice_get p.arrays k ≡ Some a → IsReadable (kind_of a.name i)
-  readable seen count i k a knows there = ⊎_elim
-      (λ before. subst IsReadable (sym (kind_of-lookup a.name i knows.same ∙ knows.array_kinds k a there before)) tt)
-      (λ after. subst IsReadable (sym (kind_of-lookup a.name i knows.same ∙ knows.new_arrays k a there after)) tt)
-      (order k seen)
+  readable : (seen count : ℕ) (i : Names) (k : ℕ) (a : program.Array) → Knows p (length p.parameters) around seen count i → slice_get p.arrays k ≡ Some a → IsReadable (kind_of a.name i)
+  readable seen count i k a knows there = subst IsReadable (sym (kind_of-lookup a.name i knows.0.same ∙ knows.0.array_kinds k a there)) (elim (nat_lt k seen) as (λ b. IsReadable (if b then Some (Array k a.rank) else None)) [ true ↦ tt | false ↦ tt ])
 
   -- ---- values
 
   -- a reference that is read
-  read_means : (brackets seen count : ℕ) (i : Names) (before : Accesses) (printed : program.Access) → length before < most_reads → Knows p around seen count i → IsReadableAccess p (length around) seen printed
+  read_means : (brackets seen count : ℕ) (i : Names) (before : Accesses) (printed : program.Access) → length before < most_reads → Knows p (length p.parameters) around seen count i → IsReadableAccess p (length around) seen printed
       → Means (value_means (suc brackets) before (read_tree p (p.parameters ++ around) printed) i) (before ++ widened_access (length p.parameters) (length around) printed ∷ []) (IsSeen p around (access_seen seen printed) count i)
   unfolding value_means unary_means operands_means name_means with_read
   read_means brackets seen count i before printed few knows fits =
@@ -232,7 +212,7 @@ module _ (p : AffineProgram) (around : List (List ℕ)) (is : HasRoles p) (loops
       }
 
   -- references as arguments
-  arguments_mean : (brackets count : ℕ) (read : program.Access) (reads : List program.Access) (seen : ℕ) (i : Names) (before : Accesses) → length before + length (read ∷ reads) ≤ most_reads → Knows p around seen count i → AreReadableAccesses p (length around) seen (read ∷ reads)
+  arguments_mean : (brackets count : ℕ) (read : program.Access) (reads : List program.Access) (seen : ℕ) (i : Names) (before : Accesses) → length before + length (read ∷ reads) ≤ most_reads → Knows p (length p.parameters) around seen count i → AreReadableAccesses p (length around) seen (read ∷ reads)
       → Means (arguments_means (suc brackets) before (arguments_tree p (p.parameters ++ around) read reads) i) (before ++ map (widened_access (length p.parameters) (length around)) (read ∷ reads)) (IsSeen p around (accesses_seen seen (read ∷ reads)) count i)
   unfolding arguments_means
   arguments_mean brackets count read [] seen i before few knows fit = read_means brackets seen count i before read (omega arith) knows fit.0
@@ -247,7 +227,7 @@ module _ (p : AffineProgram) (around : List (List ℕ)) (is : HasRoles p) (loops
       }
 
   -- what a statement reads
-  reads_mean : (brackets seen count : ℕ) (i : Names) (reads : List program.Access) → length reads ≤ most_reads → Knows p around seen count i → AreReadableAccesses p (length around) seen reads
+  reads_mean : (brackets seen count : ℕ) (i : Names) (reads : List program.Access) → length reads ≤ most_reads → Knows p (length p.parameters) around seen count i → AreReadableAccesses p (length around) seen reads
       → Means (value_means (suc (suc brackets)) [] (reads_tree p (p.parameters ++ around) reads) i) (map (widened_access (length p.parameters) (length around)) reads) (IsSeen p around (accesses_seen seen reads) count i)
   unfolding value_means unary_means operands_means
   reads_mean brackets seen count i [] few knows fit = record { names = i; is = refl; so = record { knows = knows; names = extends_none i.names; lines = refl } }
@@ -258,15 +238,15 @@ module _ (p : AffineProgram) (around : List (List ℕ)) (is : HasRoles p) (loops
   -- ---- statements
 
   -- a printed statement means its line
-  pub statement_meant : (brackets seen count : ℕ) (i : Names) (printed : program.Statement) → count < most_statements → Knows p around seen count i → IsReadableStatement p (length around) seen printed
+  pub statement_meant : (brackets seen count : ℕ) (i : Names) (printed : program.Statement) → count < most_statements → Knows p (length p.parameters) around seen count i → IsReadableStatement p (length around) seen printed
       → Means (statement_means (suc (suc brackets)) (statement_tree p (p.parameters ++ around) printed) i) tt
-      (λ j. Knows p around (statement_seen seen printed) (suc count) j × Extends i.names j.names × (j.lines ≡ i.lines ++ Does (widened_statement (length p.parameters) (length around) printed) ∷ []))
+      (λ j. Knows p (length p.parameters) around (statement_seen seen printed) (suc count) j × Extends i.names j.names × (j.lines ≡ i.lines ++ Does (widened_statement (length p.parameters) (length around) printed) ∷ []))
   unfolding statement_means assign_means with_line
   statement_meant brackets seen count i printed few knows fits =
       let found = array_named printed.writes (length around) seen fits.accesses.0 in
       let target : tree.Reference = access_tree p (p.parameters ++ around) printed.writes in
       let written : is_array (kind_of target.name i) ≡ true = array_written (kind_of target.name i) (subst (λ n. IsReadable (kind_of n i)) found.2 (readable seen count i printed.writes.array found.0 knows found.1)) in
-      let below : nat_le most_statements i.statements ≡ false = (let is_count : i.statements ≡ count = knows.statements_count in grind (arith, nat_tests)) in
+      let below : nat_le most_statements i.statements ≡ false = (let is_count : i.statements ≡ count = knows.3 in grind (arith, nat_tests)) in
       let write = access_means (suc brackets) seen count i printed.writes knows fits.accesses.0 in
       let read = reads_mean brackets (access_seen seen printed.writes) count write.names printed.reads fits.few write.so.knows fits.accesses.1 in
       let line : Line = Does (widened_statement (length p.parameters) (length around) printed) in
@@ -276,7 +256,7 @@ module _ (p : AffineProgram) (around : List (List ℕ)) (is : HasRoles p) (loops
         names = record three { statements = i.statements + 1 };
         is = rw (written, below) (means_then (assign_means (suc (suc brackets)) (statement_tree p (p.parameters ++ around) printed) i) _ (means_then (reference_means (suc (suc brackets)) target i) _ write.is (means_then (value_means (suc (suc brackets)) [] (reads_tree p (p.parameters ++ around) printed.reads) write.names) _ read.is refl)) refl);
         so = (
-          moved p around (statement_seen seen printed) count two is loops read.so.knows two.tokens (two.lines ++ line ∷ []) (i.statements + 1) (suc count) (omega (arith, knows.statements_count)),
+          (read.so.knows.0, read.so.knows.1, read.so.knows.2, omega (arith, knows.3)),
           extends_both i.names write.names.names two.names write.so.names read.so.names,
           ap (λ ls. ls ++ line ∷ []) (read.so.lines ∙ write.so.lines),
         );

@@ -1,10 +1,13 @@
 -- The names of every program have roles, and its parts are printed so that their text can be read.
-use Rattle.std.proofs.Common.{◌≡◌, refl, sym, ap, subst, ◌∙◌, ℕ, zero, suc, ◌+◌, ◌<◌, ◌≤◌, true, false, List, [], ◌∷◌, ◌++◌, length, map, take, drop, arith, length-append, ℤ}
+use Rattle.std.proofs.Common.{◌≡◌, refl, sym, ap, subst, ◌∙◌, ℕ, zero, suc, ◌+◌, ◌<◌, ◌≤◌, true, false, List, [], ◌∷◌, ◌++◌, length, map, take, drop, arith, length-append, drop-cons, ℤ}
 use Rattle.std.specs.Prelude.{bytes_eq, Some, None, option_map, slice_get, slice_index_or, ◌||◌}
 use Rattle.std.specs.List.{AllByRecursion, list_any, range_with_len}
 use Rattle.std.proofs.lemmas.Bool.{or_parts}
-use Rattle.std.proofs.lemmas.List.{length-map}
-use Rattle.base_laws.proofs.Lists.{All-append, All-map}
+use Rattle.std.proofs.lemmas.List.{length-map, drop_all}
+use Rattle.std.proofs.lemmas.List.FromFn.{length-range_with_len}
+use Rattle.std.proofs.lemmas.Option.{slice_get-map}
+use Rattle.c_grammar.proofs.Lists.{All-take, All-drop}
+use Rattle.base_laws.proofs.Lists.{All-append, All-map, All-weaken}
 use Rattle.iolb_model.specs.Form.{AffineForm}
 use Rattle.iolb_model.specs.Program.{Item, assign, loop, Row, done, next, AffineProgram, statement_at, no_statement, AccessFits, ItemFits, RowFits, item_statements, row_statements}
 use Rattle.iolb_model.specs.Program as program
@@ -41,12 +44,6 @@ place_there (n ∷ names) zero name d e =
     rw here refl
 place_there (n ∷ names) (suc k) name d e = let other : bytes_eq name n ≡ false = among_differ n names k name d.0 e in rw other (ap (option_map suc) (place_there names k name d.1 e))
 
--- an array's name at its number
-names_get : (arrays : List program.Array) (k : ℕ) (a : program.Array) → slice_get arrays k ≡ Some a → slice_get (names_of arrays) k ≡ Some a.name
-names_get [] k a e = cc
-names_get (b ∷ arrays) zero a e = let same : b ≡ a = cc in ap (λ (c : program.Array). Some c.name) same
-names_get (b ∷ arrays) (suc k) a e = names_get arrays k a e
-
 -- an array's name is one of theirs
 pub array_names : (name : List ℕ) (arrays : List program.Array) → is_array_name name arrays ≡ list_any (bytes_eq name) (names_of arrays)
 array_names name [] = refl
@@ -65,27 +62,14 @@ small_padded zero ns h = tt
 small_padded (suc k) [] h = (omega arith, small_padded k [] tt)
 small_padded (suc k) (n ∷ ns) h = (h.0, small_padded k ns h.1)
 
--- some numbers of small ones
-small_take : (k : ℕ) (ns : List ℤ) → AllByRecursion IsSmall ns → AllByRecursion IsSmall (take k ns)
-small_take zero ns h = tt
-small_take (suc k) [] h = tt
-small_take (suc k) (n ∷ ns) h = (h.0, small_take k ns h.1)
-
--- those behind
-small_drop : (k : ℕ) (ns : List ℤ) → AllByRecursion IsSmall ns → AllByRecursion IsSmall (drop k ns)
-small_drop zero ns h = h
-small_drop (suc k) [] h = tt
-small_drop (suc k) (n ∷ ns) h = small_drop k ns h.1
-
 -- a small form has a small row
 small_row : (parameters depth : ℕ) (form : AffineForm) → IsSmallNumbers NUMBER_SIZE form → IsSmallForm parameters depth form
 small_row parameters depth form h =
-    (h.1, All-append IsSmall (padded most_parameters (take parameters form.coefficients)) (padded most_loops (take depth (drop parameters form.coefficients))) (small_padded most_parameters _ (small_take parameters form.coefficients h.0)) (small_padded most_loops _ (small_take depth (drop parameters form.coefficients) (small_drop parameters form.coefficients h.0))))
+    (h.1, All-append IsSmall (padded most_parameters (take parameters form.coefficients)) (padded most_loops (take depth (drop parameters form.coefficients))) (small_padded most_parameters _ (All-take IsSmall parameters form.coefficients h.0)) (small_padded most_loops _ (All-take IsSmall depth (drop parameters form.coefficients) (All-drop IsSmall parameters form.coefficients h.0))))
 
 -- small forms have small rows
 small_rows : (parameters depth : ℕ) (forms : List AffineForm) → AllByRecursion (IsSmallNumbers NUMBER_SIZE) forms → AllByRecursion (IsSmallForm parameters depth) forms
-small_rows parameters depth [] h = tt
-small_rows parameters depth (form ∷ forms) h = (small_row parameters depth form h.0, small_rows parameters depth forms h.1)
+small_rows parameters depth forms h = All-weaken (IsSmallNumbers NUMBER_SIZE) (IsSmallForm parameters depth) forms (small_row parameters depth) h
 
 -- ---- statements within their limits
 
@@ -108,12 +92,6 @@ small_at : (ss : List Statement) (n : ℕ) → AllByRecursion IsStatementWithinL
 small_at [] n h below = absurd (omega arith)
 small_at (s ∷ ss) zero h below = small_statement s h.0
 small_at (s ∷ ss) (suc n) h below = small_at ss n h.1 (omega arith)
-
--- what stands at a number, and what stands behind it
-drop_at : {X : Type 0} (xs : List X) (n : ℕ) (none : X) → n < length xs → drop n xs ≡ slice_index_or xs n none ∷ drop (suc n) xs
-drop_at [] n none below = absurd (omega arith)
-drop_at (x ∷ xs) zero none below = refl
-drop_at (x ∷ xs) (suc n) none below = drop_at xs n none (omega arith)
 
 -- ---- items and rows
 
@@ -139,7 +117,7 @@ module _ (parts : ProgramParts) (is : IsProgram parts) where
   array_is k a e =
       let named : IsArrayName whole.parameters a = All-get (IsArrayName whole.parameters) whole.arrays k a is.printable.arrays e in
       ap (λ o. role_by o (place_of a.name (names_of whole.arrays))) (place_absent a.name whole.parameters named.1)
-      ∙ ap array_role (place_there (names_of whole.arrays) k a.name (names_different whole.arrays is.printable.different_arrays) (names_get whole.arrays k a e))
+      ∙ ap array_role (place_there (names_of whole.arrays) k a.name (names_different whole.arrays is.printable.different_arrays) (slice_get-map (λ (b : program.Array). b.name) whole.arrays k ∙ ap (option_map (λ (b : program.Array). b.name)) e))
 
   -- a new name stands for nothing
   other_role : (name : List ℕ) → list_any (bytes_eq name) whole.parameters ≡ false → is_array_name name whole.arrays ≡ false → role whole name ≡ other
@@ -171,7 +149,7 @@ module _ (parts : ProgramParts) (is : IsProgram parts) where
         let s : program.Statement = statement_at whole number in
         let many : length whole.statements ≡ length parts.statements = length-map parts.statements statement_of in
         let small : IsSmallStatement s = small_at parts.statements number is.limits.each (omega (arith, fits.there, many)) in
-        let front : drop first whole.statements ≡ s ∷ drop (suc first) whole.statements = ap (λ n. drop n whole.statements) (sym here) ∙ drop_at whole.statements number no_statement (omega (arith, fits.there)) ∙ ap (λ n. s ∷ drop (suc n) whole.statements) here in
+        let front : drop first whole.statements ≡ s ∷ drop (suc first) whole.statements = ap (λ n. drop n whole.statements) (sym here) ∙ drop-cons whole.statements number no_statement (omega (arith, fits.there)) ∙ ap (λ n. s ∷ drop (suc n) whole.statements) here in
         let one : suc first ≡ first + 1 = omega arith in
         let split = accesses_readable whole (length around) (s.writes ∷ s.reads) seen last (statement_numbers (drop (suc first) whole.statements)) (fits.writes, fits.reads) (small.writes, small.reads) (subst (λ ss. IsOrdered seen (statement_numbers ss) last) front order) in
         (record { accesses = split.0; few = small.few }, subst (λ n. IsOrderedFrom (statement_seen seen s) n last) one split.1)
@@ -202,9 +180,9 @@ module _ (parts : ProgramParts) (is : IsProgram parts) where
   has_roles =
       let none : length whole.parameters ≡ length whole.parameters + 0 = omega arith in
       let statements : length whole.statements ≡ length parts.statements = length-map parts.statements statement_of in
-      let many : length (row_statements whole.tree) ≡ length whole.statements = ap length is.well_formed.numbered ∙ length_range 0 (length whole.statements) in
+      let many : length (row_statements whole.tree) ≡ length whole.statements = ap length is.well_formed.numbered ∙ length-range_with_len 0 (length whole.statements) in
       let tree = row_readable whole.tree [] 0 0 (length whole.arrays) is.printable.loops (subst (λ n. RowFits whole n whole.tree) none is.well_formed.tree) (is.well_formed.numbered ∙ ap (range_with_len 0) (sym many)) is.printable.order in
-      let over : drop (0 + length (row_statements whole.tree)) whole.statements ≡ [] = drop_over whole.statements (0 + length (row_statements whole.tree)) (omega (arith, many)) in
+      let over : drop (0 + length (row_statements whole.tree)) whole.statements ≡ [] = drop_all (0 + length (row_statements whole.tree)) whole.statements (omega (arith, many)) in
       record {
         parameters = is.printable.parameters;
         few_parameters = is.limits.parameters;
@@ -218,16 +196,7 @@ module _ (parts : ProgramParts) (is : IsProgram parts) where
         few_statements = omega (arith, is.limits.statements, many, statements);
         tree = tree.0;
         seen = subst (λ ss. IsOrdered (row_seen whole 0 whole.tree) (statement_numbers ss) (length whole.arrays)) over tree.1;
-      } where
-        length_range : (first n : ℕ) → length (range_with_len first n) ≡ n
-        length_range first zero = refl
-        length_range first (suc n) = ap suc (length_range (first + 1) n)
-
-        drop_over : {X : Type 0} (xs : List X) (n : ℕ) → length xs ≤ n → drop n xs ≡ []
-        drop_over [] zero h = refl
-        drop_over [] (suc n) h = refl
-        drop_over (x ∷ xs) zero h = absurd (omega arith)
-        drop_over (x ∷ xs) (suc n) h = drop_over xs n (omega arith)
+      }
 
 -- the text that prints a program means the program
 pub printed_means : (parts : ProgramParts) (text : List ℕ) → IsProgram parts → text ≡ program_text (meaning parts) → Means text (meaning parts)

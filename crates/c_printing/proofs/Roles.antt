@@ -50,8 +50,7 @@ role_by None found = array_role found
 
 -- the names of arrays
 abbrev pub names_of : List Array → List (List ℕ)
-names_of [] = []
-names_of (a ∷ arrays) = a.name ∷ names_of arrays
+names_of arrays = map (λ (a : Array). a.name) arrays
 
 -- what this name stands for
 abbrev pub role : AffineProgram → List ℕ → Role

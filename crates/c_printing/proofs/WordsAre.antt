@@ -91,22 +91,6 @@ pub record IsDirective (kind : TokenKind) (head : List ℕ) : Type 0 where
   pub no_opening : (place : ℕ) (rest : List ℕ) → opens (record { place = place; bytes = head ++ rest }) ≡ false
   pub tokens : (place : ℕ) (rest : List ℕ) → line_tokens (record { place = place; bytes = head ++ rest }) ≡ directive_of kind (record { place = place; bytes = head ++ rest }) rest
 
--- the head of a line of parameters
-pub parameters_directive : IsDirective Parameters (codes "#pragma iolb param")
-parameters_directive = record {
-  in_line = refl;
-  no_opening = λ place rest. refl;
-  tokens = λ place rest. refl;
-}
-
--- the head of a line that assumes
-pub assumptions_directive : IsDirective Assumptions (codes "#pragma iolb assume")
-assumptions_directive = record {
-  in_line = refl;
-  no_opening = λ place rest. refl;
-  tokens = λ place rest. refl;
-}
-
 -- a directive's line in front of others
 pub passes_line : (kind : TokenKind) (head : List ℕ) (segment : List Piece) (more : List ℕ) (place : ℕ) → IsDirective kind head → AreLexed LineEnd true segment
     → Passes place (head ++ (text_in segment ++ 10 ∷ more)) more (record { kind = kind; bytes = head } ∷ words_in segment)
@@ -197,18 +181,6 @@ none_closes inside line (end kind ∷ pieces) rest place begun all h =
 
 -- ---- a whole text
 
--- the line that closes the program is found
-closing_line : (place : ℕ) → find closes (lines place tail) ≡ Some (record { place = place; bytes = codes "#pragma endscop" })
-closing_line place = ap (find closes) (line_front place (codes "#pragma endscop") [] refl)
-
--- the line that opens the program is found
-opening_line : (place : ℕ) (rest : List ℕ) → find opens (lines place (codes "#pragma scop" ++ 10 ∷ rest)) ≡ Some (record { place = place; bytes = codes "#pragma scop" })
-opening_line place rest = ap (find opens) (line_front place (codes "#pragma scop") rest refl)
-
--- no directive stands behind the opening line
-no_head : (place : ℕ) (rest : List ℕ) → head_tokens (lines place (codes "#pragma scop" ++ 10 ∷ rest)) ≡ []
-no_head place rest = ap head_tokens (line_front place (codes "#pragma scop") rest refl)
-
 -- the words from the opening line's end to the closing line
 scop_spelled : (text : List ℕ) (from to : ℕ) (pieces : List Piece) (rest : List ℕ) → drop from text ≡ text_in pieces ++ rest → to ≡ from + length (text_in pieces) → AreLexed End true pieces
     → map (word_of text) (scop_tokens text from (record { place = to; bytes = codes "#pragma endscop" })) ≡ words_in pieces
@@ -221,15 +193,15 @@ scop_spelled text from to pieces rest here there h =
 whole_words : (text : List ℕ) (body : List Piece) (ws : List Word) → Passes 0 text (codes "#pragma scop" ++ 10 ∷ (text_in body ++ tail)) ws → AreLexed End false body → words_of text ≡ Some (ws ++ words_in body)
 whole_words text body ws first h =
     let at : ℕ = 0 + first.count in
-    let opened : find opens (lines_from text 0) ≡ Some (record { place = at; bytes = codes "#pragma scop" }) = first.opening ∙ opening_line at (text_in body ++ tail) in
-    let front : head_tokens (lines_from text 0) ≡ first.front = first.head ∙ ap (λ ts. first.front ++ ts) (no_head at (text_in body ++ tail)) ∙ append-nil first.front in
+    let opened : find opens (lines_from text 0) ≡ Some (record { place = at; bytes = codes "#pragma scop" }) = first.opening ∙ ap (find opens) (line_front at (codes "#pragma scop") (text_in body ++ tail) refl) in
+    let front : head_tokens (lines_from text 0) ≡ first.front = first.head ∙ ap (λ ts. first.front ++ ts) (ap head_tokens (line_front at (codes "#pragma scop") (text_in body ++ tail) refl)) ∙ append-nil first.front in
     let none : 0 + first.count ≡ first.count = omega arith in
     let from : ℕ = at + 12 in
     let line_rest : drop from text ≡ text_in (newline ∷ body) ++ tail = drop_next at text (codes "#pragma scop") (text_in (newline ∷ body) ++ tail) (ap (λ n. drop n text) none ∙ first.behind) in
     let body_rest : drop (from + 1) text ≡ text_in body ++ tail = drop_next from text (10 ∷ []) (text_in body ++ tail) line_rest in
     let to : ℕ = from + 1 + 0 + length (text_in body) in
     let closed : find closes (lines_from text (from + 1)) ≡ Some (record { place = to; bytes = codes "#pragma endscop" }) =
-    ap (λ t. find closes (lines (from + 1) t)) body_rest ∙ none_closes false [] body tail (from + 1) refl refl h ∙ closing_line to in
+    ap (λ t. find closes (lines (from + 1) t)) body_rest ∙ none_closes false [] body tail (from + 1) refl refl h ∙ ap (find closes) (line_front to (codes "#pragma endscop") [] refl) in
     let scop : List Token = scop_tokens text from (record { place = to; bytes = codes "#pragma endscop" }) in
     let scop_words : map (word_of text) scop ≡ words_in body = scop_spelled text from to (newline ∷ body) tail line_rest (omega arith) (refl, h) in
     ap (λ o. option_map (map (word_of text)) (option_and_then (λ opening. tokens_behind text (behind_line opening)) o)) opened
@@ -258,7 +230,7 @@ names_follow (name ∷ names) all = space_then (name_lexes name all.0 (names_fol
 passes_parameters : (place : ℕ) (names : List (List ℕ)) (more : List ℕ) → AllByRecursion IsName names → Passes place (parameters_text names ++ more) more (lines_words (parameters_tree names line_none))
 passes_parameters place [] more all = passes_none place more
 passes_parameters place (name ∷ names) more all =
-    let line = line_passes Parameters (codes "#pragma iolb param") (flat_map (λ (n : List ℕ). codes " " ++ n) (name ∷ names)) more (map a_name (name ∷ names) ++ (line_end ∷ [])) place parameters_directive (names_follow (name ∷ names) all).lexes in
+    let line = line_passes Parameters (codes "#pragma iolb param") (flat_map (λ (n : List ℕ). codes " " ++ n) (name ∷ names)) more (map a_name (name ∷ names) ++ (line_end ∷ [])) place (record { in_line = refl; no_opening = λ place rest. refl; tokens = λ place rest. refl }) (names_follow (name ∷ names) all).lexes in
     let written : codes "#pragma iolb param" ++ (flat_map (λ (n : List ℕ). codes " " ++ n) (name ∷ names) ++ 10 ∷ more) ≡ parameters_text (name ∷ names) ++ more = simp append_assoc in
     subst (λ t. Passes place t more (lines_words (parameters_tree (name ∷ names) line_none))) written line
 
@@ -280,7 +252,7 @@ passes_assumption : (place : ℕ) (names : List (List ℕ)) (row : AffineForm) (
 passes_assumption place names row more are small =
     let none : names ++ [] ≡ names = append-nil names in
     let form = lexes_as (form_lexes {around = []} row are small at_least_follows) (ap (λ ns. form_text ns row ++ codes " >= 0") none) (ap (λ ns. affine_words (form_tree ns row) ++ at_least_words) none) in
-    let line = line_passes Assumptions (codes "#pragma iolb assume") (32 ∷ (form_text names row ++ codes " >= 0")) more (affine_words (form_tree names row) ++ at_least_words) place assumptions_directive (space_then form).lexes in
+    let line = line_passes Assumptions (codes "#pragma iolb assume") (32 ∷ (form_text names row ++ codes " >= 0")) more (affine_words (form_tree names row) ++ at_least_words) place (record { in_line = refl; no_opening = λ place rest. refl; tokens = λ place rest. refl }) (space_then form).lexes in
     let written : codes "#pragma iolb assume" ++ ((32 ∷ (form_text names row ++ codes " >= 0")) ++ 10 ∷ more) ≡ assumption_text names row ++ more = simp append_assoc in
     let said : affine_words (form_tree names row) ++ at_least_words ≡ compares_words (assumption_tree names row) ++ (line_end ∷ []) = simp append_assoc in
     subst (λ ws. Passes place (assumption_text names row ++ more) more (assumes ∷ ws)) said (subst (λ t. Passes place t more (assumes ∷ (affine_words (form_tree names row) ++ at_least_words))) written line)

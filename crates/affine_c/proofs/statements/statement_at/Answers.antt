@@ -5,7 +5,7 @@ use Rattle.affine_form.specs.Rows.{step_of}
 use Rattle.affine_program.specs.Parts.{access_of}
 use Rattle.affine_program.specs.Tree.{row_of}
 use Rattle.c_grammar.specs.Program.{narrowed_access}
-use Rattle.affine_c.proofs.Ways.{short_bounds, same_length}
+use Rattle.affine_c.proofs.Made.{short_bounds, same_length}
 use Rattle.affine_c.proofs.statements.statement_at.Goals as goal
 
 pub returns-clause-limits : goal.returns-clause-limits

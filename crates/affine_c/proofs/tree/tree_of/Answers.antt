@@ -5,7 +5,7 @@ use Rattle.c_reading.specs.declared.lines.Line.TheVariants.{Begin, Does, End}
 use Rattle.c_grammar.specs.Program.{narrowed}
 use Rattle.affine_c.specs.Built.{lines_so_far}
 use Rattle.affine_c.specs.declared.growing.GrowingTree.{GrowingTree}
-use Rattle.affine_c.proofs.Rows.{dropped}
+use Rattle.base_laws.proofs.Lists.{rest_at}
 use Rattle.affine_c.proofs.TreeGrows.{Kept, kept_begin, kept_does, kept_end}
 use Rattle.affine_c.proofs.tree.tree_of.Goals.{in-Begin+in_ok-name-in-Begin+in_ok-lower-in-Begin+in_ok-upper-in-Begin+in_ok-begin-in-Begin, in-Does+in_ok-assign-in-Does, in-End+in_ok-end-in-End}
 use Rattle.affine_c.proofs.tree.tree_of.Goals as goal
@@ -15,7 +15,7 @@ at_line : (c : goal.Joined-line) (line : Line) → c.line-item.result ≡ line
     → Kept c.args.reading.now c.args.parameters (lines_so_far c.loop-line.tree) (length c.loop-line.tree.open.items) c.loop-line.number (line ∷ drop (c.loop-line.line-index + 1) c.lines-line-items.result.now)
 at_line c line is =
     subst (λ (ls : List Line). Kept c.args.reading.now c.args.parameters (lines_so_far c.loop-line.tree) (length c.loop-line.tree.open.items) c.loop-line.number ls)
-    (dropped c.lines-line-items.result.now c.loop-line.line-index c.line-item.result c.loop-line-test.true c.line-item.is ∙ ap (λ (l : Line). l ∷ drop (c.loop-line.line-index + 1) c.lines-line-items.result.now) is)
+    (rest_at c.lines-line-items.result.now c.loop-line.line-index c.line-item.result c.loop-line-test.true c.line-item.is ∙ ap (λ (l : Line). l ∷ drop (c.loop-line.line-index + 1) c.lines-line-items.result.now) is)
     c.loop-line.invariant
 
 moved : (c : goal.Joined-line) (tree : GrowingTree) (depth number : ℕ) → c.match-line.tree ≡ tree → length tree.open.items ≡ depth → c.match-line.number ≡ number
