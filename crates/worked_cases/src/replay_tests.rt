@@ -8,19 +8,9 @@ use affine_c::read_program;
 use pebble_game::{Graph, Memory, Move};
 use pebble_replay::{ReplayFault, replay};
 use plain_graph::graphs::graph;
+use plain_graph::orders::program_order;
 use std::alloc::Global;
 use std::test::Fail;
-
-/// The instances in the order of the program.
-fn program_order(alloc: Global, graph: &Graph) -> Result<Vec<u32>, Memory>
-    ensures { IfOk result (λ order. HoldsEachOnce graph.now order.items) }
-{
-    let mut order = Vec::new(alloc);
-    for v in 0..graph.instances() {
-        order.push(v)?;
-    }
-    Ok(order)
-}
 
 /// The instances in the opposite order.
 fn opposite_order(alloc: Global, graph: &Graph) -> Result<Vec<u32>, Memory>

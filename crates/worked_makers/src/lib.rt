@@ -1,5 +1,4 @@
-//! Worked cases of what makes certificates: multipliers, counts, source trees, least covers and opening terms that are found, and
-//! projective programs; certificates that are made.
+//! Worked cases of what makes certificates: multipliers, counts and least covers that are found, and certificates that are made.
 #![tactic(auto)]
 
 #[cfg(test)]
@@ -10,9 +9,3 @@ mod count_tests;
 mod cover_tests;
 #[cfg(test)]
 mod multiplier_tests;
-#[cfg(test)]
-mod opening_tests;
-#[cfg(test)]
-mod projective_tests;
-#[cfg(test)]
-mod source_tree_tests;

@@ -8,14 +8,22 @@
 //!   and whether the source tree of the statement's first read agrees with a plain scan of the execution.
 //! - Of `NAME.plays` each line is a program, a number of loads, a number of red pebbles, and a size for each parameter. The
 //!   line is printed, and whether the program, played in its own order, makes at least so many loads.
+//! - Of `NAME.plain` and `NAME.found` each line is a statement, a read, the names of the variables there, and a program. The
+//!   line is printed, and the read's plain source tree, or that there is none; or the tree that is found.
+//! - Of `NAME.openings` and `NAME.shapes` each line is a program. The line is printed, and its opening terms with their counts,
+//!   or its shape, where it is projective.
 //! - Of other files each line is the text of a certificate, and its text as it is written is printed.
 #![tactic(auto)]
 
 mod certificates;
+mod found_trees;
 mod graphs;
+mod lines;
+mod openings;
 mod plays;
 mod programs;
 mod scanned;
+mod shapes;
 mod trees;
 
 use iolb_host::{Files, StdFiles};
@@ -43,6 +51,14 @@ fn write_file<F: Files>(
         trees::write(alloc, folder, bytes.as_slice(), page)
     } else if name.ends_with(".plays") {
         plays::write(alloc, folder, bytes.as_slice(), page)
+    } else if name.ends_with(".plain") {
+        found_trees::write(alloc, bytes.as_slice(), true, page)
+    } else if name.ends_with(".found") {
+        found_trees::write(alloc, bytes.as_slice(), false, page)
+    } else if name.ends_with(".openings") {
+        openings::write(alloc, bytes.as_slice(), page)
+    } else if name.ends_with(".shapes") {
+        shapes::write(alloc, bytes.as_slice(), page)
     } else {
         certificates::write(alloc, bytes.as_slice(), page)
     }

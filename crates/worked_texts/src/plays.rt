@@ -1,29 +1,18 @@
 //! Plays of programs, beside values that their loads may not be below.
 
-ghost use Rattle.std.specs.Prelude.{◌≤◌, IfOk};
-ghost use Rattle.pebble_replay.specs.Order.{HoldsEachOnce};
+ghost use Rattle.std.specs.Prelude.{◌≤◌};
 
 use crate::trees::numbers;
 use affine_c::read_program;
 use iolb_host::Files;
-use pebble_game::{Graph, Memory};
+use pebble_game::Graph;
 use pebble_replay::replay;
 use plain_graph::graphs::graph;
+use plain_graph::orders::program_order;
 use std::alloc::{AllocError, Global};
 
 /// The most bytes of a file.
 const MOST: u64 = 1 << 20;
-
-/// The instances in the order of the program.
-fn program_order(alloc: Global, graph: &Graph) -> Result<Vec<u32>, Memory>
-    ensures { IfOk result (λ order. HoldsEachOnce graph.now order.items) }
-{
-    let mut order = Vec::new(alloc);
-    for v in 0..graph.instances() {
-        order.push(v)?;
-    }
-    Ok(order)
-}
 
 /// The loads of a graph that is played in the order of its program with so many red pebbles.
 fn loads_of(alloc: Global, graph: &Graph, s: u64) -> Option<u64>
