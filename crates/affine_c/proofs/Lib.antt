@@ -1,6 +1,5 @@
 pub mod Rows
 pub mod TreeGrows
-pub mod StatementsKept
 pub mod Among
 pub mod TreeFits
 pub mod Made

@@ -11,7 +11,6 @@ use Rattle.iolb_model.specs.declared.limits.TheConstants.{LOOPS, PARAMETERS, NUM
 use Rattle.c_tokens.specs.Names.{IsName}
 use Rattle.c_reading.specs.Access.{Access as ReadAccess, Statement as ReadStatement}
 use Rattle.c_reading.specs.declared.named.Kind.{Kind}
-use Rattle.c_reading.specs.declared.named.Kind.TheVariants as kind
 use Rattle.c_reading.specs.declared.named.Kind.TheVariants.{Parameter, OpenLoop, ClosedLoop}
 use Rattle.c_reading.specs.declared.lines.Line.{Line}
 use Rattle.c_reading.specs.declared.lines.Line.TheVariants.{Begin, Does, End}
@@ -81,17 +80,14 @@ numbers_among p depth (End ∷ lines) = numbers_among p (depth - 1) lines
 
 -- a loop's name is neither a parameter nor an array, and an array's is no parameter
 loop_no_parameter : (k : Kind) → IsLoop k → (is_parameter k ≡ false) × (is_array k ≡ false)
-loop_no_parameter (Parameter k) is = absurd is
 loop_no_parameter (OpenLoop depth) is = (refl, refl)
 loop_no_parameter ClosedLoop is = (refl, refl)
-loop_no_parameter (kind.Array k rank) is = absurd is
+loop_no_parameter _ is = absurd is
 
 -- an array is no parameter
 array_no_parameter : (k : Kind) → is_array k ≡ true → is_parameter k ≡ false
 array_no_parameter (Parameter k) e = cc
-array_no_parameter (OpenLoop depth) e = refl
-array_no_parameter ClosedLoop e = refl
-array_no_parameter (kind.Array k rank) e = refl
+array_no_parameter _ e = refl
 
 module _ (r : Reading) (program : AffineProgram) (well : IsWellRead r) (says : IsReadingOf r program) where
   -- as many parameters are read as the program has
@@ -158,8 +154,6 @@ module _ (r : Reading) (program : AffineProgram) (well : IsWellRead r) (says : I
   -- a statement's line is taken
   assign_taken : (around : List (List ℕ)) (stack : List ℕ) (depth number n : ℕ) (lines : List Line) (rest : List TreeLine) → AreLinesIn r depth lines → depth ≤ LOOPS → tree_lines r.names (length program.parameters) depth number lines ≡ does n ∷ rest
       → drop number program.statements ≡ statements_among (length program.parameters) depth lines → Nests stack lines [] → AllByRecursion (IsLoopLine r.kinds) lines → ItemTaken around stack depth number (assign n) rest
-  assign_taken around stack depth number n [] rest fine inner same table nests loops = absurd cc
-  assign_taken around stack depth number n (Begin l ∷ lines) rest fine inner same table nests loops = absurd cc
   assign_taken around stack depth number n (Does s ∷ lines) rest fine inner same table nests loops =
       let number_is : number ≡ n = cc in
       let rest_is : tree_lines r.names (length program.parameters) depth (suc number) lines ≡ rest = cc in
@@ -181,8 +175,7 @@ module _ (r : Reading) (program : AffineProgram) (well : IsWellRead r) (says : I
           loops = loops.1;
         };
       }
-  assign_taken around stack zero number n (End ∷ lines) rest fine inner same table nests loops = absurd fine
-  assign_taken around stack (suc depth) number n (End ∷ lines) rest fine inner same table nests loops = absurd cc
+  assign_taken around stack depth number n _ rest fine inner same table nests loops = absurd cc
 
   -- a loop's first line is taken
   record Entered (around : List (List ℕ)) (stack : List ℕ) (depth number : ℕ) (name : List ℕ) (lower upper : AffineForm) (rest : List TreeLine) : Type 0 where
@@ -195,10 +188,6 @@ module _ (r : Reading) (program : AffineProgram) (well : IsWellRead r) (says : I
   entered : (around : List (List ℕ)) (stack : List ℕ) (depth number : ℕ) (name : List ℕ) (lower upper : AffineForm) (lines : List Line) (rest : List TreeLine) → length around ≡ depth → AllByRecursion (IsAround stack) around
       → AreLinesIn r depth lines → number ≤ length program.statements → tree_lines r.names (length program.parameters) depth number lines ≡ begins name lower upper ∷ rest
       → drop number program.statements ≡ statements_among (length program.parameters) depth lines → Nests stack lines [] → AllByRecursion (IsLoopLine r.kinds) lines → Entered around stack depth number name lower upper rest
-  entered around stack depth number name lower upper [] rest e names fine within same table nests loops = absurd cc
-  entered around stack depth number name lower upper (Does s ∷ lines) rest e names fine within same table nests loops = absurd cc
-  entered around stack zero number name lower upper (End ∷ lines) rest e names fine within same table nests loops = absurd fine
-  entered around stack (suc depth) number name lower upper (End ∷ lines) rest e names fine within same table nests loops = absurd cc
   entered around stack depth number name lower upper (Begin l ∷ lines) rest e names fine within same table nests loops =
       let p = length program.parameters in
       let name_is : slice_index_or r.names l.name [] ≡ name = cc in
@@ -226,14 +215,12 @@ module _ (r : Reading) (program : AffineProgram) (well : IsWellRead r) (says : I
         };
         left = record { lines = lines; fine = fine.4; inner = omega (arith, fine.1); same = cc; within = within; statements = table; nests = nests.1; loops = loops.1 };
       }
+  entered around stack depth number name lower upper _ rest e names fine within same table nests loops = absurd cc
 
   -- a loop's last line is taken
   left_loop : (at : ℕ) (stack : List ℕ) (depth number : ℕ) (lines : List Line) (rest : List TreeLine) → AreLinesIn r (suc depth) lines → suc depth ≤ LOOPS
       → number ≤ length program.statements → tree_lines r.names (length program.parameters) (suc depth) number lines ≡ ends ∷ rest
       → drop number program.statements ≡ statements_among (length program.parameters) (suc depth) lines → Nests (at ∷ stack) lines [] → AllByRecursion (IsLoopLine r.kinds) lines → Left stack depth number rest
-  left_loop at stack depth number [] rest fine inner within same table nests loops = absurd cc
-  left_loop at stack depth number (Begin l ∷ lines) rest fine inner within same table nests loops = absurd cc
-  left_loop at stack depth number (Does s ∷ lines) rest fine inner within same table nests loops = absurd cc
   left_loop at stack depth number (End ∷ lines) rest fine inner within same table nests loops =
       let one : suc depth - 1 ≡ depth = omega arith in
       record {
@@ -246,6 +233,7 @@ module _ (r : Reading) (program : AffineProgram) (well : IsWellRead r) (says : I
         nests = nests;
         loops = loops.1;
       }
+  left_loop at stack depth number _ rest fine inner within same table nests loops = absurd cc
 
   mutual
     -- an item takes its lines
@@ -289,8 +277,7 @@ module _ (r : Reading) (program : AffineProgram) (well : IsWellRead r) (says : I
 no_lines : (r : Reading) (p depth number : ℕ) (lines : List Line) → tree_lines r.names p depth number lines ≡ [] → statements_among p depth lines ≡ []
 no_lines r p depth number [] e = refl
 no_lines r p depth number (Begin l ∷ lines) e = absurd cc
-no_lines r p depth number (Does s ∷ lines) e = absurd cc
-no_lines r p depth number (End ∷ lines) e = absurd cc
+no_lines r p depth number (_ ∷ lines) e = absurd cc
 
 -- a well-read text's program is well formed, and printable
 pub program_fits : (r : Reading) (program : AffineProgram) → IsWellRead r → IsReadingOf r program → IsWellFormed program × IsPrintable program

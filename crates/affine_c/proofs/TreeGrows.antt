@@ -1,5 +1,5 @@
 -- A tree that grows by the lines of a text, and what is kept while it does.
-use Rattle.std.proofs.Common.{◌≡◌, refl, sym, ◌∙◌, ap, List, [], ◌∷◌, ◌++◌, map, append_assoc, subst, ℕ, zero, suc, ◌+◌, ◌-◌, ◌<◌, arith}
+use Rattle.std.proofs.Common.{◌≡◌, refl, sym, ◌∙◌, ap, List, [], ◌∷◌, ◌++◌, map, append_assoc, subst, ℕ, zero, suc, ◌+◌, ◌-◌, ◌<◌, arith, drop, get_or, length}
 use Rattle.std.proofs.lemmas.List.{append-nil, map_push}
 use Rattle.iolb_model.specs.Program.{Item as ModelItem}
 use Rattle.affine_program.specs.declared.item.Item.{Item}
@@ -15,14 +15,11 @@ use Rattle.c_reading.specs.declared.lines.Line.TheVariants.{Begin, Does, End}
 use Rattle.c_reading.specs.declared.lines.Loop.{Loop}
 use Rattle.c_reading.specs.Text.{Reading}
 use Rattle.c_grammar.specs.Well.{AreLinesIn, statement_count}
+use Rattle.base_laws.proofs.Lists.{rest_at}
 
 row_more : (items : List ModelItem) (item : ModelItem) → row_lines (row_from (items ++ item ∷ [])) ≡ row_lines (row_from items) ++ item_lines item
 row_more [] item = append-nil (item_lines item)
 row_more (i ∷ items) item = ap (λ (ls : List TreeLine). item_lines i ++ ls) (row_more items item) ∙ sym (append_assoc (item_lines i) (row_lines (row_from items)) (item_lines item))
-
--- one item more in a row
-pub items_more : (items : List Item) (item : Item) → row_lines (row_of (items ++ item ∷ [])) ≡ row_lines (row_of items) ++ item_lines (item_of item)
-items_more items item = ap (λ (is : List ModelItem). row_lines (row_from is)) (map_push item_of items item) ∙ row_more (map item_of items) (item_of item)
 
 -- one open loop more
 pub open_more : (os : List OpenLoop) (o : OpenLoop) → open_lines (os ++ o ∷ []) ≡ open_lines os ++ (row_lines (row_of o.before.items) ++ begins o.name o.lower o.upper ∷ [])
@@ -36,7 +33,7 @@ pub lines_more : (os : List OpenLoop) (items new : List Item) (item : Item) → 
     → open_lines os ++ row_lines (row_of new) ≡ open_lines os ++ row_lines (row_of items) ++ item_lines (item_of item)
 lines_more os items new item e =
     ap (λ (is : List Item). open_lines os ++ row_lines (row_of is)) e
-    ∙ ap (λ (ls : List TreeLine). open_lines os ++ ls) (items_more items item)
+    ∙ ap (λ (ls : List TreeLine). open_lines os ++ ls) (ap (λ (is : List ModelItem). row_lines (row_from is)) (map_push item_of items item) ∙ row_more (map item_of items) (item_of item))
     ∙ sym (append_assoc (open_lines os) (row_lines (row_of items)) (item_lines (item_of item)))
 
 -- a loop begins
@@ -70,6 +67,12 @@ pub record Kept (reading : Reading) (parameters : ℕ) (so_far : List TreeLine) 
   pub lines : so_far ++ tree_lines reading.names parameters depth number rest ≡ tree_lines reading.names parameters 0 0 reading.lines
   pub count : number + statement_count rest ≡ statement_count reading.lines
 
+-- at the line that is next
+pub at_line : (reading : Reading) (p : ℕ) (so : List TreeLine) (depth number : ℕ) (items : List Line) (k : ℕ) (x line : Line)
+    → Kept reading p so depth number (drop k items) → k < length items → x ≡ get_or items k x → x ≡ line → Kept reading p so depth number (line ∷ drop (k + 1) items)
+at_line reading p so depth number items k x line h below e is =
+    subst (λ (ls : List Line). Kept reading p so depth number ls) (rest_at items k x below e ∙ ap (λ (l : Line). l ∷ drop (k + 1) items) is) h
+
 pub kept_begin : (reading : Reading) (p : ℕ) (so new : List TreeLine) (depth number : ℕ) (l : Loop) (rest : List Line) (name : List ℕ) (lower upper : AffineForm)
     → Kept reading p so depth number (Begin l ∷ rest) → new ≡ so ++ begins name lower upper ∷ [] → name ≡ slice_index_or reading.names l.name [] → lower ≡ narrowed p depth l.lower → upper ≡ narrowed p depth l.upper
     → Kept reading p new (depth + 1) number rest
@@ -98,7 +101,7 @@ kept_does reading p so new depth number s rest h grown =
       count = omega (arith, h.count);
     })
 
-deep : (reading : Reading) (depth : ℕ) (rest : List Line) → AreLinesIn reading depth (End ∷ rest) → (0 < depth) × AreLinesIn reading (depth - 1) rest
+pub deep : (reading : Reading) (depth : ℕ) (rest : List Line) → AreLinesIn reading depth (End ∷ rest) → (0 < depth) × AreLinesIn reading (depth - 1) rest
 deep reading zero rest h = absurd h
 deep reading (suc depth) rest h = (omega arith, subst (λ (n : ℕ). AreLinesIn reading n rest) (omega arith) h)
 

@@ -4,14 +4,14 @@ use affine_form::Memory;
 use std::alloc::{AllocError, AllocFailed};
 
 /// A fault of a program text: its number, and its place as a byte offset in the text, from 0.
-#[derive(Clone, Copy, Debug, PartialEq, Eq)]
+#[derive(Clone, Copy, Debug)]
 pub struct ProgramFault {
     pub number: u8,
     pub place: u64,
 }
 
 /// Why a text wasn't read.
-#[derive(Clone, Copy, Debug, PartialEq, Eq)]
+#[derive(Clone, Copy, Debug)]
 pub enum ProgramError {
     /// The text has a fault.
     Fault(ProgramFault),

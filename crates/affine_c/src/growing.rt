@@ -11,7 +11,7 @@ use affine_program::Item;
 use std::alloc::Global;
 
 /// A loop that has begun, with the items before it in its row.
-#[derive(Debug, Drop)]
+#[derive(Drop)]
 pub(crate) struct OpenLoop {
     before: Vec<Item>,
     name: Name,
@@ -20,7 +20,7 @@ pub(crate) struct OpenLoop {
 }
 
 /// A tree that grows: the loops that have begun, outermost first, and the items of the innermost row.
-#[derive(Debug, Drop)]
+#[derive(Drop)]
 pub(crate) struct GrowingTree {
     open: Vec<OpenLoop>,
     items: Vec<Item>,

@@ -1,6 +1,6 @@
 -- What the names and lines so far keep, and what a meaning adds to them.
 use Rattle.std.proofs.Common.{◌≡◌, refl, sym, ◌∙◌, ap, subst, ℕ, zero, suc, ◌+◌, ◌≤◌, List, [], ◌∷◌, ◌++◌, length, arith, append_assoc, append-nil, Bool, true, false, ⊎_elim, inl, inr, length-append, length-set, leb-true, ◌<◌}
-use Rattle.std.specs.Prelude.{⊤, ◌⊎◌, ℤ, bytes_eq, slice_get, slice_set, option_and_then, Option, Some, None, if◌then◌else◌, nat_le, flat_map}
+use Rattle.std.specs.Prelude.{◌⊎◌, ℤ, bytes_eq, slice_get, slice_set, option_and_then, Option, Some, None, if◌then◌else◌, nat_le, flat_map}
 use Rattle.std.specs.List.{AllByRecursion, range_with_len}
 use Rattle.std.proofs.lemmas.Grind.{flat_map-append}
 use Rattle.std.proofs.lemmas.Bool.{and_parts}
@@ -17,9 +17,8 @@ use Rattle.affine_program.specs.Printable.{IsOrdered, next_seen}
 use Rattle.c_grammar.specs.Well.{AreDistinct, numbers_of, line_numbers, Nests, IsLoopAt, IsLoopLine, statement_count}
 use Rattle.c_grammar.specs.Meaning.{Names, Meaning, then_in, given, end}
 use Rattle.c_grammar.proofs.Lists.{All-first, All-second}
-use Rattle.c_grammar.proofs.Rows.{IsWhereSome, IsRow, more_row}
-use Rattle.c_grammar.proofs.NameKinds.{KindFits, parameter_count, ranks, AreNumbered, more_fits, rank_of, parameter_of, array_number, flat_map-set, All-get, get-append}
-use Rattle.c_grammar.proofs.Dictionary.{lookup, kind_of-lookup, bytes_same, cond_none}
+use Rattle.c_grammar.proofs.Forms.{IsWhereSome, IsRow, more_row}
+use Rattle.c_grammar.proofs.NameKinds.{KindFits, parameter_count, ranks, AreNumbered, more_fits, rank_of, parameter_of, array_number, flat_map-set, All-get, get-append, lookup, kind_of-lookup, bytes_same, cond_none}
 use Rattle.c_reading.specs.declared.lines.Loop.{Loop}
 use Rattle.c_reading.specs.declared.lines.Line.{Line}
 use Rattle.c_reading.specs.declared.lines.Line.TheVariants.{Begin, Does, End}
@@ -243,13 +242,8 @@ new_grown i name k p a fits more = record { more = k ∷ []; kinds = refl; settl
 -- ---- what meanings give
 
 -- this holds of what is meant, where something is
-abbrev pub IsWhereMeant : {A : Type 0} → (A → Names → Type 0) → Option (A × Names) → Type 0
-IsWhereMeant Q None = ⊤
-IsWhereMeant Q (Some p) = Q p.0 p.1
-
--- the same
 pub record Gives {A : Type 0} (o : Option (A × Names)) (Q : A → Names → Type 0) : Type 0 where
-  pub holds : IsWhereMeant Q o
+  pub holds : IsWhereSome (λ p. Q p.0 p.1) o
 
 -- nothing is meant
 pub nothing : {A : Type 0} {Q : A → Names → Type 0} → Gives None Q
@@ -346,16 +340,14 @@ goes-append (suc depth) i (End ∷ xs) ys middle end h g = goes-append depth i x
 -- the statements of lines behind lines
 pub count-lines : (xs ys : List Line) → statement_count (xs ++ ys) ≡ statement_count xs + statement_count ys
 count-lines [] ys = omega arith
-count-lines (Begin l ∷ xs) ys = count-lines xs ys
 count-lines (Does statement ∷ xs) ys = ap suc (count-lines xs ys) ∙ omega arith
-count-lines (End ∷ xs) ys = count-lines xs ys
+count-lines (_ ∷ xs) ys = count-lines xs ys
 
 -- the arrays of lines behind lines
 pub lines_both : (xs ys : List Line) → line_numbers (xs ++ ys) ≡ line_numbers xs ++ line_numbers ys
 lines_both [] ys = refl
-lines_both (Begin l ∷ xs) ys = lines_both xs ys
 lines_both (Does s ∷ xs) ys = ap (λ ns. s.writes.array ∷ ns) (ap (λ ns. numbers_of s.reads ++ ns) (lines_both xs ys) ∙ sym (append_assoc (numbers_of s.reads) (line_numbers xs) (line_numbers ys)))
-lines_both (End ∷ xs) ys = lines_both xs ys
+lines_both (_ ∷ xs) ys = lines_both xs ys
 
 -- lines behind lines nest
 pub nests_both : (around middle last : List ℕ) (xs ys : List Line) → Nests around xs middle → Nests middle ys last → Nests around (xs ++ ys) last
@@ -369,8 +361,7 @@ nests_both (n ∷ around) middle last (End ∷ xs) ys h g = nests_both around mi
 pub loop_lines_more : (old new : List Kind) → ((at : ℕ) → IsLoopAt old at → IsLoopAt new at) → (lines : List Line) → AllByRecursion (IsLoopLine old) lines → AllByRecursion (IsLoopLine new) lines
 loop_lines_more old new f [] h = tt
 loop_lines_more old new f (Begin l ∷ lines) h = (f l.name h.0, loop_lines_more old new f lines h.1)
-loop_lines_more old new f (Does s ∷ lines) h = (tt, loop_lines_more old new f lines h.1)
-loop_lines_more old new f (End ∷ lines) h = (tt, loop_lines_more old new f lines h.1)
+loop_lines_more old new f (_ ∷ lines) h = (tt, loop_lines_more old new f lines h.1)
 
 -- a place of the name of an open loop
 abbrev pub IsOpenAt : List Kind → ℕ → Type 0

@@ -9,7 +9,7 @@ use Rattle.std.proofs.lemmas.List.{get_or_push, length-append}
 use Rattle.base_laws.proofs.Lists.{All-append, All-weaken}
 use Rattle.iolb_model.specs.declared.limits.TheConstants.{LOOPS, STATEMENTS}
 use Rattle.c_reading.specs.declared.named.Kind.{Kind}
-use Rattle.c_reading.specs.declared.named.Kind.TheVariants.{Parameter, OpenLoop, ClosedLoop, Array}
+use Rattle.c_reading.specs.declared.named.Kind.TheVariants.{OpenLoop, ClosedLoop}
 use Rattle.c_reading.specs.declared.lines.Loop.{Loop}
 use Rattle.c_reading.specs.declared.lines.Line.{Line}
 use Rattle.c_reading.specs.declared.lines.Line.TheVariants.{Begin, Does, End}
@@ -28,7 +28,7 @@ use Rattle.c_grammar.specs.Item as item
 use Rattle.c_grammar.specs.Item.{assigner_word, assign_words, int_words, bounds_words, header_words, item_words, items_words}
 use Rattle.c_grammar.specs.Meaning as mean
 use Rattle.c_grammar.specs.Meaning.{Names, Meaning, then_in, affine_means, reference_means, value_means, updates, assign_means, statement_means, loop_by, header_means, begin, end, item_means, items_means}
-use Rattle.c_grammar.proofs.Rows.{IsWhereSome, IsRow, more_row, combined_row, zeros_row}
+use Rattle.c_grammar.proofs.Forms.{IsWhereSome, IsRow, more_row, combined_row, zeros_row}
 use Rattle.c_grammar.proofs.NameKinds.{KindFits, more_fits, get-append, rank_of, flat_map-set, All-set, get-set, set-back}
 use Rattle.c_grammar.proofs.Kept.{AreNamed, first_named, second_named, short_word, State, set_state, Grown, grown-same, grown-trans, Kept, kept-trans, kept_self, ordered_both, row-grown, AccessIn, accesses-grown, Wider, wider, access-wider, kind_found, new_state, new_grown, Gives, nothing, ok, chained, weaken, either, Reads, stays, BeginsIn, Goes, goes-wider, goes-append, count-lines, lines_both, nests_both, loop_lines_more, IsOpenAt, opens_stay}
 use Rattle.c_grammar.proofs.KeptRefs.{affine_form, reference_in, AreReads, value_read}
@@ -142,15 +142,13 @@ loop_by_closed depth name None i e w s = either (is_short name)
       value = ap (slice_get (i.kinds ++ ClosedLoop ∷ [])) (sym s.kinds) ∙ slice_get-get_or (i.kinds ++ ClosedLoop ∷ []) (length i.kinds) ClosedLoop (omega (arith, length-append i.kinds (ClosedLoop ∷ []))) ∙ ap Some (get_or_push i.kinds ClosedLoop ClosedLoop (length i.kinds) refl);
     }))
     (λ _. nothing)
-loop_by_closed depth name (Some (Parameter k)) i e w s = nothing
-loop_by_closed depth name (Some (OpenLoop d)) i e w s = nothing
-loop_by_closed depth name (Some (Array n r)) i e w s = nothing
 loop_by_closed depth name (Some ClosedLoop) i e w s =
     let found = kind_found name i ClosedLoop e in
     again (number_of name i) found.1 found.2 where
       again : (o : Option ℕ) {at : ℕ} → o ≡ Some at → slice_get i.kinds at ≡ Some ClosedLoop → Reads depth i (mean.loop_again o i) (λ n j. slice_get j.kinds n ≡ Some ClosedLoop)
       again None f g = nothing
       again (Some m) {at} f g = let same : m ≡ at = cc in stays s (ap (slice_get i.kinds) same ∙ g)
+loop_by_closed depth name (Some _) i e w s = nothing
 
 -- a header names a loop that isn't open, and its bounds are rows
 header_in : {depth : ℕ} (b : ℕ) (h : item.Header) (i : Names) → IsWord h.name → AreNamed (affine_words h.lower) → AreNamed (affine_words h.upper) → State depth i → Gives (header_means b h i) (HeaderIn depth i)
@@ -215,10 +213,6 @@ module _ (depth : ℕ) (h : Loop) (i j l : Names) (few : depth < LOOPS) (f : Hea
   still_open : slice_get l.kinds h.name ≡ Some (OpenLoop depth)
   still_open = subst (λ (k : List Kind). slice_get k h.name ≡ Some (OpenLoop depth)) (sym b.grown.kinds) (get-append (slice_set j.kinds h.name (OpenLoop depth)) b.grown.more h.name (OpenLoop depth) (get-set j.kinds h.name ClosedLoop (OpenLoop depth) f.closed))
 
-  -- the whole loop adds names
-  closed_grown : Grown j (closed_at h l)
-  closed_grown = record { more = b.grown.more; kinds = kinds_back; settled = b.grown.settled; parameters = b.grown.parameters; names = b.grown.names }
-
   -- the end of a loop takes nothing away
   closed_wider : Wider l (closed_at h l)
   closed_wider = record { parameters = omega arith; names = omega arith; ranks = λ n r e. subst (λ (k : List ℕ). slice_get k n ≡ Some r) (sym (flat_map-set rank_of l.kinds h.name (OpenLoop depth) ClosedLoop still_open refl)) e }
@@ -245,7 +239,7 @@ module _ (depth : ℕ) (h : Loop) (i j l : Names) (few : depth < LOOPS) (f : Hea
   loop_adds : Adds depth i (closed_at h l)
   loop_adds = record {
     state = closed_state;
-    grown = grown-trans f.kept.grown closed_grown;
+    grown = grown-trans f.kept.grown (record { more = b.grown.more; kinds = kinds_back; settled = b.grown.settled; parameters = b.grown.parameters; names = b.grown.names });
     new = Begin h ∷ (b.new ++ End ∷ []);
     lines =
         ap (λ (k : List Line). k ++ End ∷ []) b.lines ∙ append_assoc (j.lines ++ Begin h ∷ []) b.new (End ∷ [])
@@ -279,10 +273,7 @@ mutual
   -- an item adds its lines
   item_adds : (more depth b : ℕ) (t : item.Item) (i : Names) → depth + more ≡ LOOPS → AreNamed (item_words t) → State depth i → Writes depth i (item_means more b t i)
   item_adds more depth b item.nothing i e n s = ok (adds_none depth s (kept_self i))
-  item_adds more depth zero (item.block is) i e n s = nothing
   item_adds more depth (suc b) (item.block is) i e n s = items_add more depth b is i e (first_named (items_words is) (a_symbol (codes "}") ∷ []) n.1) s
-  item_adds zero depth b (item.loop h t) i e n s = nothing
-  item_adds (suc more) depth zero (item.loop h t) i e n s = nothing
   item_adds (suc more) depth (suc b) (item.loop h t) i e n s =
       let named = header_named h (item_words t) n in
       let at_depth : most_loops - 1 - more ≡ depth = omega arith in
@@ -291,6 +282,7 @@ mutual
       chained (item_means more (suc b) t (opened_at depth l j)) (item_adds more (suc depth) (suc b) t (opened_at depth l j) (omega arith) (second_named (header_words h) (item_words t) n) (opened_state depth l j f.state f.closed)) (λ _ k a.
       ok (loop_adds depth l i j k (omega arith) f a))))
   item_adds more depth b (item.statement a) i e n s = statement_writes b a i (first_named (assign_words a) (a_symbol (codes ";") ∷ []) n) s
+  item_adds _ depth _ _ i e n s = nothing
 
   -- a row adds its lines
   pub items_add : (more depth b : ℕ) (ts : item.Items) (i : Names) → depth + more ≡ LOOPS → AreNamed (items_words ts) → State depth i → Writes depth i (items_means more b ts i)

@@ -13,21 +13,21 @@ use Rattle.c_grammar.specs.Affine as tree
 use Rattle.c_grammar.specs.Affine.{affine_words, sums_words, term_words, products_words, factor_words, subscripts_words, reference_words}
 use Rattle.c_grammar.specs.Meaning as mean
 use Rattle.c_grammar.specs.Meaning.{Names, Form, form, slot_by, slot, affine_means, sums_means, term_means, products_means, factor_means, Meaning, then_in, subscripts_means, array_by, access_by, access_from, reference_means, with_read, plain_means, named_means, name_means, value_means, operands_means, unary_means, arguments_means}
-use Rattle.c_grammar.proofs.Rows.{IsWhereSome, IsAbsent, IsRow, combined_row, zeros_row, single_row, first_there, parameter_there}
+use Rattle.c_grammar.proofs.Forms.{IsWhereSome, IsAbsent, IsRow, combined_row, zeros_row, single_row, first_there, parameter_there}
 use Rattle.c_grammar.proofs.Kept.{AreNamed, first_named, second_named, short_word, State, set_state, row-grown, kind_fits, new_state, new_grown, nothing, ok, either, Reads, bind, stays, gives, Kept, kept-trans, kept_self, rows-grown, rank-grown, AccessIn, accesses-grown, kind_found, with_new, Gives, chained, weaken, either_of}
 use Rattle.std.specs.List.{AllByRecursion, range_with_len}
 use Rattle.std.proofs.lemmas.Bool.Decides.{nat_tests}
 use Rattle.std.proofs.lemmas.Option.{slice_get_within}
+use Rattle.std.proofs.Math.Seq.{set-append_seam}
 use Rattle.base_laws.proofs.Lists.{All-append}
 use Rattle.c_grammar.proofs.Lists.{range_more}
 use Rattle.c_reading.specs.Access.{Access}
 use Rattle.c_reading.specs.Refs.{with_kind, most_arrays, most_subscripts}
 use Rattle.c_reading.specs.Values.{Accesses, most_reads}
-use Rattle.affine_program.specs.Printable.{IsOrdered}
 use Rattle.c_grammar.specs.Well.{numbers_of}
 use Rattle.c_grammar.specs.Value as value
 use Rattle.c_grammar.specs.Value.{value_words, operands_words, unary_words, arguments_words}
-use Rattle.c_grammar.proofs.NameKinds.{KindFits, ranks, ranks-length, rank_at, get-behind, set-behind, All-set, get-set}
+use Rattle.c_grammar.proofs.NameKinds.{KindFits, ranks, ranks-length, rank_at, get-behind, All-set, get-set}
 use Rattle.c_grammar.proofs.Steps.{if_holds}
 
 -- ---- names
@@ -51,8 +51,7 @@ slot_by_there depth name None i e w s = either (is_short name && nat_lt i.parame
     (λ _. nothing)
 slot_by_there depth name (Some (Parameter k)) i e w s = stays s (parameter_there i.parameters depth k (kind_fits name i (Parameter k) s e) s.few_parameters)
 slot_by_there depth name (Some (OpenLoop d)) i e w s = stays s (λ a. let open_loop : d < depth = kind_fits name i (OpenLoop d) s e in elim a [ inl b ↦ omega arith | inr b ↦ omega arith ])
-slot_by_there depth name (Some ClosedLoop) i e w s = nothing
-slot_by_there depth name (Some (Array n r)) i e w s = nothing
+slot_by_there depth name (Some _) i e w s = nothing
 
 -- the place of a name's coefficient has a variable
 pub slot_there : {depth : ℕ} (name : List ℕ) (i : Names) → IsWord name → State depth i → Reads depth i (slot name i) (IsThere depth)
@@ -151,11 +150,11 @@ record IsBehind (i k : Names) (more : List Kind) : Type 0 where
 
 module _ (depth : ℕ) (i k : Names) (more : List Kind) (rank : ℕ) (s : State depth i) (t : State depth k) (b : IsBehind i k more) (few : rank ≤ SUBSCRIPTS) where
   -- the kinds with the new array
-  kinds_are : slice_set k.kinds (length i.names) (Array i.arrays rank) ≡ (i.kinds ++ Array i.arrays rank ∷ []) ++ more
+  kinds_are : slice_set k.kinds (length i.names) (Array i.arrays rank) ≡ i.kinds ++ Array i.arrays rank ∷ more
   kinds_are =
       ap (λ (n : ℕ). slice_set k.kinds n (Array i.arrays rank)) (sym s.kinds)
-      ∙ ap (λ (l : List Kind). slice_set l (length i.kinds) (Array i.arrays rank)) b.kinds
-      ∙ set-behind i.kinds more (Array i.arrays 0) (Array i.arrays rank)
+      ∙ ap (λ (l : List Kind). slice_set l (length i.kinds) (Array i.arrays rank)) (b.kinds ∙ append_assoc i.kinds (Array i.arrays 0 ∷ []) more)
+      ∙ set-append_seam i.kinds (Array i.arrays 0) more (Array i.arrays rank)
 
   -- the new array is there
   there : slice_get k.kinds (length i.names) ≡ Some (Array i.arrays 0)
@@ -166,22 +165,18 @@ module _ (depth : ℕ) (i k : Names) (more : List Kind) (rank : ℕ) (s : State 
   unfolding with_kind
   ranked_state = set_state k (length i.names) (Array i.arrays 0) (Array i.arrays rank) k.lines t there refl refl (All-set (KindFits k.parameters depth) k.kinds (length i.names) (Array i.arrays rank) few t.fit)
 
-  -- the next array was referred to
-  next_order : IsOrdered i.arrays (i.arrays ∷ []) k.arrays
-  next_order = let above : nat_lt i.arrays i.arrays ≡ false = grind (arith, nat_tests) in (omega arith, rw above (omega (arith, b.arrays)))
-
   -- only names were added
   ranked_kept : Kept i (i.arrays ∷ []) (with_kind (length i.names) (Array i.arrays rank) k)
   unfolding with_kind
   ranked_kept = record {
     grown = record {
       more = Array i.arrays rank ∷ more;
-      kinds = kinds_are ∙ append_assoc i.kinds (Array i.arrays rank ∷ []) more;
+      kinds = kinds_are;
       settled = (few, b.settled);
       parameters = b.parameters;
       names = b.names;
     };
-    order = next_order;
+    order = (let above : nat_lt i.arrays i.arrays ≡ false = grind (arith, nat_tests) in (omega arith, rw above (omega (arith, b.arrays))));
     lines = b.lines;
     statements = b.statements;
   }
@@ -234,9 +229,6 @@ reference_by depth b name ss None i e w n s = either_then (is_short name && nat_
       fits = ranked_access depth i k _ (length rows) s after.state behind after.value.few rows refl after.value.each;
     })))
     (λ _. nothing)
-reference_by depth b name ss (Some (Parameter k)) i e w n s = nothing
-reference_by depth b name ss (Some (OpenLoop d)) i e w n s = nothing
-reference_by depth b name ss (Some ClosedLoop) i e w n s = nothing
 reference_by depth b name ss (Some (Array number r)) i e w n s =
     chained (subscripts_means b [] ss i) (subscripts_are depth b [] ss i n s (record { few = omega arith; each = tt })) (λ rows j after.
     either (length rows == r) (λ same.
@@ -248,6 +240,7 @@ reference_by depth b name ss (Some (Array number r)) i e w n s =
       kept = record { grown = after.kept.grown; order = (omega arith, rw seen after.kept.order); lines = after.kept.lines; statements = after.kept.statements };
       fits = record { rank = rank-grown number r after.kept.grown rank ∙ ap Some (sym (eqb-true _ _ same)); rows = after.value.each };
     })) (λ _. nothing))
+reference_by depth b name ss (Some _) i e w n s = nothing
 
 -- a reference fits an array that is there
 pub reference_in : {depth : ℕ} (b : ℕ) (r : tree.Reference) (i : Names) → AreNamed (reference_words r) → State depth i → Gives (reference_means b r i) (IsReference depth i)
@@ -312,11 +305,10 @@ plain_read reads (tree.subscript a ss) i s h = nothing
 
 -- a name that isn't called
 name_read : {depth : ℕ} (b : ℕ) (reads : Accesses) (r : tree.Reference) (o : Option Kind) (i : Names) → AreNamed (reference_words r) → State depth i → AreReads depth i reads → ReadsMore depth i reads (named_means b reads r o i)
-name_read b reads r None i n s h = one_read b reads r i n s h
 name_read b reads r (Some (Parameter k)) i n s h = plain_read reads r.subscripts i s h
 name_read b reads r (Some (OpenLoop d)) i n s h = plain_read reads r.subscripts i s h
 name_read b reads r (Some ClosedLoop) i n s h = nothing
-name_read b reads r (Some (Array number count)) i n s h = one_read b reads r i n s h
+name_read b reads r _ i n s h = one_read b reads r i n s h
 
 mutual
   unfolding value_means operands_means unary_means arguments_means name_means
@@ -332,14 +324,12 @@ mutual
   unary_read : {depth : ℕ} (b : ℕ) (reads : Accesses) (u : value.Unary) (i : Names) → AreNamed (unary_words u) → State depth i → AreReads depth i reads → ReadsMore depth i reads (unary_means b reads u i)
   unary_read b reads (value.number bytes) i n s h = none_read i reads s h
   unary_read b reads (value.reference r) i n s h = name_read b reads r (kind_of r.name i) i n s h
-  unary_read zero reads (value.call_of_none name) i n s h = nothing
   unary_read (suc b) reads (value.call_of_none name) i n s h = either_of (is_short name) _ _ (λ _. none_read i reads s h) (λ _. nothing)
-  unary_read zero reads (value.call name vs) i n s h = nothing
   unary_read (suc b) reads (value.call name vs) i n s h = either_of (is_short name) _ _ (λ _. arguments_read b reads vs i (first_named (arguments_words vs) (a_symbol (codes ")") ∷ []) n.1.1) s h) (λ _. nothing)
-  unary_read zero reads (value.in_brackets v) i n s h = nothing
   unary_read (suc b) reads (value.in_brackets v) i n s h = value_read b reads v i (first_named (value_words v) (a_symbol (codes ")") ∷ []) n.1) s h
   unary_read b reads (value.negative u) i n s h = unary_read b reads u i n.1 s h
   unary_read b reads (value.positive u) i n s h = unary_read b reads u i n.1 s h
+  unary_read zero reads _ i n s h = nothing
 
   arguments_read : {depth : ℕ} (b : ℕ) (reads : Accesses) (vs : value.Arguments) (i : Names) → AreNamed (arguments_words vs) → State depth i → AreReads depth i reads → ReadsMore depth i reads (arguments_means b reads vs i)
   arguments_read b reads (value.last_argument v) i n s h = value_read b reads v i n s h

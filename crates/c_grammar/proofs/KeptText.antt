@@ -7,7 +7,7 @@ use Rattle.iolb_model.specs.declared.limits.TheConstants.{SUBSCRIPTS, ASSUMPTION
 use Rattle.c_tokens.specs.declared.token.Token.{Token}
 use Rattle.c_tokens.specs.Text.{tokens_of}
 use Rattle.c_reading.specs.declared.named.Kind.{Kind}
-use Rattle.c_reading.specs.declared.named.Kind.TheVariants.{Parameter, OpenLoop, ClosedLoop, Array}
+use Rattle.c_reading.specs.declared.named.Kind.TheVariants.{Array}
 use Rattle.c_reading.specs.declared.lines.Line.{Line}
 use Rattle.c_reading.specs.declared.lines.Line.TheVariants.{Begin, Does, End}
 use Rattle.c_reading.specs.Access.{Access}
@@ -26,10 +26,10 @@ use Rattle.c_grammar.specs.Meaning as mean
 use Rattle.c_grammar.specs.Meaning.{Names, affine_means, with_compare, row_count, compare_means, slot, items_means, parameters_mean, compares_mean, lines_mean, whole_means, text_means}
 use Rattle.affine_program.specs.Printable.{IsOrdered}
 use Rattle.c_grammar.specs.Well.{IsRowOver, parameters_of, arrays_of, IsAccessIn, AreLinesIn, statement_count, Nests, IsLoopLine, line_numbers, IsWellRead, ReadingsAreWellRead}
-use Rattle.c_grammar.proofs.Steps.{AreLexical, IsSpelled, all_spelled, named_word, if_holds}
+use Rattle.c_grammar.proofs.Steps.{AreLexical, IsSpelled, all_spelled, class, word_spelled, if_holds}
 use Rattle.c_grammar.proofs.Lexical.{text_lexical}
 use Rattle.c_grammar.proofs.SoundItems.{accepted}
-use Rattle.c_grammar.proofs.Rows.{IsWhereSome, IsRow, combined_row, stated_row, all_rows}
+use Rattle.c_grammar.proofs.Forms.{IsWhereSome, IsRow, combined_row, stated_row, all_rows}
 use Rattle.c_grammar.proofs.NameKinds.{KindFits, ranks, ranks-length, parameters-length}
 use Rattle.std.proofs.lemmas.Option.{slice_get-map}
 use Rattle.std.proofs.lemmas.List.{length-map}
@@ -57,17 +57,12 @@ with_compare_few parameters rows c a b h p q = by c where
   start : AreFew parameters (length rows) rows
   start = record { few = omega arith; each = h }
 
-  one : suc (length rows) ≡ length rows + 1
-  one = omega arith
-
   single : (o : Option Rows) → IsWhereSome (λ more. AreFew parameters (suc (length rows)) more × (0 < length more)) o → IsWhereSome (λ more. AreFew parameters (length rows + 1) more × (0 < length more)) o
-  single o g = subst (λ n. IsWhereSome (λ more. AreFew parameters n more × (0 < length more)) o) one g
+  single o g = let one : suc (length rows) ≡ length rows + 1 = omega arith in subst (λ n. IsWhereSome (λ more. AreFew parameters n more × (0 < length more)) o) one g
 
   second : (o : Option Rows) → IsWhereSome (λ more. AreFew parameters (suc (length rows)) more × (0 < length more)) o → IsWhereSome (λ more. AreFew parameters (length rows + 2) more × (0 < length more)) (option_and_then (λ more. mean.with_row more (pos 0) b a) o)
   second None g = tt
-  second (Some more) g = subst (λ n. IsWhereSome (λ all. AreFew parameters n all × (0 < length all)) (mean.with_row more (pos 0) b a)) two (with_row_few parameters (suc (length rows)) more (pos 0) b a g.0 q p) where
-    two : suc (suc (length rows)) ≡ length rows + 2
-    two = omega arith
+  second (Some more) g = let two : suc (suc (length rows)) ≡ length rows + 2 = omega arith in subst (λ n. IsWhereSome (λ all. AreFew parameters n all × (0 < length all)) (mean.with_row more (pos 0) b a)) two (with_row_few parameters (suc (length rows)) more (pos 0) b a g.0 q p)
 
   by : (c : tree.Comparison) → IsWhereSome (λ more. AreFew parameters (length rows + row_count c) more × (0 < length more)) (with_compare rows c a b)
   by tree.at_least = single _ (with_row_few parameters (length rows) rows (pos 0) a b start p q)
@@ -94,9 +89,9 @@ compare_few rows c i n s h =
 
       counted : (l : Names) → State 0 l → (o : Option Rows) (t : Bool) → nat_le (length rows + row_count c.comparison) most_rows ≡ t → IsWhereSome (λ more. AreFew l.parameters (length rows + row_count c.comparison) more × (0 < length more)) o
           → Reads 0 l (mean.given (if t then o else None) l) AreAssumed
+      counted l u (Some more) true e g = stays u (record { few = omega (arith, g.0.few, leb-true (length rows + row_count c.comparison) most_rows e); each = g.0.each }, g.1)
       counted l u o false e g = nothing
       counted l u None true e g = nothing
-      counted l u (Some more) true e g = stays u (record { few = omega (arith, g.0.few, leb-true (length rows + row_count c.comparison) most_rows e); each = g.0.each }, g.1)
 
 -- compares give rows
 compares_few : (rows : Rows) (cs : text.Compares) (i : Names) → AreNamed (compares_words cs) → State 0 i → AllByRecursion (IsRow i.parameters 0) rows → Reads 0 i (compares_mean rows cs i) AreAssumed
@@ -139,10 +134,8 @@ arrays_ranks : (names : List (List ℕ)) (kinds : List Kind) → length kinds �
 arrays_ranks [] [] e = refl
 arrays_ranks [] (k ∷ kinds) e = absurd (omega (arith, e))
 arrays_ranks (name ∷ names) [] e = refl
-arrays_ranks (name ∷ names) (Parameter k ∷ kinds) e = arrays_ranks names kinds (omega (arith, e))
-arrays_ranks (name ∷ names) (OpenLoop d ∷ kinds) e = arrays_ranks names kinds (omega (arith, e))
-arrays_ranks (name ∷ names) (ClosedLoop ∷ kinds) e = arrays_ranks names kinds (omega (arith, e))
 arrays_ranks (name ∷ names) (Array m s ∷ kinds) e = ap (λ (ns : List ℕ). s ∷ ns) (arrays_ranks names kinds (omega (arith, e)))
+arrays_ranks (name ∷ names) (_ ∷ kinds) e = arrays_ranks names kinds (omega (arith, e))
 
 -- an array has its number of subscripts by its name
 ranked : (names : List (List ℕ)) (kinds : List Kind) (n r : ℕ) → length kinds ≡ length names → slice_get (ranks kinds) n ≡ Some r → IsSomeAnd (slice_get (arrays_among names kinds) n) (λ array. r ≡ array.1)
@@ -155,10 +148,8 @@ ranked names kinds n r e g = by (slice_get (arrays_among names kinds) n) (sym (s
 few_ranks : (parameters depth : ℕ) (names : List (List ℕ)) (kinds : List Kind) → AllByRecursion (KindFits parameters depth) kinds → AllByRecursion (λ (array : List ℕ × ℕ). array.1 ≤ SUBSCRIPTS) (arrays_among names kinds)
 few_ranks parameters depth [] kinds h = tt
 few_ranks parameters depth (name ∷ names) [] h = tt
-few_ranks parameters depth (name ∷ names) (Parameter k ∷ kinds) h = few_ranks parameters depth names kinds h.1
-few_ranks parameters depth (name ∷ names) (OpenLoop d ∷ kinds) h = few_ranks parameters depth names kinds h.1
-few_ranks parameters depth (name ∷ names) (ClosedLoop ∷ kinds) h = few_ranks parameters depth names kinds h.1
 few_ranks parameters depth (name ∷ names) (Array m s ∷ kinds) h = (h.0, few_ranks parameters depth names kinds h.1)
+few_ranks parameters depth (name ∷ names) (_ ∷ kinds) h = few_ranks parameters depth names kinds h.1
 
 -- ---- what is read, as it is stated
 
@@ -266,4 +257,4 @@ readings_are_well_read bytes r e = by_tree (tokens_of bytes) (text_lexical bytes
   by_tree None lexical t = cc
   by_tree (Some tokens) lexical t =
       let same : map (word_of bytes) tokens ≡ text_words t.0 = cc in
-      text_well t.0 r (All-weaken IsSpelled IsNamed (text_words t.0) named_word (all_spelled (text_words t.0) (subst AreLexical same (lexical tokens refl)))) t.2
+      text_well t.0 r (All-weaken IsSpelled IsNamed (text_words t.0) (λ w spelled name. word_spelled w.bytes (sym (ap class name) ∙ spelled)) (all_spelled (text_words t.0) (subst AreLexical same (lexical tokens refl)))) t.2

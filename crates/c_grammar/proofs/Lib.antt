@@ -1,7 +1,5 @@
 pub mod Lists
-pub mod Rows
 pub mod NameKinds
-pub mod Dictionary
 pub mod Steps
 pub mod Forms
 pub mod SoundAffine
@@ -17,4 +15,3 @@ pub mod Kept
 pub mod KeptItems
 pub mod KeptText
 pub mod Values
-pub mod ValuesHold

@@ -15,9 +15,8 @@ All-second P (x ∷ xs) ys h = All-second P xs ys h.1
 
 -- of each of some in front
 pub All-take : {X : Type 0} (P : X → Type 0) (n : ℕ) (xs : List X) → AllByRecursion P xs → AllByRecursion P (take n xs)
-All-take P zero xs h = tt
-All-take P (suc n) [] h = tt
 All-take P (suc n) (x ∷ xs) h = (h.0, All-take P n xs h.1)
+All-take P _ _ h = tt
 
 -- of each of those behind
 pub All-drop : {X : Type 0} (P : X → Type 0) (n : ℕ) (xs : List X) → AllByRecursion P xs → AllByRecursion P (drop n xs)

@@ -3,7 +3,7 @@ use Rattle.std.proofs.Common.{◌≡◌, ℕ, zero, suc, ◌≤◌, Bool, true, 
 use Rattle.std.specs.Prelude.{◌&&◌, ◌||◌, if◌then◌else◌, ℤ, Result, Ok, bytes_eq, codes}
 use Rattle.std.proofs.lemmas.Bool.{and_parts}
 use Rattle.c_reading.specs.declared.named.Kind.{Kind}
-use Rattle.c_reading.specs.declared.named.Kind.TheVariants.{Parameter, OpenLoop, ClosedLoop, Array}
+use Rattle.c_reading.specs.declared.named.Kind.TheVariants.{ClosedLoop, Array}
 use Rattle.c_reading.specs.declared.error.ReadFault.{ReadFault}
 use Rattle.c_reading.specs.Input.{Input, Rule, Outcome, and_then, given as rule_given, spelling, next, sees, left, place}
 use Rattle.c_reading.specs.Numbers.{is_integer}
@@ -34,8 +34,7 @@ pub record Ends (ws : List Word) : Type 0 where
 -- no `*` stands behind a term of a sum
 no_star : (ss : tree.Sums) (rest : List Word) → Ends rest → NoStar (sums_words ss ++ rest)
 no_star tree.sum_end rest ends = ends.times
-no_star (tree.plus t ss) rest ends = refl
-no_star (tree.minus t ss) rest ends = refl
+no_star _ rest ends = refl
 
 -- ---- names and numbers
 
@@ -43,10 +42,9 @@ no_star (tree.minus t ss) rest ends = refl
 slot_by_run : (i : Input) (rest : List Word) (k : Option Kind) → At i (a_name (spelling i) ∷ rest) → Runs (λ a. a) (rule.slot_by k i) rest (mean.slot_by (spelling i) k (bare i))
 unfolding rule.new_parameter with_name next
 slot_by_run i rest None at = runs_when _ _ (runs_end (at_as _ refl (at_next at)) refl)
-slot_by_run i rest (Some (Parameter k)) at = runs_end (at_next at) refl
-slot_by_run i rest (Some (OpenLoop depth)) at = runs_end (at_next at) refl
 slot_by_run i rest (Some ClosedLoop) at = none_meant
 slot_by_run i rest (Some (Array number subscripts)) at = none_meant
+slot_by_run i rest (Some _) at = runs_end (at_next at) refl
 
 -- a name that is spelled gives its place
 pub slot_run : (i : Input) (name : List ℕ) (rest : List Word) → At i (a_name name ∷ rest) → Runs (λ a. a) (rule.slot i) rest (mean.slot name (bare i))
@@ -252,13 +250,12 @@ mutual
       rw (at_kind at, at_sees (codes "(") at) (runs_after (rule.affine_by (rule.bracketed b) star (next i)) _
       (affine_run b star a (a_symbol (codes ")") ∷ rest) (next i) (at_assoc (affine_words a) (a_symbol (codes ")") ∷ []) rest (at_next at)) (record { times = refl; plus = refl; minus = refl })) (λ r at1.
       rw (closed_by_run (codes ")") r.0 r.1 (at_sees (codes ")") at1)) (runs_end (at_next at1) refl))))
-  factor_run b star start (tree.negative f) zero sign rest i at few = let some = some_left at in absurd (omega arith)
   factor_run b star start (tree.negative f) (suc n) sign rest i at few =
       rw (minus_sign n sign i (at_sees (codes "-") at), negative_meant sign (factor_means b f (bare i)) (factor_are b f (bare i))) (
       factor_run b star start f n (not sign) rest (next i) (at_next at) (fewer at (at_next at) few (omega arith)))
-  factor_run b star start (tree.positive f) zero sign rest i at few = let some = some_left at in absurd (omega arith)
   factor_run b star start (tree.positive f) (suc n) sign rest i at few =
       rw (plus_sign n sign i (at_sees (codes "-") at) (at_sees (codes "+") at)) (factor_run b star start f n sign rest (next i) (at_next at) (fewer at (at_next at) few (omega arith)))
+  factor_run b star start _ zero sign rest i at few = let some = some_left at in absurd (omega arith)
 
 -- an affine expression, where so many brackets may still be opened
 pub affine_read : (b : ℕ) (t : tree.Affine) (rest : List Word) (i : Input) → At i (affine_words t ++ rest) → Ends rest → Runs form_of (rule.affine b None i) rest (affine_means b t (bare i))

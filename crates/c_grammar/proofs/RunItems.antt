@@ -3,7 +3,7 @@ use Rattle.std.proofs.Common.{◌≡◌, ℕ, suc, Bool, true, false, List, [], 
 use Rattle.std.specs.Prelude.{ℤ, pos, Ok, codes, ◌||◌, nat_le, if◌then◌else◌, option_map}
 use Rattle.c_tokens.specs.declared.token.TokenKind.TheVariants as token
 use Rattle.c_reading.specs.declared.named.Kind.{Kind}
-use Rattle.c_reading.specs.declared.named.Kind.TheVariants.{Parameter, OpenLoop, ClosedLoop, Array}
+use Rattle.c_reading.specs.declared.named.Kind.TheVariants.{OpenLoop, ClosedLoop}
 use Rattle.c_reading.specs.Input.{Input, spelling, next, sees, place, Outcome, kind, left}
 use Rattle.c_reading.specs.Numbers.{combined, zeros, most_loops}
 use Rattle.c_reading.specs.Affine.{kind_of, number_of, with_name, affine, slot}
@@ -17,7 +17,7 @@ use Rattle.c_grammar.specs.Meaning.{Names, affine_means, header_means, reference
 use Rattle.c_grammar.proofs.Steps.{one_less, bare, spelled_kind, first, AreLexical, IsSpelled, all_spelled}
 use Rattle.c_grammar.proofs.Spelled.{At, at_kind, at_spelling, at_sees, at_next, at_as, at_assoc, other_bytes, same_seen, name_not_keyword, then_ok, Runs, none_meant, runs_end, runs_then, runs_inside, runs_given, runs_when, at_name, longer, fewer, some_left, name_not_symbol, same_some, runs_after}
 use Rattle.c_grammar.proofs.RunAffine.{affine_read, closed_by_run, slot_run}
-use Rattle.c_grammar.proofs.RunValues.{expect_run, open_run, EndsValue, value_read, NoBracket, access_read, compare_read}
+use Rattle.c_grammar.proofs.RunValues.{expect_run, open_run, EndsValue, value_run, NoBracket, access_read, compare_from_run}
 use Rattle.std.proofs.lemmas.List.{length-append, append_assoc}
 use Rattle.c_reading.specs.declared.lines.Line.TheVariants.{Begin}
 use Rattle.c_reading.specs.Refs.{access, with_kind}
@@ -46,9 +46,7 @@ loop_by_run : (i : Input) (k : Option Kind) (rest : List Word) → At i (a_name 
 unfolding rule.new_loop with_name next
 loop_by_run i None rest at = runs_when _ _ (runs_end (at_as _ refl (at_next at)) refl)
 loop_by_run i (Some ClosedLoop) rest at = loop_again_run i (number_of (spelling i) i) rest at
-loop_by_run i (Some (Parameter k)) rest at = none_meant
-loop_by_run i (Some (OpenLoop depth)) rest at = none_meant
-loop_by_run i (Some (Array number count)) rest at = none_meant
+loop_by_run i (Some _) rest at = none_meant
 
 -- a loop's name is read
 loop_name_run : (i : Input) (name : List ℕ) (rest : List Word) → At i (a_name name ∷ rest) → Runs (λ a. a) (rule.loop_name i) rest (mean.loop_name name (bare i))
@@ -157,26 +155,22 @@ operator_run tree.divides i ws at = rw (at_sees (codes "=") at, at_sees (codes "
 -- no assignment's operator is a bracket
 assigner_no_bracket : (o : tree.Assigner) (ws : List Word) → NoBracket (assigner_word o ∷ ws)
 assigner_no_bracket tree.sets ws = refl
-assigner_no_bracket tree.adds ws = refl
-assigner_no_bracket tree.subtracts ws = refl
-assigner_no_bracket tree.multiplies ws = refl
-assigner_no_bracket tree.divides ws = refl
+assigner_no_bracket _ ws = refl
 
 -- an assignment is read
 assign_run : (b : ℕ) (a : tree.Assign) (rest : List Word) (i : Input) → At i (assign_words a ++ rest) → EndsValue rest → Runs (λ a. a) (rule.assign b i) rest (assign_means b a (bare i))
-unfolding rule.assign rule.add_statement assign_means with_line next
+unfolding rule.assign rule.add_statement assign_means with_line value next
 assign_run b a rest i at ends =
     runs_then (access b i) _ (reference_means b a.target (bare i)) _
     (access_read b a.target (assigner_word a.assigner ∷ (value_words a.value ++ rest)) i (at_assoc (reference_words a.target) (assigner_word a.assigner ∷ value_words a.value) rest at) (assigner_no_bracket a.assigner (value_words a.value ++ rest))) (λ w at1.
     let before : Accesses = first_reads (mean.updates a.assigner) w.0 in
     rw (operator_run a.assigner w.1 _ at1) (
-    runs_then (value b before (next w.1)) _ (value_means b before a.value (bare w.1)) _ (value_read b before a.value rest (next w.1) (at_next at1) ends) (λ v at2. runs_end (at_as _ refl at2) refl)))
+    runs_then (value b before (next w.1)) _ (value_means b before a.value (bare w.1)) _ (value_run b before a.value rest (next w.1) (at_next at1) ends) (λ v at2. runs_end (at_as _ refl at2) refl)))
 
 -- two tests that fail, where else nothing is meant
 unless_either : {A V : Type 0} {view : A → V} {o : Outcome A} {rest : List Word} {m : Option (V × Names)} (c d : Bool) (x y : Outcome A) → Runs view o rest m → Runs view (if c then x else (if d then y else o)) rest (if c || d then None else m)
-unless_either true d x y h = none_meant
-unless_either false true x y h = none_meant
 unless_either false false x y h = h
+unless_either _ _ x y h = none_meant
 
 -- a statement is read
 statement_run : (b : ℕ) (a : tree.Assign) (rest : List Word) (i : Input) → At i (assign_words a ++ (a_symbol (codes ";") ∷ rest)) → Runs (λ a. a) (rule.statement b i) rest (statement_means b a (bare i))
@@ -192,28 +186,21 @@ statement_run b a rest i at =
 -- no item begins with the bracket that closes a block
 opens_item : (i : Input) (t : tree.Item) (rest : List Word) → At i (item_words t ++ rest) → sees (codes "}") i ≡ false
 unfolding spelled_kind
-opens_item i tree.nothing rest at = at_sees (codes "}") at
-opens_item i (tree.block ts) rest at = at_sees (codes "}") at
-opens_item i (tree.loop h t) rest at = at_sees (codes "}") at
 opens_item i (tree.statement a) rest at = name_not_symbol (codes "}") refl at
+opens_item i _ rest at = at_sees (codes "}") at
 
 -- an item has a word
 some_word : (t : tree.Item) → 1 ≤ length (item_words t)
 some_word tree.nothing = omega arith
-some_word (tree.block ts) = omega arith
-some_word (tree.loop h t) = omega arith
-some_word (tree.statement a) = omega arith
+some_word _ = omega arith
 
 mutual
   unfolding item_means items_means mean.begin mean.end rule.item rule.item_over rule.item_by rule.block rule.block_items rule.all_block_items rule.loops rule.for_loop rule.opened rule.closed with_kind with_line next spelled_kind
 
   item_run : (more b : ℕ) (t : tree.Item) (rest : List Word) (i : Input) → At i (item_words t ++ rest) → Runs (λ a. a) (rule.item more b i) rest (item_means more b t (bare i))
   item_run more b tree.nothing rest i at = rw (at_sees (codes ";") at) (runs_end (at_next at) refl)
-  item_run more zero (tree.block ts) rest i at = none_meant
   item_run more (suc b) (tree.block ts) rest i at =
       rw (at_sees (codes ";") at, at_sees (codes "{") at) (block_run more b ts (left (next i)) rest (next i) (at_assoc (items_words ts) (a_symbol (codes "}") ∷ []) rest (at_next at)) (omega arith))
-  item_run zero b (tree.loop h t) rest i at = none_meant
-  item_run (suc more) zero (tree.loop h t) rest i at = none_meant
   item_run (suc more) (suc b) (tree.loop h t) rest i at =
       rw (at_sees (codes ";") at, at_sees (codes "{") at, at_sees (codes "for") at) (
       runs_then (rule.header (suc b) i) _ (header_means b h (bare i)) _ (header_run b h (item_words t ++ rest) i (at_assoc (header_words h) (item_words t) rest at)) (λ l at1.
@@ -222,6 +209,7 @@ mutual
   item_run more b (tree.statement a) rest i at =
       rw (name_not_symbol (codes ";") refl at, name_not_symbol (codes "{") refl at, name_not_keyword (codes "for") refl at, name_not_keyword (codes "if") refl at, at_kind at) (
       statement_run b a rest i (at_assoc (assign_words a) (a_symbol (codes ";") ∷ []) rest at))
+  item_run _ _ _ rest i at = none_meant
 
   block_run : (more b : ℕ) (ts : tree.Items) (n : ℕ) (rest : List Word) (i : Input) → At i (items_words ts ++ (a_symbol (codes "}") ∷ rest)) → left i ≤ n
       → Runs (λ a. a) (rule.block_items (rule.item more b) n i) rest (items_means more b ts (bare i))
@@ -236,9 +224,7 @@ mutual
 -- an item isn't the end
 not_end : (i : Input) (t : tree.Item) (rest : List Word) → At i (item_words t ++ rest) → rule.is_end (kind i) ≡ false
 not_end i tree.nothing rest at = ap rule.is_end (at_kind at)
-not_end i (tree.block ts) rest at = ap rule.is_end (at_kind at)
-not_end i (tree.loop h t) rest at = ap rule.is_end (at_kind at)
-not_end i (tree.statement a) rest at = ap rule.is_end (at_kind at)
+not_end i _ rest at = ap rule.is_end (at_kind at)
 
 -- the items of a program are read
 items_run : (ts : tree.Items) (n : ℕ) (i : Input) → At i (items_words ts) → left i ≤ n → Runs (λ a. a) (rule.items n i) [] (items_means most_loops 64 ts (bare i))
@@ -264,13 +250,13 @@ parameter_names_run (name ∷ names) (suc n) rest i at few =
 
 -- a line's compares are read
 compares_run : (cs : text_tree.Compares) (n : ℕ) (rows : Rows) (rest : List Word) (i : Input) → At i (compares_words cs ++ (line_end ∷ rest)) → left i ≤ n → Runs (λ a. a) (head_rule.compares n rows i) rest (compares_mean rows cs (bare i))
-unfolding compares_mean head_rule.compares head_rule.closed_line next
+unfolding compares_mean head_rule.compares head_rule.closed_line compare next
 compares_run cs zero rows rest i at few = let some = some_left at in absurd (omega arith)
 compares_run (text_tree.last_compare c) (suc n) rows rest i at few =
-    runs_after (compare rows i) _ (compare_read rows c (line_end ∷ rest) i at (record { times = refl; plus = refl; minus = refl })) (λ r at1. rw (at_sees (codes "&&") at1, at_kind at1) (runs_end (at_next at1) refl))
+    runs_after (compare rows i) _ (compare_from_run (place i) rows c (line_end ∷ rest) i at (record { times = refl; plus = refl; minus = refl })) (λ r at1. rw (at_sees (codes "&&") at1, at_kind at1) (runs_end (at_next at1) refl))
 compares_run (text_tree.compare c cs) (suc n) rows rest i at few =
     let behind : List Word = a_symbol (codes "&&") ∷ (compares_words cs ++ (line_end ∷ rest)) in
-    runs_then (compare rows i) _ (compare_means rows c (bare i)) _ (compare_read rows c behind i (at_assoc (compare_words c) (a_symbol (codes "&&") ∷ compares_words cs) (line_end ∷ rest) at) (record { times = refl; plus = refl; minus = refl })) (λ r at1.
+    runs_then (compare rows i) _ (compare_means rows c (bare i)) _ (compare_from_run (place i) rows c behind i (at_assoc (compare_words c) (a_symbol (codes "&&") ∷ compares_words cs) (line_end ∷ rest) at) (record { times = refl; plus = refl; minus = refl })) (λ r at1.
     rw (at_sees (codes "&&") at1) (compares_run cs n r.0.rows rest (next r.1) (at_next at1) (fewer at (at_next at1) few (omega (arith, longer (compare_words c) (a_symbol (codes "&&") ∷ compares_words cs) (line_end ∷ rest))))))
 
 -- ---- directives
@@ -299,9 +285,7 @@ directives_run (text_tree.assumptions head cs ls) (suc n) h rest i at other few 
 no_directive : (ts : tree.Items) → NoDirective (items_words ts)
 no_directive tree.item_end = record { parameters = refl; assumptions = refl }
 no_directive (tree.item tree.nothing ts) = record { parameters = refl; assumptions = refl }
-no_directive (tree.item (tree.block us) ts) = record { parameters = refl; assumptions = refl }
-no_directive (tree.item (tree.loop h t) ts) = record { parameters = refl; assumptions = refl }
-no_directive (tree.item (tree.statement a) ts) = record { parameters = refl; assumptions = refl }
+no_directive (tree.item _ ts) = record { parameters = refl; assumptions = refl }
 
 -- a text's words are read
 text_rule_run : (t : Text) (i : Input) → At i (lines_words t.lines ++ items_words t.items) → Runs (λ a. a) (whole.text_rule i) [] (whole_means t (bare i))

@@ -48,13 +48,10 @@ comparison_by_run start count a taken j e few = rw (e, few) refl
 -- an expression ends at a comparison
 ends_comparison : (c : affine_tree.Comparison) (ws : List Word) → Ends (comparison_word c ∷ ws)
 ends_comparison affine_tree.at_least ws = record { times = refl; plus = refl; minus = refl }
-ends_comparison affine_tree.above ws = record { times = refl; plus = refl; minus = refl }
-ends_comparison affine_tree.at_most ws = record { times = refl; plus = refl; minus = refl }
-ends_comparison affine_tree.below ws = record { times = refl; plus = refl; minus = refl }
-ends_comparison affine_tree.equal ws = record { times = refl; plus = refl; minus = refl }
+ends_comparison _ ws = record { times = refl; plus = refl; minus = refl }
 
 -- a compare is read, whatever place its faults have
-compare_from_run : (start : ℕ) (rows : Rows) (c : affine_tree.Compare) (rest : List Word) (i : Input) → At i (compare_words c ++ rest) → Ends rest → Runs (λ (c : Compared). c.rows) (compare_rule.compare_from start rows i) rest (compare_means rows c (bare i))
+pub compare_from_run : (start : ℕ) (rows : Rows) (c : affine_tree.Compare) (rest : List Word) (i : Input) → At i (compare_words c ++ rest) → Ends rest → Runs (λ (c : Compared). c.rows) (compare_rule.compare_from start rows i) rest (compare_means rows c (bare i))
 unfolding compare_rule.compare_from compare_means next
 compare_from_run start rows c rest i at ends =
     runs_then (affine most_brackets None i) _ (affine_means most_brackets c.left (bare i)) _
@@ -66,21 +63,14 @@ compare_from_run start rows c rest i at ends =
     runs_given_last (mean.with_compare rows c.comparison l.0.numbers r.0.numbers) (bare r.1) (λ all e. rw (k.2.rows start rows l.0.numbers r.0.numbers ∙ ap (or_large start) e) (runs_end at2 refl)))))
     (λ many. rw many (record { run = λ x e h. then_some _ (affine_means most_brackets c.right (bare l.1)) e (λ p e1 e2. absurd cc) })))
 
--- a compare is read
-pub compare_read : (rows : Rows) (c : affine_tree.Compare) (rest : List Word) (i : Input) → At i (compare_words c ++ rest) → Ends rest → Runs (λ (c : Compared). c.rows) (compare_rule.compare rows i) rest (compare_means rows c (bare i))
-unfolding compare_rule.compare
-compare_read rows c rest i at ends = compare_from_run (place i) rows c rest i at ends
-
 -- ---- references
 
 -- an array's name, by its kind
 array_by_run : (i : Input) (rest : List Word) (k : Option Kind) → At i (a_name (spelling i) ∷ rest) → Runs as_seen (refs.array_by k i) rest (mean.array_by (spelling i) k (bare i))
 unfolding refs.new_array with_name next
 array_by_run i rest None at = runs_when _ _ (runs_end (at_as _ refl (at_next at)) refl)
-array_by_run i rest (Some (Parameter k)) at = none_meant
-array_by_run i rest (Some (OpenLoop depth)) at = none_meant
-array_by_run i rest (Some ClosedLoop) at = none_meant
 array_by_run i rest (Some (Array number count)) at = runs_end (at_next at) refl
+array_by_run i rest (Some _) at = none_meant
 
 -- an array's name is read
 array_run : (i : Input) (name : List ℕ) (rest : List Word) → At i (a_name name ∷ rest) → Runs as_seen (refs.array i) rest (mean.array name (bare i))
@@ -142,10 +132,7 @@ pub record EndsValue (ws : List Word) : Type 0 where
 not_called : (os : tree.Operands) (rest : List Word) → NotCalled rest → NotCalled (operands_words os ++ rest)
 not_called tree.operand_end rest last = last
 not_called (tree.operand tree.adds u os) rest last = record { bracket = refl; paren = refl }
-not_called (tree.operand tree.subtracts u os) rest last = record { bracket = refl; paren = refl }
-not_called (tree.operand tree.multiplies u os) rest last = record { bracket = refl; paren = refl }
-not_called (tree.operand tree.divides u os) rest last = record { bracket = refl; paren = refl }
-not_called (tree.operand tree.takes_rest u os) rest last = record { bracket = refl; paren = refl }
+not_called (tree.operand _ u os) rest last = record { bracket = refl; paren = refl }
 
 -- ---- steps
 
@@ -177,12 +164,10 @@ no_operator i ws at ends = rw (at_sees (codes "+") at ∙ ends.plus, at_sees (co
 opens_value : (i : Input) (v : tree.Value) (rest : List Word) → At i (value_words v ++ rest) → sees (codes ")") i ≡ false
 unfolding spelled_kind
 opens_value i (tree.value (tree.number bytes) os) rest at = number_not_symbol (codes ")") refl at
-opens_value i (tree.value (tree.reference r) os) rest at = name_not_symbol (codes ")") refl at
-opens_value i (tree.value (tree.call_of_none name) os) rest at = name_not_symbol (codes ")") refl at
-opens_value i (tree.value (tree.call name vs) os) rest at = name_not_symbol (codes ")") refl at
 opens_value i (tree.value (tree.in_brackets v) os) rest at = at_sees (codes ")") at
 opens_value i (tree.value (tree.negative u) os) rest at = at_sees (codes ")") at
 opens_value i (tree.value (tree.positive u) os) rest at = at_sees (codes ")") at
+opens_value i (tree.value _ os) rest at = name_not_symbol (codes ")") refl at
 
 -- nor do arguments
 opens_arguments : (i : Input) (vs : tree.Arguments) (rest : List Word) → At i (arguments_words vs ++ rest) → sees (codes ")") i ≡ false
@@ -207,11 +192,10 @@ plain_run reads name (subscript a ss) rest i at other = none_meant
 
 -- a name that isn't called is read, by its kind
 name_by_run : (b : ℕ) (reads : Accesses) (k : Option Kind) (r : Reference) (rest : List Word) (i : Input) → At i (reference_words r ++ rest) → NoBracket rest → Runs (λ a. a) (rule.name_by b reads k i) rest (named_means b reads r k (bare i))
-name_by_run b reads None r rest i at other = one_read_run b reads r rest i at other
 name_by_run b reads (Some (Parameter k)) r rest i at other = plain_run reads r.name r.subscripts rest i at other
 name_by_run b reads (Some (OpenLoop depth)) r rest i at other = plain_run reads r.name r.subscripts rest i at other
 name_by_run b reads (Some ClosedLoop) r rest i at other = none_meant
-name_by_run b reads (Some (Array number count)) r rest i at other = one_read_run b reads r rest i at other
+name_by_run b reads _ r rest i at other = one_read_run b reads r rest i at other
 
 -- no bracket of a call stands behind a reference's name
 name_not_called : (ss : Subscripts) (rest : List Word) → NotCalled rest → bytes_eq (first (subscripts_words ss ++ rest)).bytes (codes "(") ≡ false
@@ -233,7 +217,7 @@ close_ends = record { plus = refl; minus = refl; times = refl; slash = refl; per
 mutual
   unfolding value_means operands_means unary_means arguments_means rule.value_by rule.inside rule.unary all_signs rule.operands rule.primary rule.named rule.call rule.called rule.arguments rule.all_arguments rule.grouped next spelled_kind
 
-  value_run : (b : ℕ) (reads : Accesses) (v : tree.Value) (rest : List Word) (i : Input) → At i (value_words v ++ rest) → EndsValue rest → Runs (λ a. a) (rule.value_by (rule.inside b) b reads i) rest (value_means b reads v (bare i))
+  pub value_run : (b : ℕ) (reads : Accesses) (v : tree.Value) (rest : List Word) (i : Input) → At i (value_words v ++ rest) → EndsValue rest → Runs (λ a. a) (rule.value_by (rule.inside b) b reads i) rest (value_means b reads v (bare i))
   value_run b reads (tree.value u os) rest i at ends =
       runs_then (rule.unary (rule.inside b) b reads i) _ (unary_means b reads u (bare i)) _ (unary_run b reads u (left i) false (operands_words os ++ rest) i (at_assoc (unary_words u) (operands_words os) rest at) (not_called os rest ends.last) (omega arith)) (λ r at1.
       operands_run b r.0 os (left r.1) rest r.1 at1 ends (omega arith))
@@ -254,21 +238,18 @@ mutual
   unary_run b reads (tree.reference r) n sign rest i at last few =
       let some = some_left at in
       rw (no_signs n sign i (omega arith) (name_not_symbol (codes "-") refl at) (name_not_symbol (codes "+") refl at)) (reference_run (rule.inside b) b reads r rest i at last)
-  unary_run zero reads (tree.call_of_none name) n sign rest i at last few = none_meant
   unary_run (suc b) reads (tree.call_of_none name) n sign rest i at last few =
       let some = some_left at in
       let one = at_next at in
       let closes : sees (codes ")") (next (next i)) ≡ true = at_sees (codes ")") (at_next one) in
       rw (no_signs n sign i (omega arith) (name_not_symbol (codes "-") refl at) (name_not_symbol (codes "+") refl at), at_kind at, at_sees (codes "(") one, at_spelling at) (
       runs_where (is_short name) _ _ _ (rw (open_run b (next i), closes) (runs_end (at_next (at_next one)) refl)))
-  unary_run zero reads (tree.call name vs) n sign rest i at last few = none_meant
   unary_run (suc b) reads (tree.call name vs) n sign rest i at last few =
       let some = some_left at in
       let one = at_next at in
       let two = at_assoc (arguments_words vs) (a_symbol (codes ")") ∷ []) rest (at_next one) in
       rw (no_signs n sign i (omega arith) (name_not_symbol (codes "-") refl at) (name_not_symbol (codes "+") refl at), at_kind at, at_sees (codes "(") one, at_spelling at) (
       runs_where (is_short name) _ _ _ (rw (open_run b (next i), opens_arguments (next (next i)) vs (a_symbol (codes ")") ∷ rest) two) (arguments_run b reads vs (left (next (next i))) rest (next (next i)) two (omega arith))))
-  unary_run zero reads (tree.in_brackets v) n sign rest i at last few = none_meant
   unary_run (suc b) reads (tree.in_brackets v) n sign rest i at last few =
       let some = some_left at in
       rw (no_signs n sign i (omega arith) (at_sees (codes "-") at) (at_sees (codes "+") at), at_kind at, at_sees (codes "(") at, open_run b i) (
@@ -280,6 +261,7 @@ mutual
   unary_run b reads (tree.positive u) zero sign rest i at last few = let some = some_left at in absurd (omega arith)
   unary_run b reads (tree.positive u) (suc n) sign rest i at last few =
       rw (plus_sign n sign i (at_sees (codes "-") at) (at_sees (codes "+") at)) (unary_run b reads u n sign rest (next i) (at_next at) last (fewer at (at_next at) few (omega arith)))
+  unary_run zero reads _ n sign rest i at last few = none_meant
 
   arguments_run : (b : ℕ) (reads : Accesses) (vs : tree.Arguments) (n : ℕ) (rest : List Word) (i : Input) → At i (arguments_words vs ++ (a_symbol (codes ")") ∷ rest)) → left i ≤ n
       → Runs (λ a. a) (rule.arguments (rule.inside (suc b)) n reads i) rest (arguments_means b reads vs (bare i))
@@ -291,8 +273,3 @@ mutual
       let more : List Word = arguments_words vs ++ (a_symbol (codes ")") ∷ rest) in
       runs_then (rule.inside (suc b) reads i) _ (value_means b reads v (bare i)) _ (value_run b reads v (a_symbol (codes ",") ∷ more) i (at_assoc (value_words v) (a_symbol (codes ",") ∷ arguments_words vs) (a_symbol (codes ")") ∷ rest) at) (record { plus = refl; minus = refl; times = refl; slash = refl; percent = refl; last = record { bracket = refl; paren = refl } })) (λ r at1.
       rw (at_sees (codes ",") at1) (arguments_run b r.0 vs n rest (next r.1) (at_next at1) (fewer at (at_next at1) few (omega (arith, longer (value_words v) (a_symbol (codes ",") ∷ arguments_words vs) (a_symbol (codes ")") ∷ rest))))))
-
--- a value, where so many brackets may still be opened
-pub value_read : (b : ℕ) (reads : Accesses) (v : tree.Value) (rest : List Word) (i : Input) → At i (value_words v ++ rest) → EndsValue rest → Runs (λ a. a) (rule.value b reads i) rest (value_means b reads v (bare i))
-unfolding rule.value
-value_read b reads v rest i at ends = value_run b reads v rest i at ends

@@ -3,7 +3,7 @@ use Rattle.std.proofs.Common.{◌≡◌, ℕ, zero, suc, Bool, true, false, not,
 use Rattle.std.specs.Prelude.{◌&&◌, ◌||◌, nat_lt, if◌then◌else◌, ℤ, pos, Ok, codes}
 use Rattle.c_tokens.specs.declared.token.TokenKind.TheVariants as token
 use Rattle.c_reading.specs.declared.named.Kind.{Kind}
-use Rattle.c_reading.specs.declared.named.Kind.TheVariants.{Parameter, OpenLoop, ClosedLoop, Array}
+use Rattle.c_reading.specs.declared.named.Kind.TheVariants.{ClosedLoop, Array}
 use Rattle.c_reading.specs.Input.{Input, Rule, kind, spelling, next, sees, left, place, is_name_kind, is_number_kind}
 use Rattle.c_reading.specs.Numbers.{is_integer, value_from, combined, constant_of, zeros}
 use Rattle.c_reading.specs.Affine as rule
@@ -32,10 +32,9 @@ Allowed (Some star) has_name = has_name ≡ false
 slot_by_sound : (i : Input) (k : Option Kind) → AreLexical (words i) → is_name_kind (kind i) ≡ true → Reads (rule.slot_by k i) (NamedAs i (mean.slot_by (spelling i) k))
 unfolding rule.new_parameter with_name next
 slot_by_sound i None g is = gives_if _ _ _ (λ few. (took_as _ refl (took_name i g is), rw few refl))
-slot_by_sound i (Some (Parameter k)) g is = gives (took_name i g is, refl)
-slot_by_sound i (Some (OpenLoop depth)) g is = gives (took_name i g is, refl)
 slot_by_sound i (Some ClosedLoop) g is = fails
 slot_by_sound i (Some (Array number subscripts)) g is = fails
+slot_by_sound i (Some _) g is = gives (took_name i g is, refl)
 
 -- a name that was read means its place
 pub slot_sound : (i : Input) → AreLexical (words i) → is_name_kind (kind i) ≡ true → Reads (rule.slot i) (NamedAs i (mean.slot (spelling i)))
@@ -244,12 +243,9 @@ module _ (b : ℕ) (br : Option ℕ → Rule Affine)
   affine_by_sound star i g = reads_then (rule.term br (place i) star i) _ (term_sound (place i) star i g) (λ p t.
       reads_map (sums_sound (place i) star (left p.1) p.0 p.1 t.1.lexical t.3) (λ q r. (tree.sum t.0 r.0, took_then t.1 r.1, means_then _ _ t.2 r.2, r.3)))
 
--- the symbol that closes an expression
-abbrev pub ClosedSound : List ℕ → Affine → Input → Affine × Input → Type 0
-ClosedSound word a i q = Took i (a_symbol word ∷ []) q.1 × (form_of q.0 ≡ form_of a) × (bare q.1 ≡ bare i)
-
 -- the symbol was taken that closes an expression
-pub closed_by_sound : (word : List ℕ) (a : Affine) (i : Input) → spelled_kind word ≡ token.Symbol → AreLexical (words i) → Reads (rule.closed_by word a i) (ClosedSound word a i)
+pub closed_by_sound : (word : List ℕ) (a : Affine) (i : Input) → spelled_kind word ≡ token.Symbol → AreLexical (words i)
+    → Reads (rule.closed_by word a i) (λ q. Took i (a_symbol word ∷ []) q.1 × (form_of q.0 ≡ form_of a) × (bare q.1 ≡ bare i))
 unfolding rule.closed_by next
 closed_by_sound word a i symbol g = gives_if _ _ _ (λ is. (took_symbol word symbol i g is, refl, refl))
 

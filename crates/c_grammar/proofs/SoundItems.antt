@@ -4,7 +4,7 @@ use Rattle.std.specs.Prelude.{◌||◌, ℤ, pos, Ok, codes, nat_le, Err, option
 use Rattle.c_tokens.specs.declared.token.TokenKind.{TokenKind}
 use Rattle.c_tokens.specs.declared.token.TokenKind.TheVariants as token
 use Rattle.c_reading.specs.declared.named.Kind.{Kind}
-use Rattle.c_reading.specs.declared.named.Kind.TheVariants.{Parameter, OpenLoop, ClosedLoop, Array}
+use Rattle.c_reading.specs.declared.named.Kind.TheVariants.{OpenLoop, ClosedLoop}
 use Rattle.c_reading.specs.declared.lines.Loop.{Loop}
 use Rattle.c_reading.specs.Input.{Input, and_then, kind, spelling, next, sees, place, is_name_kind, Rule, left, Outcome}
 use Rattle.std.proofs.lemmas.List.{append_assoc}
@@ -12,7 +12,6 @@ use Rattle.c_reading.specs.Numbers.{combined, zeros, most_loops}
 use Rattle.c_reading.specs.Affine.{kind_of, number_of, with_name, affine, closed_by, slot}
 use Rattle.c_reading.specs.Values.{expect, value}
 use Rattle.c_reading.specs.Items as rule
-use Rattle.c_reading.proofs.TokenKinds.{name_kind_is}
 use Rattle.c_grammar.specs.Words.{Word, a_name, a_number, a_symbol, a_keyword, program_end, word_of, line_end}
 use Rattle.c_grammar.specs.Affine.{affine_words}
 use Rattle.c_grammar.specs.Affine as affine_tree
@@ -20,9 +19,9 @@ use Rattle.c_grammar.specs.Item as tree
 use Rattle.c_grammar.specs.Item.{step_words, bound_word, bounds_words, header_words, assigner_word, assign_words, item_words, items_words}
 use Rattle.c_grammar.specs.Meaning as mean
 use Rattle.c_grammar.specs.Meaning.{Names, Form, affine_means, header_means, assign_means, statement_means, item_means, items_means, parameters_mean, compares_mean, lines_mean, whole_means, text_means}
-use Rattle.c_grammar.proofs.Steps.{Passed, one_less, words, bare, spelled_kind, AreLexical, Took, IsPlain, names, numbers, keywords, symbols, took_then, took_symbol, took_word, took_name, took_as, kind_spelled, Reads, fails, gives, gives_if, reads_map, reads_then, reads_given, reads_if, bool_cases, means_then, means_given, class, Spells, SpellsUpTo, took_none, at_end, same_ok, took_line_end, took_kind, parameters_is, assumptions_is, NamedAs}
+use Rattle.c_grammar.proofs.Steps.{Passed, one_less, words, bare, spelled_kind, AreLexical, Took, is_plain, took_then, took_symbol, took_word, took_name, took_as, kind_spelled, Reads, fails, gives, gives_if, reads_map, reads_then, reads_given, reads_if, bool_cases, means_then, means_given, class, Spells, SpellsUpTo, took_none, name_kind_is, kind_is, end_is, end_words, same_ok, took_line_end, took_kind, parameters_is, assumptions_is, NamedAs}
 use Rattle.c_grammar.proofs.SoundAffine.{form_of, affine_sound, closed_by_sound, slot_sound}
-use Rattle.c_grammar.proofs.SoundValues.{expect_sound, open_bracket_sound, value_sound, access_sound, compare_from_sound}
+use Rattle.c_grammar.proofs.SoundValues.{WordSound, word_sound, open_bracket_sound, value_sound, access_sound, compare_from_sound}
 use Rattle.c_reading.specs.declared.lines.Line.TheVariants.{Begin}
 use Rattle.c_reading.specs.Refs.{access, with_kind}
 use Rattle.c_reading.specs.Items.{most_statements, first_reads, is_array, with_line, is_end, all_items}
@@ -46,16 +45,11 @@ loop_name_by_sound : (i : Input) (k : Option Kind) → AreLexical (words i) → 
 unfolding rule.new_loop with_name next
 loop_name_by_sound i None g is = gives_if _ _ _ (λ short. (took_as _ refl (took_name i g is), rw short refl))
 loop_name_by_sound i (Some ClosedLoop) g is = loop_again_sound i (number_of (spelling i) i) refl g is
-loop_name_by_sound i (Some (Parameter k)) g is = fails
-loop_name_by_sound i (Some (OpenLoop depth)) g is = fails
-loop_name_by_sound i (Some (Array number count)) g is = fails
-
--- a loop's name was taken that means this number
-abbrev LoopNameSound : Input → ℕ × Input → Type 0
-LoopNameSound i q = Took i (a_name (spelling i) ∷ []) q.1 × (mean.loop_name (spelling i) (bare i) ≡ Some (q.0, bare q.1)) × (is_name_kind (kind i) ≡ true)
+loop_name_by_sound i (Some _) g is = fails
 
 -- a loop's name that was read is one
-loop_name_sound : (i : Input) → AreLexical (words i) → Reads (rule.loop_name i) (LoopNameSound i)
+loop_name_sound : (i : Input) → AreLexical (words i)
+    → Reads (rule.loop_name i) (λ q. Took i (a_name (spelling i) ∷ []) q.1 × (mean.loop_name (spelling i) (bare i) ≡ Some (q.0, bare q.1)) × (is_name_kind (kind i) ≡ true))
 unfolding rule.loop_name mean.loop_name kind_of
 loop_name_sound i g = reads_if (is_name_kind (kind i)) (λ is. reads_map (loop_name_by_sound i (kind_of (spelling i) i) g is) (λ q n. (n.0, n.1, is))) (λ _. fails)
 
@@ -67,23 +61,10 @@ comparison_sound i g =
     reads_if (sees (codes "<=") i) (λ is. gives (false, took_symbol (codes "<=") refl i g is, refl, refl)) (λ _.
     reads_if (sees (codes ">") i || sees (codes ">=") i) (λ _. fails) (λ _. fails)))
 
--- a word that has to follow
-abbrev WordSound : TokenKind → List ℕ → Input → Unit {0} × Input → Type 0
-WordSound k word i q = Took i (record { kind = k; bytes = word } ∷ []) q.1 × (bare q.1 ≡ bare i)
-
--- a word that had to follow is spelled
-word_sound : (k : TokenKind) → IsPlain k → (word : List ℕ) → spelled_kind word ≡ class k → (i : Input) → AreLexical (words i) → Reads (expect word i) (WordSound k word i)
-unfolding expect next
-word_sound k plain word is i g = gives_if _ _ _ (λ seen. (took_word word k plain is i g seen, refl))
-
 -- a word of a step is spelled
-in_step_sound : (start : ℕ) (k : TokenKind) → IsPlain k → (word : List ℕ) → spelled_kind word ≡ class k → (i : Input) → AreLexical (words i) → Reads (rule.expect_in_step start word i) (WordSound k word i)
+in_step_sound : (start : ℕ) (k : TokenKind) → is_plain k ≡ true → (word : List ℕ) → spelled_kind word ≡ class k → (i : Input) → AreLexical (words i) → Reads (rule.expect_in_step start word i) (WordSound k word i)
 unfolding rule.expect_in_step next
 in_step_sound start k plain word is i g = gives_if _ _ _ (λ seen. (took_word word k plain is i g seen, refl))
-
--- a step was taken
-abbrev StepSound : List ℕ → Input → Unit {0} × Input → Type 0
-StepSound name i q = (s : tree.Step) × Took i (step_words name s) q.1 × (bare q.1 ≡ bare i)
 
 -- what stands behind a step's name is spelled
 behind_name_sound : (start : ℕ) (name : List ℕ) (i : Input) → spelled_kind name ≡ token.Name → AreLexical (words i)
@@ -93,27 +74,28 @@ behind_name_sound start name i named g =
     reads_if (sees (codes "++") i) (λ is. gives (tree.name_plus_plus, a_symbol (codes "++") ∷ [], refl, took_symbol (codes "++") refl i g is, refl)) (λ _.
     reads_if (sees (codes "+=") i) (λ is.
     let t = took_symbol (codes "+=") refl i g is in
-    reads_map (in_step_sound start token.Number numbers (codes "1") refl (next i) t.lexical) (λ q o. (tree.name_plus_one, a_symbol (codes "+=") ∷ a_number (codes "1") ∷ [], refl, took_then t o.0, o.1))) (λ _.
+    reads_map (in_step_sound start token.Number refl (codes "1") refl (next i) t.lexical) (λ q o. (tree.name_plus_one, a_symbol (codes "+=") ∷ a_number (codes "1") ∷ [], refl, took_then t o.0, o.1))) (λ _.
     reads_if (sees (codes "=") i) (λ is.
     let t = took_symbol (codes "=") refl i g is in
     reads_then (and_then (rule.expect_in_step start name (next i)) (λ _. rule.expect_in_step start (codes "+"))) _ {Q = λ (p : Unit {0} × Input). Took (next i) (a_name name ∷ a_symbol (codes "+") ∷ []) p.1 × (bare p.1 ≡ bare i)}
-    (reads_then (rule.expect_in_step start name (next i)) _ (in_step_sound start token.Name names name named (next i) t.lexical) (λ r n.
-    reads_map (in_step_sound start token.Symbol symbols (codes "+") refl r.1 n.0.lexical) (λ p s. (took_then n.0 s.0, s.1 ∙ n.1)))) (λ p s.
-    reads_map (in_step_sound start token.Number numbers (codes "1") refl p.1 s.0.lexical) (λ q o.
+    (reads_then (rule.expect_in_step start name (next i)) _ (in_step_sound start token.Name refl name named (next i) t.lexical) (λ r n.
+    reads_map (in_step_sound start token.Symbol refl (codes "+") refl r.1 n.0.lexical) (λ p s. (took_then n.0 s.0, s.1 ∙ n.1)))) (λ p s.
+    reads_map (in_step_sound start token.Number refl (codes "1") refl p.1 s.0.lexical) (λ q o.
     (tree.name_is_name_plus_one, a_symbol (codes "=") ∷ a_name name ∷ a_symbol (codes "+") ∷ a_number (codes "1") ∷ [], refl, took_then t (took_then s.0 o.0), o.1 ∙ s.1))))
     (λ _. fails)))
 
 -- a step that was read is spelled
-step_sound : (name : List ℕ) (i : Input) → spelled_kind name ≡ token.Name → AreLexical (words i) → Reads (rule.step name i) (StepSound name i)
+step_sound : (name : List ℕ) (i : Input) → spelled_kind name ≡ token.Name → AreLexical (words i)
+    → Reads (rule.step name i) (λ q. (s : tree.Step) × Took i (step_words name s) q.1 × (bare q.1 ≡ bare i))
 unfolding rule.step next spelled_kind
 step_sound name i named g = reads_if (sees name i)
     (λ is.
-    let t = took_word name token.Name names named i g is in
+    let t = took_word name token.Name refl named i g is in
     reads_map (behind_name_sound (place i) name (next i) named t.lexical) (λ q s. (s.0, subst (λ (ws : List Word). Took i ws q.1) (sym s.2) (took_then t s.3), s.4)))
     (λ _. reads_if (sees (codes "++") i)
     (λ is.
     let t = took_symbol (codes "++") refl i g is in
-    reads_map (in_step_sound (place i) token.Name names name named (next i) t.lexical) (λ q n. (tree.plus_plus_name, took_then t n.0, n.1)))
+    reads_map (in_step_sound (place i) token.Name refl name named (next i) t.lexical) (λ q n. (tree.plus_plus_name, took_then t n.0, n.1)))
     (λ _. fails))
 
 -- a bound with small numbers was given
@@ -129,7 +111,7 @@ BoundSound b ws gives i q = (a : affine_tree.Affine) × (f : Form) × Took i (ws
 lower_sound : (b : ℕ) (i : Input) → AreLexical (words i) → Reads (rule.lower_bound b i) (BoundSound b (a_symbol (codes "=") ∷ []) (λ ns row. ns ≡ row) i)
 unfolding rule.lower_bound BoundSound spelled_kind
 lower_sound b i g =
-    reads_then (expect (codes "=") i) _ (expect_sound (codes "=") i refl g) (λ x s.
+    reads_then (expect (codes "=") i) _ (word_sound token.Symbol refl (codes "=") refl i g) (λ x s.
     reads_then (affine b None x.1) _ (affine_sound b None x.1 s.0.lexical) (λ p a.
     reads_then (closed_by (codes ";") p.0 p.1) _ (closed_by_sound (codes ";") p.0 p.1 refl a.1.lexical) (λ r c. gives (
       a.0,
@@ -144,7 +126,7 @@ upper_sound : (b : ℕ) (name : List ℕ) (i : Input) → spelled_kind name ≡ 
     → Reads (rule.upper_bound b name i) (λ q. (x : Bool) × BoundSound b (a_name name ∷ bound_word x ∷ []) (λ ns row. mean.upper_bound x ns ≡ Some row) i q)
 unfolding rule.upper_bound rule.upper_from rule.bound BoundSound spelled_kind
 upper_sound b name i named g =
-    reads_then (expect name i) _ (word_sound token.Name names name named i g) (λ n s.
+    reads_then (expect name i) _ (word_sound token.Name refl name named i g) (λ n s.
     reads_then (rule.comparison n.1) _ (comparison_sound n.1 s.0.lexical) (λ r c.
     reads_then (affine b None r.1) _ (affine_sound b None r.1 c.1.lexical) (λ p a.
     reads_given (rule.bound (place r.1) r.0 p.0.numbers) _ p.1 (λ numbers e.
@@ -165,7 +147,7 @@ header_of_sound b has_int i g =
     reads_then (rule.lower_bound b p.1) _ (lower_sound b p.1 n.0.lexical) (λ lower l.
     reads_then (rule.upper_bound b (spelling i) lower.1) _ (upper_sound b (spelling i) lower.1 named l.2.lexical) (λ upper u.
     reads_then (rule.step (spelling i) upper.1) _ (step_sound (spelling i) upper.1 named u.1.2.lexical) (λ r s.
-    reads_then (expect (codes ")") r.1) _ (expect_sound (codes ")") r.1 refl s.1.lexical) (λ c x. gives (
+    reads_then (expect (codes ")") r.1) _ (word_sound token.Symbol refl (codes ")") refl r.1 s.1.lexical) (λ c x. gives (
       record { has_int = has_int; name = spelling i; lower = l.0; excludes = u.0; upper = u.1.0; step = s.0 },
       refl,
       subst (λ (ws : List Word). Took i ws c.1) (simp append_assoc) (took_then n.0 (took_then l.2 (took_then u.1.2 (took_then s.1 x.0)))),
@@ -195,11 +177,11 @@ pub header_sound : (b : ℕ) (i : Input) → AreLexical (words i) → sees (code
 unfolding rule.header rule.for_bracket rule.skip_int next spelled_kind
 header_sound b i g seen = reads_then (rule.for_bracket b i) _ {Q = λ (p : Unit {0} × Input). (d : ℕ) × (b ≡ suc d) × (p.1 ≡ next (next i)) × (sees (codes "(") (next i) ≡ true)}
     (reads_if (sees (codes "(") (next i)) (λ is. reads_map (open_bracket_sound b (next i)) (λ p o. (o.0, o.1, o.2, is))) (λ _. fails)) (λ p o.
-    let t = took_word (codes "for") token.Word keywords refl i g seen in
+    let t = took_word (codes "for") token.Word refl refl i g seen in
     let u = took_symbol (codes "(") refl (next i) t.lexical o.3 in
     let less : b - 1 ≡ o.0 = ap (λ (n : ℕ). n - 1) o.1 ∙ one_less o.0 in
     rw (o.2, less) (bool_cases (sees (codes "int") (next (next i))) (λ int.
-    let w = took_word (codes "int") token.Word keywords refl (next (next i)) u.lexical int in
+    let w = took_word (codes "int") token.Word refl refl (next (next i)) u.lexical int in
     rw int (reads_map (header_of_sound o.0 true (next (next (next i))) w.lexical) (λ q h. header_joined b o.0 true i (next (next (next i))) q o.1 (took_then t (took_then u w)) refl h)))
     (λ none. rw none (reads_map (header_of_sound o.0 false (next (next i)) u.lexical) (λ q h. header_joined b o.0 false i (next (next i)) q o.1 (took_then t u) refl h)))))
 
@@ -215,12 +197,9 @@ operator_sound i g =
     bool_cases (sees (codes "*=") i) (λ is. rw is (gives (tree.multiplies, took_symbol (codes "*=") refl i g is, refl, refl))) (λ no3. rw no3 (
     gives_if (sees (codes "/=") i) _ _ (λ is. (tree.divides, took_symbol (codes "/=") refl i g is, refl, refl)))))))))
 
--- an assignment was taken that means this
-abbrev AssignSound : ℕ → Input → Unit {0} × Input → Type 0
-AssignSound b i q = (a : tree.Assign) × Took i (assign_words a) q.1 × (assign_means b a (bare i) ≡ Some (tt, bare q.1)) × (a.target.name ≡ spelling i)
-
 -- an assignment that was read is spelled
-assign_sound : (b : ℕ) (i : Input) → AreLexical (words i) → is_name_kind (kind i) ≡ true → Reads (rule.assign b i) (AssignSound b i)
+assign_sound : (b : ℕ) (i : Input) → AreLexical (words i) → is_name_kind (kind i) ≡ true
+    → Reads (rule.assign b i) (λ q. (a : tree.Assign) × Took i (assign_words a) q.1 × (assign_means b a (bare i) ≡ Some (tt, bare q.1)) × (a.target.name ≡ spelling i))
 unfolding rule.assign rule.add_statement with_line assign_means
 assign_sound b i g is =
     reads_then (access b i) _ (access_sound b i g is) (λ p w.
@@ -241,7 +220,7 @@ statement_sound more b i g is =
     reads_then (and_then (rule.assign b i) (λ _. rule.count_statements (i.statements + 1))) _ {Q = λ (p : Unit {0} × Input). (a : tree.Assign) × Took i (assign_words a) p.1 × (statement_means b a (bare i) ≡ Some (tt, bare p.1))}
     (reads_then (rule.assign b i) _ (assign_sound b i g is) (λ r a.
     gives (a.0, took_as (record r.1 { statements = i.statements + 1 }) refl a.1, rw (ap (λ (n : List ℕ). is_array (kind_of n (bare i))) a.3 ∙ array, few) (means_then _ _ a.2 refl)))) (λ p a.
-    reads_map (expect_sound (codes ";") p.1 refl a.1.lexical) (λ q c. (tree.statement a.0, took_then a.1 c.0, a.2 ∙ ap (λ (s : Names). Some (tt, s)) (sym c.1))))))))
+    reads_map (word_sound token.Symbol refl (codes ";") refl p.1 a.1.lexical) (λ q c. (tree.statement a.0, took_then a.1 c.0, a.2 ∙ ap (λ (s : Names). Some (tt, s)) (sym c.1))))))))
     (λ other. rw other fails)
 
 -- ---- loops and blocks
@@ -304,15 +283,12 @@ unfolding rule.loops
 loops_sound zero b i g is = fails
 loops_sound (suc more) b i g is = for_loop_sound more b (rule.item_over (rule.loops more) b) (item_over_sound more (rule.loops more) (loops_sound more) b) i g is
 
--- items up to the closing line
-abbrev pub ItemsSound : Input → Unit {0} × Input → Type 0
-ItemsSound i q = (ts : tree.Items) × Took i (items_words ts) q.1 × (words q.1 ≡ program_end ∷ []) × (items_means most_loops 64 ts (bare i) ≡ Some (tt, bare q.1))
-
 -- items that were read are spelled
-items_sound : (n : ℕ) (i : Input) → AreLexical (words i) → Reads (rule.items n i) (ItemsSound i)
+items_sound : (n : ℕ) (i : Input) → AreLexical (words i)
+    → Reads (rule.items n i) (λ q. (ts : tree.Items) × Took i (items_words ts) q.1 × (words q.1 ≡ program_end ∷ []) × (items_means most_loops 64 ts (bare i) ≡ Some (tt, bare q.1)))
 unfolding rule.items rule.item items_means
 items_sound zero i g = fails
-items_sound (suc n) i g = reads_if (is_end (kind i)) (λ is. gives (tree.item_end, took_none g, at_end i g is, refl)) (λ _.
+items_sound (suc n) i g = reads_if (is_end (kind i)) (λ is. gives (tree.item_end, took_none g, end_words (words i) g (sym (kind_is i) ∙ end_is (kind i) is), refl)) (λ _.
     reads_then (rule.item most_loops 64 i) _ (item_over_sound most_loops (rule.loops most_loops) (loops_sound most_loops) 64 i g) (λ p t.
     reads_map (items_sound n p.1 t.1.lexical) (λ q r. (tree.item t.0 r.0, took_then t.1 r.1, r.2, means_then _ _ t.2 r.3))))
 
@@ -350,12 +326,9 @@ directives_sound (suc n) h i g = reads_if (is_parameters (kind i))
     reads_map (directives_sound n (record { assumed = true; rows = p.0 }) p.1 s.3.lexical) (λ q r. (text_tree.assumptions (spelling i) s.0 r.0, took_then t (took_then s.2 (took_then s.3 r.1)), means_then _ _ s.4 r.2))))
     (λ _. gives (text_tree.line_none, took_none g, refl)))
 
--- a text's words are spelled, and mean this
-abbrev TextSound : Input → Head × Input → Type 0
-TextSound i q = (t : Text) × (words i ≡ text_words t) × (whole_means t (bare i) ≡ Some (q.0, bare q.1))
-
 -- a text's words that were read are spelled
-text_rule_sound : (i : Input) → AreLexical (words i) → Reads (whole.text_rule i) (TextSound i)
+text_rule_sound : (i : Input) → AreLexical (words i)
+    → Reads (whole.text_rule i) (λ q. (t : Text) × (words i ≡ text_words t) × (whole_means t (bare i) ≡ Some (q.0, bare q.1)))
 unfolding whole.text_rule head_rule.head whole_means all_items
 text_rule_sound i g =
     let h : Head = record { assumed = false; rows = [] } in

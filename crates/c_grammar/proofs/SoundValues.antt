@@ -17,8 +17,9 @@ use Rattle.c_grammar.specs.Affine as affine_tree
 use Rattle.c_grammar.specs.Affine.{affine_words, comparison_word, compare_words, subscripts_words, reference_words, Reference, subscript_end}
 use Rattle.c_grammar.specs.Meaning as mean
 use Rattle.c_grammar.specs.Meaning.{Names, Form, Seen, affine_means, compare_means, subscripts_means, access_from, reference_means, named_means, name_means, value_means, operands_means, unary_means, arguments_means}
-use Rattle.c_grammar.proofs.Steps.{Spells, domain, suc_not_zero, one_less, words, bare, spelled_kind, AreLexical, Took, took_then, took_none, took_symbol, took_name, took_as, plus_none, same_ok, if_ok, Reads, fails, gives, gives_if, reads_map, reads_then, reads_given, bool_cases, means_then, SpellsUpTo, took_number, reads_if}
+use Rattle.c_grammar.proofs.Steps.{Spells, domain, suc_not_zero, one_less, words, bare, spelled_kind, AreLexical, Took, is_plain, class, took_then, took_none, took_symbol, took_word, took_name, took_as, same_ok, if_ok, Reads, fails, gives, gives_if, reads_map, reads_then, reads_given, bool_cases, means_then, SpellsUpTo, took_number, reads_if}
 use Rattle.c_grammar.proofs.SoundAffine.{form_of, affine_sound, closed_by_sound, all_signs_sound, with_signs, with_signs-words}
+use Rattle.c_tokens.specs.declared.token.TokenKind.{TokenKind}
 use Rattle.c_tokens.specs.declared.token.TokenKind.TheVariants as token
 use Rattle.c_reading.specs.Values as rule
 use Rattle.c_reading.specs.Values.{Accesses, most_reads, expect, open_bracket}
@@ -82,16 +83,13 @@ comparison_sound j taken g e =
     if_ok _ _ (sees (codes "<") j) e0 (λ is e1. (affine_tree.below, took_symbol (codes "<") refl j g is, as_taken e1 (record { count = refl; rows = λ start rows a b. with_row_is start rows (pos 1) b a }))) (λ _ e0.
     if_ok _ _ (sees (codes "==") j) e0 (λ is e1. (affine_tree.equal, took_symbol (codes "==") refl j g is, as_taken e1 (record { count = refl; rows = λ start rows a b. with_both_is start rows a b }))) (λ _ e0. absurd cc)))))
 
--- a compare was taken that means these rows
-abbrev pub CompareSound : Rows → Input → Compared × Input → Type 0
-CompareSound rows i q = (c : affine_tree.Compare) × Took i (compare_words c) q.1 × (compare_means rows c (bare i) ≡ Some (q.0.rows, bare q.1))
-
 -- rows that aren't too many are meant
 pub few_rows : (rows all : Rows) (c : affine_tree.Comparison) (o : Option Rows) → nat_le (length rows + mean.row_count c) most_rows ≡ true → o ≡ Some all → mean.if_rows rows c o ≡ Some all
 few_rows rows all c o few e = rw few e
 
 -- a compare that was read is spelled, whatever place its faults have
-pub compare_from_sound : (start : ℕ) (rows : Rows) (i : Input) → AreLexical (words i) → Reads (compare_rule.compare_from start rows i) (CompareSound rows i)
+pub compare_from_sound : (start : ℕ) (rows : Rows) (i : Input) → AreLexical (words i)
+    → Reads (compare_rule.compare_from start rows i) (λ q. (c : affine_tree.Compare) × Took i (compare_words c) q.1 × (compare_means rows c (bare i) ≡ Some (q.0.rows, bare q.1)))
 unfolding compare_rule.compare_from compare_means next
 compare_from_sound start rows i g =
     reads_then (affine most_brackets None i) _ (affine_sound most_brackets None i g) (λ p a.
@@ -109,18 +107,13 @@ compare_from_sound start rows i g =
 abbrev pub as_seen : domain (refs.access_by 0 0) → Seen
 as_seen a = record { array = a.array; subscripts = a.subscripts }
 
--- an array's name was taken that means this, by its kind
-abbrev ArraySound : Input → Option Kind → domain (refs.access_by 0 0) × Input → Type 0
-ArraySound i k q = Took i (a_name (spelling i) ∷ []) q.1 × (mean.array_by (spelling i) k (bare i) ≡ Some (as_seen q.0, bare q.1))
-
 -- an array's name that was read means one
-array_by_sound : (i : Input) (k : Option Kind) → AreLexical (words i) → is_name_kind (kind i) ≡ true → Reads (refs.array_by k i) (ArraySound i k)
+array_by_sound : (i : Input) (k : Option Kind) → AreLexical (words i) → is_name_kind (kind i) ≡ true
+    → Reads (refs.array_by k i) (λ q. Took i (a_name (spelling i) ∷ []) q.1 × (mean.array_by (spelling i) k (bare i) ≡ Some (as_seen q.0, bare q.1)))
 unfolding refs.new_array with_name next
 array_by_sound i None g is = gives_if _ _ _ (λ few. (took_as _ refl (took_name i g is), rw few refl))
-array_by_sound i (Some (Parameter k)) g is = fails
-array_by_sound i (Some (OpenLoop depth)) g is = fails
-array_by_sound i (Some ClosedLoop) g is = fails
 array_by_sound i (Some (Array number count)) g is = gives (took_name i g is, refl)
+array_by_sound i (Some _) g is = fails
 
 -- a subscript behind its `[`
 SubscriptSound : ℕ → Input → List ℤ × Input → Type 0
@@ -153,14 +146,14 @@ subscripts_sound (suc b) (suc n) rows i g =
     (λ other. rw other (gives (affine_tree.subscript_end, took_none g, refl)))
 
 -- what a reference's subscripts decide
-access_by_sound : (there at number : ℕ) (rows : Rows) (i : Input) (o : Option ℕ) → AreLexical (words i)
+access_by_sound : (there at number : ℕ) (rows : Rows) (i : Input) (o : Option ℕ)
     → Reads (elim o as (λ _. Outcome Access) [
       | None ↦ Ok (record { array = number; subscripts = rows }, with_kind at (Array number (length rows)) i)
       | Some count ↦ if length rows == count then Ok (record { array = number; subscripts = rows }, i) else fault_at 8 there i
-    ]) (λ q. Took i [] q.1 × (mean.access_by at rows number o (bare i) ≡ Some (q.0, bare q.1)))
+    ]) (λ q. (words q.1 ≡ words i) × (mean.access_by at rows number o (bare i) ≡ Some (q.0, bare q.1)))
 unfolding with_kind
-access_by_sound there at number rows i None g = gives (took_as _ refl (took_none g), refl)
-access_by_sound there at number rows i (Some count) g = gives_if _ _ _ (λ same. (took_none g, rw same refl))
+access_by_sound there at number rows i None = gives (refl, refl)
+access_by_sound there at number rows i (Some count) = gives_if _ _ _ (λ same. (refl, rw same refl))
 
 -- the reference whose name stands there was taken, which means this
 abbrev pub ReferredAs : {A : Type 0} → Input → (affine_tree.Reference → mean.Meaning A) → A × Input → Type 0
@@ -172,26 +165,22 @@ unfolding refs.access refs.access_from refs.access_by refs.all_subscripts refere
 access_sound b i g is =
     reads_then (refs.array_by (kind_of (spelling i) i) i) _ (array_by_sound i (kind_of (spelling i) i) g is) (λ p a.
     reads_then (refs.subscripts b (left p.1) [] p.1) _ (subscripts_sound b (left p.1) [] p.1 a.0.lexical) (λ r ss.
-    reads_map (access_by_sound (place i) (length i.names) p.0.array r.0 r.1 p.0.subscripts ss.1.lexical) (λ q f.
-    (record { name = spelling i; subscripts = ss.0 }, took_then a.0 (plus_none (took_then ss.1 f.0)), means_then _ _ a.1 (means_then _ _ ss.2 f.1), refl))))
+    reads_map (access_by_sound (place i) (length i.names) p.0.array r.0 r.1 p.0.subscripts) (λ q f.
+    (record { name = spelling i; subscripts = ss.0 }, took_then a.0 (took_as q.1 f.0 ss.1), means_then _ _ a.1 (means_then _ _ ss.2 f.1), refl))))
 
 -- ---- steps
 
--- a symbol was taken
-abbrev pub ExpectSound : List ℕ → Input → Unit {0} × Input → Type 0
-ExpectSound word i q = Took i (a_symbol word ∷ []) q.1 × (bare q.1 ≡ bare i)
+-- a word was taken
+abbrev pub WordSound : TokenKind → List ℕ → Input → Unit {0} × Input → Type 0
+WordSound k word i q = Took i (record { kind = k; bytes = word } ∷ []) q.1 × (bare q.1 ≡ bare i)
 
--- a symbol that had to follow is spelled
-pub expect_sound : (word : List ℕ) (i : Input) → spelled_kind word ≡ token.Symbol → AreLexical (words i) → Reads (expect word i) (ExpectSound word i)
+-- a word that had to follow is spelled
+pub word_sound : (k : TokenKind) → is_plain k ≡ true → (word : List ℕ) → spelled_kind word ≡ class k → (i : Input) → AreLexical (words i) → Reads (expect word i) (WordSound k word i)
 unfolding expect next
-expect_sound word i symbol g = gives_if _ _ _ (λ is. (took_symbol word symbol i g is, refl))
-
--- a bracket was opened, where one more could be
-abbrev pub OpenSound : ℕ → Input → Unit {0} × Input → Type 0
-OpenSound b i q = (d : ℕ) × (b ≡ suc d) × (q.1 ≡ next i)
+word_sound k plain word is i g = gives_if _ _ _ (λ seen. (took_word word k plain is i g seen, refl))
 
 -- a bracket that was opened could be
-pub open_bracket_sound : (b : ℕ) (i : Input) → Reads (open_bracket b i) (OpenSound b i)
+pub open_bracket_sound : (b : ℕ) (i : Input) → Reads (open_bracket b i) (λ q. (d : ℕ) × (b ≡ suc d) × (q.1 ≡ next i))
 unfolding open_bracket
 open_bracket_sound zero i = fails
 open_bracket_sound (suc d) i = rw (suc_not_zero d) (gives (d, refl, refl))
@@ -215,11 +204,10 @@ plain_sound b reads k i plain g is =
 
 -- a name that isn't called is a reference, by its kind
 name_by_sound : (b : ℕ) (reads : Accesses) (k : Option Kind) (i : Input) → AreLexical (words i) → is_name_kind (kind i) ≡ true → Reads (rule.name_by b reads k i) (ReferredAs i (λ r. named_means b reads r k))
-name_by_sound b reads None i g is = one_read_sound b reads i g is
 name_by_sound b reads (Some (Parameter k)) i g is = plain_sound b reads (Some (Parameter k)) i (λ r. refl) g is
 name_by_sound b reads (Some (OpenLoop depth)) i g is = plain_sound b reads (Some (OpenLoop depth)) i (λ r. refl) g is
 name_by_sound b reads (Some ClosedLoop) i g is = fails
-name_by_sound b reads (Some (Array number count)) i g is = one_read_sound b reads i g is
+name_by_sound b reads _ i g is = one_read_sound b reads i g is
 
 -- a name that isn't called is an operand
 name_sound : (b : ℕ) (reads : Accesses) (i : Input) → AreLexical (words i) → is_name_kind (kind i) ≡ true → Reads (rule.name_by b reads (kind_of (spelling i) i) i) (Spells unary_words (unary_means b reads) i)
@@ -280,7 +268,7 @@ module _ (b : ℕ) (inside : Accesses → Rule Accesses)
       (λ seen.
       let t = took_symbol (codes ",") refl p.1 v.1.lexical seen in
       reads_map (arguments_sound d is n p.0 (next p.1) t.lexical) (λ q r. (tree.argument v.0 r.0, r.1, took_then v.1 (took_then t r.2), r.3, means_then _ _ v.2 r.4)))
-      (λ _. reads_then (expect (codes ")") p.1) _ (expect_sound (codes ")") p.1 refl v.1.lexical) (λ r c.
+      (λ _. reads_then (expect (codes ")") p.1) _ (word_sound token.Symbol refl (codes ")") refl p.1 v.1.lexical) (λ r c.
       gives (tree.last_argument v.0, p.1, v.1, c.0, v.2 ∙ ap (λ (s : Names). Some (p.0, s)) (sym c.1)))))
 
   -- a call that was read is an operand
@@ -302,7 +290,7 @@ module _ (b : ℕ) (inside : Accesses → Rule Accesses)
   grouped_sound reads i g seen = reads_then (open_bracket b i) _ (open_bracket_sound b i) (λ p o. rw o.2 (
       let t = took_symbol (codes "(") refl i g seen in
       reads_then (inside reads (next i)) _ (inner o.0 o.1 reads (next i) t.lexical) (λ r v.
-      reads_then (expect (codes ")") r.1) _ (expect_sound (codes ")") r.1 refl v.1.lexical) (λ c x.
+      reads_then (expect (codes ")") r.1) _ (word_sound token.Symbol refl (codes ")") refl r.1 v.1.lexical) (λ c x.
       gives (tree.in_brackets v.0, took_then t (took_then v.1 x.0), group_is b o.0 reads v.0 (bare i) _ o.1 (v.2 ∙ ap (λ (s : Names). Some (r.0, s)) (sym x.1)))))))
 
   -- what stands behind the signs is an operand

@@ -2,23 +2,19 @@
 use Rattle.std.proofs.Common.{◌≡◌, ℕ, suc, ◌<◌, ◌≤◌, Bool, true, false, List, [], ◌∷◌, ◌++◌, length, drop, refl, sym, ap, ◌∙◌, Option, Some, None, subst, arith}
 use Rattle.std.specs.Prelude.{if◌then◌else◌, Ok, Err, bytes_eq}
 use Rattle.std.specs.List.{AllByRecursion}
-use Rattle.std.proofs.lemmas.List.{append_assoc, length-append}
+use Rattle.std.proofs.lemmas.List.{append_assoc, length-append, length-map}
 use Rattle.std.proofs.lemmas.Slice.Eq.{bytes_eq-Decides}
 use Rattle.c_tokens.specs.declared.token.TokenKind.{TokenKind}
 use Rattle.c_tokens.specs.declared.token.TokenKind.TheVariants as token
 use Rattle.c_reading.specs.Input.{Input, Rule, Outcome, and_then, kind, spelling, next, sees, left}
-use Rattle.c_grammar.specs.Words.{Word, a_name, a_number, program_end}
+use Rattle.c_grammar.specs.Words.{Word, word_of, a_name, a_number, program_end}
 use Rattle.c_grammar.specs.Meaning.{Names, Meaning, then_in, given, none}
-use Rattle.c_grammar.proofs.Steps.{words, bare, first, spelled_kind, IsSpelled, kind_is, spelling_is, next_is, left_is, bool_cases}
+use Rattle.c_grammar.proofs.Steps.{words, bare, first, spelled_kind, IsSpelled, kind_is, spelling_is, next_is, bool_cases}
 
 -- these words, whose bytes have their kinds, are left in front of the end of the program
 pub record At (i : Input) (ws : List Word) : Type 0 where
   pub are : words i ≡ ws ++ program_end ∷ []
   pub spelled : AllByRecursion IsSpelled ws
-
--- the rule gives this, and these words are left
-abbrev pub Ran : {A V : Type 0} → (A → V) → Outcome A → List Word → V × Names → Type 0
-Ran {A} {V} view o rest x = (q : A × Input) × (o ≡ Ok q) × At q.1 rest × ◌≡◌ {A = V × Names} (view q.0, bare q.1) x
 
 -- the first word, with the end or without
 first_end : (ws : List Word) → first (ws ++ program_end ∷ []) ≡ first ws
@@ -40,7 +36,7 @@ at_sees {i} {ws} word at = ap (λ (b : List ℕ). bytes_eq b word) (at_spelling 
 
 -- as many tokens are left as words, and the end
 pub at_left : {i : Input} {ws : List Word} → At i ws → left i ≡ suc (length ws)
-at_left {i} {ws} at = omega (arith, left_is i, ap (λ (l : List Word). length l) at.are, length-append ws (program_end ∷ []))
+at_left {i} {ws} at = omega (arith, length-map i.tokens (word_of i.text), ap (λ (l : List Word). length l) at.are, length-append ws (program_end ∷ []))
 
 -- the first word is taken
 pub at_next : {i : Input} {w : Word} {ws : List Word} → At i (w ∷ ws) → At (next i) ws
@@ -127,7 +123,7 @@ same_some e = cc
 
 -- where something is meant of which this holds, the rule gives it, and these words are left
 pub record RunsIf {A V : Type 0} (P : V → Type 0) (view : A → V) (o : Outcome A) (rest : List Word) (m : Option (V × Names)) : Type 0 where
-  pub run : (x : V × Names) → m ≡ Some x → P x.0 → Ran view o rest x
+  pub run : (x : V × Names) → m ≡ Some x → P x.0 → (q : A × Input) × (o ≡ Ok q) × At q.1 rest × ◌≡◌ {A = V × Names} (view q.0, bare q.1) x
 
 -- the same, of all that is meant
 abbrev pub Runs : {A V : Type 0} → (A → V) → Outcome A → List Word → Option (V × Names) → Type 0

@@ -1,8 +1,8 @@
 -- What a rule of the reading takes from the words that are left, and what it leaves.
-use Rattle.std.proofs.Common.{◌≡◌, ℕ, suc, ◌-◌, arith, Bool, true, false, List, [], ◌∷◌, ◌++◌, length, map, drop, refl, sym, ap, ◌∙◌, Option, Some, subst}
+use Rattle.std.proofs.Common.{◌≡◌, ℕ, suc, ◌-◌, arith, Bool, true, false, List, [], ◌∷◌, ◌++◌, map, drop, refl, sym, ap, ◌∙◌, Option, Some, subst}
 use Rattle.std.specs.Prelude.{◌==◌, ◌||◌, if◌then◌else◌, Result, Ok, Err}
 use Rattle.std.specs.List.{list_all, AllByRecursion}
-use Rattle.std.proofs.lemmas.List.{append_assoc, append-nil, drop-map, length-map}
+use Rattle.std.proofs.lemmas.List.{append_assoc, drop-map}
 use Rattle.std.proofs.lemmas.Bool.Decides.{nat_tests}
 use Rattle.std.proofs.lemmas.Slice.Eq.{bytes_eq-Decides}
 use Rattle.c_tokens.specs.declared.token.Token.{Token}
@@ -11,10 +11,9 @@ use Rattle.c_tokens.specs.declared.token.TokenKind.TheVariants as token
 use Rattle.c_tokens.specs.Bytes.{is_space, is_name_start, is_name_byte}
 use Rattle.c_tokens.specs.Pieces.{name_kind, is_keyword, begins_number}
 use Rattle.c_reading.specs.declared.error.ReadFault.{ReadFault}
-use Rattle.c_reading.specs.Input.{Input, Rule, Outcome, and_then, given as rule_given, kind, spelling, next, sees, left, is_name_kind, is_number_kind}
+use Rattle.c_reading.specs.Input.{Input, Rule, Outcome, and_then, given as rule_given, kind, spelling, next, sees, is_name_kind, is_number_kind}
 use Rattle.c_reading.specs.Head.{is_line_end, is_parameters, is_assumptions}
 use Rattle.c_reading.specs.Items.{is_end}
-use Rattle.c_reading.proofs.TokenKinds.{name_kind_is}
 use Rattle.c_grammar.specs.Words.{Word, word_of, program_end, line_end, a_name, a_number, a_symbol}
 use Rattle.c_tokens.specs.Names.{IsWord}
 use Rattle.c_grammar.specs.Meaning.{Names, Meaning, then_in, given}
@@ -81,40 +80,21 @@ pub all_spelled : (ws : List Word) → AreLexical ws → AllByRecursion IsSpelle
 all_spelled [] g = absurd g
 all_spelled (w ∷ ws) g = g.0
 
--- a kind that bytes tell
-pub record IsPlain (k : TokenKind) : Type 0 where
-  pub only : (other : TokenKind) → class other ≡ class k → other ≡ k
-  pub inside : goes_on k ≡ true
+-- whether bytes tell this kind
+abbrev pub is_plain : TokenKind → Bool
+is_plain token.Symbol = true
+is_plain token.Name = true
+is_plain token.Number = true
+is_plain token.Word = true
+is_plain _ = false
 
--- the kinds of these words stand for themselves alone
-only_symbol : (k : TokenKind) → class k ≡ token.Symbol → k ≡ token.Symbol
-only_symbol token.Symbol e = refl
-only_symbol _ e = cc
-
-only_name : (k : TokenKind) → class k ≡ token.Name → k ≡ token.Name
-only_name token.Name e = refl
-only_name _ e = cc
-
-only_number : (k : TokenKind) → class k ≡ token.Number → k ≡ token.Number
-only_number token.Number e = refl
-only_number _ e = cc
-
-only_keyword : (k : TokenKind) → class k ≡ token.Word → k ≡ token.Word
-only_keyword token.Word e = refl
-only_keyword _ e = cc
-
--- bytes tell these kinds
-pub symbols : IsPlain token.Symbol
-symbols = record { only = only_symbol; inside = refl }
-
-pub names : IsPlain token.Name
-names = record { only = only_name; inside = refl }
-
-pub numbers : IsPlain token.Number
-numbers = record { only = only_number; inside = refl }
-
-pub keywords : IsPlain token.Word
-keywords = record { only = only_keyword; inside = refl }
+-- they tell it alone, and words follow behind it
+plain_alone : (k other : TokenKind) → is_plain k ≡ true → class other ≡ class k → (other ≡ k) × (goes_on k ≡ true)
+plain_alone token.Symbol token.Symbol plain e = (refl, refl)
+plain_alone token.Name token.Name plain e = (refl, refl)
+plain_alone token.Number token.Number plain e = (refl, refl)
+plain_alone token.Word token.Word plain e = (refl, refl)
+plain_alone _ _ plain e = absurd cc
 
 -- ---- steps
 
@@ -167,10 +147,6 @@ pub next_is : (i : Input) → words (next i) ≡ drop 1 (words i)
 unfolding next
 next_is i = sym (drop-map (word_of i.text) 1 i.tokens)
 
--- as many tokens are left as words
-pub left_is : (i : Input) → left i ≡ length (words i)
-left_is i = sym (length-map i.tokens (word_of i.text))
-
 -- a word of a kind behind which words follow
 taken : (k : TokenKind) (ws vs : List Word) → goes_on k ≡ true → (first ws).kind ≡ k → AreLexical ws → vs ≡ drop 1 ws → (ws ≡ record { kind = k; bytes = (first ws).bytes } ∷ vs) × AreLexical vs
 taken k [] vs inside is g e = absurd g
@@ -195,19 +171,23 @@ pub kind_spelled : (i : Input) → AreLexical (words i) → class (kind i) ≡ s
 kind_spelled i g = ap class (kind_is i) ∙ lexical_first (words i) g ∙ ap spelled_kind (sym (spelling_is i))
 
 -- a word whose bytes are seen
-pub took_word : (word : List ℕ) (k : TokenKind) → IsPlain k → spelled_kind word ≡ class k → (i : Input) → AreLexical (words i) → sees word i ≡ true → Took i (record { kind = k; bytes = word } ∷ []) (next i)
+pub took_word : (word : List ℕ) (k : TokenKind) → is_plain k ≡ true → spelled_kind word ≡ class k → (i : Input) → AreLexical (words i) → sees word i ≡ true → Took i (record { kind = k; bytes = word } ∷ []) (next i)
 unfolding sees
 took_word word k plain word_is i g seen =
     let same : spelling i ≡ word = (bytes_eq-Decides (spelling i) word).0 seen in
-    let kinds : kind i ≡ k = plain.only (kind i) (kind_spelled i g ∙ ap spelled_kind same ∙ word_is) in
-    let took = took_kind k i plain.inside g kinds in
+    let alone = plain_alone k (kind i) plain (kind_spelled i g ∙ ap spelled_kind same ∙ word_is) in
+    let took = took_kind k i alone.1 g alone.0 in
     record { spelled = took.spelled ∙ ap (λ b. record { kind = k; bytes = b } ∷ words (next i)) same; lexical = took.lexical }
 
 -- a symbol that is seen is a word
 pub took_symbol : (word : List ℕ) → spelled_kind word ≡ token.Symbol → (i : Input) → AreLexical (words i) → sees word i ≡ true → Took i (a_symbol word ∷ []) (next i)
-took_symbol word is i g seen = took_word word token.Symbol symbols is i g seen
+took_symbol word is i g seen = took_word word token.Symbol refl is i g seen
 
 -- each test of a kind finds it alone
+pub name_kind_is : (k : TokenKind) → is_name_kind k ≡ true → k ≡ token.Name
+name_kind_is token.Name e = refl
+name_kind_is _ e = cc
+
 pub number_kind_is : (k : TokenKind) → is_number_kind k ≡ true → k ≡ token.Number
 number_kind_is token.Number e = refl
 number_kind_is _ e = cc
@@ -256,14 +236,10 @@ no_bytes [] e = refl
 no_bytes (b ∷ rest) e = spelled_cases (λ k. token.End ≡ k → b ∷ rest ≡ []) b rest (λ _ _ _ e. cc) (λ _ _ _ e. cc) (λ e. cc) (λ e. cc) (λ e. cc) (λ e. cc) e
 
 -- bytes that are spelled as a name are one
-word_spelled : (bytes : List ℕ) → token.Name ≡ spelled_kind bytes → IsWord bytes
+pub word_spelled : (bytes : List ℕ) → token.Name ≡ spelled_kind bytes → IsWord bytes
 unfolding spelled_kind
 word_spelled [] e = absurd cc
 word_spelled (b ∷ rest) e = spelled_cases (λ k. token.Name ≡ k → IsWord (b ∷ rest)) b rest (λ _ _ _ e. absurd cc) (λ p q r _. record { begins = p; name = q; no_word = r }) (λ e. absurd cc) (λ e. absurd cc) (λ e. absurd cc) (λ e. absurd cc) e
-
--- a lexical word that is a name is spelled as one
-pub named_word : (w : Word) → class w.kind ≡ spelled_kind w.bytes → w.kind ≡ token.Name → IsWord w.bytes
-named_word w spelled name = word_spelled w.bytes (sym (ap class name) ∙ spelled)
 
 -- the end of a line is a word
 pub took_line_end : (i : Input) → AreLexical (words i) → is_line_end (kind i) ≡ true → Took i (line_end ∷ []) (next i)
@@ -274,15 +250,11 @@ took_line_end i g is =
     record { spelled = took.spelled ∙ ap (λ b. record { kind = token.LineEnd; bytes = b } ∷ words (next i)) none; lexical = took.lexical }
 
 -- the end stands last
-end_words : (ws : List Word) → AreLexical ws → (first ws).kind ≡ token.End → ws ≡ program_end ∷ []
+pub end_words : (ws : List Word) → AreLexical ws → (first ws).kind ≡ token.End → ws ≡ program_end ∷ []
 end_words [] g is = absurd g
 end_words (w ∷ ws) g is =
     let none = no_bytes w.bytes (ap class (sym is) ∙ g.0.0) in
     ap (λ l. w ∷ l) (g.1 (ap is_last is)) ∙ ap (λ k. record { kind = k; bytes = w.bytes } ∷ []) is ∙ ap (λ b. record { kind = token.End; bytes = b } ∷ []) none
-
--- the end of the program is the last word
-pub at_end : (i : Input) → AreLexical (words i) → is_end (kind i) ≡ true → words i ≡ program_end ∷ []
-at_end i g is = end_words (words i) g (sym (kind_is i) ∙ end_is (kind i) is)
 
 -- ---- a rule's outcome, taken apart
 
@@ -348,10 +320,6 @@ took_as {i} {j} {ws} k same t = record { spelled = t.spelled ∙ ap (λ l. ws ++
 pub bool_cases : {P : Type 0} (c : Bool) → (c ≡ true → P) → (c ≡ false → P) → P
 bool_cases true t f = t refl
 bool_cases false t f = f refl
-
--- no words more were taken
-pub plus_none : {i j : Input} {ws : List Word} → Took i (ws ++ []) j → Took i ws j
-plus_none {i} {j} {ws} t = subst (λ (l : List Word). Took i l j) (append-nil ws) t
 
 -- one more than a number isn't 0
 pub suc_not_zero : (d : ℕ) → (suc d == 0) ≡ false

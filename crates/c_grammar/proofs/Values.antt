@@ -1,6 +1,6 @@
--- Rows have the values of the expressions that mean them, at every point.
-use Rattle.std.proofs.Common.{◌≡◌, refl, sym, ◌∙◌, ap, subst, ℕ, zero, suc, ◌+◌, ◌-◌, ◌*◌, ◌<◌, ◌≤◌, List, [], ◌∷◌, ◌++◌, length, replicate, arith, Bool, true, false, length-append, length-set}
-use Rattle.std.specs.Prelude.{ℤ, pos, negsuc, neg_ℤ, ◌+ℤ◌, ◌-ℤ◌, ◌*ℤ◌, bytes_eq, slice_get, slice_set, nat_lt, min, Option, Some, None, if◌then◌else◌, ◌&&◌, ◌||◌}
+-- Rows have the values of the expressions that mean them, at every point, and comparisons and headers say what their rows say.
+use Rattle.std.proofs.Common.{◌≡◌, refl, sym, ◌∙◌, ap, subst, ℕ, zero, suc, ◌+◌, ◌-◌, ◌*◌, ◌<◌, ◌≤◌, List, [], ◌∷◌, ◌++◌, length, replicate, arith, Bool, true, false, length-append, length-set, append_assoc}
+use Rattle.std.specs.Prelude.{ℤ, pos, negsuc, neg_ℤ, ◌+ℤ◌, ◌-ℤ◌, ◌*ℤ◌, bytes_eq, slice_get, slice_set, nat_lt, min, Option, Some, None, if◌then◌else◌, ◌&&◌, ◌||◌, ◌≤ℤ◌, ◌↔◌, nat_le, option_and_then}
 use Rattle.std.proofs.lemmas.Int.{ints}
 use Rattle.std.proofs.lemmas.Bool.{and_parts, or_parts}
 use Rattle.std.proofs.lemmas.Bool.Decides.{nat_tests}
@@ -8,26 +8,28 @@ use Rattle.base_laws.proofs.Ring.{add-mul, mul-add, mul_comm, mul_assoc_ℤ, mul
 use Rattle.iolb_model.specs.Form.{dot}
 use Rattle.iolb_model.specs.declared.limits.TheConstants.{LOOPS, PARAMETERS, NUMBER_SIZE}
 use Rattle.c_reading.specs.declared.named.Kind.{Kind}
-use Rattle.c_reading.specs.declared.named.Kind.TheVariants.{Parameter, OpenLoop, ClosedLoop, Array}
-use Rattle.c_reading.specs.Affine.{kind_of, with_name, is_short, sign_of}
+use Rattle.c_reading.specs.declared.named.Kind.TheVariants.{Parameter, OpenLoop, ClosedLoop}
+use Rattle.c_reading.specs.Affine.{kind_of, with_name, is_short, sign_of, number_of}
 use Rattle.c_reading.specs.Numbers.{plus_times, combined, single, zeros, width, constant_of, value_from, is_integer, most_parameters}
 use Rattle.c_grammar.specs.Affine as tree
 use Rattle.c_grammar.specs.Meaning as mean
-use Rattle.c_grammar.specs.Meaning.{Names, Form, form, then_in, given, slot_by, slot, affine_means, sums_means, term_means, products_means, factor_means}
-use Rattle.c_grammar.specs.Points.{Point, digits_value, affine_value, sums_value, term_value, products_value, factor_value, row_value, AreNumbersAt, HaveKinds, RowsHaveValues}
+use Rattle.c_grammar.specs.Meaning.{Names, Form, form, then_in, given, slot_by, slot, affine_means, sums_means, term_means, products_means, factor_means, row_behind, with_row, with_compare, row_count, if_rows, compare_means, loop_again, loop_by, loop_name, excluded, upper_bound, header_means}
+use Rattle.c_grammar.specs.Points.{Point, digits_value, affine_value, sums_value, term_value, products_value, factor_value, row_value, AreNumbersAt, HaveKinds, RowsHaveValues, Compares, Holds, IsBelow, IsTaken, RowsHoldSo, LoopsTakeValues}
 use Rattle.c_grammar.proofs.Spelled.{then_some, given_some, given_last, same_some, some_if}
 use Rattle.c_grammar.proofs.Forms.{front_is}
-use Rattle.c_grammar.proofs.Dictionary.{kind_of-lookup, lookup-other, lookup-new, bytes_are}
+use Rattle.c_grammar.proofs.NameKinds.{kind_of-lookup, lookup-other, lookup-new, bytes_are}
 use Rattle.std.proofs.lemmas.Option.{slice_get_within}
 use Rattle.c_grammar.proofs.Steps.{bool_cases}
+use Rattle.std.specs.List.{AllByRecursion}
+use Rattle.c_reading.specs.declared.lines.Loop.{Loop}
+use Rattle.c_reading.specs.Compare.{Rows, most_brackets, most_rows}
 
 -- ---- sums of rows
 
 -- the dot product of zeros
 dot_zeros : (m : ℕ) (ns : List ℤ) → dot (replicate m (pos 0)) ns ≡ pos 0
-dot_zeros zero ns = refl
-dot_zeros (suc m) [] = refl
 dot_zeros (suc m) (n ∷ ns) = let rest = dot_zeros m ns in omega (arith, ints, zero-mul n)
+dot_zeros _ _ = refl
 
 -- what is added, at a number of its variable
 add_at : (k x y n z u v : ℤ) → z ≡ (x +ℤ (k *ℤ y)) -ℤ pos 0 → (z *ℤ n) +ℤ (u +ℤ (k *ℤ v)) ≡ ((x *ℤ n) +ℤ u) +ℤ (k *ℤ ((y *ℤ n) +ℤ v))
@@ -38,8 +40,6 @@ add_at k x y n z u v e =
 -- a sum of numbers has the sum of their values
 plus_value : (k : ℤ) (xs ys zs ns : List ℤ) → length xs ≡ length ys → plus_times k xs ys ≡ Some zs → (length zs ≡ length xs) × (dot zs ns ≡ dot xs ns +ℤ (k *ℤ dot ys ns))
 plus_value k [] [] zs ns same e = let none : [] ≡ zs = cc in (ap length (sym none), ap (λ l. dot l ns) (sym none) ∙ omega (arith, ints, mul-zero k))
-plus_value k [] (y ∷ ys) zs ns same e = absurd (omega (arith, same))
-plus_value k (x ∷ xs) [] zs ns same e = absurd (omega (arith, same))
 plus_value k (x ∷ xs) (y ∷ ys) zs [] same e =
     let f = front_is k (pos 0) x y (plus_times k xs ys) zs e in
     let rest = plus_value k xs ys f.rest [] (omega (arith, same)) f.behind in
@@ -48,6 +48,7 @@ plus_value k (x ∷ xs) (y ∷ ys) zs (n ∷ ns) same e =
     let f = front_is k (pos 0) x y (plus_times k xs ys) zs e in
     let rest = plus_value k xs ys f.rest ns (omega (arith, same)) f.behind in
     (ap length f.all ∙ ap suc rest.0, ap (λ l. dot l (n ∷ ns)) f.all ∙ ap (λ d. (f.number *ℤ n) +ℤ d) rest.1 ∙ add_at k x y n f.number (dot xs ns) (dot ys ns) f.is)
+plus_value k _ _ zs ns same e = absurd (omega (arith, same))
 
 -- a sum of rows, and less this much
 pub record IsSum (k less : ℤ) (xs ys zs : List ℤ) : Type 0 where
@@ -139,8 +140,7 @@ placed_by bytes (Some (Parameter k)) s x same e f = subst (λ (y : ℕ × Names)
 placed_by bytes (Some (OpenLoop d)) s x same e f =
     let place : 1 + PARAMETERS + d ≡ 1 + (PARAMETERS + d) = omega arith in
     subst (λ (y : ℕ × Names). IsPlaced s bytes y.0 y.1) (same_some f) (record { kinds = same; back = λ at ns h. h; is = λ at ns h. ap (λ n. row_value (single n (pos 1)) ns) place ∙ variable_value (PARAMETERS + d) (at bytes) ns h.many (h.loops bytes d e) })
-placed_by bytes (Some ClosedLoop) s x same e f = cc
-placed_by bytes (Some (Array n r)) s x same e f = cc
+placed_by bytes (Some _) s x same e f = cc
 
 -- ---- forms
 
@@ -291,3 +291,104 @@ mutual
 -- a row that an expression means has the expression's value at every point
 pub rows_have_values : RowsHaveValues
 rows_have_values b t s r a k e at ns h = let x = affine_valued b t s r a k e in x.is at ns h
+
+-- ---- rows of comparisons
+
+-- one row more: a less b and this much
+record IsOneMore (rows all : Rows) (less : ℤ) (a b : List ℤ) : Type 0 where
+  row : List ℤ
+  all_are : all ≡ rows ++ row ∷ []
+  value : (ns : List ℤ) → row_value row ns ≡ (row_value a ns -ℤ row_value b ns) -ℤ less
+
+one_more : (rows all : Rows) (less : ℤ) (a b : List ℤ) → length a ≡ width → length b ≡ width → with_row rows less a b ≡ Some all → IsOneMore rows all less a b
+one_more rows all less a b p q e = which (combined (negsuc 0) less a b) refl e where
+  which : (o : Option (List ℤ)) → combined (negsuc 0) less a b ≡ o → row_behind rows o ≡ Some all → IsOneMore rows all less a b
+  which None f g = cc
+  which (Some row) f g =
+      let sum = combined_sum (negsuc 0) less a b row p q f in
+      record { row = row; all_are = sym (same_some g); value = λ ns. sum.value ns ∙ omega (arith, ints, minus-one (row_value b ns)) }
+
+-- the rows of a comparison
+compares_so : (c : tree.Comparison) (rows all : Rows) (a b : List ℤ) → length a ≡ width → length b ≡ width → with_compare rows c a b ≡ Some all
+    → (more : Rows) × (all ≡ rows ++ more) × ((ns : List ℤ) → AllByRecursion (λ row. pos 0 ≤ℤ row_value row ns) more ↔ Compares c (row_value a ns) (row_value b ns))
+compares_so tree.at_least rows all a b p q e = let one = one_more rows all (pos 0) a b p q e in
+    (one.row ∷ [], one.all_are, λ ns. let is = one.value ns in (λ h. let some = h.0 in omega (arith, ints, is, some), λ h. (omega (arith, ints, is, h), tt)))
+compares_so tree.above rows all a b p q e = let one = one_more rows all (pos 1) a b p q e in
+    (one.row ∷ [], one.all_are, λ ns. let is = one.value ns in (λ h. let some = h.0 in omega (arith, ints, is, some), λ h. (omega (arith, ints, is, h), tt)))
+compares_so tree.at_most rows all a b p q e = let one = one_more rows all (pos 0) b a q p e in
+    (one.row ∷ [], one.all_are, λ ns. let is = one.value ns in (λ h. let some = h.0 in omega (arith, ints, is, some), λ h. (omega (arith, ints, is, h), tt)))
+compares_so tree.below rows all a b p q e = let one = one_more rows all (pos 1) b a q p e in
+    (one.row ∷ [], one.all_are, λ ns. let is = one.value ns in (λ h. let some = h.0 in omega (arith, ints, is, some), λ h. (omega (arith, ints, is, h), tt)))
+compares_so tree.equal rows all a b p q e = which (with_row rows (pos 0) a b) refl e where
+  which : (o : Option Rows) → with_row rows (pos 0) a b ≡ o → option_and_then (λ more. with_row more (pos 0) b a) o ≡ Some all
+      → (more : Rows) × (all ≡ rows ++ more) × ((ns : List ℤ) → AllByRecursion (λ row. pos 0 ≤ℤ row_value row ns) more ↔ Compares tree.equal (row_value a ns) (row_value b ns))
+  which None f g = cc
+  which (Some some) f g =
+      let one = one_more rows some (pos 0) a b p q f in
+      let two = one_more some all (pos 0) b a q p g in (
+        one.row ∷ two.row ∷ [],
+        two.all_are ∙ ap (λ l. l ++ two.row ∷ []) one.all_are ∙ append_assoc rows (one.row ∷ []) (two.row ∷ []),
+        λ ns.
+            let is = one.value ns in let also = two.value ns in
+            (λ h. let some = h.0 in let more = h.1.0 in omega (arith, ints, is, also, some, more), λ h. (omega (arith, ints, is, h), (omega (arith, ints, also, h), tt))),
+      )
+
+-- rows that aren't too many
+few_rows : (rows all : Rows) (c : tree.Comparison) (o : Option Rows) → if_rows rows c o ≡ Some all → o ≡ Some all
+few_rows rows all c o e = bool_cases (nat_le (length rows + row_count c) most_rows) (λ t. rw t at e) (λ t. let none = rw t at e in cc)
+
+-- a comparison holds at a point exactly where the rows that it means are at least 0 there
+pub rows_hold_so : RowsHoldSo
+unfolding compare_means
+rows_hold_so c s r rows all k e =
+    then_some (λ a i. then_in (affine_means most_brackets c.right i) (λ b. given (if_rows rows c.comparison (with_compare rows c.comparison a.numbers b.numbers)))) (affine_means most_brackets c.left s) e (λ x f g.
+    let left = affine_valued most_brackets c.left s x.1 x.0 k f in
+    then_some (λ b. given (if_rows rows c.comparison (with_compare rows c.comparison x.0.numbers b.numbers))) (affine_means most_brackets c.right x.1) g (λ y h i.
+    let right = affine_valued most_brackets c.right x.1 y.1 y.0 left.kinds h in
+    given_last (if_rows rows c.comparison (with_compare rows c.comparison x.0.numbers y.0.numbers)) y.1 i (λ found j is.
+    subst (λ (z : Rows × Names). (more : Rows) × (z.0 ≡ rows ++ more) × ((at : Point) (numbers : List ℤ) → AreNumbersAt z.1 at numbers → AllByRecursion (λ row. pos 0 ≤ℤ row_value row numbers) more ↔ Holds at c)) is (
+    let so = compares_so c.comparison rows found x.0.numbers y.0.numbers left.size right.size (few_rows rows found c.comparison (with_compare rows c.comparison x.0.numbers y.0.numbers) j) in (
+      so.0,
+      so.1,
+      λ at ns m.
+          let l = left.is at ns (right.back at ns m) in let u = right.is at ns m in
+          subst (λ w. AllByRecursion (λ row. pos 0 ≤ℤ row_value row ns) so.0 ↔ Compares c.comparison (affine_value at c.left) w) u (
+          subst (λ v. AllByRecursion (λ row. pos 0 ≤ℤ row_value row ns) so.0 ↔ Compares c.comparison v (row_value y.0.numbers ns)) l (so.2 ns)),
+    )))))
+
+-- ---- headers
+
+-- a loop's name has a kind
+named_kinds : (name : List ℕ) (o : Option Kind) (s : Names) (x : ℕ × Names) → HaveKinds s → loop_by name o s ≡ Some x → HaveKinds x.1
+unfolding with_name
+named_kinds name None s x k e = some_if _ (is_short name) e (λ test is. subst (λ (y : ℕ × Names). HaveKinds y.1) is (omega (arith, k, length-append s.kinds (ClosedLoop ∷ []), length-append s.names (name ∷ []))))
+named_kinds name (Some ClosedLoop) s x k e = again (number_of name s) e where
+  again : (o : Option ℕ) → loop_again o s ≡ Some x → HaveKinds x.1
+  again None f = cc
+  again (Some at) f = subst (λ (y : ℕ × Names). HaveKinds y.1) (same_some f) k
+named_kinds name (Some _) s x k e = cc
+
+-- a value is at most an upper bound
+bounded_so : (excludes : Bool) (value u up : ℤ) → up ≡ u -ℤ excluded excludes → (value ≤ℤ up) ↔ IsBelow excludes value u
+bounded_so true value u up is = (λ h. omega (arith, ints), λ h. omega (arith, ints))
+bounded_so false value u up is = (λ h. omega (arith, ints), λ h. omega (arith, ints))
+
+-- the values of a loop are exactly those from its first value on for which its comparison holds
+pub loops_take_values : LoopsTakeValues
+unfolding header_means loop_name
+loops_take_values b h s r l k e =
+    then_some (λ n i. then_in (affine_means b h.lower i) (λ low j. then_in (affine_means b h.upper j) (λ high m. then_in (given (upper_bound h.excludes high.numbers) m) (λ numbers. mean.pure (record { name = n; lower = low.numbers; upper = numbers })))))
+    (loop_by h.name (kind_of h.name s) s) e (λ x f g.
+    let kinds = named_kinds h.name (kind_of h.name s) s x k f in
+    then_some (λ low j. then_in (affine_means b h.upper j) (λ high m. then_in (given (upper_bound h.excludes high.numbers) m) (λ numbers. mean.pure (record { name = x.0; lower = low.numbers; upper = numbers })))) (affine_means b h.lower x.1) g (λ y f2 g2.
+    let low = affine_valued b h.lower x.1 y.1 y.0 kinds f2 in
+    then_some (λ high m. then_in (given (upper_bound h.excludes high.numbers) m) (λ numbers. mean.pure (record { name = x.0; lower = y.0.numbers; upper = numbers }))) (affine_means b h.upper y.1) g2 (λ z f3 g3.
+    let high = affine_valued b h.upper y.1 z.1 z.0 low.kinds f3 in
+    given_some (upper_bound h.excludes z.0.numbers) (λ numbers. mean.pure (record { name = x.0; lower = y.0.numbers; upper = numbers })) z.1 g3 (λ numbers f4 g4.
+    subst (λ (w : Loop × Names). (at : Point) (ns : List ℤ) → AreNumbersAt w.1 at ns → (value : ℤ) → ((row_value w.0.lower ns ≤ℤ value) × (value ≤ℤ row_value w.0.upper ns)) ↔ IsTaken at h value) (same_some g4) (λ at ns m value.
+    let first = low.is at ns (high.back at ns m) in
+    let last = high.is at ns m in
+    let sum = combined_sum (pos 1) (excluded h.excludes) zeros z.0.numbers numbers refl high.size f4 in
+    let least : (row_value y.0.numbers ns ≤ℤ value) ↔ (affine_value at h.lower ≤ℤ value) = (λ g. omega (arith, ints), λ g. omega (arith, ints)) in
+    let most = bounded_so h.excludes value (affine_value at h.upper) (row_value numbers ns) (sum.value ns ∙ omega (arith, ints, zeros_value ns, one-mul (row_value z.0.numbers ns), last)) in
+    (λ t. (least.0 t.0, most.0 t.1), λ t. (least.1 t.0, most.1 t.1)))))))

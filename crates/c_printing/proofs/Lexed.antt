@@ -65,10 +65,9 @@ text_in (end kind ∷ pieces) = text_in pieces
 -- their words
 abbrev pub words_in : List Piece → List Word
 words_in [] = []
-words_in (space ∷ pieces) = words_in pieces
-words_in (newline ∷ pieces) = words_in pieces
 words_in (word kind bytes ∷ pieces) = record { kind = kind; bytes = bytes } ∷ words_in pieces
 words_in (end kind ∷ pieces) = record { kind = kind; bytes = [] } ∷ words_in pieces
+words_in (_ ∷ pieces) = words_in pieces
 
 -- a directive, or a program
 abbrev pub Region : Type 0

@@ -12,7 +12,7 @@ use Rattle.iolb_model.specs.Form.{AffineForm}
 use Rattle.iolb_model.specs.declared.limits.TheConstants.{NUMBER_SIZE}
 use Rattle.iolb_model.specs.Printed.{is_below_zero, nonzero}
 use Rattle.c_reading.specs.declared.named.Kind.{Kind}
-use Rattle.c_reading.specs.declared.named.Kind.TheVariants.{Parameter, OpenLoop, ClosedLoop, Array}
+use Rattle.c_reading.specs.declared.named.Kind.TheVariants.{Parameter, OpenLoop}
 use Rattle.c_reading.specs.Numbers.{width, most_parameters, most_loops, single, zeros, combined, value_from, is_integer, parameter_slot, loop_slot}
 use Rattle.c_reading.specs.Affine.{kind_of, sign_of}
 use Rattle.c_grammar.specs.Affine as tree
@@ -32,19 +32,15 @@ use Rattle.c_grammar.proofs.Steps.{means_then, means_given, bool_cases}
 
 -- the place of a name's coefficient, by its kind
 abbrev pub kind_slot : Option Kind → Option ℕ
-kind_slot None = None
 kind_slot (Some (Parameter k)) = Some (parameter_slot k)
 kind_slot (Some (OpenLoop depth)) = Some (loop_slot depth)
-kind_slot (Some ClosedLoop) = None
-kind_slot (Some (Array number subscripts)) = None
+kind_slot _ = None
 
 -- the place of a name that has one
 slot_known : (n : List ℕ) (k : Option Kind) (at : ℕ) (s : Names) → kind_slot k ≡ Some at → slot_by n k s ≡ Some (at, s)
-slot_known n None at s e = cc
 slot_known n (Some (Parameter k)) at s e = let same : parameter_slot k ≡ at = cc in ap (λ m. Some (m, s)) same
 slot_known n (Some (OpenLoop depth)) at s e = let same : loop_slot depth ≡ at = cc in ap (λ m. Some (m, s)) same
-slot_known n (Some ClosedLoop) at s e = cc
-slot_known n (Some (Array number subscripts)) at s e = cc
+slot_known n _ at s e = cc
 
 -- a name, or the constant, has this place
 abbrev pub HasSlot : Names → List ℕ → ℕ → Type 0
@@ -66,10 +62,6 @@ integer_is n small =
 -- these numbers are meant, and no name is new
 abbrev pub MeansRow : Option (Form × Names) → List ℤ → Names → Type 0
 MeansRow o numbers s = (has_name : Bool) × (o ≡ Some (record { numbers = numbers; has_name = has_name }, s))
-
--- a number times 1
-times_one : (c : ℤ) → (pos 0 +ℤ (c *ℤ pos 1)) -ℤ pos 0 ≡ c
-times_one c = omega (arith, ints)
 
 -- the multiple of one variable
 single_times : (k : ℤ) (at : ℕ) (n v : ℤ) → at < width → (pos 0 +ℤ (k *ℤ n)) -ℤ pos 0 ≡ v → IsSmall v → combined k (pos 0) zeros (single at n) ≡ Some (single at v)
@@ -108,7 +100,7 @@ module _ (brackets : ℕ) (s : Names) where
   unfolding term_means products_means
   multiple f g at v e1 e2 within fits =
       means_then (factor_means brackets f s) _ e1 (means_then (factor_means brackets g s) _ e2
-      (means_given _ _ s (ap (form true) (single_times v at (pos 1) v within (times_one v) fits)) refl))
+      (means_given _ _ s (ap (form true) (single_times v at (pos 1) v within (omega (arith, ints)) fits)) refl))
 
   -- a term with its sign
   pub size_means : (below : Bool) (t : ℤ × List ℕ) (at : ℕ) (v : ℤ) → IsTerm t → HasSlot s t.1 at → at < width → (pos 0 +ℤ (sign_of below *ℤ pos (unsigned_abs t.0))) -ℤ pos 0 ≡ v → IsSmall v
@@ -136,10 +128,6 @@ signed_size : (c : ℤ) → (pos 0 +ℤ (sign_of (is_below_zero c) *ℤ pos (uns
 signed_size (pos n) = omega (arith, ints)
 signed_size (negsuc n) = omega (arith, ints)
 
--- a size without a sign
-positive_size : (n : ℕ) → (pos 0 +ℤ (sign_of false *ℤ pos n)) -ℤ pos 0 ≡ pos n
-positive_size n = omega (arith, ints)
-
 module _ (brackets : ℕ) (s : Names) where
   -- a term more
   added_means : (below : Bool) (a b c : Form) (t : Term) (ss : Sums) (o : Option (Form × Names)) → term_means brackets t s ≡ Some (b, s) → mean.plus below a b ≡ Some c → sums_means brackets c ss s ≡ o → sums_means brackets a (added below t ss) s ≡ o
@@ -153,7 +141,7 @@ module _ (brackets : ℕ) (s : Names) where
   unfolding sums_means
   later_means [] row last h long small are fills = (h, ap (λ ns. Some (record { numbers = ns; has_name = h }, s)) fills)
   later_means (t ∷ terms) row last h long small are fills =
-      let size = size_means brackets s false t fills.0 (pos (unsigned_abs t.0)) are.0 fills.2 fills.1 (positive_size (unsigned_abs t.0)) are.0.0 in
+      let size = size_means brackets s false t fills.0 (pos (unsigned_abs t.0)) are.0 fills.2 fills.1 (omega (arith, ints)) are.0.0 in
       let b : Form = record { numbers = single fills.0 (pos (unsigned_abs t.0)); has_name = size.0 } in
       let sums : mean.plus (is_below_zero t.0) (record { numbers = row; has_name = h }) b ≡ Some (record { numbers = set row fills.0 t.0; has_name = h || size.0 }) =
       ap (form (h || size.0)) (combined_single (sign_of (is_below_zero t.0)) row fills.0 (pos (unsigned_abs t.0)) t.0 long small fills.1 (ap (λ z. (z +ℤ (sign_of (is_below_zero t.0) *ℤ pos (unsigned_abs t.0))) -ℤ pos 0) fills.3 ∙ signed_size t.0) are.0.0) in
@@ -203,8 +191,6 @@ padded_none (suc k) = ap (λ ns. pos 0 ∷ ns) (padded_none k)
 fills_names : (i : Names) (names : List (List ℕ)) (ns front rest : List ℤ) (k : ℕ) (later : List (ℤ × List ℕ)) (last : List ℤ) → length ns ≤ length names → length names ≤ k → length front + length names ≤ width → AllByRecursion IsName names
     → HaveSlots i names (length front) → FillsRow i (front ++ (padded k ns ++ rest)) (nonzero later) last → FillsRow i (front ++ (replicate k (pos 0) ++ rest)) (nonzero (zip ns names ++ later)) last
 fills_names i names [] front rest k later last fewer few within all have fills = subst (λ ns. FillsRow i (front ++ (ns ++ rest)) (nonzero later) last) (padded_none k) fills
-fills_names i [] (n ∷ ns) front rest k later last fewer few within all have fills = absurd (omega arith)
-fills_names i (name ∷ names) (n ∷ ns) front rest zero later last fewer few within all have fills = absurd (omega arith)
 fills_names i (name ∷ names) (n ∷ ns) front rest (suc k) later last fewer few within all have fills =
     let longer : length (front ++ n ∷ []) ≡ suc (length front) = omega (arith, length-append front (n ∷ [])) in
     let zero_rest : List ℤ = replicate k (pos 0) ++ rest in
@@ -212,6 +198,7 @@ fills_names i (name ∷ names) (n ∷ ns) front rest (suc k) later last fewer fe
     (subst (λ r. FillsRow i r (nonzero (zip ns names ++ later)) last) (append_assoc front (n ∷ []) zero_rest ∙ sym (set_at front (pos 0) zero_rest n (length front) refl))
     (fills_names i names ns (front ++ n ∷ []) rest k later last (omega arith) (omega arith) (omega arith) all.1 (subst (HaveSlots i names) (sym longer) have.1)
     (subst (λ r. FillsRow i r (nonzero later) last) (sym (append_assoc front (n ∷ []) (padded k ns ++ rest))) fills)))
+fills_names i _ (n ∷ ns) front rest _ later last fewer few within all have fills = absurd (omega arith)
 
 -- ---- forms
 

@@ -21,7 +21,7 @@ use Rattle.c_printing.proofs.Roles.{padded, widened, widened_statement, IsSmall,
 use Rattle.c_tokens.specs.Names.{IsName}
 use Rattle.base_laws.proofs.Lists.{All-append, All-weaken}
 use Rattle.c_printing.proofs.RowForms.{small_is, form_back, form_statement_back, length-padded}
-use Rattle.c_grammar.proofs.Dictionary.{place_of, lookup, position-place, kind_of-lookup, place-new, place-more, place-get, lookup-new, lookup-place}
+use Rattle.c_grammar.proofs.NameKinds.{place_of, lookup, position-place, kind_of-lookup, place-new, place-more, place-get, lookup-new, lookup-place}
 use Rattle.c_printing.proofs.State.{AreLoops, Knows, named, knows-variables, knows_loop, changed, knows_opened, knows_closed}
 use Rattle.c_printing.proofs.MeansForms.{KnowsVariables, form_means}
 use Rattle.c_printing.proofs.MeansRefs.{Means, Extends, extends_none, extends_both, short_name, statement_meant}
@@ -38,10 +38,6 @@ length-widened parameters depth form =
     let first : List ℤ = padded most_parameters (take parameters form.coefficients) in
     let second : List ℤ = padded most_loops (take depth (drop parameters form.coefficients)) in
     omega (arith, length-append first second, length-padded most_parameters (take parameters form.coefficients), length-padded most_loops (take depth (drop parameters form.coefficients)))
-
--- a bound's row is kept
-bound_is : (row : List ℤ) → length row ≡ width → AllByRecursion IsSmall row → mean.upper_bound false row ≡ Some row
-bound_is row long small = combined_kept row (record { few = omega (arith, long); small = All-weaken IsSmall (λ n. is_small n ≡ true) row small_is small })
 
 -- ---- headers
 
@@ -94,7 +90,7 @@ module _ (p : AffineProgram) (around : List (List ℕ)) (is : HasRoles p) (loops
         record {
           names = j;
           is = means_then (mean.loop_name name i) _ first.1.is (means_then (affine_means brackets _ j) _ low.1 (means_then (affine_means brackets _ j) _ high.1
-              (means_given _ _ j (bound_is wide (length-widened (length p.parameters) (length around) upper) fits.upper_small) refl)));
+              (means_given _ _ j (combined_kept wide (record { few = omega (arith, length-widened (length p.parameters) (length around) upper); small = All-weaken IsSmall (λ n. is_small n ≡ true) wide small_is fits.upper_small })) refl)));
           so = first.1.so;
         },
       )

@@ -1,5 +1,5 @@
 -- What the trees of printed references and statements mean.
-use Rattle.std.proofs.Common.{◌≡◌, refl, sym, ap, subst, ◌∙◌, ℕ, suc, ◌+◌, ◌<◌, ◌≤◌, true, false, List, [], ◌∷◌, ◌++◌, append_assoc, append-nil, length, arith, length-append, ⊎_elim, ℤ}
+use Rattle.std.proofs.Common.{eq-eqb, ◌≡◌, refl, sym, ap, subst, ◌∙◌, ℕ, suc, ◌+◌, ◌<◌, ◌≤◌, true, false, List, [], ◌∷◌, ◌++◌, append_assoc, append-nil, length, arith, length-append, ⊎_elim, ℤ}
 use Rattle.std.specs.Prelude.{Some, None, Option, slice_get, slice_set, map, ◌==◌, nat_le, nat_lt, if◌then◌else◌, IsSomeAnd, ⊤}
 use Rattle.std.specs.List.{AllByRecursion}
 use Rattle.std.proofs.lemmas.Bool.Decides.{nat_tests}
@@ -9,7 +9,7 @@ use Rattle.iolb_model.specs.Form.{AffineForm}
 use Rattle.iolb_model.specs.Program.{AffineProgram}
 use Rattle.iolb_model.specs.Program as program
 use Rattle.c_reading.specs.declared.named.Kind.{Kind}
-use Rattle.c_reading.specs.declared.named.Kind.TheVariants.{Parameter, OpenLoop, ClosedLoop, Array}
+use Rattle.c_reading.specs.declared.named.Kind.TheVariants.{Array}
 use Rattle.c_reading.specs.declared.lines.Line.{Line}
 use Rattle.c_reading.specs.declared.lines.Line.TheVariants.{Does}
 use Rattle.c_reading.specs.Access.{Access}
@@ -25,11 +25,10 @@ use Rattle.c_printing.specs.Tree.{subscripts_tree, access_tree, read_tree, argum
 use Rattle.c_printing.proofs.Roles.{widened, widened_access, widened_statement, IsSmallForm, HasRoles, IsReadableAccess, AreReadableAccesses, access_seen, accesses_seen, IsReadableStatement, statement_seen}
 use Rattle.c_tokens.specs.Names.{IsName}
 use Rattle.c_printing.proofs.MeansForms.{KnowsVariables, form_means}
-use Rattle.c_grammar.proofs.Dictionary.{kind_of-lookup}
+use Rattle.c_grammar.proofs.NameKinds.{kind_of-lookup, All-get}
 use Rattle.c_printing.proofs.State.{AreLoops, Knows, named, knows-variables, array-variables, knows_array, was_seen, not_seen}
 use Rattle.iolb_model.specs.declared.limits.TheConstants.{NAME_BYTES}
 use Rattle.std.proofs.lemmas.Option.{slice_get_within, get_or_from_slice_get}
-use Rattle.c_grammar.proofs.NameKinds.{All-get}
 use Rattle.c_grammar.proofs.Steps.{means_then}
 
 -- ---- members
@@ -84,16 +83,12 @@ subscripts_mean brackets i parameters around knows (form ∷ forms) rows small f
 
 -- ---- references
 
--- counts that are equal pass the reader's test
-same_count : (m n : ℕ) → m ≡ n → (m == n) ≡ true
-same_count m n h = grind (arith, nat_tests)
-
 -- a reference to an array that was seen, from its parts
 access_known : (brackets k rank : ℕ) (rows : List (List ℤ)) (r : tree.Reference) (i : Names) → kind_of r.name i ≡ Some (Array k rank) → subscripts_means brackets [] r.subscripts i ≡ Some (rows, i) → length rows ≡ rank
     → reference_means brackets r i ≡ Some (record { array = k; subscripts = rows }, i)
 unfolding reference_means access_from mean.array
 access_known brackets k rank rows r i known f same =
-    let count : (length rows == rank) ≡ true = same_count (length rows) rank same in
+    let count : (length rows == rank) ≡ true = eq-eqb (length rows) rank same in
     means_then (mean.array r.name i) _ (ap (λ o. array_by r.name o i) known) (means_then (subscripts_means brackets [] r.subscripts i) _ f (rw count refl))
 
 -- a reference to a new array, from its parts
@@ -120,26 +115,20 @@ pub record IsSeen (p : AffineProgram) (around : List (List ℕ)) (seen count : �
 -- whether a name may be read
 abbrev IsReadable : Option Kind → Type 0
 IsReadable None = ⊤
-IsReadable (Some (Parameter k)) = ⊥
-IsReadable (Some (OpenLoop depth)) = ⊥
-IsReadable (Some ClosedLoop) = ⊥
 IsReadable (Some (Array k rank)) = ⊤
+IsReadable (Some _) = ⊥
 
 -- a name that may be read is read as a reference
 read_by : (brackets : ℕ) (reads : Accesses) (r : tree.Reference) (k : Option Kind) → IsReadable k → named_means brackets reads r k ≡ with_read brackets reads r
 read_by brackets reads r None is = refl
-read_by brackets reads r (Some (Parameter k)) is = absurd is
-read_by brackets reads r (Some (OpenLoop depth)) is = absurd is
-read_by brackets reads r (Some ClosedLoop) is = absurd is
 read_by brackets reads r (Some (Array k rank)) is = refl
+read_by brackets reads r (Some _) is = absurd is
 
 -- a name that may be read may be written
 array_written : (k : Option Kind) → IsReadable k → is_array k ≡ true
 array_written None h = refl
-array_written (Some (Parameter k)) h = absurd h
-array_written (Some (OpenLoop depth)) h = absurd h
-array_written (Some ClosedLoop) h = absurd h
 array_written (Some (Array k rank)) h = refl
+array_written (Some _) h = absurd h
 
 module _ (p : AffineProgram) (around : List (List ℕ)) (is : HasRoles p) (loops : AreLoops p around) where
   -- the array of a reference, and its name

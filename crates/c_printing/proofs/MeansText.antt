@@ -11,7 +11,7 @@ use Rattle.c_reading.specs.declared.named.Kind.{Kind}
 use Rattle.c_reading.specs.declared.named.Kind.TheVariants.{Parameter, ClosedLoop, Array}
 use Rattle.c_reading.specs.Names.{parameters_among, arrays_among}
 use Rattle.c_reading.specs.Affine.{kind_of, with_name, is_short}
-use Rattle.c_reading.specs.Numbers.{most_parameters, most_loops, width, combined, zeros, plus_times, parameter_slot}
+use Rattle.c_reading.specs.Numbers.{most_parameters, most_loops, zeros, plus_times, parameter_slot}
 use Rattle.c_reading.specs.Compare.{Rows, most_brackets, most_rows}
 use Rattle.c_reading.specs.Head.{Head}
 use Rattle.c_reading.specs.Text.{Reading, all_at_least_one, assumptions_of, start_of}
@@ -19,10 +19,10 @@ use Rattle.c_grammar.specs.Meaning as mean
 use Rattle.c_grammar.specs.Meaning.{Names, affine_means, compare_means, slot_by, parameters_mean, compares_mean, lines_mean, items_means, whole_means, text_means}
 use Rattle.c_grammar.specs.Program.{narrowed, IsReadingOf, row_lines, tree_lines, statements_among}
 use Rattle.c_printing.specs.Tree.{form_tree, row_tree, parameters_tree, assumption_tree, assumptions_tree, program_tree}
-use Rattle.c_printing.proofs.Roles.{widened, IsSmall, IsSmallForm, Role, parameter, array, other, role, HasRoles, row_seen}
+use Rattle.c_printing.proofs.Roles.{widened, IsSmallForm, Role, parameter, array, other, role, HasRoles, row_seen}
 use Rattle.c_tokens.specs.Names.{IsName}
 use Rattle.c_printing.proofs.RowForms.{plus_none, combined-plus, forms_back}
-use Rattle.c_grammar.proofs.Dictionary.{lookup, kind_of-lookup, lookup-new, lookup-other, parameters-new, arrays-new}
+use Rattle.c_grammar.proofs.NameKinds.{lookup, kind_of-lookup, lookup-new, lookup-other, parameters-new, arrays-new}
 use Rattle.c_printing.proofs.State.{AreLoops, Knows, KnowsNames, not_seen, one_more_seen, names_differ, named, length-named, knows-variables, take_one_more}
 use Rattle.c_printing.proofs.MeansForms.{KnowsVariables, form_means, terms_means}
 use Rattle.c_printing.proofs.MeansRefs.{Means, extends_none, short_name}
@@ -90,10 +90,6 @@ module _ (p : AffineProgram) (is : HasRoles p) where
 
 -- ---- assumptions
 
--- nothing is taken away
-less_zeros : (row : List ℤ) → length row ≡ width → AllByRecursion IsSmall row → combined (negsuc 0) (pos 0) row zeros ≡ Some row
-less_zeros row long small = combined-plus (negsuc 0) row zeros ∙ ap (λ n. plus_times (negsuc 0) row (replicate n (pos 0))) (sym long) ∙ plus_none (negsuc 0) row small
-
 -- the head where these rows were assumed
 abbrev head_of : Rows → Head
 head_of [] = record { assumed = false; rows = [] }
@@ -120,7 +116,8 @@ module _ (p : AffineProgram) (is : HasRoles p) (i : Names) (variables : KnowsVar
       let left_side = subst (λ ns. (h : _) × (affine_means most_brackets (form_tree ns form) i ≡ Some (record { numbers = row; has_name = h }, i))) (append-nil p.parameters) (form_means most_brackets i p.parameters [] form variables small) in
       let right_side = terms_means most_brackets i [] zeros tt refl in
       means_then (affine_means most_brackets _ i) _ left_side.1 (means_then (affine_means most_brackets _ i) _ right_side.1
-      (rw below (ap (λ o. mean.given (mean.row_behind rows o) i) (less_zeros row (length-widened (length p.parameters) 0 form) small))))
+      (rw below (ap (λ o. mean.given (mean.row_behind rows o) i)
+      (combined-plus (negsuc 0) row zeros ∙ ap (λ n. plus_times (negsuc 0) row (replicate n (pos 0))) (sym (length-widened (length p.parameters) 0 form)) ∙ plus_none (negsuc 0) row small))))
 
   -- the printed assumptions mean their rows
   assumptions_mean : (forms : List AffineForm) (rows : Rows) → AllByRecursion (IsSmallForm (length p.parameters) 0) forms → length rows + length forms ≤ most_rows

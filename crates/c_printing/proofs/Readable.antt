@@ -19,14 +19,13 @@ use Rattle.affine_program.specs.Parts.{ProgramParts, access_of, statement_of, ar
 use Rattle.affine_program.specs.Printable.{AreDifferent, is_array_name, AreDifferentArrays, IsArrayName, IsOrdered, access_numbers, statement_numbers, IsPrintableHeader, IsPrintableItem, IsPrintableRow}
 use Rattle.affine_program.specs.declared.statement.Statement.{Statement}
 use Rattle.c_reading.specs.Numbers.{most_parameters, most_loops}
-use Rattle.c_grammar.proofs.Dictionary.{place_of, bytes_same}
+use Rattle.c_grammar.proofs.NameKinds.{place_of, bytes_same, All-get}
 use Rattle.c_grammar.specs.Program.{Means}
 use Rattle.c_printing.specs.Text.{program_text}
 use Rattle.c_printing.proofs.WordsAre.{text_means_program}
-use Rattle.c_printing.proofs.Roles.{padded, parameter, array, other, role_by, array_role, names_of, role, IsSmall, IsSmallForm, access_seen, accesses_seen, AreReadableAccesses, statement_seen, item_seen, row_seen, IsReadableHeader, IsReadableItem, IsReadableRow, HasRoles}
+use Rattle.c_printing.proofs.Roles.{padded, array, other, role_by, array_role, names_of, role, IsSmall, IsSmallForm, access_seen, accesses_seen, AreReadableAccesses, statement_seen, item_seen, row_seen, IsReadableHeader, IsReadableItem, IsReadableRow, HasRoles}
 use Rattle.c_printing.proofs.State.{among_differ}
 use Rattle.c_printing.proofs.MeansItems.{split_numbers}
-use Rattle.c_grammar.proofs.NameKinds.{All-get}
 
 -- ---- roles
 
@@ -108,10 +107,6 @@ module _ (parts : ProgramParts) (is : IsProgram parts) where
   abbrev whole : AffineProgram
   whole = meaning parts
 
-  -- a parameter's name stands for it
-  parameter_role : (k : ℕ) (name : List ℕ) → slice_get whole.parameters k ≡ Some name → role whole name ≡ parameter k
-  parameter_role k name e = ap (λ o. role_by o (place_of name (names_of whole.arrays))) (place_there whole.parameters k name is.printable.different e)
-
   -- an array's name stands for it
   array_is : (k : ℕ) (a : program.Array) → slice_get whole.arrays k ≡ Some a → role whole a.name ≡ array k
   array_is k a e =
@@ -186,7 +181,7 @@ module _ (parts : ProgramParts) (is : IsProgram parts) where
       record {
         parameters = is.printable.parameters;
         few_parameters = is.limits.parameters;
-        parameter_roles = parameter_role;
+        parameter_roles = λ k name e. ap (λ o. role_by o (place_of name (names_of whole.arrays))) (place_there whole.parameters k name is.printable.different e);
         arrays = ranked parts.arrays is.printable.arrays is.limits.ranks;
         few_arrays = omega (arith, is.limits.arrays, length-map parts.arrays array_of);
         array_roles = array_is;

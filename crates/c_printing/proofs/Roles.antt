@@ -6,7 +6,7 @@ use Rattle.c_reading.specs.Numbers.{most_parameters, most_loops}
 use Rattle.std.specs.List.{list_any, AllByRecursion}
 use Rattle.iolb_model.specs.Program.{Access, Statement, Item, assign, loop, Row, done, next, Array, AffineProgram, statement_at, row_statements}
 use Rattle.c_tokens.specs.Names.{IsName}
-use Rattle.c_grammar.proofs.Dictionary.{place_of}
+use Rattle.c_grammar.proofs.NameKinds.{place_of}
 use Rattle.iolb_model.specs.declared.limits.TheConstants.{NUMBER_SIZE, PARAMETERS, LOOPS, ARRAYS, SUBSCRIPTS, READS, ASSUMPTIONS, STATEMENTS}
 
 -- so many of these numbers, and 0 for those that aren't there

@@ -52,9 +52,8 @@ zip-append (n ∷ ns) (name ∷ names) more = ap (λ ts. (n, name) ∷ ts) (zip-
 
 -- no names
 zip-none : (ns : List ℤ) (names : List (List ℕ)) → names ≡ [] → zip ns names ≡ []
-zip-none [] names e = refl
-zip-none (n ∷ ns) [] e = refl
 zip-none (n ∷ ns) (name ∷ names) e = cc
+zip-none _ _ e = refl
 
 -- only as many numbers as names count
 pub zip-take : (ns : List ℤ) (names : List (List ℕ)) (k : ℕ) → length names ≤ k → zip (take k ns) names ≡ zip ns names
@@ -75,10 +74,9 @@ form_terms-parts parameters around form =
 
 -- numbers of a row that is small
 small_padded : (k : ℕ) (ns : List ℤ) → length ns ≤ k → AllByRecursion IsSmall (padded k ns) → AllByRecursion IsSmall ns
-small_padded zero [] few h = tt
 small_padded zero (n ∷ ns) few h = absurd (omega arith)
-small_padded (suc k) [] few h = tt
 small_padded (suc k) (n ∷ ns) few h = (h.0, small_padded k ns (omega arith) h.1)
+small_padded _ [] few h = tt
 
 -- a name is a variable
 IsName-variable : (name : List ℕ) → IsName name → IsVariable name
@@ -87,9 +85,8 @@ IsName-variable (b ∷ name) h = h
 
 -- names with small numbers are terms
 zip_terms : (ns : List ℤ) (names : List (List ℕ)) → AllByRecursion IsSmall ns → AllByRecursion IsName names → AreTerms (zip ns names)
-zip_terms [] names small named = tt
-zip_terms (n ∷ ns) [] small named = tt
 zip_terms (n ∷ ns) (name ∷ names) small named = ((small.0, IsName-variable name named.0), zip_terms ns names small.1 named.1)
+zip_terms _ _ small named = tt
 
 -- a form's terms are terms
 pub form_terms-are : (parameters around : List (List ℕ)) (form : AffineForm) → AllByRecursion IsName parameters → AllByRecursion IsName around → length parameters ≤ PARAMETERS → length around ≤ LOOPS
@@ -106,14 +103,10 @@ form_terms-are parameters around form named loops few deep small =
 pub small_is : (n : ℤ) → IsSmall n → is_small n ≡ true
 small_is n h = grind (arith, nat_tests)
 
--- a small number is kept
-if_small_is : (n : ℤ) → IsSmall n → if_small n ≡ Some n
-if_small_is n h = let e : is_small n ≡ true = small_is n h in rw e refl
-
 -- a sum that is small
 pub small_number_is : (k x y n : ℤ) → (x +ℤ (k *ℤ y)) -ℤ pos 0 ≡ n → IsSmall n → small_number k (pos 0) x y ≡ Some n
 unfolding small_number
-small_number_is k x y n e h = ap if_small e ∙ if_small_is n h
+small_number_is k x y n e h = let small : is_small n ≡ true = small_is n h in ap if_small e ∙ rw small refl
 
 -- 0 is added
 no_change : (k x : ℤ) → (x +ℤ (k *ℤ pos 0)) -ℤ pos 0 ≡ x
@@ -157,10 +150,9 @@ length-padded (suc k) (n ∷ ns) = ap suc (length-padded k ns)
 
 take-padded : (m k : ℕ) (ns : List ℤ) → length ns ≡ m → m ≤ k → take m (padded k ns) ≡ ns
 take-padded zero k [] e h = refl
-take-padded zero k (n ∷ ns) e h = absurd (omega (arith, e))
 take-padded (suc m) zero ns e h = absurd (omega (arith, h))
-take-padded (suc m) (suc k) [] e h = absurd (omega (arith, e))
 take-padded (suc m) (suc k) (n ∷ ns) e h = ap (λ (xs : List ℤ). n ∷ xs) (take-padded m k ns (omega (arith, e)) (omega (arith, h)))
+take-padded _ _ _ e h = absurd (omega (arith, e))
 
 -- ---- rows and forms
 

@@ -18,11 +18,10 @@ use Rattle.c_reading.specs.Affine.{kind_of}
 use Rattle.c_tokens.specs.Names.{IsName}
 use Rattle.c_printing.proofs.Roles.{Role, parameter, array, other, role, HasRoles}
 use Rattle.c_printing.proofs.MeansForms.{kind_slot, HaveSlots, KnowsVariables}
-use Rattle.c_grammar.proofs.Dictionary.{place_of, lookup, kind_of-lookup, bytes_same, bytes_are, lookup-new, lookup-other, lookup-set, lookup-set_other, parameters-new, arrays-new, parameters-set, arrays-set, lookup-get}
+use Rattle.c_grammar.proofs.NameKinds.{place_of, lookup, kind_of-lookup, bytes_same, bytes_are, lookup-new, lookup-other, lookup-set, lookup-set_other, parameters-new, arrays-new, parameters-set, arrays-set, lookup-get, get-append, All-get}
 use Rattle.iolb_model.specs.declared.limits.TheConstants.{LOOPS, PARAMETERS}
 use Rattle.c_grammar.proofs.Kept.{at_end}
 use Rattle.std.proofs.lemmas.List.{map-append}
-use Rattle.c_grammar.proofs.NameKinds.{get-append, All-get}
 use Rattle.c_grammar.proofs.Steps.{bool_cases}
 
 -- the loops around: their names stand for nothing else
@@ -128,12 +127,9 @@ pub length-named : (name : List ℕ) (k : Kind) (names : List (List ℕ)) (kinds
 length-named name k names kinds same = omega (arith, length-append kinds (k ∷ []), length-append names (name ∷ []))
 
 module _ (p : AffineProgram) (is : HasRoles p) (around : List (List ℕ)) (loops : AreLoops p around) (seen : ℕ) (i : Input) (knows : KnowsNames p (length p.parameters) around seen i.names i.kinds) (a : program.Array) (there : slice_get p.arrays seen ≡ Some a) where
-  is_array : role p a.name ≡ array seen
-  is_array = is.array_roles seen a there
-
   -- a new array changes no kind of another name
   unchanged : (k : Kind) (name : List ℕ) (x : Role) → role p name ≡ x → (x ≡ array seen → ⊥) → lookup name (i.names ++ a.name ∷ []) (i.kinds ++ k ∷ []) ≡ lookup name i.names i.kinds
-  unchanged k name x is_role differ = lookup-other name a.name k i.names i.kinds knows.same (names_differ p name a.name x (array seen) is_role is_array differ)
+  unchanged k name x is_role differ = lookup-other name a.name k i.names i.kinds knows.same (names_differ p name a.name x (array seen) is_role (is.array_roles seen a there) differ)
 
   -- a parameter's
   parameters_stay : (k : Kind) (n : ℕ) (name : List ℕ) → slice_get p.parameters n ≡ Some name → lookup name (i.names ++ a.name ∷ []) (i.kinds ++ k ∷ []) ≡ if_seen n (length p.parameters) (Parameter n)

@@ -63,10 +63,24 @@ fn push_others(
     ensures { OnOk result (text.new.items ≡ text.old.items ++ flat_map (λ read. codes ", " ++ access_text (meaning program.now) names.now read) (map access_of reads.now)) }
 {
     for read in reads {
-        text.extend_from_slice(b", ")?;
-        push_access(alloc, text, program, names, read)?;
+        push_other(alloc, text, program, names, read)?;
     }
     Ok(())
+}
+
+/// A reference behind a comma, written at the end.
+fn push_other(
+    alloc: Global,
+    text: &mut Vec<u8>,
+    program: &Program,
+    names: &[Name],
+    read: &Reference,
+) -> Result<(), Memory>
+    requires { AccessFits (meaning program.now) (length names.now) (access_of read.now) }
+    ensures { OnOk result (text.new.items ≡ text.old.items ++ (codes ", " ++ access_text (meaning program.now) names.now (access_of read.now))) }
+{
+    text.extend_from_slice(b", ")?;
+    push_access(alloc, text, program, names, read)
 }
 
 /// A reference, written at the end.
@@ -104,9 +118,23 @@ fn push_subscripts(
     ensures { OnOk result (text.new.items ≡ text.old.items ++ flat_map (subscript_text names.now) forms.now) }
 {
     for form in forms {
-        text.push(b'[')?;
-        text.extend_from_slice(form.text(alloc, names)?.as_slice())?;
-        text.push(b']')?;
+        push_subscript(alloc, text, names, form)?;
     }
+    Ok(())
+}
+
+/// A subscript in brackets, written at the end.
+fn push_subscript(
+    alloc: Global,
+    text: &mut Vec<u8>,
+    names: &[Name],
+    form: &Form,
+) -> Result<(), Memory>
+    requires { IsOver (length names.now) form.now }
+    ensures { OnOk result (text.new.items ≡ text.old.items ++ subscript_text names.now form.now) }
+{
+    text.push(b'[')?;
+    text.extend_from_slice(form.text(alloc, names)?.as_slice())?;
+    text.push(b']')?;
     Ok(())
 }

@@ -1,4 +1,3 @@
 pub mod Numbered
 pub mod Sizes
 pub mod Turns
-pub mod TokenKinds

@@ -1,6 +1,6 @@
 //! Affine expressions.
 
-ghost use Rattle.std.specs.Prelude.{◌≡◌, ◌<◌, IfOk, option_map};
+ghost use Rattle.std.specs.Prelude.{◌≡◌, ◌<◌, IfOk, option_map, pos};
 ghost use Rattle.c_reading.specs.Input.{Reads, Gives};
 ghost use Rattle.c_reading.specs.Numbers as number;
 ghost use Rattle.c_reading.specs.Affine as spec;
@@ -106,28 +106,29 @@ impl Affine {
         Affine::small(start, numbers, self.has_name, self.ends_in_name)
     }
 
+    /// The numbers of another expression, times the constant of this one, where they are small.
+    fn times(&self, alloc: Global, other: &Affine) -> Result<Option<Vec<i32>>, AllocError>
+        ensures { IfOk result (λ found. option_map (λ ns. ns.items) found ≡ number.combined (number.constant_of self.now.numbers) (pos 0) number.zeros other.now.numbers) }
+    {
+        let none = zeros(alloc)?;
+        combined(
+            alloc,
+            constant_of(self.numbers.as_slice()),
+            0,
+            none.as_slice(),
+            other.numbers.as_slice(),
+        )
+    }
+
     /// The product with another expression, of which at most one has a name.
     #[tactic(auto, unfolding(crate::specs::Affine::product))]
     fn product(&self, alloc: Global, start: usize, other: &Affine) -> Result<Affine, ReadError>
         ensures { Gives (spec.product start self.now other.now) result }
     {
-        let none = zeros(alloc)?;
         let numbers = if other.has_name {
-            combined(
-                alloc,
-                constant_of(self.numbers.as_slice()),
-                0,
-                none.as_slice(),
-                other.numbers.as_slice(),
-            )?
+            self.times(alloc, other)?
         } else {
-            combined(
-                alloc,
-                constant_of(other.numbers.as_slice()),
-                0,
-                none.as_slice(),
-                self.numbers.as_slice(),
-            )?
+            other.times(alloc, self)?
         };
         Affine::small(
             start,
@@ -179,12 +180,11 @@ impl<'a> Reader<'a> {
     {
         let mut negative = false;
         for _turn in 0..self.left() {
-            if self.sees(b"-") {
+            if self.takes(b"-") {
                 negative = !negative;
-            } else if !self.sees(b"+") {
+            } else if !self.takes(b"+") {
                 return Ok(negative);
             }
-            self.pass();
         }
         Err(ReadError::Fault(self.refusal()))
     }
@@ -245,10 +245,9 @@ impl<'a> Reader<'a> {
     pub fn closed_by(&mut self, word: &[u8], a: Affine) -> Result<Affine, ReadError>
         ensures { Reads (spec.closed_by word.now a self.old) result self.new }
     {
-        if !self.sees(word) {
+        if !self.takes(word) {
             return Err(ReadError::Fault(self.refusal_after(&a)));
         }
-        self.pass();
         Ok(Affine {
             ends_in_name: false,
             ..a
@@ -331,7 +330,7 @@ impl<'a> Reader<'a> {
 
     /// An expression in brackets.
     #[cycle(affine)]
-    #[tactic(auto, using(crate::proofs::Turns::turns), unfolding(crate::specs::Affine::bracketed, crate::specs::Affine::affine))]
+    #[tactic(auto, using(crate::proofs::Turns::bracketed_none), unfolding(crate::specs::Affine::bracketed, crate::specs::Affine::affine))]
     fn bracketed(&mut self, brackets: u8, star: Option<usize>) -> Result<Affine, ReadError>
         ensures { Reads (spec.bracketed brackets star self.old) result self.new }
     {

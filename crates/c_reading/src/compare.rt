@@ -18,7 +18,7 @@ use std::marker::Model;
 pub(crate) const MOST_BRACKETS: u8 = BRACKETS;
 
 /// How two expressions are compared.
-#[derive(Clone, Copy, Debug, PartialEq, Eq)]
+#[derive(Clone, Copy)]
 pub(crate) enum Comparison {
     AtLeast,
     Above,

@@ -4,14 +4,14 @@ use affine_form::Memory;
 use std::alloc::{AllocError, AllocFailed};
 
 /// A fault of a text: its number, and its place as a byte offset in the text, from 0.
-#[derive(Clone, Copy, Debug, PartialEq, Eq)]
+#[derive(Clone, Copy)]
 pub struct ReadFault {
     pub number: u8,
     pub place: usize,
 }
 
 /// Why a text wasn't read.
-#[derive(Clone, Copy, Debug, PartialEq, Eq)]
+#[derive(Clone, Copy)]
 pub enum ReadError {
     /// The text has a fault.
     Fault(ReadFault),

@@ -89,10 +89,9 @@ impl<'a> Reader<'a> {
         let mut rows = rows;
         for _turn in 0..self.left() {
             let compared = self.compare(rows)?;
-            if !self.sees(b"&&") {
+            if !self.takes(b"&&") {
                 return self.closed_line(compared);
             }
-            self.pass();
             rows = compared.rows;
         }
         Err(ReadError::Fault(self.refusal()))

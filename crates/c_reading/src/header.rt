@@ -1,7 +1,7 @@
 //! The headers of loops.
 
-ghost use Rattle.std.specs.Prelude.{◌≡◌, ◌≤◌, OnOk};
-ghost use Rattle.c_reading.specs.Input.{Reads, Gives};
+ghost use Rattle.std.specs.Prelude.{◌≡◌, ◌≤◌, OnOk, codes};
+ghost use Rattle.c_reading.specs.Input.{Reads, Gives, and_then};
 ghost use Rattle.c_reading.specs.Affine.{number_of};
 ghost use Rattle.c_reading.specs.Items as spec;
 
@@ -90,12 +90,10 @@ impl<'a> Reader<'a> {
     fn less(&mut self) -> Result<i32, ReadError>
         ensures { Reads (spec.comparison self.old) result self.new }
     {
-        if self.sees(b"<") {
-            self.pass();
+        if self.takes(b"<") {
             return Ok(1);
         }
-        if self.sees(b"<=") {
-            self.pass();
+        if self.takes(b"<=") {
             return Ok(0);
         }
         if self.sees(b">") || self.sees(b">=") {
@@ -117,11 +115,20 @@ impl<'a> Reader<'a> {
     fn expect_in_step(&mut self, start: usize, word: &[u8]) -> Result<(), ReadError>
         ensures { Reads (spec.expect_in_step start word.now self.old) result self.new }
     {
-        if !self.sees(word) {
-            return Err(ReadError::Fault(self.refusal_in_step(start)));
+        if self.takes(word) {
+            Ok(())
+        } else {
+            Err(ReadError::Fault(self.refusal_in_step(start)))
         }
-        self.pass();
-        Ok(())
+    }
+
+    /// The loop's name, and one more, behind a `=` in a step.
+    fn name_and_one(&mut self, start: usize, name: &[u8]) -> Result<(), ReadError>
+        ensures { Reads (and_then (and_then (spec.expect_in_step start name.now self.old) (λ _. spec.expect_in_step start (codes "+"))) (λ _. spec.expect_in_step start (codes "1"))) result self.new }
+    {
+        self.expect_in_step(start, name)?;
+        self.expect_in_step(start, b"+")?;
+        self.expect_in_step(start, b"1")
     }
 
     /// A step by one behind the loop's name.
@@ -129,21 +136,16 @@ impl<'a> Reader<'a> {
     fn step_behind_name(&mut self, start: usize, name: &[u8]) -> Result<(), ReadError>
         ensures { Reads (spec.step_behind_name start name.now self.old) result self.new }
     {
-        if self.sees(b"++") {
-            self.pass();
+        if self.takes(b"++") {
             return Ok(());
         }
-        if self.sees(b"+=") {
-            self.pass();
+        if self.takes(b"+=") {
             return self.expect_in_step(start, b"1");
         }
-        if !self.sees(b"=") {
-            return Err(ReadError::Fault(self.refusal_in_step(start)));
+        if self.takes(b"=") {
+            return self.name_and_one(start, name);
         }
-        self.pass();
-        self.expect_in_step(start, name)?;
-        self.expect_in_step(start, b"+")?;
-        self.expect_in_step(start, b"1")
+        Err(ReadError::Fault(self.refusal_in_step(start)))
     }
 
     /// A step by one.
@@ -152,15 +154,13 @@ impl<'a> Reader<'a> {
         ensures { Reads (spec.step name.now self.old) result self.new }
     {
         let start = self.place();
-        if self.sees(name) {
-            self.pass();
+        if self.takes(name) {
             return self.step_behind_name(start, name);
         }
-        if !self.sees(b"++") {
-            return Err(ReadError::Fault(self.refusal_in_step(start)));
+        if self.takes(b"++") {
+            return self.expect_in_step(start, name);
         }
-        self.pass();
-        self.expect_in_step(start, name)
+        Err(ReadError::Fault(self.refusal_in_step(start)))
     }
 
     /// The lower bound behind a loop's name.
@@ -174,18 +174,25 @@ impl<'a> Reader<'a> {
         Ok(a.into_row())
     }
 
+    /// An upper bound behind its comparison, which is this much less than the expression.
+    #[tactic(auto, unfolding(crate::specs::Items::upper_from))]
+    fn upper_from(&mut self, brackets: u8, start: usize, less: i32) -> Result<Row, ReadError>
+        ensures { Reads (spec.upper_from brackets start less self.old) result self.new }
+    {
+        let a = self.affine(brackets, None)?;
+        let upper = bound(self.alloc(), start, less, a.numbers())?;
+        self.closed_by(b";", a)?;
+        Ok(upper)
+    }
+
     /// The upper bound of the loop of this name.
-    #[tactic(auto, unfolding(crate::specs::Items::upper_bound, crate::specs::Items::upper_from))]
+    #[tactic(auto, unfolding(crate::specs::Items::upper_bound))]
     fn upper_bound(&mut self, brackets: u8, name: &[u8]) -> Result<Row, ReadError>
         ensures { Reads (spec.upper_bound brackets name.now self.old) result self.new }
     {
         self.expect(name)?;
         let less = self.less()?;
-        let start = self.place();
-        let a = self.affine(brackets, None)?;
-        let upper = bound(self.alloc(), start, less, a.numbers())?;
-        self.closed_by(b";", a)?;
-        Ok(upper)
+        self.upper_from(brackets, self.place(), less)
     }
 
     /// A header behind its bracket, of the loop of this name.
@@ -223,8 +230,6 @@ impl<'a> Reader<'a> {
     pub fn skip_int(&mut self)
         ensures { self.new ≡ spec.skip_int self.old }
     {
-        if self.sees(b"int") {
-            self.pass();
-        }
+        self.takes(b"int");
     }
 }

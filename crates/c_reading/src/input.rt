@@ -1,6 +1,6 @@
 //! The tokens of a text that are left, and the names that were seen.
 
-ghost use Rattle.std.specs.Prelude.{◌≡◌, length, take, drop, OnOk, IfErr, ◌≤◌, ◌<◌, ◌+◌};
+ghost use Rattle.std.specs.Prelude.{◌≡◌, if◌then◌else◌, length, take, drop, OnOk, IfErr, ◌≤◌, ◌<◌, ◌+◌};
 ghost use Rattle.c_reading.specs.Input as spec;
 ghost use Rattle.c_reading.specs.Input.{Reads};
 ghost use Rattle.c_reading.specs.Refs.{with_kind};
@@ -135,13 +135,19 @@ impl<'a> Reader<'a> {
         self.next_token().place
     }
 
+    /// The bytes of a token.
+    fn bytes_of(&self, token: Token) -> &'a [u8]
+        ensures { result.now ≡ take token.length (drop token.place self.now.text) }
+    {
+        front(behind(self.text, token.place), token.length)
+    }
+
     /// The bytes of the next token.
     #[tactic(auto, unfolding(crate::specs::Input::spelling))]
     pub fn spelling(&self) -> &'a [u8]
         ensures { result.now ≡ spec.spelling self.now }
     {
-        let token = self.next_token();
-        front(behind(self.text, token.place), token.length)
+        self.bytes_of(self.next_token())
     }
 
     /// Whether the next token is this word or symbol.
@@ -152,13 +158,20 @@ impl<'a> Reader<'a> {
         self.spelling() == word
     }
 
+    /// The token behind the next, or an end where none is left.
+    #[tactic(auto, unfolding(crate::specs::Input::next))]
+    fn token_behind(&self) -> Token
+        ensures { result ≡ spec.next_token (spec.next self.now) }
+    {
+        first_of(self.tokens.get(1..).unwrap_or(&[]))
+    }
+
     /// Whether the token behind the next is this word or symbol.
     #[tactic(auto, unfolding(crate::specs::Input::sees, crate::specs::Input::next, crate::specs::Input::spelling))]
     pub fn sees_behind(&self, word: &[u8]) -> bool
         ensures { result ≡ spec.sees word.now (spec.next self.now) }
     {
-        let token = first_of(self.tokens.get(1..).unwrap_or(&[]));
-        front(behind(self.text, token.place), token.length) == word
+        self.bytes_of(self.token_behind()) == word
     }
 
     /// How many tokens are left.
@@ -174,6 +187,18 @@ impl<'a> Reader<'a> {
         ensures { self.new ≡ spec.next self.old }
     {
         self.tokens = self.tokens.get(1..).unwrap_or(&[]);
+    }
+
+    /// Takes the next token where it is this word or symbol, and answers whether it is.
+    pub fn takes(&mut self, word: &[u8]) -> bool
+        ensures seen { result ≡ spec.sees word.now self.old }
+        ensures taken { self.new ≡ (if result then spec.next self.old else self.old) }
+    {
+        let seen = self.sees(word);
+        if seen {
+            self.pass();
+        }
+        seen
     }
 
     /// A fault of this number at the next token.

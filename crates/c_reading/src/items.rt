@@ -132,7 +132,7 @@ impl<'a> Reader<'a> {
 
     /// A loop, where so many loops and brackets may still be opened.
     #[cycle(item)]
-    #[tactic(auto, using(crate::proofs::Turns::turns), unfolding(crate::specs::Items::loops, crate::specs::Items::for_loop, crate::specs::Items::item))]
+    #[tactic(auto, using(crate::proofs::Turns::loops_none, crate::proofs::Turns::loops_some), unfolding(crate::specs::Items::loops, crate::specs::Items::for_loop, crate::specs::Items::item))]
     fn for_loop(&mut self, loops: u8, brackets: u8) -> Result<(), ReadError>
         requires { loops ≤ LOOPS }
         ensures { Reads (spec.loops loops brackets self.old) result self.new }
@@ -156,8 +156,7 @@ impl<'a> Reader<'a> {
         ensures { Reads (spec.all_block_items (spec.item loops brackets) self.old) result self.new }
     {
         for _turn in 0..self.left() {
-            if self.sees(b"}") {
-                self.pass();
+            if self.takes(b"}") {
                 return Ok(());
             }
             self.item(loops, brackets)?;
@@ -167,7 +166,7 @@ impl<'a> Reader<'a> {
 
     /// A block, where so many loops and brackets may still be opened.
     #[cycle(item)]
-    #[tactic(auto, using(crate::proofs::Turns::turns), unfolding(crate::specs::Items::block, crate::specs::Items::item, crate::specs::Items::item_over))]
+    #[tactic(auto, using(crate::proofs::Turns::block_none, crate::proofs::Turns::block_some), unfolding(crate::specs::Items::block, crate::specs::Items::item, crate::specs::Items::item_over))]
     fn block(&mut self, loops: u8, brackets: u8) -> Result<(), ReadError>
         requires { loops ≤ LOOPS }
         ensures { Reads (spec.block (spec.loops loops) brackets self.old) result self.new }
@@ -186,8 +185,7 @@ impl<'a> Reader<'a> {
         requires { loops ≤ LOOPS }
         ensures { Reads (spec.item loops brackets self.old) result self.new }
     {
-        if self.sees(b";") {
-            self.pass();
+        if self.takes(b";") {
             return Ok(());
         }
         if self.sees(b"{") {

@@ -7,7 +7,7 @@ use std::alloc::{AllocError, Global};
 use std::marker::Model;
 
 /// The numbers of a form: the constant, the coefficients of the parameters, and those of the loops, outermost first.
-#[derive(Debug, Drop)]
+#[derive(Drop)]
 pub struct Row {
     numbers: Vec<i32>,
 }
@@ -21,7 +21,7 @@ impl Model for Row {
 }
 
 /// A reference: the number of an array, and a row for each subscript.
-#[derive(Debug, Drop)]
+#[derive(Drop)]
 pub struct Access {
     array: u16,
     subscripts: Rows,
@@ -36,7 +36,7 @@ impl Model for Access {
 }
 
 /// A statement: the reference that it writes, and those that it reads in order, repeats included.
-#[derive(Debug, Drop)]
+#[derive(Drop)]
 pub struct Statement {
     writes: Access,
     reads: Vec<Access>,
@@ -51,7 +51,7 @@ impl Model for Statement {
 }
 
 /// A loop: the number of its name among the names, and the rows of its lower and its upper bound, both included.
-#[derive(Debug, Drop)]
+#[derive(Drop)]
 pub struct Loop {
     pub name: usize,
     pub lower: Row,
@@ -59,7 +59,7 @@ pub struct Loop {
 }
 
 /// A line of a program, as it would be printed.
-#[derive(Debug, Drop)]
+#[derive(Drop)]
 pub enum Line {
     /// A loop begins.
     Begin(Loop),

@@ -1,7 +1,7 @@
 //! Kinds of names.
 
 /// What a name stands for, from where it is first seen.
-#[derive(Clone, Copy, Debug, PartialEq, Eq)]
+#[derive(Clone, Copy)]
 pub enum Kind {
     /// A parameter, by its number.
     Parameter(u8),

@@ -31,7 +31,6 @@ pub(crate) fn zeros(alloc: Global) -> Result<Vec<i32>, AllocError>
 }
 
 /// The product.
-#[tactic(auto, using(crate::proofs::Sizes::abs_product))]
 fn times(k: i32, y: i32) -> i64
     ensures value { result ≡ k *ℤ y }
     ensures size { unsigned_abs result ≤ 2 ^ 62 }
@@ -99,16 +98,16 @@ pub(crate) fn combined(
 ) -> Result<Option<Vec<i32>>, AllocError>
     ensures { IfOk result (λ found. option_map (λ numbers. numbers.items) found ≡ combined k less a.now b.now) }
 {
-    let mut numbers = Vec::new(alloc);
     let Some((x, xs)) = a.split_first() else {
-        return Ok(Some(numbers));
+        return Ok(Some(Vec::new(alloc)));
     };
     let Some((y, ys)) = b.split_first() else {
-        return Ok(Some(numbers));
+        return Ok(Some(Vec::new(alloc)));
     };
     let Some(n) = small_number(k, less, *x, *y) else {
         return Ok(None);
     };
+    let mut numbers = Vec::new(alloc);
     numbers.push(n)?;
     if push_numbers(&mut numbers, &k, xs, ys)? {
         Ok(Some(numbers))

@@ -19,7 +19,7 @@ use std::alloc::{AllocError, Global};
 use std::marker::Model;
 
 /// What a text says: its names in order of first sight, with their kinds; the rows that are assumed; and its lines.
-#[derive(Debug, Drop)]
+#[derive(Drop)]
 pub struct Reading {
     names: Vec<Name>,
     kinds: Vec<Kind>,

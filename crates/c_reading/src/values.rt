@@ -15,7 +15,7 @@ use std::alloc::{AllocError, Global};
 use std::marker::Model;
 
 /// References in order.
-#[derive(Debug, Drop)]
+#[derive(Drop)]
 pub(crate) struct Accesses {
     accesses: Vec<Access>,
 }
@@ -68,11 +68,11 @@ impl<'a> Reader<'a> {
     pub fn expect(&mut self, word: &[u8]) -> Result<(), ReadError>
         ensures { Reads (spec.expect word.now self.old) result self.new }
     {
-        if !self.sees(word) {
-            return Err(ReadError::Fault(self.refusal()));
+        if self.takes(word) {
+            Ok(())
+        } else {
+            Err(ReadError::Fault(self.refusal()))
         }
-        self.pass();
-        Ok(())
     }
 
     /// Takes a bracket, where so many may still be opened.
@@ -140,11 +140,10 @@ impl<'a> Reader<'a> {
         let mut reads = reads;
         for _turn in 0..self.left() {
             reads = self.inside(brackets, reads)?;
-            if !self.sees(b",") {
+            if !self.takes(b",") {
                 self.expect(b")")?;
                 return Ok(reads);
             }
-            self.pass();
         }
         Err(ReadError::Fault(self.refusal()))
     }
@@ -160,8 +159,7 @@ impl<'a> Reader<'a> {
         }
         self.pass();
         self.open_bracket(brackets)?;
-        if self.sees(b")") {
-            self.pass();
+        if self.takes(b")") {
             return Ok(reads);
         }
         self.arguments(brackets, reads)
@@ -236,7 +234,7 @@ impl<'a> Reader<'a> {
 
     /// The value that brackets hold, where so many were left before them.
     #[cycle(value)]
-    #[tactic(auto, using(crate::proofs::Turns::turns), unfolding(crate::specs::Values::inside, crate::specs::Values::value))]
+    #[tactic(auto, using(crate::proofs::Turns::inside_none, crate::proofs::Turns::inside_some), unfolding(crate::specs::Values::inside, crate::specs::Values::value))]
     fn inside(&mut self, brackets: u8, reads: Accesses) -> Result<Accesses, ReadError>
         ensures { Reads (spec.inside brackets reads self.old) result self.new }
     {

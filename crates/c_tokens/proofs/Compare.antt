@@ -125,8 +125,6 @@ step_space passes keeps v words b x same =
 
 pub so-past_words : (passes keeps : List ℕ → Bool) → ((x : List ℕ) → passes x ≡ keeps (squeezed (without_end x))) → (words x : List ℕ) → are_words words ≡ true → so passes (past_words words x) ≡ begins_so keeps words (squeezed (without_end x))
 so-past_words passes keeps base [] x proper = base x
-so-past_words passes keeps base (w ∷ []) [] proper = refl
-so-past_words passes keeps base (w ∷ v ∷ words) [] proper = refl
 so-past_words passes keeps base (w ∷ []) (b ∷ x) proper = step_byte passes keeps w [] b x (not-true (is_space w) proper) (base x)
 so-past_words passes keeps base (w ∷ v ∷ words) (b ∷ x) proper =
     elim (w == 32) as (λ u. (w == 32) ≡ u → (if u then not (is_space v) && are_words (v ∷ words) else not (is_space w) && are_words (v ∷ words)) ≡ true → so passes (past_words (w ∷ v ∷ words) (b ∷ x)) ≡ begins_so keeps (w ∷ v ∷ words) (squeezed (without_end (b ∷ x)))) [
@@ -137,6 +135,7 @@ so-past_words passes keeps base (w ∷ v ∷ words) (b ∷ x) proper =
           let both = and_parts (not (is_space w)) (are_words (v ∷ words)) good in
           step_byte passes keeps w (v ∷ words) b x (not-true (is_space w) both.0) (so-past_words passes keeps base (v ∷ words) x both.1)
     ] refl proper
+so-past_words passes keeps base _ [] proper = refl
 
 -- ---- whole lines
 

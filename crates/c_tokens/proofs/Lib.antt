@@ -1,4 +1,3 @@
 pub mod Scanned
 pub mod Split
-pub mod Whole
 pub mod Compare

@@ -8,7 +8,7 @@ use crate::bytes::{behind, first_line};
 use crate::words::reads_as;
 
 /// Where a line stands: its first byte's place, and the place behind its last byte.
-#[derive(Clone, Copy, Debug, PartialEq, Eq)]
+#[derive(Clone, Copy)]
 pub(crate) struct Span {
     pub start: usize,
     pub end: usize,

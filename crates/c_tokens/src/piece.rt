@@ -12,7 +12,7 @@ use crate::token::TokenKind;
 use crate::words::begins_with;
 
 /// A part of a text.
-#[derive(Clone, Copy, Debug, PartialEq, Eq)]
+#[derive(Clone, Copy)]
 pub(crate) enum Region {
     /// A directive's line, behind its head.
     Line,
@@ -21,7 +21,7 @@ pub(crate) enum Region {
 }
 
 /// What stands in front of a text, with its number of bytes.
-#[derive(Clone, Copy, Debug, PartialEq, Eq)]
+#[derive(Clone, Copy)]
 pub(crate) enum Piece {
     /// Bytes that give no token.
     Blank(usize),

@@ -1,7 +1,7 @@
 //! Tokens.
 
 /// What a token is.
-#[derive(Clone, Copy, Debug, PartialEq, Eq)]
+#[derive(Clone, Copy, PartialEq, Eq)]
 pub enum TokenKind {
     /// The head of a line that names parameters, up to the last byte of `#pragma iolb param`.
     Parameters,
@@ -27,7 +27,7 @@ pub enum TokenKind {
 
 /// A token: what it is, its first byte's place in the text, from 0, and how many bytes it has. The last four kinds have
 /// none.
-#[derive(Clone, Copy, Debug, PartialEq, Eq)]
+#[derive(Clone, Copy)]
 pub struct Token {
     pub kind: TokenKind,
     pub place: usize,

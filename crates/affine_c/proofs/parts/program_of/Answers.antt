@@ -7,8 +7,7 @@ use Rattle.affine_program.specs.declared.item.Item.{Item}
 use Rattle.c_grammar.specs.Well.{parameters_of, arrays_of}
 use Rattle.c_grammar.specs.Program.{narrowed, tree_lines, statements_among, IsReadingOf}
 use Rattle.affine_c.specs.Built.{HasShortWays}
-use Rattle.affine_c.proofs.Made.{program_has_ways, statements_counted, made_program}
-use Rattle.affine_c.proofs.StatementsKept.{StandsIn}
+use Rattle.affine_c.proofs.Made.{program_has_ways, statements_counted, made_program, StandsIn}
 use Rattle.affine_c.proofs.parts.program_of.Goals as goal
 
 pub statements_of-requires-clause-short : goal.statements_of-requires-clause-short

@@ -5,7 +5,7 @@ use Rattle.c_reading.specs.declared.lines.Line.TheVariants.{Begin, Does, End}
 use Rattle.affine_program.specs.Tree.{row_of}
 use Rattle.affine_program.specs.declared.statement.Statement.{Statement}
 use Rattle.affine_c.specs.Built.{AreRowsOver}
-use Rattle.affine_c.proofs.StatementsKept.{StandsIn, Kept, at_line, rows_there, kept_begin, kept_does, kept_end}
+use Rattle.affine_c.proofs.Made.{StandsIn, Kept, at_line, rows_there, kept_begin, kept_does, kept_end}
 use Rattle.affine_c.proofs.statements.statements_of.Goals.{in-Begin, in-Does+in_ok-statement_at-in-Does+in_ok-push-in-Does, in-End}
 use Rattle.affine_c.proofs.statements.statements_of.Goals as goal
 

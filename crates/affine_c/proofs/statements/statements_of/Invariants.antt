@@ -1,6 +1,6 @@
 use Rattle.std.proofs.Common.{drop}
 use Rattle.affine_program.specs.Tree.{row_of}
-use Rattle.affine_c.proofs.StatementsKept.{Kept}
+use Rattle.affine_c.proofs.Made.{Kept}
 use Rattle.affine_c.proofs.statements.statements_of.Given as goal
 
 abbrev pub invariant-loop-line : goal.invariant-loop-line

@@ -1,4 +1,4 @@
-use Rattle.c_grammar.proofs.ValuesHold.{rows_hold_so as holds_so}
+use Rattle.c_grammar.proofs.Values.{rows_hold_so as holds_so}
 use Rattle.c_grammar.proofs.law.rows_hold_so.Goals as goal
 
 pub returns : goal.returns

@@ -1,7 +1,7 @@
 use Rattle.std.proofs.Common.{◌∙◌, ap, ◌++◌}
 use Rattle.c_tokens.specs.Lines.{lines_from}
 use Rattle.c_tokens.specs.Text.{head_tokens}
-use Rattle.c_tokens.proofs.Whole.{tokens_of-found}
+use Rattle.c_tokens.proofs.Scanned.{tokens_of-found}
 use Rattle.c_tokens.proofs.text.tokens.Goals as goal
 
 pub returns-clause-tokens : goal.returns-clause-tokens

@@ -1,5 +1,6 @@
-use Rattle.std.proofs.Common.{◌≡◌, ◌+◌, ◌-◌, ◌*◌}
+use Rattle.std.proofs.Common.{◌≡◌, ◌+◌, ◌*◌}
 use Rattle.c_reading.specs.Affine.{bracketed, products, sums, term, affine}
+use Rattle.c_reading.proofs.Turns.{by_turns}
 use Rattle.c_reading.proofs.input.Reader.+affine.Given as goal
 
 -- the brackets that may still be opened, then how far down the grammar the rule stands
@@ -19,7 +20,7 @@ abbrev pub decreases-term : goal.decreases-term
 decreases-term l = 5 * l.brackets + 3
 
 abbrev pub invariant-affine-loop-turn : goal.invariant-affine-loop-turn
-invariant-affine-loop-turn l = affine l.brackets l.star l.fn.self ≡ sums (bracketed l.brackets) l.start l.star (l._turn-end - l._turn) l.a l.self
+invariant-affine-loop-turn l = affine l.brackets l.star l.fn.self ≡ by_turns (λ turns. sums (bracketed l.brackets) l.start l.star turns l.a l.self) l._turn-end l._turn
 
 abbrev pub invariant-term-loop-turn : goal.invariant-term-loop-turn
-invariant-term-loop-turn l = term (bracketed l.brackets) l.start l.star l.fn.self ≡ products (bracketed l.brackets) l.start l.star (l._turn-end - l._turn) l.a l.self
+invariant-term-loop-turn l = term (bracketed l.brackets) l.start l.star l.fn.self ≡ by_turns (λ turns. products (bracketed l.brackets) l.start l.star turns l.a l.self) l._turn-end l._turn

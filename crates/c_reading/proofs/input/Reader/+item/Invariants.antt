@@ -1,5 +1,6 @@
-use Rattle.std.proofs.Common.{◌≡◌, ◌+◌, ◌-◌, ◌*◌}
+use Rattle.std.proofs.Common.{◌≡◌, ◌+◌, ◌*◌}
 use Rattle.c_reading.specs.Items.{item, block_items, all_block_items}
+use Rattle.c_reading.proofs.Turns.{by_turns}
 use Rattle.c_reading.proofs.input.Reader.+item.Given as goal
 
 -- the loops and the brackets that may still be opened, then how far down the grammar the rule stands
@@ -16,4 +17,4 @@ abbrev pub decreases-item : goal.decreases-item
 decreases-item l = 4 * (l.loops + l.brackets) + 2
 
 abbrev pub invariant-block_items-loop-turn : goal.invariant-block_items-loop-turn
-invariant-block_items-loop-turn l = all_block_items (item l.loops l.brackets) l.fn.self ≡ block_items (item l.loops l.brackets) (l._turn-end - l._turn) l.self
+invariant-block_items-loop-turn l = all_block_items (item l.loops l.brackets) l.fn.self ≡ by_turns (λ turns. block_items (item l.loops l.brackets) turns l.self) l._turn-end l._turn

@@ -1,5 +1,6 @@
-use Rattle.std.proofs.Common.{◌≡◌, ◌+◌, ◌-◌, ◌*◌}
+use Rattle.std.proofs.Common.{◌≡◌, ◌+◌, ◌*◌}
 use Rattle.c_reading.specs.Values.{inside, arguments, all_arguments, operands, value}
+use Rattle.c_reading.proofs.Turns.{by_turns}
 use Rattle.c_reading.proofs.input.Reader.+value.Given as goal
 
 -- the brackets that may still be opened, then how far down the grammar the rule stands
@@ -25,7 +26,7 @@ abbrev pub decreases-value : goal.decreases-value
 decreases-value l = 6 * l.brackets + 5
 
 abbrev pub invariant-arguments-loop-turn : goal.invariant-arguments-loop-turn
-invariant-arguments-loop-turn l = all_arguments (inside l.brackets) l.fn.reads l.fn.self ≡ arguments (inside l.brackets) (l._turn-end - l._turn) l.reads l.self
+invariant-arguments-loop-turn l = all_arguments (inside l.brackets) l.fn.reads l.fn.self ≡ by_turns (λ turns. arguments (inside l.brackets) turns l.reads l.self) l._turn-end l._turn
 
 abbrev pub invariant-value-loop-turn : goal.invariant-value-loop-turn
-invariant-value-loop-turn l = value l.brackets l.fn.reads l.fn.self ≡ operands (inside l.brackets) l.brackets (l._turn-end - l._turn) l.reads l.self
+invariant-value-loop-turn l = value l.brackets l.fn.reads l.fn.self ≡ by_turns (λ turns. operands (inside l.brackets) l.brackets turns l.reads l.self) l._turn-end l._turn
