@@ -5,8 +5,6 @@
 mod cover;
 mod least;
 mod packings;
-#[cfg(test)]
-mod tests;
 mod weights;
 
 pub use cover::{CoordSet, Cover, CoverFault};

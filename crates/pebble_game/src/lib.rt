@@ -11,8 +11,6 @@ pub mod illegal;
 pub mod inputs;
 pub mod memory;
 pub mod sets;
-#[cfg(test)]
-mod tests;
 
 pub use board::Board;
 pub use graph::Graph;

@@ -35,16 +35,3 @@ pub fn power_sum(d: usize) -> Option<Row<8>>
 {
     ROWS.get(d).copied()
 }
-
-#[cfg(test)]
-mod tests {
-    use super::*;
-
-    #[test]
-    fn worked_rows(rt: HostRuntime) {
-        assert_eq!(rt; power_sum(2), Some(row!([0, 1, 3, 2, 0, 0, 0, 0] / 6)));
-        assert_eq!(rt; power_sum(4), Some(row!([0, -1, 0, 10, 15, 6, 0, 0] / 30)));
-        assert_eq!(rt; power_sum(5), Some(row!([0, 0, -1, 0, 5, 6, 2, 0] / 12)));
-        assert_eq!(rt; power_sum(6), None);
-    }
-}

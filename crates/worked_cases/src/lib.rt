@@ -1,13 +1,17 @@
-//! Worked cases of crates that the program's calls don't show: tokens, forms and matrices, polynomials, the numbers of
-//! covers, computation graphs, replays.
+//! Worked cases of crates that the program's calls don't show: files and sinks, tokens, forms and matrices, polynomials,
+//! the numbers of covers, computation graphs, boards, replays.
 #![tactic(auto)]
 
+#[cfg(test)]
+mod board_tests;
 #[cfg(test)]
 mod cover_tests;
 #[cfg(test)]
 mod form_tests;
 #[cfg(test)]
 mod graph_tests;
+#[cfg(test)]
+mod host_tests;
 #[cfg(test)]
 mod polynomial_tests;
 #[cfg(test)]

@@ -169,3 +169,30 @@ fn covers_are_least_among_all_weights(rt: HostRuntime) -> Result<(), Fail> {
     }
     Ok(())
 }
+
+/// Whether the least cover of sets that are written as numbers has these weights, this packing and this denominator.
+fn is_known(
+    alloc: Global,
+    sets: &[u32],
+    d: u8,
+    weights: &[u8],
+    packing: &[u8],
+    q: u8,
+) -> Result<bool, Fail> {
+    let mut given = Vec::new(alloc);
+    for set in sets {
+        given.push(coordinates_of(alloc, *set)?)?;
+    }
+    Ok(match least_cover(alloc, given.as_slice(), d) {
+        Ok(cover) => cover.weights() == weights && cover.packing() == packing && cover.q() == q,
+        Err(_) => false,
+    })
+}
+
+#[test]
+fn least_covers_are_known(rt: HostRuntime) -> Result<(), Fail> {
+    let alloc = rt.alloc();
+    assert!(rt; is_known(alloc, &[3, 5, 6], 3, &[1, 1, 1], &[1, 1, 1], 2)?);
+    assert!(rt; is_known(alloc, &[1, 2], 2, &[1, 1], &[1, 1], 1)?);
+    Ok(())
+}

@@ -1,4 +1,4 @@
-//! Worked cases of what makes certificates: multipliers, counts and least covers that are found, and certificates that are made.
+//! Worked cases of what makes certificates: multipliers, sums of powers, counts and least covers that are found, and certificates that are made.
 #![tactic(auto)]
 
 #[cfg(test)]
@@ -9,3 +9,5 @@ mod count_tests;
 mod cover_tests;
 #[cfg(test)]
 mod multiplier_tests;
+#[cfg(test)]
+mod power_tests;

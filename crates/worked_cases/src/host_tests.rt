@@ -1,4 +1,5 @@
-//! What callers can conclude from the traits alone, and the answers of each kind of files and sinks.
+//! What callers can conclude from the traits of the host alone, and the answers of each kind of files and sinks.
+
 ghost use Rattle.std.specs.Prelude.{◌≡◌, ◌⊎◌, ℕ, ◌≤◌, List, length, Some, IfOk, OnOk, IfSome, IsErrOf};
 ghost use Rattle.std.specs.Io.KnownBytes.{append_known};
 ghost use Rattle.iolb_host.specs.declared.files.FileFault.TheVariants.{Failed};
@@ -6,11 +7,11 @@ ghost use Rattle.iolb_host.specs.Faults.{after_fault};
 ghost use Rattle.iolb_host.specs.Sink.{after_write};
 ghost use Rattle.iolb_host.specs.Files.{FileMap, content_of};
 
-use super::*;
+use iolb_host::{
+    FileFault, Files, MemFiles, MemSink, Sink, SinkFault, StdFiles, StdSink, SureFiles, SureSink,
+};
 use std::alloc::{AllocError, Global};
 use std::collections::BTreeMap;
-use std::io;
-use std::io::{BufWriter, Write};
 use std::test::Fail;
 
 // Two files, read one after the other.
@@ -100,49 +101,6 @@ fn sinks_in_memory_append(rt: HostRuntime) -> Result<(), Fail> {
     let mut sink = SureSink::new(alloc);
     put_surely(&mut sink, b"ab")?;
     assert_eq!(rt; sink.bytes(), b"abab".as_slice());
-    Ok(())
-}
-
-// A stream that holds what it is given until it is flushed.
-#[derive(Drop)]
-struct Holding {
-    held: Vec<u8>,
-    flushed: Vec<u8>,
-}
-
-impl Write for Holding {
-    fn write(&mut self, buf: &[u8]) -> io::Result<usize> {
-        self.held.extend_from_slice(buf)?;
-        Ok(buf.len())
-    }
-
-    fn flush(&mut self) -> io::Result<()> {
-        self.flushed.extend_from_slice(self.held.as_slice())?;
-        self.held.clear();
-        Ok(())
-    }
-}
-
-#[test]
-fn what_is_held_is_flushed_at_last(rt: HostRuntime) -> Result<(), Fail> {
-    let alloc = rt.alloc();
-    let stream = Holding {
-        held: Vec::new(alloc),
-        flushed: Vec::new(alloc),
-    };
-    let mut sink = StdSink {
-        stream: BufWriter::with_capacity(alloc, 4, stream)?,
-        faults: 0,
-    };
-    sink.put(b"ab")?;
-    assert_eq!(rt; sink.stream.get_ref().held.len(), 0);
-    sink.put(b"cde")?;
-    assert_eq!(rt; sink.stream.get_ref().flushed.len(), 0);
-    sink.finish()?;
-    assert_eq!(rt;
-        sink.stream.get_ref().flushed.as_slice(),
-        b"abcde".as_slice()
-    );
     Ok(())
 }
 

@@ -3,19 +3,26 @@
 ghost use Rattle.std.specs.Prelude.{◌≡◌, IfOk};
 ghost use Rattle.iolb_model.specs.Game.{vertices};
 
-use crate::{Board, Graph, Illegal, Memory, Move};
+use crate::texts::COPIED_ROW;
+use affine_c::read_program;
+use loop_graph::build;
+use pebble_game::{Board, Graph, Illegal, Move};
 use std::alloc::Global;
 use std::test::Fail;
 
 /// The graph of a copied row of three: the instances 0 to 2 read the inputs 3 to 5.
-fn copied_row(alloc: Global) -> Result<Graph, Memory>
+fn copied_row(alloc: Global) -> Result<Graph, Fail>
     ensures { IfOk result (λ graph. vertices graph ≡ 6) }
 {
-    let mut preds = Vec::new(alloc);
-    preds.push(vec![in alloc; 3]?)?;
-    preds.push(vec![in alloc; 4]?)?;
-    preds.push(vec![in alloc; 5]?)?;
-    Ok(Graph::new(3, 3, preds, vec![in alloc; true, true, true]?))
+    let program = read_program(alloc, COPIED_ROW)?;
+    if program.params().len() != 1 {
+        return Err(Fail::new("its parameter is the row's length"));
+    }
+    let graph = build(alloc, &program, &[3])?;
+    if graph.instances() != 3 || graph.inputs() != 3 {
+        return Err(Fail::new("it has three instances and three inputs"));
+    }
+    Ok(graph)
 }
 
 #[test]
