@@ -16,6 +16,32 @@ pub(crate) fn inverse_object(alloc: Global, matrix: Value, scale: u32) -> Result
     json!(in alloc; {"matrix": matrix, "scale": scale})
 }
 
+/// The members of a cold term from `point` on, the last first, so that each is put in front of those that are there.
+fn cold_from_point(
+    alloc: Global,
+    point: Value,
+    read: u16,
+    shown: Value,
+    statement: u16,
+    sums: Value,
+) -> Result<Map<String, Value>, AllocError>
+    ensures { IfOk result (λ members. members_view members.entries ≡
+        member (codes "point") (view point)
+        (member (codes "read") (natural read)
+        (member (codes "shown") (view shown)
+        (member (codes "statement") (natural statement)
+        (member (codes "sums") (view sums)
+        no_members))))) }
+{
+    let mut members = Map::new(alloc);
+    put(&mut members, alloc, "sums", sums)?;
+    put(&mut members, alloc, "statement", Value::from(statement))?;
+    put(&mut members, alloc, "shown", shown)?;
+    put(&mut members, alloc, "read", Value::from(read))?;
+    put(&mut members, alloc, "point", point)?;
+    Ok(members)
+}
+
 /// A cold term.
 pub(crate) fn cold_object(
     alloc: Global,
@@ -41,22 +67,46 @@ pub(crate) fn cold_object(
         (member (codes "sums") (view sums)
         no_members)))))))))) }
 {
-    json!(in alloc; {
-        "inside": inside,
-        "inverse": inverse,
-        "leaves": leaves,
-        "nest": nest,
-        "point": point,
-        "read": read,
-        "shown": shown,
-        "statement": statement,
-        "sums": sums,
-    })
+    let mut members = cold_from_point(alloc, point, read, shown, statement, sums)?;
+    put(&mut members, alloc, "nest", nest)?;
+    put(&mut members, alloc, "leaves", leaves)?;
+    put(&mut members, alloc, "inverse", inverse)?;
+    put(&mut members, alloc, "inside", inside)?;
+    Ok(Value::Object(members))
 }
 
-/// The members of a wavefront term from `reach` on, the last first, so that each is put in front of those that are there.
-fn front_behind(
+/// The members of a wavefront term from `shown` on, the last first, so that each is put in front of those that are there.
+fn front_from_shown(
     alloc: Global,
+    shown: Value,
+    source: Value,
+    sums: Value,
+    user: Value,
+    vertex: Value,
+) -> Result<Map<String, Value>, AllocError>
+    ensures { IfOk result (λ members. members_view members.entries ≡
+        member (codes "shown") (view shown)
+        (member (codes "source") (view source)
+        (member (codes "sums") (view sums)
+        (member (codes "user") (view user)
+        (member (codes "vertex") (view vertex)
+        no_members))))) }
+{
+    let mut members = Map::new(alloc);
+    put(&mut members, alloc, "vertex", vertex)?;
+    put(&mut members, alloc, "user", user)?;
+    put(&mut members, alloc, "sums", sums)?;
+    put(&mut members, alloc, "source", source)?;
+    put(&mut members, alloc, "shown", shown)?;
+    Ok(members)
+}
+
+/// The members of a wavefront term from `nest` on, the last first, so that each is put in front of those that are there.
+fn front_from_nest(
+    alloc: Global,
+    nest: Value,
+    outer: u8,
+    outer_sums: Value,
     reach: Value,
     read: u16,
     shown: Value,
@@ -66,23 +116,24 @@ fn front_behind(
     vertex: Value,
 ) -> Result<Map<String, Value>, AllocError>
     ensures { IfOk result (λ members. members_view members.entries ≡
-        member (codes "reach") (view reach)
+        member (codes "nest") (view nest)
+        (member (codes "outer") (natural outer)
+        (member (codes "outer_sums") (view outer_sums)
+        (member (codes "reach") (view reach)
         (member (codes "read") (natural read)
         (member (codes "shown") (view shown)
         (member (codes "source") (view source)
         (member (codes "sums") (view sums)
         (member (codes "user") (view user)
         (member (codes "vertex") (view vertex)
-        no_members))))))) }
+        no_members)))))))))) }
 {
-    let mut members = Map::new(alloc);
-    put(&mut members, alloc, "vertex", vertex)?;
-    put(&mut members, alloc, "user", user)?;
-    put(&mut members, alloc, "sums", sums)?;
-    put(&mut members, alloc, "source", source)?;
-    put(&mut members, alloc, "shown", shown)?;
+    let mut members = front_from_shown(alloc, shown, source, sums, user, vertex)?;
     put(&mut members, alloc, "read", Value::from(read))?;
     put(&mut members, alloc, "reach", reach)?;
+    put(&mut members, alloc, "outer_sums", outer_sums)?;
+    put(&mut members, alloc, "outer", Value::from(outer))?;
+    put(&mut members, alloc, "nest", nest)?;
     Ok(members)
 }
 
@@ -121,10 +172,9 @@ pub(crate) fn front_object(
         (member (codes "vertex") (view vertex)
         no_members))))))))))))))) }
 {
-    let mut members = front_behind(alloc, reach, read, shown, source, sums, user, vertex)?;
-    put(&mut members, alloc, "outer_sums", outer_sums)?;
-    put(&mut members, alloc, "outer", Value::from(outer))?;
-    put(&mut members, alloc, "nest", nest)?;
+    let mut members = front_from_nest(
+        alloc, nest, outer, outer_sums, reach, read, shown, source, sums, user, vertex,
+    )?;
     put(&mut members, alloc, "inverse", inverse)?;
     put(&mut members, alloc, "inside", inside)?;
     put(&mut members, alloc, "edge", edge)?;
@@ -132,9 +182,38 @@ pub(crate) fn front_object(
     Ok(Value::Object(members))
 }
 
-/// The members of a partition term from `matrix` on, the last first.
-fn partition_behind(
+/// The members of a partition term from `q` on, the last first, so that each is put in front of those that are there.
+fn partition_from_q(
     alloc: Global,
+    q: u8,
+    shape: Value,
+    shown: Value,
+    statement: u16,
+    sums: Value,
+) -> Result<Map<String, Value>, AllocError>
+    ensures { IfOk result (λ members. members_view members.entries ≡
+        member (codes "q") (natural q)
+        (member (codes "shape") (view shape)
+        (member (codes "shown") (view shown)
+        (member (codes "statement") (natural statement)
+        (member (codes "sums") (view sums)
+        no_members))))) }
+{
+    let mut members = Map::new(alloc);
+    put(&mut members, alloc, "sums", sums)?;
+    put(&mut members, alloc, "statement", Value::from(statement))?;
+    put(&mut members, alloc, "shown", shown)?;
+    put(&mut members, alloc, "shape", shape)?;
+    put(&mut members, alloc, "q", Value::from(q))?;
+    Ok(members)
+}
+
+/// The members of a partition term from `families` on, the last first, so that each is put in front of those that are there.
+fn partition_from_families(
+    alloc: Global,
+    families: Value,
+    inside: Value,
+    inverse: Value,
     matrix: Value,
     nest: Value,
     q: u8,
@@ -144,23 +223,24 @@ fn partition_behind(
     sums: Value,
 ) -> Result<Map<String, Value>, AllocError>
     ensures { IfOk result (λ members. members_view members.entries ≡
-        member (codes "matrix") (view matrix)
+        member (codes "families") (view families)
+        (member (codes "inside") (view inside)
+        (member (codes "inverse") (view inverse)
+        (member (codes "matrix") (view matrix)
         (member (codes "nest") (view nest)
         (member (codes "q") (natural q)
         (member (codes "shape") (view shape)
         (member (codes "shown") (view shown)
         (member (codes "statement") (natural statement)
         (member (codes "sums") (view sums)
-        no_members))))))) }
+        no_members)))))))))) }
 {
-    let mut members = Map::new(alloc);
-    put(&mut members, alloc, "sums", sums)?;
-    put(&mut members, alloc, "statement", Value::from(statement))?;
-    put(&mut members, alloc, "shown", shown)?;
-    put(&mut members, alloc, "shape", shape)?;
-    put(&mut members, alloc, "q", Value::from(q))?;
+    let mut members = partition_from_q(alloc, q, shape, shown, statement, sums)?;
     put(&mut members, alloc, "nest", nest)?;
     put(&mut members, alloc, "matrix", matrix)?;
+    put(&mut members, alloc, "inverse", inverse)?;
+    put(&mut members, alloc, "inside", inside)?;
+    put(&mut members, alloc, "families", families)?;
     Ok(members)
 }
 
@@ -199,10 +279,9 @@ pub(crate) fn partition_object(
         (member (codes "sums") (view sums)
         no_members))))))))))))))) }
 {
-    let mut members = partition_behind(alloc, matrix, nest, q, shape, shown, statement, sums)?;
-    put(&mut members, alloc, "inverse", inverse)?;
-    put(&mut members, alloc, "inside", inside)?;
-    put(&mut members, alloc, "families", families)?;
+    let mut members = partition_from_families(
+        alloc, families, inside, inverse, matrix, nest, q, shape, shown, statement, sums,
+    )?;
     put(&mut members, alloc, "credits", credits)?;
     put(&mut members, alloc, "b", Value::from(b))?;
     put(&mut members, alloc, "apart", apart)?;
