@@ -1,15 +1,14 @@
 -- Leaves that are shown, and why none is.
-use Rattle.std.proofs.Common.{◌≡◌, refl, sym, ◌∙◌, ap, subst, ℕ, ◌*◌, List, [], ◌∷◌, ◌++◌, length, map, arith}
+use Rattle.std.proofs.Common.{◌≡◌, refl, sym, ◌∙◌, ap, subst, ℕ, ◌*◌, List, [], ◌∷◌, ◌++◌, length, map}
 use Rattle.std.specs.List.{AllByRecursion}
 use Rattle.std.proofs.lemmas.List.{length-map}
 use Rattle.base_laws.proofs.Lists.{All-weaken}
 use Rattle.iolb_model.specs.Form.{AffineForm}
-use Rattle.iolb_model.specs.Path.{PathStep, rises}
 use Rattle.iolb_model.specs.Program.{AffineProgram, IsWellFormed, statement_at}
 use Rattle.iolb_model.specs.declared.limits.TheConstants.{NUMBER_SIZE}
 use Rattle.affine_form.specs.Form.{IsSmallForm}
 use Rattle.affine_form.specs.Multipliers.{FarkasMultipliers}
-use Rattle.affine_form.specs.Rows.{IsSmallOver, within_rows}
+use Rattle.affine_form.specs.Rows.{IsSmallOver}
 use Rattle.affine_form.specs.System.{AffineSystem}
 use Rattle.affine_program.specs.Domain.{depth_of, path_of}
 use Rattle.claims.specs.Claims.{Claim}
@@ -21,7 +20,7 @@ use Rattle.dep_quast.specs.Context.{ReadOf, reference_of, variables_at, context,
 use Rattle.dep_quast.specs.Claims.{IsFew, follow_claims, pointless_claims, context_system, inside_goals, cell_goals, before_goals, point_claims}
 use Rattle.dep_quast.specs.Tree.{SourceClaim, source, input, empty, blank, leaf, test}
 use Rattle.dep_quast.specs.Truth.{IsThere, ReadFits}
-use Rattle.dep_quast.proofs.Fits.{cells-many, ranks-same}
+use Rattle.dep_quast.proofs.Fits.{cells-many, ranks-same, length-within_rows}
 use Rattle.answers.specs.declared.wanted.Wanted.{Wanted}
 use Rattle.answers.specs.declared.wanted.Wanted.TheVariants.{Short}
 use Rattle.answers.specs.Answers.{Question, Answers, HasNoShort, HasShortAnswer, following, pointless}
@@ -80,16 +79,10 @@ aim_of (split form above below) = bare 0 0 []
 abbrev aim : SourceClaim → SourceClaim
 aim claim = bare claim.statement claim.level claim.point
 
--- two rows for each loop on a way
-pub within_rows-length : (vars : ℕ) (path : List PathStep) (before values : List AffineForm) → length values ≡ length path → length (within_rows vars path before values) ≡ 2 * length path
-within_rows-length vars [] before values e = refl
-within_rows-length vars (rises lower upper ∷ path) before [] e = absurd (omega arith)
-within_rows-length vars (rises lower upper ∷ path) before (v ∷ values) e = omega (arith, within_rows-length vars path (before ++ v ∷ []) values (omega arith))
-
 module _ (program : AffineProgram) (reader : ReadOf) (tests : List AffineForm) (well : IsWellFormed program) (read : ReadFits program reader) where
   inside-length : (claim : SourceClaim) → IsThere program reader claim → length (inside_goals program reader claim) ≡ 2 * depth_of program claim.statement
   inside-length claim h =
-      within_rows-length (variables_at program reader) (path_of program claim.statement) (parameter_point program (variables_at program reader)) claim.point h.point
+      length-within_rows (variables_at program reader) (path_of program claim.statement) (parameter_point program (variables_at program reader)) claim.point h.point
 
   cell-length : (claim : SourceClaim) → IsThere program reader claim → (statement_at program claim.statement).writes.array ≡ (reference_of program reader).array
       → length (cell_goals program reader claim) ≡ 2 * length (reference_of program reader).subscripts

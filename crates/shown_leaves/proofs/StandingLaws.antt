@@ -15,12 +15,11 @@ use Rattle.claims.specs.declared.key.TheConstants.{NO, YES}
 use Rattle.dep_quast.specs.Context.{ReadOf, variables_at, no_row, context}
 use Rattle.dep_quast.specs.Claims.{IsFew, context_system, claims}
 use Rattle.dep_quast.specs.Tree.{SelectionTree, leaf, test, empty, blank}
-use Rattle.dep_quast.proofs.Fits.{depth-few}
+use Rattle.dep_quast.proofs.Fits.{depth-few, length-within_rows}
 use Rattle.answers.specs.Answers.{IsAnswered, pointless}
 use Rattle.shown_leaves.specs.Shown.{IsLeafUnder}
 use Rattle.shown_leaves.specs.Shown.{Stands}
 use Rattle.answers.proofs.AnswerLaws.{answer-names}
-use Rattle.shown_leaves.proofs.ShownLeaves.{within_rows-length}
 
 -- the rows of a leaf are few, where not too many tests are nested
 pub context-few : (parts : ProgramParts) (is : IsProgram parts) (reader : ReadOf) (tests : List AffineForm) → reader.statement < length parts.statements → length tests ≤ TREE_TESTS
@@ -37,7 +36,7 @@ context-few parts is reader tests below few =
       length-append assumed domain,
       length-map program.assumptions (widened (variables_at program reader)),
       is.limits.assumptions,
-      within_rows-length vars (path_of program reader.statement) (variables_from vars 0 (length program.parameters)) (variables_from vars (length program.parameters) (depth_of program reader.statement))
+      length-within_rows vars (path_of program reader.statement) (variables_from vars 0 (length program.parameters)) (variables_from vars (length program.parameters) (depth_of program reader.statement))
           (length-variables vars (length program.parameters) (depth_of program reader.statement)),
       depth-few parts is reader.statement below,
     )

@@ -12,7 +12,6 @@ use Rattle.claims.specs.declared.place.Step.TheVariants.{Key, Index}
 use Rattle.claims.specs.declared.key.TheConstants.{NO, POINT, QUASTS, STATEMENT, YES}
 use Rattle.claims.proofs.Laws.{AllHold-append}
 use Rattle.affine_form.proofs.RowLemmas.{length-variables}
-use Rattle.affine_form.specs.Rows.{IsSmallOver}
 use Rattle.affine_program.specs.Domain.{depth_of}
 use Rattle.dep_quast.specs.Claims.{before_goals, claims}
 use Rattle.dep_quast.specs.Context.{ReadOf, variables_at, no_row, context, reader_values}
@@ -24,8 +23,9 @@ use Rattle.dep_quast.proofs.Counts.{earlier-many, between-many, order-many, leve
 use Rattle.dep_quast.proofs.Fits.{common-first, common-second}
 use Rattle.part_fit.specs.FitClaims.{names, so_many}
 use Rattle.part_fit.specs.Limits.{IsSmallTree}
-use Rattle.part_fit.specs.PartFit.{form_at, forms_fit}
+use Rattle.part_fit.specs.PartFit.{forms_fit}
 use Rattle.part_fit.specs.TreeFit.{order_rows_at, source_lists_fit, leaf_fit, tree_fit, tree_at, row_at, trees_fit}
+use Rattle.part_fit.proofs.FormsFit.{forms-hold}
 use Rattle.reuse_paths.specs.declared.quasts.Quasts.{Quasts}
 use Rattle.reuse_paths.specs.Quasts.{row_trees, trees_of}
 use Rattle.reuse_paths.specs.Trees.{read_of, row_claims, rows_claims, tree_place}
@@ -39,10 +39,6 @@ level-below program t s level (inl common) = by (nat_lt t s) where
   by false = omega (arith, common)
 level-below program t s level (inr (last, earlier)) =
     let more = ap (λ (b : Bool). length (common_loops program t s) + (if b then 1 else 0)) (lt-ltb t s earlier) in omega (arith, last, more)
-
-forms-hold : (vars : ℕ) (place : List Step) (index : ℕ) (forms : List AffineForm) → AllByRecursion (IsSmallOver vars) forms → AllHold (numbered (form_at vars place) index forms)
-forms-hold vars place index [] small = tt
-forms-hold vars place index (form ∷ forms) small = (small.0.over, forms-hold vars place (suc index) forms small.1)
 
 module _ (program : AffineProgram) (well : IsWellFormed program) where
   module _ (reader : ReadOf) (fits : ReadFits program reader) where

@@ -1,6 +1,7 @@
 //! Leaves of source trees, with the multipliers that show them.
 
-ghost use Rattle.std.specs.Prelude.{◌≡◌, ℕ, IfOk, IfSome, MatchOption};
+ghost use Rattle.std.specs.Prelude.{◌≡◌, ℕ, IfOk, IfSome, IsTrue, MatchOption};
+ghost use Rattle.affine_form.specs.Shown.{HasNoPoint};
 ghost use Rattle.affine_form.specs.System.{AllOver};
 ghost use Rattle.affine_program.specs.Parts.{meaning};
 ghost use Rattle.dep_quast.specs.Context.{reference_of, variables_at};
@@ -8,8 +9,8 @@ ghost use Rattle.dep_quast.specs.Levels.{IsWriter};
 ghost use Rattle.dep_quast.specs.Tree.{tree_of};
 ghost use Rattle.dep_quast.specs.Truth.{ReadFits, IsThere};
 ghost use Rattle.dep_quast.specs.Views.{read_of, claim_of};
-ghost use Rattle.dep_quast.specs.Claims.{inside_goals, cell_goals, before_goals};
-ghost use Rattle.answers.specs.Answers.{HasNoShort, Answers, following};
+ghost use Rattle.dep_quast.specs.Claims.{inside_goals, cell_goals, before_goals, context_system};
+ghost use Rattle.answers.specs.Answers.{HasNoShort, HasShortAnswer, Answers, IsAnswered, IsAsShort, following, pointless};
 ghost use Rattle.shown_leaves.specs.Shapes.{last_write, no_write};
 ghost use Rattle.shown_leaves.specs.Shown.{IsLeafUnder};
 ghost use Rattle.shown_leaves.specs.Shown.{FindsTree};
@@ -49,6 +50,24 @@ pub fn input_leaf(
     Ok(Some(Quast::Input { earlier }))
 }
 
+/// Multipliers that show that no point comes to a leaf under these tests. None only where no short list does, or the rows are
+/// too many.
+fn pointless_answered(
+    alloc: Global,
+    program: &Program,
+    reader: Reader,
+    tests: &[Form],
+) -> Result<Option<Multipliers>, Memory>
+    requires read { ReadFits (meaning program.now) (read_of reader) }
+    requires tests_over { AllOver (variables_at (meaning program.now) (read_of reader)) tests.now }
+    ensures { IfOk result (λ found. let question = pointless (context_system (meaning program.now) (read_of reader) tests.now) in
+        MatchOption found (¬ HasShortAnswer question) (λ shown. IsAnswered question shown × IsAsShort Wanted.Any shown)) }
+{
+    let rows = context_rows(alloc, program, reader, tests)?;
+    let vars = variables(program, reader);
+    system_answered(alloc, Wanted::Any, vars, rows.as_slice())
+}
+
 /// A leaf that says no point comes to it under these tests. None where that isn't found to be shown.
 fn empty_leaf(
     alloc: Global,
@@ -60,15 +79,13 @@ fn empty_leaf(
     requires tests_over { AllOver (variables_at (meaning program.now) (read_of reader)) tests.now }
     ensures { IfOk result (λ found. IfSome found (λ quast. IsLeafUnder (meaning program.now) (read_of reader) tests.now (tree_of quast))) }
 {
-    let rows = context_rows(alloc, program, reader, tests)?;
-    let vars = variables(program, reader);
-    let Some(shown) = system_answered(alloc, Wanted::Any, vars, rows.as_slice())? else {
+    let Some(shown) = pointless_answered(alloc, program, reader, tests)? else {
         return Ok(None);
     };
     Ok(Some(Quast::Empty { shown }))
 }
 
-/// Whether it is found that no point comes to a leaf under these tests.
+/// Whether it is found that no point comes to a leaf under these tests. Where a short list shows it, it is found.
 pub fn has_no_point(
     alloc: Global,
     program: &Program,
@@ -77,11 +94,13 @@ pub fn has_no_point(
 ) -> Result<bool, Memory>
     requires read { ReadFits (meaning program.now) (read_of reader) }
     requires tests_over { AllOver (variables_at (meaning program.now) (read_of reader)) tests.now }
+    ensures none { IfOk result (λ yes. IsTrue yes → HasNoPoint (context_system (meaning program.now) (read_of reader) tests.now)) }
+    ensures short { IfOk result (λ yes. HasShortAnswer (pointless (context_system (meaning program.now) (read_of reader) tests.now)) → IsTrue yes) }
 {
-    let rows = context_rows(alloc, program, reader, tests)?;
-    let vars = variables(program, reader);
-    let found = system_answered(alloc, Wanted::Any, vars, rows.as_slice())?;
-    Ok(found.is_some())
+    match pointless_answered(alloc, program, reader, tests)? {
+        Some(_) => Ok(true),
+        None => Ok(false),
+    }
 }
 
 /// A leaf that names no source: no point comes to it, or no write is earlier. None where neither is found to be shown.
