@@ -14,7 +14,7 @@ use affine_form::{Form, Matrix};
 
 /// The first entry, by rows, in which a matrix times the forms' coefficients past so many, of so many columns, isn't
 /// `scale` times the identity: its row and its column.
-pub(crate) fn first_difference(
+pub fn first_difference(
     matrix: &Matrix,
     forms: &[Form],
     parameters: usize,

@@ -23,4 +23,5 @@ pub use cold::{Cold, Inverse};
 pub use front::Wavefront;
 pub use front_checker::check_wavefront;
 pub use front_piece::{front_pieces, front_pieces_cover};
+pub use inverse::first_difference;
 pub use pieces::{cold_pieces, cold_pieces_cover};
