@@ -2,10 +2,10 @@
 use Rattle.std.proofs.Common.{◌≡◌, refl, sym, ap, subst, ℕ, zero, suc, ◌+◌, ◌<◌, ◌≤◌, List, [], ◌∷◌, ◌++◌, ◌∙◌, length, map, take, get_or, arith}
 use Rattle.std.specs.Prelude.{flat_map, Option, Some, None, IfSome, MatchOption}
 use Rattle.std.specs.List.{AllByRecursion, range_with_len}
-use Rattle.std.proofs.lemmas.List.{map-append, take_more, append-nil}
+use Rattle.std.proofs.lemmas.List.{map-append, take_more, append-nil, map-id}
 use Rattle.std.proofs.lemmas.Grind.{flat_map-append}
 use Rattle.std.proofs.lemmas.List.FromFn.{length-range_with_len, get_or-range_with_len, map-range_with_len_more}
-use Rattle.base_laws.proofs.Lists.{All-append, All-at, All-weaken}
+use Rattle.base_laws.proofs.Lists.{All-append, All-at, All-weaken, All-map}
 use Rattle.iolb_model.specs.Form.{AffineForm}
 use Rattle.iolb_model.specs.declared.limits.TheConstants.{ROWS}
 use Rattle.affine_form.specs.Multipliers.{FarkasMultipliers}
@@ -31,10 +31,6 @@ All-right P (x ∷ xs) ys h = All-right P xs ys h.1
 All-unmap : {X Y : Type 0} (P : Y → Type 0) (f : X → Y) (xs : List X) → AllByRecursion P (map f xs) → AllByRecursion (λ x. P (f x)) xs
 All-unmap P f [] h = tt
 All-unmap P f (x ∷ xs) h = (h.0, All-unmap P f xs h.1)
-
-All-remap : {X Y : Type 0} (P : Y → Type 0) (f : X → Y) (xs : List X) → AllByRecursion (λ x. P (f x)) xs → AllByRecursion P (map f xs)
-All-remap P f [] h = tt
-All-remap P f (x ∷ xs) h = (h.0, All-remap P f xs h.1)
 
 All-flat-at : {X : Type 0} (P : X → Type 0) (g : ℕ → List X) (ws : List ℕ) (k : ℕ) → AllByRecursion P (flat_map g ws) → k < length ws → AllByRecursion P (g (get_or ws k 0))
 All-flat-at P g [] k h below = absurd (omega arith)
@@ -95,23 +91,13 @@ levels-more wanted f k system all more m is h one e =
     (map-range_with_len_more f 0 k k (omega arith)) e
 
 -- numbers in a row, one more
-range-more : (first n : ℕ) → range_with_len first (suc n) ≡ range_with_len first n ++ (first + n) ∷ []
-range-more first zero = ap (λ (k : ℕ). k ∷ []) none where
-  none : first ≡ first + 0
-  none = omega arith
-range-more first (suc n) = ap (λ (ks : List ℕ). first ∷ ks) (range-more (first + 1) n ∙ ap (λ (k : ℕ). range_with_len (first + 1) n ++ k ∷ []) moved) where
-  moved : (first + 1) + n ≡ first + suc n
-  moved = omega arith
+pub range-next : (k : ℕ) → range_with_len 0 (k + 1) ≡ range_with_len 0 k ++ k ∷ []
+range-next k =
+    sym (map-id (range_with_len 0 (k + 1))) ∙ map-range_with_len_more (λ (n : ℕ). n) 0 k k (omega arith) ∙ ap (λ (ns : List ℕ). ns ++ k ∷ []) (map-id (range_with_len 0 k))
 
 pub flat-range-more : {X : Type 0} (g : ℕ → List X) (k : ℕ) → flat_map g (range_with_len 0 (k + 1)) ≡ flat_map g (range_with_len 0 k) ++ g k
 flat-range-more g k =
-    ap (λ (n : ℕ). flat_map g (range_with_len 0 n)) more ∙ ap (flat_map g) (range-more 0 k ∙ ap (λ (n : ℕ). range_with_len 0 k ++ n ∷ []) none)
-    ∙ flat_map-append g (range_with_len 0 k) (k ∷ []) ∙ ap (λ xs. flat_map g (range_with_len 0 k) ++ xs) (append-nil (g k)) where
-      more : k + 1 ≡ suc k
-      more = omega arith
-
-      none : 0 + k ≡ k
-      none = omega arith
+    ap (flat_map g) (range-next k) ∙ flat_map-append g (range_with_len 0 k) (k ∷ []) ∙ ap (λ xs. flat_map g (range_with_len 0 k) ++ xs) (append-nil (g k))
 
 pub flat-take-more : {X : Type 0} (g : ℕ → List X) (ws : List ℕ) (i w : ℕ) → i < length ws → w ≡ get_or ws i 0 → flat_map g (take (i + 1) ws) ≡ flat_map g (take i ws) ++ g w
 flat-take-more g ws i w below is =
@@ -143,7 +129,7 @@ none-among g ws k w below is none all =
     let P : AffineSystem → Type 0 = λ s. HasShortAnswer (pointless s) in
     let all_of : AllByRecursion P (flat_map g ws) = All-unmap HasShortAnswer pointless (flat_map g ws) all in
     let here : AllByRecursion P (g w) = subst (λ (n : ℕ). AllByRecursion P (g n)) (sym is) (All-flat-at P g ws k all_of below) in
-    none (All-remap HasShortAnswer pointless (g w) here)
+    none (All-map HasShortAnswer pointless (g w) here)
 
 pub none-level : (f : ℕ → AffineSystem) (n k : ℕ) → k < n → ¬ HasShortAnswer (pointless (f k)) → HasNoShort (map pointless (map f (range_with_len 0 n)))
 none-level f n k below none all =

@@ -1,11 +1,16 @@
 -- What is found in the claims about the members of a list, member by member.
-use Rattle.std.proofs.Common.{◌≡◌, refl, sym, ◌∙◌, ap, subst, ℕ, zero, suc, ◌+◌, ◌<◌, List, [], ◌∷◌, ◌++◌, length, get_or, drop, arith}
-use Rattle.std.specs.Prelude.{Option, Some, None}
+use Rattle.std.proofs.Common.{◌≡◌, sym, ◌∙◌, ap, subst, ℕ, zero, suc, ◌+◌, ◌<◌, List, [], ◌∷◌, ◌++◌, length, get_or, drop, arith, zero-add}
+use Rattle.std.specs.Prelude.{Option}
+use Rattle.std.proofs.Math.Nat.{add-zero}
 use Rattle.base_laws.proofs.Lists.{rest_at, add-one}
 use Rattle.claims.specs.declared.refused.No.{No}
 use Rattle.claims.specs.Claims.{Claim, AllHold, FirstFails, Finds, numbered, counted}
 use Rattle.claims.proofs.Laws.{first-fails, later-fails, AllHold-append, AllHold-left, AllHold-right}
 use Rattle.claims.proofs.Found.{Finds-go}
+
+-- so many behind the next number are one more behind this one
+pub suc-moved : (first k : ℕ) → suc first + k ≡ first + suc k
+suc-moved first k = omega arith
 
 module _ {X : Type 0} (each : ℕ → X → List Claim) (xs : List X) (i : ℕ) (x : X) (below : i < length xs) (is : x ≡ get_or xs i x) where
   -- the claims from an index on: those of the member there, and those from the next index on
@@ -34,86 +39,65 @@ numbered-all : {X : Type 0} (each : ℕ → X → List Claim) (index : ℕ) (xs 
 numbered-all each index [] h = tt
 numbered-all {X = X} each index (x ∷ xs) h =
     AllHold-append (each index x) (numbered each (suc index) xs)
-    (subst (λ (n : ℕ). AllHold (each n x)) (none index) (h 0 x (omega arith)))
-    (numbered-all each (suc index) xs (λ i d below. subst (λ (n : ℕ). AllHold (each n (get_or xs i d))) (turned index i) (h (suc i) d (omega arith)))) where
-      none : (n : ℕ) → n + 0 ≡ n
-      none n = omega arith
-
-      turned : (m n : ℕ) → m + suc n ≡ suc m + n
-      turned m n = omega arith
+    (subst (λ (n : ℕ). AllHold (each n x)) (add-zero index) (h 0 x (omega arith)))
+    (numbered-all each (suc index) xs (λ i d below. subst (λ (n : ℕ). AllHold (each n (get_or xs i d))) (sym (suc-moved index i)) (h (suc i) d (omega arith))))
 
 -- and those about a member where all do
 numbered-at : {X : Type 0} (each : ℕ → X → List Claim) (index : ℕ) (xs : List X) (i : ℕ) (d : X)
     → i < length xs → AllHold (numbered each index xs) → AllHold (each (index + i) (get_or xs i d))
 numbered-at each index [] i d below h = absurd (omega arith)
 numbered-at each index (x ∷ xs) zero d below h =
-    subst (λ (n : ℕ). AllHold (each n x)) (none index) (AllHold-left (each index x) (numbered each (suc index) xs) h) where
-      none : (n : ℕ) → n ≡ n + 0
-      none n = omega arith
+    subst (λ (n : ℕ). AllHold (each n x)) (sym (add-zero index)) (AllHold-left (each index x) (numbered each (suc index) xs) h)
 numbered-at each index (x ∷ xs) (suc i) d below h =
-    subst (λ (n : ℕ). AllHold (each n (get_or xs i d))) (turned index i)
-    (numbered-at each (suc index) xs i d (omega arith) (AllHold-right (each index x) (numbered each (suc index) xs) h)) where
-      turned : (m n : ℕ) → suc m + n ≡ m + suc n
-      turned m n = omega arith
+    subst (λ (n : ℕ). AllHold (each n (get_or xs i d))) (suc-moved index i)
+    (numbered-at each (suc index) xs i d (omega arith) (AllHold-right (each index x) (numbered each (suc index) xs) h))
 
 module _ {X : Type 0} (each : ℕ → X → List Claim) (xs : List X) where
-  from-none : (n : ℕ) → 0 + n ≡ n
-  from-none n = omega arith
-
   -- all of them hold where those about each member do
   pub numbered-hold : ((i : ℕ) (d : X) → i < length xs → AllHold (each i (get_or xs i d))) → AllHold (numbered each 0 xs)
   numbered-hold h =
-      numbered-all each 0 xs (λ i d below. subst (λ (n : ℕ). AllHold (each n (get_or xs i d))) (sym (from-none i)) (h i d below))
+      numbered-all each 0 xs (λ i d below. subst (λ (n : ℕ). AllHold (each n (get_or xs i d))) (sym (zero-add i)) (h i d below))
 
   -- those about a member hold where all do
   pub numbered-member : (i : ℕ) (d : X) → i < length xs → AllHold (numbered each 0 xs) → AllHold (each i (get_or xs i d))
   numbered-member i d below h =
-      subst (λ (n : ℕ). AllHold (each n (get_or xs i d))) (from-none i) (numbered-at each 0 xs i d below h)
+      subst (λ (n : ℕ). AllHold (each n (get_or xs i d))) (zero-add i) (numbered-at each 0 xs i d below h)
 
 -- ---- so many numbers
-
-no-more : (first : ℕ) → first + 0 ≡ first
-no-more first = omega arith
-
-next : (first k : ℕ) → suc first + k ≡ first + suc k
-next first k = omega arith
 
 -- the claims about each of so many numbers hold
 counted-hold : (each : ℕ → List Claim) (first n : ℕ) → ((k : ℕ) → k < n → AllHold (each (first + k))) → AllHold (counted each first n)
 counted-hold each first zero h = tt
 counted-hold each first (suc n) h =
-    AllHold-append (each first) (counted each (suc first) n) (subst (λ (m : ℕ). AllHold (each m)) (no-more first) (h 0 (omega arith)))
-    (counted-hold each (suc first) n (λ k below. subst (λ (m : ℕ). AllHold (each m)) (sym (next first k)) (h (suc k) (omega (arith, below)))))
+    AllHold-append (each first) (counted each (suc first) n) (subst (λ (m : ℕ). AllHold (each m)) (add-zero first) (h 0 (omega arith)))
+    (counted-hold each (suc first) n (λ k below. subst (λ (m : ℕ). AllHold (each m)) (sym (suc-moved first k)) (h (suc k) (omega (arith, below)))))
 
 -- then each of them does
 counted-each : (each : ℕ → List Claim) (first n k : ℕ) → k < n → AllHold (counted each first n) → AllHold (each (first + k))
 counted-each each first zero k below h = absurd (omega (arith, below))
-counted-each each first (suc n) zero below h = subst (λ (m : ℕ). AllHold (each m)) (sym (no-more first)) (AllHold-left (each first) (counted each (suc first) n) h)
+counted-each each first (suc n) zero below h = subst (λ (m : ℕ). AllHold (each m)) (sym (add-zero first)) (AllHold-left (each first) (counted each (suc first) n) h)
 counted-each each first (suc n) (suc k) below h =
-    subst (λ (m : ℕ). AllHold (each m)) (next first k) (counted-each each (suc first) n k (omega (arith, below)) (AllHold-right (each first) (counted each (suc first) n) h))
+    subst (λ (m : ℕ). AllHold (each m)) (suc-moved first k) (counted-each each (suc first) n k (omega (arith, below)) (AllHold-right (each first) (counted each (suc first) n) h))
 
 -- the claims about one of them fail, and those about the numbers before hold
 counted-fail : (each : ℕ → List Claim) (first n k : ℕ) (failed : No) → k < n → ((j : ℕ) → j < k → AllHold (each (first + j))) → FirstFails (each (first + k)) failed
     → FirstFails (counted each first n) failed
 counted-fail each first zero k failed below before h = absurd (omega (arith, below))
 counted-fail each first (suc n) zero failed below before h =
-    first-fails (each first) (counted each (suc first) n) failed (subst (λ (m : ℕ). FirstFails (each m) failed) (no-more first) h)
+    first-fails (each first) (counted each (suc first) n) failed (subst (λ (m : ℕ). FirstFails (each m) failed) (add-zero first) h)
 counted-fail each first (suc n) (suc k) failed below before h =
-    later-fails (each first) (counted each (suc first) n) failed (subst (λ (m : ℕ). AllHold (each m)) (no-more first) (before 0 (omega arith)))
-    (counted-fail each (suc first) n k failed (omega (arith, below)) (λ j less. subst (λ (m : ℕ). AllHold (each m)) (sym (next first j)) (before (suc j) (omega (arith, less))))
-    (subst (λ (m : ℕ). FirstFails (each m) failed) (sym (next first k)) h))
-
-from-zero : (n : ℕ) → 0 + n ≡ n
-from-zero n = omega arith
+    later-fails (each first) (counted each (suc first) n) failed (subst (λ (m : ℕ). AllHold (each m)) (add-zero first) (before 0 (omega arith)))
+    (counted-fail each (suc first) n k failed (omega (arith, below)) (λ j less. subst (λ (m : ℕ). AllHold (each m)) (sym (suc-moved first j)) (before (suc j) (omega (arith, less))))
+    (subst (λ (m : ℕ). FirstFails (each m) failed) (sym (suc-moved first k)) h))
 
 -- the same from 0 on
 pub counts-hold : (each : ℕ → List Claim) (n : ℕ) → ((k : ℕ) → k < n → AllHold (each k)) → AllHold (counted each 0 n)
-counts-hold each n h = counted-hold each 0 n (λ k below. subst (λ (m : ℕ). AllHold (each m)) (sym (from-zero k)) (h k below))
+counts-hold each n h = counted-hold each 0 n (λ k below. subst (λ (m : ℕ). AllHold (each m)) (sym (zero-add k)) (h k below))
 
 pub counts-each : (each : ℕ → List Claim) (n k : ℕ) → k < n → AllHold (counted each 0 n) → AllHold (each k)
-counts-each each n k below h = subst (λ (m : ℕ). AllHold (each m)) (from-zero k) (counted-each each 0 n k below h)
+counts-each each n k below h = subst (λ (m : ℕ). AllHold (each m)) (zero-add k) (counted-each each 0 n k below h)
 
 pub counts-fail : (each : ℕ → List Claim) (n k : ℕ) (failed : No) → k < n → ((j : ℕ) → j < k → AllHold (each j)) → FirstFails (each k) failed → FirstFails (counted each 0 n) failed
 counts-fail each n k failed below before h =
-    counted-fail each 0 n k failed below (λ j less. subst (λ (m : ℕ). AllHold (each m)) (sym (from-zero j)) (before j less))
-    (subst (λ (m : ℕ). FirstFails (each m) failed) (sym (from-zero k)) h)
+    counted-fail each 0 n k failed below (λ j less. subst (λ (m : ℕ). AllHold (each m)) (sym (zero-add j)) (before j less))
+    (subst (λ (m : ℕ). FirstFails (each m) failed) (sym (zero-add k)) h)

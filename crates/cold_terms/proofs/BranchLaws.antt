@@ -2,10 +2,11 @@
 use Rattle.std.proofs.Common.{◌≡◌, refl, sym, ◌∙◌, ap, subst, ℕ, zero, suc, ◌+◌, ◌<◌, ◌≤◌, Bool, true, false, List, [], ◌∷◌, ◌++◌, length, map, arith}
 use Rattle.std.specs.Prelude.{⊤, ◌==◌, if◌then◌else◌, cond, filter}
 use Rattle.std.specs.List.{AllByRecursion}
-use Rattle.std.proofs.lemmas.Bool.{eqb-true, eq-eqb}
+use Rattle.std.proofs.lemmas.Bool.{eqb-true, eq-eqb, both_ways}
+use Rattle.std.proofs.Math.Nat.{add-zero}
 use Rattle.iolb_model.specs.Form.{AffineForm}
 use Rattle.iolb_model.specs.Program.{AffineProgram}
-use Rattle.affine_form.specs.Rows.{BoundsFit, IsSmallOver}
+use Rattle.affine_form.specs.Rows.{BoundsFit}
 use Rattle.affine_program.specs.Parts.{ProgramParts, meaning}
 use Rattle.claims.specs.Claims.{AllHold, Claim, numbered}
 use Rattle.claims.specs.declared.place.Step.{Step}
@@ -16,8 +17,9 @@ use Rattle.dep_quast.specs.Claims.{IsFew, pointless_claims}
 use Rattle.dep_quast.specs.Context.{reference_of}
 use Rattle.dep_quast.specs.Tree.{SelectionTree}
 use Rattle.part_fit.specs.EntryFit.{entry_at}
-use Rattle.part_fit.specs.PartFit.{bounds_at, bounds_fit, form_at, sums_fit}
+use Rattle.part_fit.specs.PartFit.{bounds_fit, sums_fit}
 use Rattle.part_fit.proofs.ReadTrees.{open-many, leaves-many}
+use Rattle.part_fit.proofs.FormsFit.{bounds-hold, forms-hold}
 use Rattle.reuse_paths.specs.declared.piece.Target.{Target}
 use Rattle.reuse_paths.specs.declared.piece.Target.TheVariants.{Cell}
 use Rattle.reuse_paths.specs.DisjointClaims.{pairwise_systems, same_target}
@@ -33,7 +35,7 @@ use Rattle.wavefront.specs.Term.{ColdTerm, instance_point, nest_system, nest_var
 use Rattle.wavefront.specs.View.{term_of}
 use Rattle.iolb_check.specs.declared.term.Term.TheVariants as terms
 use Rattle.iolb_check.specs.Claims.{BranchClaim, TermClaim, claim_of_term}
-use Rattle.iolb_check.specs.Conditions.{branch_claims, branch_pieces, conditions, disjoint_claims, disjoint_place, term_claims_at, terms_claims, terms_place}
+use Rattle.iolb_check.specs.Conditions.{branch_claims, branch_pieces, disjoint_claims, disjoint_place, term_claims_at, terms_claims, terms_place}
 use Rattle.iolb_check.specs.Fit.{ColdTermFits, HasPieces, TermFits}
 use Rattle.iolb_check.specs.PairFit.{term_targets}
 use Rattle.iolb_check.specs.TermFit.{branch_fit, cold_back_fit, cold_fit, cold_front_fit, point_fit, term_at}
@@ -43,16 +45,6 @@ use Rattle.cold_terms.specs.Entries.{AreEntries}
 use Rattle.cold_terms.proofs.ColdParts.{parts-of}
 
 -- ---- the parts of a term fit, at any place
-
-forms-hold : (vars : ℕ) (place : List Step) (index : ℕ) (forms : List AffineForm) → AllByRecursion (IsSmallOver vars) forms → AllHold (numbered (form_at vars place) index forms)
-forms-hold vars place index [] h = tt
-forms-hold vars place index (f ∷ forms) h = (h.0.over, forms-hold vars place (suc index) forms h.1)
-
-bounds-hold : (vars index : ℕ) (place : List Step) (nest : List (AffineForm × AffineForm)) → BoundsFit (vars + index) nest → AllHold (numbered (bounds_at vars place) index nest)
-bounds-hold vars index place [] h = tt
-bounds-hold vars index place (b ∷ nest) h = (h.0.0.over, (h.0.1.over, bounds-hold vars (suc index) place nest (subst (λ (n : ℕ). BoundsFit n nest) moved h.1))) where
-  moved : suc (vars + index) ≡ vars + suc index
-  moved = omega arith
 
 entries-hold : (place : List Step) (index : ℕ) (leaves : List OpenLeaf) (entries : List LeafClaim) → AreEntries leaves entries → AllHold (numbered (entry_at 0 [] place) index entries)
 entries-hold place index [] [] h = tt
@@ -87,13 +79,7 @@ module _ (program : ProgramParts) (trees : List (List SelectionTree)) where
     columns rows cs called none some = by (rows == 0) refl where
       by : (b : Bool) → (rows == 0) ≡ b → cs ≡ (if b then 0 else called)
       by true is = none (eqb-true rows 0 is)
-      by false is = some (positive rows (λ zero_rows. clash (eq-eqb rows 0 zero_rows) is)) where
-        clash : (rows == 0) ≡ true → (rows == 0) ≡ false → ⊥
-        clash x y = both (rows == 0) x y where
-          both : (b : Bool) → b ≡ true → b ≡ false → ⊥
-          both true p q = cc
-          both false p q = cc
-
+      by false is = some (positive rows (λ zero_rows. both_ways (rows == 0) is (eq-eqb rows 0 zero_rows))) where
         positive : (n : ℕ) → (n ≡ 0 → ⊥) → 1 ≤ n
         positive zero h = absurd (h refl)
         positive (suc n) h = omega arith
@@ -113,13 +99,11 @@ module _ (program : ProgramParts) (trees : List (List SelectionTree)) where
           fits.inside,
           (fits.rows, (columns term.matrix.rows term.matrix.columns (length (reference_of P term.reader).subscripts) h.no_rows fits.columns, (many, entries-hold (place ++ Key LEAVES ∷ []) 0 (leaves_of P (tree_of_cold cold) term) term.leaves h.shown.entries))),
         ) in
-        let in_bounds : AllHold bounds = bounds-hold params 0 (place ++ Key NEST ∷ []) term.nest (subst (λ (n : ℕ). BoundsFit n term.nest) (plus params) fits.bounds) in
+        let in_bounds : AllHold bounds = bounds-hold params 0 (place ++ Key NEST ∷ []) term.nest (subst (λ (n : ℕ). BoundsFit n term.nest) (sym (add-zero params)) fits.bounds) in
         let in_point : AllHold point = (fits.point, forms-hold (params + length term.nest) (place ++ Key POINT ∷ []) 0 term.point fits.forms) in
         let in_back : AllHold back = (fits.read.read, (h.shown.one_each, (fits.read.statement, (polynomials.0, tt)))) in
         AllHold-append (front ++ bounds ++ point ++ back) sums
-        (AllHold-append (front ++ bounds ++ point) back (AllHold-append (front ++ bounds) point (AllHold-append front bounds in_front in_bounds) in_point) in_back) polynomials.1 where
-          plus : (n : ℕ) → n ≡ n + 0
-          plus n = omega arith
+        (AllHold-append (front ++ bounds ++ point) back (AllHold-append (front ++ bounds) point (AllHold-append front bounds in_front in_bounds) in_point) in_back) polynomials.1
 
     cold-fits : ColdTermFits program trees cold
     cold-fits = record {

@@ -1,5 +1,5 @@
 -- What cold terms claim, by their parts.
-use Rattle.std.proofs.Common.{◌≡◌, ◌∙◌, ℕ, suc, ◌*◌, List, [], ◌∷◌, ◌++◌, length, map}
+use Rattle.std.proofs.Common.{◌≡◌, ◌∙◌, ℕ, ◌*◌, List, [], ◌∷◌, ◌++◌, length, map}
 use Rattle.std.specs.List.{AllByRecursion}
 use Rattle.std.proofs.lemmas.List.{length-map}
 use Rattle.base_laws.proofs.Lists.{All-weaken}
@@ -7,7 +7,7 @@ use Rattle.iolb_model.specs.Form.{AffineForm}
 use Rattle.iolb_model.specs.Program.{AffineProgram}
 use Rattle.iolb_model.specs.declared.limits.TheConstants.{NUMBER_SIZE}
 use Rattle.affine_form.specs.Form.{IsSmallForm}
-use Rattle.affine_form.specs.Rows.{BoundsFit, IsSmallOver}
+use Rattle.affine_form.specs.Rows.{IsSmallOver}
 use Rattle.answers.specs.declared.wanted.Wanted.{Wanted}
 use Rattle.answers.specs.Answers.{Answers, HasShortAnswer, following}
 use Rattle.answers.proofs.AnswerLaws.{AreAnswered-length, answers-name, follow-hold}
@@ -18,12 +18,11 @@ use Rattle.claims.specs.declared.key.TheConstants.{INSIDE, LEAVES}
 use Rattle.claims.proofs.Laws.{AllHold-append, AllHold-left, AllHold-right}
 use Rattle.dep_quast.specs.Context.{variables_at}
 use Rattle.dep_quast.specs.Tree.{SelectionTree}
+use Rattle.dep_quast.proofs.Fits.{length-within_rows}
 use Rattle.domain_count.specs.CountClaims.{count_claims}
 use Rattle.domain_count.proofs.Claimed.{count-claims}
-use Rattle.shown_leaves.proofs.ShownLeaves.{within_rows-length}
 use Rattle.affine_program.specs.Domain.{path_of, depth_of}
 use Rattle.affine_form.specs.Rows.{variables_from}
-use Rattle.part_fit.specs.Limits.{AreSmallBounds}
 use Rattle.reuse_paths.specs.LeafClaims.{LeafClaim, claim_of}
 use Rattle.reuse_paths.specs.OpenLeaves.{OpenLeaf, TestsFit}
 use Rattle.wavefront.specs.declared.cold.Cold.{Cold}
@@ -40,6 +39,7 @@ use Rattle.cold_terms.proofs.EntryLaws.{closed-entries, closed-hold, closed-many
 use Rattle.domain_count.specs.Count.{IsCount}
 use Rattle.poly_tree.specs.Poly.{Quotient}
 use Rattle.part_fit.specs.Limits.{NameRows}
+use Rattle.part_fit.proofs.FormsFit.{bounds-small}
 use Rattle.cold_terms.specs.Held.{ArePolynomials, IsHeldCold}
 
 -- ---- a term's claims, part by part
@@ -82,12 +82,8 @@ module _ (program : AffineProgram) (tree : SelectionTree) (term : ColdTerm) (pla
 -- the rows of an outline's domain
 pub inside-many : (program : AffineProgram) (outline : ColdOutline) → OutlineFits program outline → length (inside_goals program (bare outline)) ≡ 2 * depth_of program outline.reader.statement
 inside-many program outline fits =
-    within_rows-length (nest_variables program (bare outline)) (path_of program outline.reader.statement)
+    length-within_rows (nest_variables program (bare outline)) (path_of program outline.reader.statement)
     (variables_from (nest_variables program (bare outline)) 0 (length program.parameters)) outline.point fits.point
-
-bounds-small : (vars : ℕ) (nest : List (AffineForm × AffineForm)) → BoundsFit vars nest → AreSmallBounds nest
-bounds-small vars [] h = tt
-bounds-small vars (b ∷ nest) h = ((h.0.0.small, h.0.1.small), bounds-small (suc vars) nest h.1)
 
 -- ---- outlines
 

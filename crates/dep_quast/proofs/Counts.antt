@@ -5,6 +5,7 @@ use Rattle.std.specs.List.{range_with_len}
 use Rattle.std.proofs.lemmas.Bool.{lt-ltb, ltb-true}
 use Rattle.std.proofs.lemmas.List.{drop_more, drop-map, length-append, length-map}
 use Rattle.std.proofs.lemmas.List.FromFn.{length-range_with_len}
+use Rattle.std.proofs.Math.Numerals.{suc-eq-add-one}
 use Rattle.iolb_model.specs.Form.{AffineForm}
 use Rattle.iolb_model.specs.Program.{AffineProgram, Statement as ModelStatement, no_statement}
 use Rattle.iolb_model.specs.Order.{Direction, upward, common_loops}
@@ -15,9 +16,6 @@ use Rattle.dep_quast.specs.Context.{ReadOf, reference_of, earlier_write, earlier
 use Rattle.dep_quast.specs.Levels.{level_count, levels, writers, writers_from, order_count, levels_before, levels_between}
 use Rattle.dep_quast.specs.Tree.{SourceClaim}
 use Rattle.dep_quast.specs.Truth.{IsLevel}
-
-next : (k : ℕ) → suc k ≡ k + 1
-next k = omega arith
 
 -- one statement more
 pub count-more : (g : ℕ → List ℕ) (statements : List Statement) (k array total one whole : ℕ) → k < length statements
@@ -31,7 +29,7 @@ count-more g statements k array total one whole below is h =
     by ((get_or all k no_statement).writes.array == array) is
     (subst (λ (xs : List ModelStatement). total + length (flat_map g (writers_from k xs array)) ≡ whole) rest h) where
       moved : length (flat_map g (writers_from (suc k) (map statement_of (drop (k + 1) statements)) array)) ≡ length (flat_map g (writers_from (k + 1) (map statement_of (drop (k + 1) statements)) array))
-      moved = ap (λ (n : ℕ). length (flat_map g (writers_from n (map statement_of (drop (k + 1) statements)) array))) (next k)
+      moved = ap (λ (n : ℕ). length (flat_map g (writers_from n (map statement_of (drop (k + 1) statements)) array))) (suc-eq-add-one k)
 
       by : (b : Bool) → one ≡ (if b then length (g k) else 0)
           → total + length (flat_map g (if b then k ∷ writers_from (suc k) (map statement_of (drop (k + 1) statements)) array else writers_from (suc k) (map statement_of (drop (k + 1) statements)) array)) ≡ whole

@@ -8,7 +8,7 @@ use Rattle.std.specs.List.{AllByRecursion}
 use Rattle.std.proofs.lemmas.List.{length-map, get_or-map}
 use Rattle.base_laws.proofs.Lists.{All-append, All-at, there}
 use Rattle.iolb_model.specs.Form.{AffineForm}
-use Rattle.iolb_model.specs.Path.{PathStep, row_path}
+use Rattle.iolb_model.specs.Path.{PathStep, rises, row_path}
 use Rattle.iolb_model.specs.Program.{Array, AccessFits, IsOver, StatementFits, AffineProgram, IsWellFormed, statement_at, no_statement, Statement as ModelStatement}
 use Rattle.iolb_model.specs.Order.{Direction, upward, common_loops}
 use Rattle.execution_laws.proofs.Domains.{way-there, statements-rise}
@@ -16,7 +16,7 @@ use Rattle.execution_laws.proofs.Orders.{row_common-within, row_common-turn}
 use Rattle.affine_form.specs.Form.{variables, IsSmallForm}
 use Rattle.affine_form.specs.System.{AllOver}
 use Rattle.affine_form.proofs.RowLemmas.{length-widened}
-use Rattle.affine_form.specs.Rows.{IsSmallOver, widened, equality_rows, put_in, step_of}
+use Rattle.affine_form.specs.Rows.{IsSmallOver, widened, equality_rows, put_in, step_of, within_rows}
 use Rattle.affine_form.specs.Substitution.{substitution}
 use Rattle.affine_program.specs.declared.reference.Reference.{Reference}
 use Rattle.affine_program.specs.declared.statement.Statement.{Statement}
@@ -26,7 +26,7 @@ use Rattle.affine_program.specs.Parts.{ProgramParts, IsProgram, access_of, state
 use Rattle.affine_program.proofs.Bounds.{StandsAt, row-stands, path-is, limits-at}
 use Rattle.dep_quast.specs.Context.{ReadOf, reference_of}
 use Rattle.dep_quast.specs.Truth.{ReadFits}
-use Rattle.dep_quast.proofs.Points.{there-holds}
+use Rattle.execution_laws.proofs.Ways.{there-holds}
 use Rattle.iolb_model.specs.declared.limits.TheConstants.{NUMBER_SIZE}
 
 -- a statement of a program fits on its way
@@ -174,13 +174,19 @@ wide-over many vars n rows wide e more is h =
     subst (AllOver vars) (sym (is ∙ ap (λ (k : ℕ). map (widened k) rows) e)) (widened-over many vars rows more h)
 
 -- the rows of equal forms are two for each pair
-length-equality_rows : (vars : ℕ) (fs gs : List AffineForm) → length fs ≡ length gs → length (equality_rows vars fs gs) ≡ 2 * length gs
+pub length-equality_rows : (vars : ℕ) (fs gs : List AffineForm) → length fs ≡ length gs → length (equality_rows vars fs gs) ≡ 2 * length gs
 length-equality_rows vars [] [] e = omega arith
 length-equality_rows vars [] (g ∷ gs) e = absurd (omega arith)
 length-equality_rows vars (f ∷ fs) [] e = absurd (omega arith)
 length-equality_rows vars (f ∷ fs) (g ∷ gs) e = omega (arith, length-equality_rows vars fs gs (omega arith))
 
--- also where forms are put in
+-- and those of values within the bounds on a way two for each loop
+pub length-within_rows : (vars : ℕ) (path : List PathStep) (before values : List AffineForm) → length values ≡ length path → length (within_rows vars path before values) ≡ 2 * length path
+length-within_rows vars [] before values e = refl
+length-within_rows vars (rises lower upper ∷ path) before [] e = absurd (omega arith)
+length-within_rows vars (rises lower upper ∷ path) before (v ∷ values) e = omega (arith, length-within_rows vars path (before ++ v ∷ []) values (omega arith))
+
+-- those of equal forms also where forms are put in
 pub cells-many : (vars : ℕ) (point here written read : List AffineForm) → length written ≡ length read
     → length (equality_rows vars (put_in point written) (put_in here read)) ≡ 2 * length read
 cells-many vars point here written read e =

@@ -1,6 +1,5 @@
 pub mod LastWrites
 pub mod Shown
-pub mod Points
 pub mod Fits
 pub mod Found
 pub mod Chunks

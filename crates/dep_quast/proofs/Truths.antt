@@ -1,46 +1,33 @@
 -- Valid source trees are true.
-use Rattle.std.proofs.Common.{◌≡◌, refl, sym, ◌∙◌, ap, subst, inl, inr, ℕ, zero, suc, ◌+◌, ◌<◌, ◌≤◌, Bool, true, false, List, [], ◌∷◌, ◌++◌, length, map, get_or, arith}
-use Rattle.std.specs.Prelude.{◌⊎◌, ◌<ℤ◌, ◌==◌, nat_lt, if◌then◌else◌, Option, flat_map}
-use Rattle.std.specs.List.{AllByRecursion}
+use Rattle.std.proofs.Common.{◌≡◌, refl, sym, subst, ℕ, ◌+◌, ◌<◌, ◌≤◌, List, [], ◌∷◌, ◌++◌, length, arith}
+use Rattle.std.specs.Prelude.{◌<ℤ◌, if◌then◌else◌}
 use Rattle.std.proofs.Math.IntN.{ℤ, pos, negsuc, ◌-ℤ◌, ◌+ℤ◌}
 use lib.Signed.{◌≤ℤ◌}
 use Rattle.std.proofs.lemmas.Int.{ints}
-use Rattle.std.proofs.lemmas.Bool.{eq-eqb, lt-ltb}
-use Rattle.std.proofs.lemmas.List.{append_assoc, append-nil, length-append, length-map, map-append}
+use Rattle.std.proofs.lemmas.List.{append-nil, length-map}
 use Rattle.base_laws.proofs.Lists.{All-append}
 use Rattle.iolb_model.specs.Form.{AffineForm, form_value}
-use Rattle.iolb_model.specs.Path.{row_path}
-use Rattle.iolb_model.specs.Program.{Statement, AffineProgram, IsWellFormed, statement_at, no_statement}
+use Rattle.iolb_model.specs.Program.{AffineProgram, IsWellFormed, statement_at}
 use Rattle.iolb_model.specs.Printed.{is_below_zero}
 use Rattle.iolb_model.specs.Bound.{IsAdmitted}
-use Rattle.iolb_model.specs.Execution.{Instance, execution}
-use Rattle.iolb_model.specs.Source.{written_at, input as input_source, Cell, written_cell, source_or, read_cell}
-use Rattle.iolb_model.specs.Domain.{IsWithin, IsInDomain, IsAt}
-use Rattle.iolb_model.specs.Order.{Direction, common_loops, Precedes}
-use Rattle.execution_laws.proofs.Members.{Member, Member-map, Member-flat_map}
-use Rattle.execution_laws.proofs.Domains.{domains_executed, way-there, way-below, statements-rise, counted-has}
-use Rattle.execution_laws.proofs.Orders.{order_by_levels, row_common-within, row_common-turn}
+use Rattle.iolb_model.specs.Domain.{IsAt}
 use Rattle.claims.specs.declared.place.Step.{Step}
 use Rattle.claims.specs.declared.place.Step.TheVariants.{Key}
 use Rattle.claims.specs.declared.key.TheConstants.{BEFORE, BETWEEN, CELL, DOMAIN, INPUT, NO, STATEMENT, YES}
-use Rattle.affine_form.specs.Substitution.{values_at, substitution}
+use Rattle.affine_form.specs.Substitution.{substitution}
 use Rattle.affine_form.specs.System.{AffineSystem, IsMet}
 use Rattle.affine_form.proofs.ShownLemmas.{Shows-none}
-use Rattle.affine_form.specs.Rows.{widened, within_rows, equality_rows, put_in, order_rows, IsSmallOver}
-use Rattle.affine_form.proofs.RowLemmas.{length-variables}
-use Rattle.affine_form.proofs.Meaning.{HasLevel, equality_rows-met, equality_rows-say, form_value-difference, form_value-front, order_rows-met, order_rows-say, values-end, values-front, values-middle, values_at-front, values_at-put_in, widened-met, widened-stay, within_rows-met, within_rows-says}
-use Rattle.affine_program.specs.Domain.{path_of, depth_of, domain_of}
+use Rattle.affine_form.specs.Rows.{put_in, IsSmallOver}
+use Rattle.affine_form.proofs.Meaning.{form_value-difference, form_value-front}
+use Rattle.affine_program.specs.Domain.{path_of}
 use Rattle.dep_quast.specs.Tree.{SourceClaim, Leaf, source, input, empty, blank, SelectionTree, leaf, test, leaf_at}
-use Rattle.dep_quast.specs.Levels.{level_count, levels, writers, writers_from}
-use Rattle.dep_quast.specs.Context.{ReadOf, reference_of, variables_at, no_row, context, reader_point, parameter_point, reader_values, writer_values, variables_with, write_rows, earlier_write, earlier_writes, write_between, writes_between}
+use Rattle.dep_quast.specs.Context.{ReadOf, reference_of, variables_at, no_row, context, reader_point, parameter_point, earlier_writes, writes_between}
 use Rattle.dep_quast.specs.Claims.{claims, leaf_claims, source_claims, follow_claims, pointless_claims, first_shown, context_system, inside_goals, cell_goals, before_goals, IsFew}
 use Rattle.claims.specs.Claims.{AllHold, Claim}
-use Rattle.dep_quast.specs.Truth.{IsTrueLeaf, IsLevel, SourceFits, LeafFits, FitsUnder, ReadFits, source_at, ValidTreesAreTrue}
+use Rattle.dep_quast.specs.Truth.{IsTrueLeaf, SourceFits, LeafFits, FitsUnder, ReadFits, ValidTreesAreTrue}
 use Rattle.dep_quast.proofs.Fits.{ranks-same}
-use Rattle.dep_quast.proofs.LastWrites.{writer-at, writes-from, no_last, is_last}
 use Rattle.dep_quast.proofs.Shown.{goals-met, none-met, within_rows-few, equality_rows-few}
 use Rattle.claims.proofs.Laws.{AllHold-left, AllHold-right}
-use Rattle.dep_quast.proofs.Points.{within-length, there-holds, holds-there}
 use Rattle.dep_quast.proofs.LastSources.{point-count, context-met, no_earlier, source-place, source-cell, source-before, source-last}
 
 module _ (program : AffineProgram) (reader : ReadOf) (parameters : List ℤ) (place : ℕ) (values : List ℤ) (well : IsWellFormed program)

@@ -1,13 +1,14 @@
 -- The claims of a count hold where it is right, and give it.
 use Rattle.std.proofs.Common.{◌≡◌, ◌≢◌, refl, sym, ◌∙◌, subst, inl, inr, ℕ, zero, suc, ◌+◌, ◌<◌, ◌≤◌, List, [], ◌∷◌, length, drop, take, arith}
 use Rattle.std.proofs.lemmas.List.{get_or_default}
+use Rattle.std.proofs.Math.Nat.{add-zero}
 use Rattle.iolb_model.specs.Form.{AffineForm}
 use Rattle.iolb_model.specs.Program.{AffineProgram}
 use Rattle.affine_form.specs.Multipliers.{FarkasMultipliers}
 use Rattle.claims.specs.Claims.{Claim, AllHold, FirstFails, numbered}
 use Rattle.claims.specs.declared.place.Step.{Step}
 use Rattle.claims.proofs.Laws.{AllHold-append, AllHold-left, AllHold-right}
-use Rattle.claims.proofs.Members.{numbered-hold, numbered-member}
+use Rattle.claims.proofs.Members.{numbered-hold, numbered-member, suc-moved}
 use Rattle.poly_tree.specs.Poly.{Quotient, IsLegal, SameValues}
 use Rattle.domain_count.specs.declared.summation.SumFault.{SumFault}
 use Rattle.domain_count.specs.declared.summation.SumFault.TheVariants.{Wide, Differs, Memory}
@@ -24,16 +25,12 @@ use Rattle.claims.specs.declared.key.TheConstants.{SUMS}
 -- the sums from a later variable on
 sums-at : (var i : ℕ) (nest : List (AffineForm × AffineForm)) (sums : List Quotient) (total : Quotient) → IsSumFrom var nest sums total → i ≤ length nest
     → (inner : Quotient) × IsSumFrom (var + i) (drop i nest) (drop i sums) inner
-sums-at var zero nest sums total h le = (total, subst (λ (n : ℕ). IsSumFrom n nest sums total) (none var) h) where
-  none : (n : ℕ) → n ≡ n + 0
-  none n = omega arith
+sums-at var zero nest sums total h le = (total, subst (λ (n : ℕ). IsSumFrom n nest sums total) (sym (add-zero var)) h)
 sums-at var (suc i) [] sums total h le = absurd (omega arith)
 sums-at var (suc i) (bounds ∷ nest) [] total h le = absurd h
 sums-at var (suc i) (bounds ∷ nest) (sum ∷ sums) total h le =
     let later = sums-at (suc var) i nest sums h.0 h.1.0 (omega arith) in
-    (later.0, subst (λ (n : ℕ). IsSumFrom n (drop i nest) (drop i sums) later.0) (turned var i) later.1) where
-      turned : (m n : ℕ) → suc m + n ≡ m + suc n
-      turned m n = omega arith
+    (later.0, subst (λ (n : ℕ). IsSumFrom n (drop i nest) (drop i sums) later.0) (suc-moved var i) later.1)
 
 -- the sums give one polynomial
 pub sums-same : (var : ℕ) (nest : List (AffineForm × AffineForm)) (sums : List Quotient) (first other : Quotient) → IsSumFrom var nest sums first → IsSumFrom var nest sums other
@@ -80,9 +77,7 @@ module _ (params : ℕ) (nest : List (AffineForm × AffineForm)) (sums : List Qu
 
   -- the sum from the first variable on, where all claims hold
   first-total : (k : ℕ) → AllHold (sums_down params nest sums place key (suc k)) → (total : Quotient) × IsSumFrom params nest sums total
-  first-total zero h = (h.1.1.0.0, subst (λ (n : ℕ). IsSumFrom n nest sums h.1.1.0.0) (none params) h.1.1.0.1) where
-    none : (n : ℕ) → n + 0 ≡ n
-    none n = omega arith
+  first-total zero h = (h.1.1.0.0, subst (λ (n : ℕ). IsSumFrom n nest sums h.1.1.0.0) (add-zero params) h.1.1.0.1)
   first-total (suc k) h = first-total k (AllHold-right (sum_claims params nest sums place key (suc k)) (sums_down params nest sums place key (suc k)) h)
 
   -- the claim that a fault breaks

@@ -1,19 +1,22 @@
 -- Each operation on polynomials has one answer, and none where it passes its limit.
-use Rattle.std.proofs.Common.{◌≡◌, ◌≢◌, refl, sym, ◌∙◌, ap, subst, inl, inr, ℕ, zero, suc, ◌+◌, ◌*◌, ◌<◌, ◌≤◌, ◌^◌, List, ◌++◌, length, replicate, arith}
+use Rattle.std.proofs.Common.{◌≡◌, refl, sym, ◌∙◌, ap, subst, inl, inr, ℕ, ◌+◌, ◌*◌, ◌≤◌, ◌^◌, List, ◌++◌, length, replicate, arith, not-le_of_lt, mul-pos}
 use Rattle.std.proofs.Math.IntN.{ℤ, pos, ◌-ℤ◌, ◌*ℤ◌}
+use lib.Signed.{◌≤ℤ◌}
+use Rattle.std.proofs.lemmas.Int.{ints}
 use Rattle.std.proofs.lemmas.List.{length-append, length-replicate}
-use Rattle.base_laws.proofs.Ring.{mul_comm, mul_turn}
+use Rattle.std.proofs.lemmas.Nat.Gcd.{dvd_refl}
+use Rattle.base_laws.proofs.Ring.{mul_comm, mul_turn, mul-one}
 use Rattle.iolb_model.specs.Form.{AffineForm, form_value}
-use Rattle.poly_tree.specs.Expansion.{Expansion, Parts, number, over, none, part, at, put, value, scaled, parts_scaled, parts_count, IsCanonical, DegreesAtMost, PartsDegreesAtMost}
-use Rattle.poly_tree.specs.Poly.{Quotient, IsLegal, SameValues, numerator_at, size, put_size, form_size}
+use Rattle.poly_tree.specs.Expansion.{Expansion, at, put, value, scaled, IsCanonical, IsContent, DegreesAtMost}
+use Rattle.poly_tree.specs.Poly.{Quotient, IsLegal, SameValues, numerator_at, size}
 use Rattle.poly_tree.proofs.Products.{canonical-scaled, value-scaled}
-use Rattle.poly_tree.proofs.Reduced.{degrees-scaled}
-use Rattle.poly_tree.proofs.SameLemmas.{at-listed, length-listed, listed, same-polynomial}
+use Rattle.poly_tree.proofs.Reduced.{degrees-scaled, legal-reduced}
+use Rattle.poly_tree.proofs.SameLemmas.{at-listed, divides-multiple, length-listed, listed, nonzero, same-polynomial}
 use Rattle.poly_tree.proofs.Unique.{agree, unique}
 use Rattle.domain_count.specs.Antidifference.{less_one, IsShifted, ShiftPasses, IsSubtracted, SubtractionPasses, IsSubstituted, SubstitutionPasses, IsBackwardDifference, DifferencePasses, IsAntidifference, IsNoAntidifference, IsBetween, BetweenPasses}
 use Rattle.domain_count.proofs.Fractions.{cancelled}
 use Rattle.domain_count.proofs.Variables.{at-longer}
-use Rattle.iolb_model.specs.declared.limits.TheConstants.{MEASURE, SUM_MEASURE}
+use Rattle.iolb_model.specs.declared.limits.TheConstants.{SUM_MEASURE}
 
 -- two values over their denominators that are one value
 pub crossed : (k d e : ℕ) (x y v : ℤ) → 1 ≤ k → x *ℤ pos k ≡ v *ℤ pos d → y *ℤ pos k ≡ v *ℤ pos e → x *ℤ pos e ≡ y *ℤ pos d
@@ -22,7 +25,7 @@ crossed k d e x y v some h g =
     (mul_turn x (pos e) (pos k) ∙ ap (λ (z : ℤ). z *ℤ pos e) h ∙ mul_turn v (pos d) (pos e) ∙ ap (λ (z : ℤ). z *ℤ pos d) (sym g) ∙ mul_turn y (pos k) (pos d))
 
 -- what agrees at long points agrees at all
-same-long : (n : ℕ) (a b : Quotient) → ((p : List ℤ) → n ≤ length p → (numerator_at a p *ℤ pos b.denominator) ≡ (numerator_at b p *ℤ pos a.denominator)) → SameValues a b
+pub same-long : (n : ℕ) (a b : Quotient) → ((p : List ℤ) → n ≤ length p → (numerator_at a p *ℤ pos b.denominator) ≡ (numerator_at b p *ℤ pos a.denominator)) → SameValues a b
 same-long n a b h = λ p.
     let long = p ++ replicate n (pos 1) in
     let points : at p ≡ at long = λ i w. at-longer p n w i in
@@ -38,35 +41,22 @@ everywhere-long n t u c d h point = by (2 ^ 16) c d where
       sym (agree bound t (at long) point c' (λ w below. at-listed point (bound + n) w (omega arith))) ∙ h long (omega (arith, length-listed point (bound + n)))
       ∙ agree bound u (at long) point d' (λ w below. at-listed point (bound + n) w (omega arith))
 
--- the degrees of a polynomial that is a multiple's part
-count-scaled : (k : ℤ) (ps : Parts) → parts_count (parts_scaled k ps) ≡ parts_count ps
-count-scaled k none = refl
-count-scaled k (part t ps) = ap suc (count-scaled k ps)
-
-mutual
-  unscaled-degrees : (d : ℕ) (k : ℤ) (t : Expansion) → DegreesAtMost d (scaled k t) → DegreesAtMost d t
-  unscaled-degrees d k (number n) h = tt
-  unscaled-degrees d k (over v ps) h = (omega (arith, h.0, count-scaled k ps), unscaled-parts d k ps h.1)
-
-  unscaled-parts : (d : ℕ) (k : ℤ) (ps : Parts) → PartsDegreesAtMost d (parts_scaled k ps) → PartsDegreesAtMost d ps
-  unscaled-parts d k none h = tt
-  unscaled-parts d k (part t ps) h = (unscaled-degrees d k t h.0, unscaled-parts d k ps h.1)
-
-not-zero : (k : ℕ) → 1 ≤ k → pos k ≢ pos 0
-not-zero zero h = absurd (omega arith)
-not-zero (suc k) h = λ e. absurd cc
-
 -- a canonical tree that is a polynomial of the program times a number has its degrees
-degrees-of : (n k : ℕ) (t : Expansion) (r : Quotient) → 1 ≤ k → IsLegal r → IsCanonical (2 ^ 16) t
+pub degrees-of : (n k : ℕ) (t : Expansion) (r : Quotient) → 1 ≤ k → IsLegal r → IsCanonical (2 ^ 16) t
     → ((p : List ℤ) → n ≤ length p → (numerator_at r p *ℤ pos k) ≡ (value t (at p) *ℤ pos r.denominator)) → DegreesAtMost 8 t
 degrees-of n k t r some legal c h =
-    let left = canonical-scaled (2 ^ 16) (pos k) r.tree (not-zero k some) legal.canonical in
-    let right = canonical-scaled (2 ^ 16) (pos r.denominator) t (not-zero r.denominator legal.positive) c in
-    let same : scaled (pos k) r.tree ≡ scaled (pos r.denominator) t
-    = unique (2 ^ 16) (scaled (pos k) r.tree) (scaled (pos r.denominator) t) left right
-    (everywhere-long n (scaled (pos k) r.tree) (scaled (pos r.denominator) t) left right
-    (λ p long. value-scaled (pos k) r.tree (at p) ∙ mul_comm (pos k) (numerator_at r p) ∙ h p long ∙ mul_comm (value t (at p)) (pos r.denominator) ∙ sym (value-scaled (pos r.denominator) t (at p)))) in
-    unscaled-degrees 8 (pos r.denominator) t (subst (DegreesAtMost 8) same (degrees-scaled 8 (pos k) r.tree legal.degrees))
+    let d = r.denominator in
+    let left = canonical-scaled (2 ^ 16) (pos k) r.tree (nonzero k some) legal.canonical in
+    let right = canonical-scaled (2 ^ 16) (pos d) t (nonzero d legal.positive) c in
+    let same : scaled (pos k) r.tree ≡ scaled (pos d) t
+    = unique (2 ^ 16) (scaled (pos k) r.tree) (scaled (pos d) t) left right
+    (everywhere-long n (scaled (pos k) r.tree) (scaled (pos d) t) left right
+    (λ p long. value-scaled (pos k) r.tree (at p) ∙ mul_comm (pos k) (numerator_at r p) ∙ h p long ∙ mul_comm (value t (at p)) (pos d) ∙ sym (value-scaled (pos d) t (at p)))) in
+    let content : IsContent (scaled (pos d) t) d d = record { divides_start = dvd_refl d; divides_all = divides-multiple d t; greatest = λ j start all. start } in
+    (legal-reduced (scaled (pos d) t) t (pos d) (pos 1) (pos d) (above d legal.positive) (above d legal.positive) content refl (mul-one (pos d)) right
+    (subst (DegreesAtMost 8) same (degrees-scaled 8 (pos k) r.tree legal.degrees))).0.degrees where
+      above : (n : ℕ) → 1 ≤ n → pos 1 ≤ℤ pos n
+      above n p = omega (arith, ints)
 
 shift-same : (var : ℕ) (sum s r : Quotient) → IsLegal sum → IsShifted var sum s → IsShifted var sum r → s ≡ r
 shift-same var sum s r legal h g =
@@ -74,9 +64,7 @@ shift-same var sum s r legal h g =
     (λ p. crossed sum.denominator s.denominator r.denominator (numerator_at s p) (numerator_at r p) (value sum.tree (put (at p) var (at p var -ℤ pos 1))) legal.positive (h.value p) (g.value p))
 
 shift-stays : (var : ℕ) (sum s : Quotient) → IsLegal sum → IsShifted var sum s → ShiftPasses var sum → ⊥
-shift-stays var sum s legal h (inl wide) = over (put_size sum var 2) MEASURE h.narrow wide where
-  over : (m n : ℕ) → m < n → n ≤ m → ⊥
-  over m n p q = omega arith
+shift-stays var sum s legal h (inl wide) = not-le_of_lt h.narrow wide
 shift-stays var sum s legal h (inr passes) =
     passes.1.2 (degrees-of 0 sum.denominator passes.0 s legal.positive h.legal passes.1.0
     (λ p long. h.value p ∙ ap (λ (z : ℤ). z *ℤ pos s.denominator) (sym (passes.1.1 p))))
@@ -88,9 +76,7 @@ substituted-same var form sum s r legal h g =
     (λ p long. crossed sum.denominator s.denominator r.denominator (numerator_at s p) (numerator_at r p) (value sum.tree (put (at p) var (form_value form p))) legal.positive (h.value p long) (g.value p long)))
 
 substitution-stays : (var : ℕ) (form : AffineForm) (sum s : Quotient) → IsLegal sum → IsSubstituted var form sum s → SubstitutionPasses var form sum → ⊥
-substitution-stays var form sum s legal h (inl wide) = over (put_size sum var (form_size form)) MEASURE h.narrow wide where
-  over : (m n : ℕ) → m < n → n ≤ m → ⊥
-  over m n p q = omega arith
+substitution-stays var form sum s legal h (inl wide) = not-le_of_lt h.narrow wide
 substitution-stays var form sum s legal h (inr passes) =
     passes.1.2 (degrees-of (length form.coefficients) sum.denominator passes.0 s legal.positive h.legal passes.1.0
     (λ p long. h.value p long ∙ ap (λ (z : ℤ). z *ℤ pos s.denominator) (sym (passes.1.1 p long))))
@@ -101,15 +87,11 @@ subtracted-same a b c d r s la lb first second h g =
     = subst (λ (x : Quotient). IsSubtracted x b s) (sym first) (subst (λ (y : Quotient). IsSubtracted c y s) (sym second) g) in
     same-polynomial r s h.legal g.legal
     (λ p. crossed (a.denominator * b.denominator) r.denominator s.denominator (numerator_at r p) (numerator_at s p)
-    ((numerator_at a p *ℤ pos b.denominator) -ℤ (numerator_at b p *ℤ pos a.denominator)) (product a.denominator b.denominator la.positive lb.positive) (h.value p) (moved.value p)) where
-      product : (m n : ℕ) → 1 ≤ m → 1 ≤ n → 1 ≤ m * n
-      product m n x y = grind arith
+    ((numerator_at a p *ℤ pos b.denominator) -ℤ (numerator_at b p *ℤ pos a.denominator)) (mul-pos la.positive lb.positive) (h.value p) (moved.value p))
 
 subtraction-stays : (a b c d r : Quotient) → a ≡ c → b ≡ d → IsSubtracted a b r → SubtractionPasses c d → ⊥
 subtraction-stays a b c d r first second h wide =
-    over (size a * size b) SUM_MEASURE h.narrow (subst (λ (x : Quotient). SUM_MEASURE ≤ size x * size b) (sym first) (subst (λ (y : Quotient). SUM_MEASURE ≤ size c * size y) (sym second) wide)) where
-      over : (m n : ℕ) → m < n → n ≤ m → ⊥
-      over m n p q = omega arith
+    not-le_of_lt h.narrow (subst (λ (x : Quotient). SUM_MEASURE ≤ size x * size b) (sym first) (subst (λ (y : Quotient). SUM_MEASURE ≤ size c * size y) (sym second) wide))
 
 difference-same : (var : ℕ) (sum d e : Quotient) → IsLegal sum → IsBackwardDifference var sum d → IsBackwardDifference var sum e → d ≡ e
 difference-same var sum d e legal h g =

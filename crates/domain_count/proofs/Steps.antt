@@ -2,6 +2,7 @@
 use Rattle.std.proofs.Common.{◌≡◌, sym, ◌∙◌, subst, ap, ℕ, suc, ◌+◌, ◌<◌, ◌≤◌, List, [], ◌∷◌, length, drop, get_or, drop-cons, arith}
 use Rattle.std.specs.Prelude.{Option, Some, None, Result, Ok, Err, IfErr, IsErrAnd}
 use Rattle.std.proofs.lemmas.List.{get_or_default}
+use Rattle.std.proofs.Math.Nat.{add-suc, add-zero}
 use Rattle.iolb_model.specs.Form.{AffineForm}
 use Rattle.claims.specs.Claims.{AllHold, FirstFails, Finds, IsRefusal}
 use Rattle.claims.specs.declared.place.Step.{Step}
@@ -34,13 +35,11 @@ sum-step params j k nest sums b s summand total e within same here there h is =
     let next : IsSumFrom (params + suc j) (drop (suc j) nest) (drop (suc j) sums) summand
     = subst (λ (n : ℕ). IsSumFrom (params + n) (drop n nest) (drop n sums) summand) e h in
     let moved : IsSumFrom (suc (params + j)) (drop (suc j) nest) (drop (suc j) sums) summand
-    = subst (λ (n : ℕ). IsSumFrom n (drop (suc j) nest) (drop (suc j) sums) summand) (turned params j) next in (
+    = subst (λ (n : ℕ). IsSumFrom n (drop (suc j) nest) (drop (suc j) sums) summand) (add-suc params j) next in (
       omega arith,
       subst (λ (ns : List (AffineForm × AffineForm)). IsSumFrom (params + j) ns (drop j sums) total) (sym bounds)
           (subst (λ (ss : List Quotient). IsSumFrom (params + j) (b ∷ drop (suc j) nest) ss total) (sym polys) (summand, (moved, is))),
-    ) where
-      turned : (m n : ℕ) → m + suc n ≡ suc (m + n)
-      turned m n = omega arith
+    )
 
 -- One variable further out: its claims hold, and what is found in the claims of those before it is found in all.
 pub sums-further : (params j k many : ℕ) (nest : List (AffineForm × AffineForm)) (sums : List Quotient) (place : List Step) (key : ℕ) (total : Quotient) → k ≡ suc j → k ≤ length nest
@@ -62,7 +61,7 @@ sum-refused params j k many nest sums place key b s summand fault (No failed) e 
     let bounds : b ≡ bounds_at nest j = here ∙ get_or_default nest j b (bounds_at [] 0) below in
     let poly : s ≡ sum_at sums j = there ∙ get_or_default sums j s one (omega arith) in
     let from : IsSumFrom (suc (params + j)) (drop (suc j) nest) (drop (suc j) sums) summand
-    = subst (λ (n : ℕ). IsSumFrom n (drop (suc j) nest) (drop (suc j) sums) summand) (turned params j)
+    = subst (λ (n : ℕ). IsSumFrom n (drop (suc j) nest) (drop (suc j) sums) summand) (add-suc params j)
     (subst (λ (n : ℕ). IsSumFrom (params + n) (drop n nest) (drop n sums) summand) e behind) in
     let breaks : FailsAs (params + j) (bounds_at nest j) summand (sum_at sums j) fault
     = subst (λ (x : AffineForm × AffineForm). FailsAs (params + j) x summand (sum_at sums j) fault) bounds
@@ -70,9 +69,7 @@ sum-refused params j k many nest sums place key b s summand fault (No failed) e 
     let first = sum-fails params nest sums place key j summand fault below from (subst IsLegal poly legal) is.0 breaks in
     whole (Some failed) (subst (λ (n : ℕ). FirstFails (sums_down params nest sums place key n) failed) (sym e)
     (first-fails (sum_claims params nest sums place key j) (sums_down params nest sums place key j) failed
-    (subst (FirstFails (sum_claims params nest sums place key j)) (sym is.1) first))) where
-      turned : (m n : ℕ) → m + suc n ≡ suc (m + n)
-      turned m n = omega arith
+    (subst (FirstFails (sum_claims params nest sums place key j)) (sym is.1) first)))
 
 -- all claims hold where none is left
 pub sums-ended : (params k many : ℕ) (nest : List (AffineForm × AffineForm)) (sums : List Quotient) (place : List Step) (key : ℕ) → k ≡ 0
@@ -83,6 +80,4 @@ sums-ended params k many nest sums place key e whole = whole None (subst (λ (n 
 pub sum-ended : (params k : ℕ) (nest : List (AffineForm × AffineForm)) (sums : List Quotient) (total : Quotient) → k ≡ 0
     → IsSumFrom (params + k) (drop k nest) (drop k sums) total → IsSumFrom params nest sums total
 sum-ended params k nest sums total e h =
-    subst (λ (n : ℕ). IsSumFrom n nest sums total) (none params) (subst (λ (n : ℕ). IsSumFrom (params + n) (drop n nest) (drop n sums) total) e h) where
-      none : (n : ℕ) → n + 0 ≡ n
-      none n = omega arith
+    subst (λ (n : ℕ). IsSumFrom n nest sums total) (add-zero params) (subst (λ (n : ℕ). IsSumFrom (params + n) (drop n nest) (drop n sums) total) e h)

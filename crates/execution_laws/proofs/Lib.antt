@@ -6,3 +6,4 @@ pub mod Orders
 pub mod Cells
 pub mod Different
 pub mod Undone
+pub mod Ways

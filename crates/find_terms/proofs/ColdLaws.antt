@@ -10,8 +10,8 @@ use Rattle.claims.specs.declared.key.TheConstants.{INSIDE, LEAVES}
 use Rattle.dep_quast.specs.Claims.{IsFew}
 use Rattle.dep_quast.specs.Context.{variables_at}
 use Rattle.dep_quast.specs.Tree.{SelectionTree}
+use Rattle.dep_quast.proofs.Fits.{length-within_rows}
 use Rattle.domain_count.proofs.Claimed.{claims-count}
-use Rattle.shown_leaves.proofs.ShownLeaves.{within_rows-length}
 use Rattle.affine_program.specs.Domain.{path_of, depth_of}
 use Rattle.affine_form.specs.Rows.{variables_from}
 use Rattle.reuse_paths.specs.LeafClaims.{claim_of}
@@ -70,7 +70,7 @@ module _ (program : AffineProgram) (tree : SelectionTree) (cold : Cold) (h : IsS
       follow-short 10 (Key INSIDE ∷ []) (nest_system program shown_term) 0 (inside_goals program shown_term) cold.inside.items few
       (h.fits.parts.inside ∙ sym many) parts.inside h.as_short.inside where
         many : length (inside_goals program shown_term) ≡ 2 * depth_of program shown_term.reader.statement
-        many = within_rows-length (nest_variables program shown_term) (path_of program shown_term.reader.statement)
+        many = length-within_rows (nest_variables program shown_term) (path_of program shown_term.reader.statement)
             (variables_from (nest_variables program shown_term) 0 (length program.parameters)) shown_term.point h.fits.parts.point
 
   pub shown-closed : IsClosedBy Short program tree (outline_in shown_term) (map claim_of cold.leaves.items)

@@ -4,21 +4,21 @@ use Rattle.std.specs.Prelude.{Option, Some, None}
 use Rattle.std.specs.List.{AllByRecursion}
 use Rattle.std.specs.Option.{is_some}
 use Rattle.std.proofs.lemmas.List.{length-append, length-map}
-use Rattle.iolb_model.specs.Form.{AffineForm}
-use Rattle.iolb_model.specs.Path.{PathStep, rises}
+use Rattle.std.proofs.Math.Nat.{add-zero}
 use Rattle.iolb_model.specs.Program.{AffineProgram}
 use Rattle.claims.specs.Claims.{Claim, AllHold, numbered}
 use Rattle.claims.specs.declared.place.Step.{Step}
 use Rattle.claims.specs.declared.place.Step.TheVariants.{Key}
 use Rattle.claims.specs.declared.key.TheConstants.{BACK, EDGE, NEST, REACH, SOURCE, SUMS, USER, VERTEX}
 use Rattle.claims.proofs.Laws.{AllHold-left, AllHold-right}
-use Rattle.affine_form.specs.Rows.{BoundsFit, within_rows}
+use Rattle.affine_form.specs.Rows.{BoundsFit}
 use Rattle.affine_form.specs.Substitution.{substitution}
 use Rattle.affine_program.specs.Domain.{depth_of, path_of}
 use Rattle.affine_program.specs.Parts.{ProgramParts, meaning}
 use Rattle.dep_quast.specs.Context.{ReadOf, reference_of, parameter_point}
 use Rattle.dep_quast.specs.Tree.{SelectionTree}
 use Rattle.dep_quast.specs.Truth.{ReadFits}
+use Rattle.dep_quast.proofs.Fits.{length-within_rows}
 use Rattle.reuse_paths.specs.LeafClaims.{LeafClaim, no_point, stops, is_credited, goes_on, arrives}
 use Rattle.reuse_paths.specs.Quasts.{tree_or_blank, tree_for}
 use Rattle.reuse_paths.specs.ReachClaims.{setting_of}
@@ -36,17 +36,11 @@ use Rattle.part_fit.specs.Limits.{IsSmallReach, IsSmallSpot, IsSmallWay}
 use Rattle.part_fit.specs.PartFit.{bounds_fit, polynomials_fit}
 use Rattle.part_fit.specs.TreeFit.{trees_fit}
 use Rattle.part_fit.specs.WalkFit.{spot_fit}
-use Rattle.part_fit.proofs.ReadTrees.{open-many, none, bounds-fit, columns-many, tree-of, leaves-many}
+use Rattle.part_fit.proofs.ReadTrees.{open-many, bounds-fit, columns-many, tree-of, leaves-many}
 use Rattle.part_fit.proofs.WalkParts.{spot-fits, reach-fits}
 use Rattle.iolb_check.specs.Fit.{FrontTermFits}
 use Rattle.iolb_check.specs.FrontFit.{way_fit, back_fit, edge_fit, words_fit, outer_fit, reach_fit, source_way, read_fit, source_fit, inside_count, word_count, front_fit}
 use Rattle.iolb_check.specs.Limits.{IsSmallFront}
-
--- the rows of values within bounds: two for each loop
-rows-many : (vars : ℕ) (path : List PathStep) (before values : List AffineForm) → length values ≡ length path → length (within_rows vars path before values) ≡ 2 * length path
-rows-many vars [] before values e = refl
-rows-many vars (rises lower upper ∷ path) before [] e = absurd (omega arith)
-rows-many vars (rises lower upper ∷ path) before (v ∷ values) e = omega (arith, rows-many vars path (before ++ v ∷ []) values (omega arith))
 
 module _ (P : AffineProgram) (term : WavefrontTerm) where
   source-fits : (place : List Step) (source : Option SpotForms) → IsSmallSpot source → AllHold (source_fit P place term source) → SourceFits P (front_variables P term) source
@@ -54,7 +48,7 @@ module _ (P : AffineProgram) (term : WavefrontTerm) where
   source-fits place (Some spot) small h = spot-fits P (front_variables P term) (place ++ Key SOURCE ∷ []) spot small h
 
   spot-many : (spot : SpotForms) → SpotFits P (front_variables P term) spot → length (spot_goals P term spot) ≡ 2 * depth_of P spot.statement
-  spot-many spot fits = rows-many (front_variables P term) (path_of P spot.statement) (parameter_point P (front_variables P term)) spot.point fits.point
+  spot-many spot fits = length-within_rows (front_variables P term) (path_of P spot.statement) (parameter_point P (front_variables P term)) spot.point fits.point
 
   source-many : (source : Option SpotForms) → SourceFits P (front_variables P term) source → length (source_goals P term source) ≡ 2 * source_depth P source
   source-many None fits = refl
@@ -142,7 +136,7 @@ module _ (program : ProgramParts) (trees : List (List SelectionTree)) (fit : All
       let read_fits : ReadFits P reader = record { statement = user_fits.there; read = in_read.0 } in
       let chosen = tree-of P trees reader read_fits fit rows in
       let same : tree_for trees reader ≡ chosen.0 = ap tree_or_blank chosen.1.there in
-      let over : BoundsFit params term.nest = subst (λ (n : ℕ). BoundsFit n term.nest) (none params) (bounds-fit params 0 (place ++ Key NEST ∷ []) term.nest small.bounds (AllHold-left bounds (outer ++ way) in_nest)) in
+      let over : BoundsFit params term.nest = subst (λ (n : ℕ). BoundsFit n term.nest) (add-zero params) (bounds-fit params 0 (place ++ Key NEST ∷ []) term.nest small.bounds (AllHold-left bounds (outer ++ way) in_nest)) in
       let nest_fits : NestFits P term.nest = record { few = small.variables; bounds = over } in
       let edges : EdgesFit P chosen.0 term = record {
         tree_fits = chosen.1.fits;

@@ -3,6 +3,7 @@ use Rattle.std.proofs.Common.{◌≡◌, sym, ◌∙◌, ap, subst, ℕ, suc, Li
 use Rattle.std.specs.Prelude.{Some}
 use Rattle.std.specs.List.{AllByRecursion}
 use Rattle.std.proofs.lemmas.List.{length-map}
+use Rattle.std.proofs.Math.Nat.{add-zero}
 use Rattle.iolb_model.specs.Program.{AffineProgram}
 use Rattle.claims.specs.declared.place.Step.{Step}
 use Rattle.claims.specs.declared.place.Step.TheVariants.{Key, Index}
@@ -30,7 +31,7 @@ use Rattle.part_fit.specs.TreeFit.{trees_fit}
 use Rattle.part_fit.specs.PartFit.{bounds_fit, sums_fit}
 use Rattle.iolb_check.specs.TermFit.{cold_front_fit, point_fit, cold_back_fit, cold_fit, term_at, branch_at, certificate_fit}
 use Rattle.claims.proofs.Laws.{AllHold-left, AllHold-right}
-use Rattle.part_fit.proofs.ReadTrees.{open-many, none, bounds-fit, columns-many, tree-of, leaves-many}
+use Rattle.part_fit.proofs.ReadTrees.{open-many, bounds-fit, columns-many, tree-of, leaves-many}
 use Rattle.part_fit.proofs.TreeParts.{forms-over, rows-fit}
 use Rattle.iolb_check.proofs.FitFronts.{front-fits}
 use Rattle.iolb_check.proofs.FitPartitions.{partition-fits}
@@ -59,7 +60,7 @@ module _ (program : ProgramParts) (trees : List (List SelectionTree)) (fit : All
       let chosen = tree-of P trees reader read fit rows in
       let same : tree_for trees reader ≡ chosen.0 = ap tree_or_blank chosen.1.there in
       let vars : ℕ = nest_variables P term in
-      let bounds_over : BoundsFit params cold.nest = subst (λ (n : ℕ). BoundsFit n cold.nest) (none params) (bounds-fit params 0 (place ++ Key NEST ∷ []) cold.nest small.bounds (AllHold-right front bounds few)) in
+      let bounds_over : BoundsFit params cold.nest = subst (λ (n : ℕ). BoundsFit n cold.nest) (add-zero params) (bounds-fit params 0 (place ++ Key NEST ∷ []) cold.nest small.bounds (AllHold-right front bounds few)) in
       let fits : ColdFits P chosen.0 term = record {
         parts = record {
           read = read;

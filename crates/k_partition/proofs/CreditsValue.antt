@@ -1,9 +1,10 @@
 -- The value of the sum of credits' counts, and the variables that it uses.
-use Rattle.std.proofs.Common.{◌≡◌, refl, sym, ◌∙◌, ap, subst, ℕ, suc, ◌+◌, ◌*◌, ◌≤◌, List, [], ◌∷◌, length, map, arith}
+use Rattle.std.proofs.Common.{◌≡◌, refl, sym, ◌∙◌, ap, subst, ℕ, suc, ◌+◌, ◌*◌, ◌≤◌, List, [], ◌∷◌, length, map, arith, zero-add}
 use Rattle.std.specs.Prelude.{sum_by}
 use Rattle.std.specs.List.{AllByRecursion}
 use Rattle.std.proofs.Math.IntN.{ℤ, pos, ◌+ℤ◌, ◌*ℤ◌}
 use Rattle.std.proofs.lemmas.List.Sums.{sum_by-cons}
+use Rattle.std.proofs.Math.Nat.{add-zero}
 use Rattle.base_laws.proofs.Ring.{add-mul, mul_assoc_ℤ, mul_comm, mul-one}
 use Rattle.iolb_model.specs.Form.{AffineForm}
 use Rattle.iolb_model.specs.Program.{AffineProgram, IsWellFormed}
@@ -97,9 +98,7 @@ total-value : (parameters : ℕ) (before : Quotient) (credits : List CreditTerm)
     → numerator_at before values ≡ pos x *ℤ pos before.denominator → AllByRecursion (Counts parameters values) credits → IsCreditsTotal parameters before credits total
     → numerator_at total values ≡ pos (x + sum_by (λ (credit : CreditedNest). count credit.nest values) (map (λ (credit : CreditTerm). credit.nest) credits)) *ℤ pos total.denominator
 total-value parameters before [] total values x some e counts is =
-    subst (λ (q : Quotient). numerator_at q values ≡ pos (x + 0) *ℤ pos q.denominator) (sym is) (subst (λ (n : ℕ). numerator_at before values ≡ pos n *ℤ pos before.denominator) (none x) e) where
-      none : (n : ℕ) → n ≡ n + 0
-      none n = omega arith
+    subst (λ (q : Quotient). numerator_at q values ≡ pos (x + 0) *ℤ pos q.denominator) (sym is) (subst (λ (n : ℕ). numerator_at before values ≡ pos n *ℤ pos before.denominator) (sym (add-zero x)) e)
 total-value parameters before (credit ∷ credits) total values x some e counts is =
     let poly : Quotient = is.0 in
     let sum : Quotient = is.1.1.0 in
@@ -141,7 +140,5 @@ pub credits-value : (program : AffineProgram) (place : List Step) (credits : Lis
     → AllByRecursion (Fits (length program.parameters)) credits → AllHold (numbered (credit_claims program place credits) 0 credits) → IsCreditsTotal (length program.parameters) no_points credits total
     → numerator_at total values ≡ pos (sum_by (λ (credit : CreditedNest). count credit.nest values) (map (λ (credit : CreditTerm). credit.nest) credits)) *ℤ pos total.denominator
 credits-value program place credits total values formed admitted law fits h is =
-    subst (λ (n : ℕ). numerator_at total values ≡ pos n *ℤ pos total.denominator) (none (sum_by (λ (credit : CreditedNest). count credit.nest values) (map (λ (credit : CreditTerm). credit.nest) credits)))
-    (total-value (length program.parameters) no_points credits total values 0 (omega arith) refl (counts-from program place credits 0 credits values formed admitted law fits h) is) where
-      none : (n : ℕ) → 0 + n ≡ n
-      none n = omega arith
+    subst (λ (n : ℕ). numerator_at total values ≡ pos n *ℤ pos total.denominator) (zero-add (sum_by (λ (credit : CreditedNest). count credit.nest values) (map (λ (credit : CreditTerm). credit.nest) credits)))
+    (total-value (length program.parameters) no_points credits total values 0 (omega arith) refl (counts-from program place credits 0 credits values formed admitted law fits h) is)

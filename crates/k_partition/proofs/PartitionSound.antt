@@ -25,7 +25,7 @@ use Rattle.affine_form.proofs.RowLemmas.{length-variables}
 use Rattle.affine_program.specs.Domain.{path_of, depth_of}
 use Rattle.dep_quast.specs.Context.{parameter_point}
 use Rattle.dep_quast.specs.Tree.{SelectionTree}
-use Rattle.dep_quast.proofs.Points.{within-length, holds-there}
+use Rattle.execution_laws.proofs.Ways.{within-length, holds-there}
 use Rattle.dep_quast.proofs.Shown.{goals-met, within_rows-few}
 use Rattle.domain_count.specs.Count.{rows_before}
 use Rattle.domain_count.specs.CountClaims.{count_claims}

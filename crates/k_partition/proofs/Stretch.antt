@@ -1,5 +1,5 @@
 -- At most so many points are computed in a stretch of moves, by the uniform cover inequality.
-use Rattle.std.proofs.Common.{◌≡◌, refl, sym, ◌∙◌, ap, subst, inl, inr, ℕ, ◌+◌, ◌*◌, ◌^◌, ◌≤◌, Bool, true, cond, List, [], ◌∷◌, ◌++◌, length, map, sum_by, arith, length-append}
+use Rattle.std.proofs.Common.{◌≡◌, refl, sym, ◌∙◌, ap, subst, inl, inr, ℕ, ◌+◌, ◌*◌, ◌^◌, ◌≤◌, Bool, true, cond, List, [], ◌∷◌, ◌++◌, length, map, sum_by, arith, length-append, zero-add}
 use Rattle.std.specs.Prelude.{ℤ, nat_eq, filter, Contains, count_by}
 use Rattle.std.specs.List.{AllByRecursion}
 use Rattle.std.proofs.lemmas.List.{length-map}
@@ -62,11 +62,9 @@ module _ (graph : ComputationGraph) (q s t : ℕ) (partition : ReusePartition) (
       (λ w word. member-stands (words_of partition) w (Member-flat_map (λ (f : ReuseFamily). f.words) family partition.families w member (standing-member family.words w word)))
       (labels_in family) red moves run
       (λ w on word. label-held family w (Member-append_left w (marked_from 0 red) (event_vertices partition moves)
-      (subst (λ (n : ℕ). Member n (marked_from 0 red)) (none w) (marked-member 0 red w on))) word)
+      (subst (λ (n : ℕ). Member n (marked_from 0 red)) (zero-add w) (marked-member 0 red w on))) word)
       (λ w n word. label-held family w (Member-append_right w (marked_from 0 red) (event_vertices partition moves) n) word)
-      u (member-stands partition.points u m) (standing-member (computed_vertices moves) u e))) c where
-        none : (n : ℕ) → 0 + n ≡ n
-        none n = omega arith
+      u (member-stands partition.points u m) (standing-member (computed_vertices moves) u e))) c
 
   all-labels : (families : List ReuseFamily) → ((f : ReuseFamily) → Member f families → Member f partition.families) → AllByRecursion (IsSoundFamily graph partition) families
       → AllByRecursion (HasLabels points) (map family_in families)

@@ -1,9 +1,9 @@
 -- Sound partition terms are loaded.
-use Rattle.std.proofs.Common.{◌≡◌, refl, sym, ◌∙◌, ap, subst, ℕ, suc, ◌+◌, ◌-◌, ◌*◌, ◌/◌, ◌^◌, ◌≤◌, List, [], ◌∷◌, ◌++◌, length, map, arith}
-use Rattle.std.specs.Prelude.{nat_eq, not, Bool, true, false, cond, flat_map, filter, sum_by}
+use Rattle.std.proofs.Common.{◌≡◌, refl, sym, ◌∙◌, ap, subst, ℕ, ◌+◌, ◌-◌, ◌*◌, ◌/◌, ◌^◌, ◌≤◌, List, [], ◌∷◌, ◌++◌, length, map, arith}
+use Rattle.std.specs.Prelude.{nat_eq, not, Bool, flat_map, sum_by}
 use Rattle.std.proofs.Math.IntN.{ℤ}
 use Rattle.std.proofs.lemmas.List.{length-map, length-append}
-use Rattle.std.proofs.lemmas.List.Sums.{sum_by-cons}
+use Rattle.std.proofs.lemmas.List.Sums.{sum_by-cons, length-filter, count_by-le-length}
 use Rattle.iolb_model.specs.declared.game.Move.{Move}
 use Rattle.iolb_model.specs.Program.{AffineProgram}
 use Rattle.iolb_model.specs.Execution.{Instance}
@@ -25,16 +25,9 @@ use Rattle.k_partition.specs.Term.{PartitionTerm, credited_nests}
 use Rattle.k_partition.specs.TermLoads.{footprint_in, term_footprint, weight_of, stretch_of, IsGreatestOf, AreApartFor, credited_count, SoundTermsAreLoaded}
 use Rattle.k_partition.proofs.TermCovers.{mapped-twice, summed, sound-terms-are-sound}
 
-filter-few : {X : Type 0} (test : X → Bool) (xs : List X) → length (filter test xs) ≤ length xs
-filter-few test [] = omega arith
-filter-few {X} test (x ∷ xs) = by (test x) (filter-few test xs) where
-  by : (b : Bool) → length (filter test xs) ≤ length xs → length (cond b (x ∷ filter test xs) (filter test xs)) ≤ suc (length xs)
-  by true few = omega (arith, few)
-  by false few = omega (arith, few)
-
 distinct-few : {X : Type 0} (same : X → X → Bool) (xs : List X) → length (distinct same xs) ≤ length xs
 distinct-few same [] = omega arith
-distinct-few {X} same (x ∷ xs) = omega (arith, filter-few (λ (y : X). not (same x y)) (distinct same xs), distinct-few same xs)
+distinct-few {X} same (x ∷ xs) = omega (arith, length-filter (λ (y : X). not (same x y)) (distinct same xs), count_by-le-length (λ (y : X). not (same x y)) (distinct same xs), distinct-few same xs)
 
 module _ (program : AffineProgram) (parameters : List ℤ) where
   -- the credited vertices are at most as many as the points of the credited nests

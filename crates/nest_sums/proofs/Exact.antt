@@ -4,6 +4,7 @@ use Rattle.std.specs.Prelude.{slice_set, unsigned_abs}
 use Rattle.std.proofs.Math.IntN.{ℤ, pos, ◌+ℤ◌, ◌-ℤ◌, ◌*ℤ◌}
 use Rattle.std.proofs.lemmas.Int.{ints}
 use Rattle.std.proofs.lemmas.List.{get_or-set_same, length-set, drop_all}
+use Rattle.std.proofs.Math.Nat.{add-suc}
 use Rattle.base_laws.proofs.Ring.{zero-mul}
 use Rattle.iolb_model.specs.Form.{AffineForm}
 use Rattle.iolb_model.specs.Polynomial.{Term, int_power}
@@ -18,13 +19,13 @@ use Rattle.poly_tree.proofs.WrittenTerms.{are-written}
 use Rattle.domain_count.specs.Antidifference.{IsBackwardDifference}
 use Rattle.domain_count.specs.Count.{IsSumFrom, one}
 use Rattle.domain_count.specs.CountClaims.{sum_at, sums_down}
-use Rattle.domain_count.proofs.Determined.{between-same}
+use Rattle.domain_count.proofs.Determined.{between-same, same-long}
 use Rattle.domain_count.proofs.Fractions.{cancelled}
 use Rattle.domain_count.proofs.Ones.{one-is}
 use Rattle.nest_sums.specs.Coefficients.{coefficient_terms, degree_of}
 use Rattle.nest_sums.specs.Summing.{AreAdded, AreSummed, IsMade, IsPart, IsPowerRow, IsPowersSum}
 use Rattle.nest_sums.proofs.Ratios.{positive-size, row-difference, product-difference, sum-difference, backward-value}
-use Rattle.nest_sums.proofs.Values.{agree-long, at-set, coefficient_at, coefficient-same, parts_sum, terms-total, row-at, power-same}
+use Rattle.nest_sums.proofs.Values.{at-set, coefficient_at, coefficient-same, parts_sum, terms-total, row-at, power-same}
 
 -- a sum of parts is legal
 pub added-is-legal : (v : ℕ) (terms : List Term) (d n : ℕ) (q : Quotient) → AreAdded v terms d n q → IsLegal q
@@ -98,7 +99,7 @@ long-same v summand sum difference p below legal powers back =
 
 -- and so at all
 pub antidifference : (v : ℕ) (summand sum difference : Quotient) → IsLegal summand → IsPowersSum v summand sum → IsBackwardDifference v sum difference → SameValues difference summand
-antidifference v summand sum difference legal powers back = agree-long v difference summand (λ p below. long-same v summand sum difference p below legal powers back)
+antidifference v summand sum difference legal powers back = same-long (suc v) difference summand (λ p below. long-same v summand sum difference p below legal powers back)
 
 -- what variables count by a summation is legal
 pub summed-legal : (v : ℕ) (nest : List (AffineForm × AffineForm)) (sums : List Quotient) (total : Quotient) → AreSummed v nest sums total → IsLegal total
@@ -132,7 +133,7 @@ wide-fails params nest sums place key failed total made zero le behind h fails =
 wide-fails params nest sums place key failed total made (suc k) le behind h (inl difference) = sym difference.1
 wide-fails params nest sums place key failed total made (suc k) le behind h (inr (has, inl other)) =
     let here = summed-at params (params + k) k nest sums total refl (omega arith) made in
-    let from : IsSumFrom (suc (params + k)) (drop (suc k) nest) (drop (suc k) sums) behind = subst (λ (n : ℕ). IsSumFrom n (drop (suc k) nest) (drop (suc k) sums) behind) (next params k) h in
+    let from : IsSumFrom (suc (params + k)) (drop (suc k) nest) (drop (suc k) sums) behind = subst (λ (n : ℕ). IsSumFrom n (drop (suc k) nest) (drop (suc k) sums) behind) (add-suc params k) h in
     let same : behind ≡ here.0 = summed-same (suc (params + k)) (drop (suc k) nest) (drop (suc k) sums) behind here.0 from here.1.0 in
     absurd (other.0 (
       behind,
@@ -145,9 +146,7 @@ wide-fails params nest sums place key failed total made (suc k) le behind h (inr
               (antidifference (params + k) here.0 (sum_at sums k) has.0 (summed-legal (suc (params + k)) (drop (suc k) nest) (drop (suc k) sums) here.0 here.1.0) here.1.1 has.1);
         },
       ),
-    )) where
-      next : (m n : ℕ) → m + suc n ≡ suc (m + n)
-      next m n = omega arith
+    ))
 wide-fails params nest sums place key failed total made (suc k) le behind h (inr (has, inr (right, inl wide))) = sym wide.1
 wide-fails params nest sums place key failed total made (suc k) le behind h (inr (has, inr (right, inr (whole, later)))) =
     wide-fails params nest sums place key failed total made k (omega arith) whole.0 whole.1 later

@@ -10,13 +10,13 @@ use Rattle.poly_tree.specs.Poly.{Quotient, IsLegal, numerator_at}
 use Rattle.poly_tree.specs.Printed.{written_terms}
 use Rattle.poly_tree.proofs.SameLemmas.{same-polynomial}
 use Rattle.domain_count.specs.Antidifference.{IsBetween}
-use Rattle.domain_count.proofs.Determined.{between-same, crossed}
+use Rattle.domain_count.proofs.Determined.{between-same, crossed, same-long}
 use Rattle.nest_sums.specs.Coefficients.{coefficient_terms, degree_of}
 use Rattle.nest_sums.specs.Summing.{AreAdded, AreSummed, IsAdded, IsConstant, IsMade, IsMultiplied, IsPart, IsPowerRow, IsPowersSum}
 use Rattle.nest_sums.proofs.Exact.{added-is-legal, summed-legal}
 use Rattle.nest_sums.proofs.PowerRows.{rows-agree}
 use Rattle.nest_sums.proofs.Ratios.{crossed-over, positive-size}
-use Rattle.nest_sums.proofs.Values.{agree-long, row-at}
+use Rattle.nest_sums.proofs.Values.{row-at}
 
 -- what holds of two polynomials holds of two that are the same
 pub of-same : (P : Quotient → Quotient → Type 0) (a b c d : Quotient) → a ≡ c → b ≡ d → P c d → P a b
@@ -50,7 +50,7 @@ row-same v e q r h g =
     let size = positive-size h.den h.sum.positive in
     let other = positive-size g.den g.sum.positive in
     same-polynomial q r h.made.legal g.made.legal
-    (agree-long v q r
+    (same-long (suc v) q r
     (λ p below. crossed-over (unsigned_abs h.den) (unsigned_abs g.den) q.denominator r.denominator (numerator_at q p) (numerator_at r p)
     (row_value h.num (at p v)) (row_value g.num (at p v)) size.0 other.0
     (h.made.value p ∙ ap (λ (z : ℤ). z *ℤ pos q.denominator) (row-at v h.num p below))

@@ -1,23 +1,15 @@
 -- Ranges that are shown one after another, and claims that fail behind others.
-use Rattle.std.proofs.Common.{◌≡◌, sym, subst, ap, ℕ, zero, suc, ◌+◌, List, [], ◌∷◌, ◌++◌, length, take, arith, below_more, inl, inr}
+use Rattle.std.proofs.Common.{◌≡◌, sym, subst, ap, ℕ, suc, ◌+◌, List, [], ◌∷◌, ◌++◌, length, take, arith, below_more, inl, inr}
 use Rattle.std.proofs.lemmas.List.{get_or_append_left, get_or_push}
 use Rattle.iolb_model.specs.Form.{AffineForm}
 use Rattle.iolb_model.specs.Program.{AffineProgram}
 use Rattle.affine_form.specs.Multipliers.{FarkasMultipliers}
-use Rattle.affine_form.specs.Rows.{BoundsFit}
 use Rattle.claims.specs.Claims.{Claim, AllHold, FirstFails}
 use Rattle.claims.specs.declared.refused.No.{No}
 use Rattle.poly_tree.specs.Poly.{Quotient}
 use Rattle.domain_count.specs.Count.{AreShownBelow, IsShown, ShowsRange, bounds_at, multipliers_at}
 use Rattle.nest_sums.specs.Ranges.{AreAllShown}
 use Rattle.nest_sums.specs.Summing.{AreSummed}
-
--- the first bounds fit where all do
-pub BoundsFit-take : (vars k : ℕ) (nest : List (AffineForm × AffineForm)) → BoundsFit vars nest → BoundsFit vars (take k nest)
-BoundsFit-take vars zero [] h = tt
-BoundsFit-take vars zero (b ∷ nest) h = tt
-BoundsFit-take vars (suc k) [] h = tt
-BoundsFit-take vars (suc k) (b ∷ nest) h = (h.0, BoundsFit-take (suc vars) k nest h.1)
 
 -- one range more
 pub shown-more : (program : AffineProgram) (nest : List (AffineForm × AffineForm)) (shown : List FarkasMultipliers) (m : FarkasMultipliers) (k : ℕ) → length shown ≡ k

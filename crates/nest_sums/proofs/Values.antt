@@ -5,12 +5,10 @@ use Rattle.std.proofs.Math.IntN.{ℤ, pos, ◌+ℤ◌, ◌*ℤ◌}
 use Rattle.std.proofs.lemmas.Int.{ints}
 use Rattle.std.proofs.lemmas.Bool.{cases_order}
 use Rattle.std.proofs.lemmas.Bool.Decides.{eqb_tells}
-use Rattle.std.proofs.lemmas.List.{get_or-set_same, get_or-set_other, length-append, length-replicate}
+use Rattle.std.proofs.lemmas.List.{get_or-set_same, get_or-set_other}
 use Rattle.base_laws.proofs.Ring.{add-mul, mul-add, mul-one, mul-zero, mul_assoc_ℤ, mul_comm, one-mul, zero-mul}
 use Rattle.iolb_model.specs.Polynomial.{Term, int_power, monomial, terms_value}
-use Rattle.poly_tree.specs.Expansion.{at, put, value}
-use Rattle.poly_tree.specs.Poly.{Quotient, SameValues, numerator_at}
-use Rattle.domain_count.proofs.Variables.{at-longer}
+use Rattle.poly_tree.specs.Expansion.{at, put}
 use Rattle.power_sums.specs.Polynomial.{power, value as row_value}
 use Rattle.nest_sums.specs.Coefficients.{coefficient_terms, degree_of, exponent_of, power_terms, without}
 
@@ -160,15 +158,6 @@ row-from v e (c ∷ cs) p below =
 -- a row at a point is its polynomial at the variable's value
 pub row-at : (v : ℕ) (cs : List ℤ) (p : List ℤ) → v < length p → terms_value (power_terms v 0 cs) p ≡ row_value cs (at p v)
 row-at v cs p below = row-from v 0 cs p below ∙ one-mul (row_value cs (at p v))
-
--- polynomials that agree at the points that have a variable agree at all
-pub agree-long : (v : ℕ) (a b : Quotient) → ((p : List ℤ) → v < length p → (numerator_at a p *ℤ pos b.denominator) ≡ (numerator_at b p *ℤ pos a.denominator)) → SameValues a b
-agree-long v a b h = λ p.
-    let long = p ++ replicate (v + 1) (pos 1) in
-    let points : at p ≡ at long = λ i w. at-longer p (v + 1) w i in
-    ap (λ (f : ℕ → ℤ). value a.tree f *ℤ pos b.denominator) points
-    ∙ h long (omega (arith, length-append p (replicate (v + 1) (pos 1)), length-replicate (v + 1) (pos 1)))
-    ∙ ap (λ (f : ℕ → ℤ). value b.tree f *ℤ pos a.denominator) (sym points)
 
 pub power-same : (x : ℤ) (e : ℕ) → power x e ≡ int_power x e
 power-same x zero = refl

@@ -1,29 +1,21 @@
 -- Where an operation of a summation has an answer, it passes no limit; nor does a summation whose count is right.
-use Rattle.std.proofs.Common.{◌≡◌, refl, sym, subst, ◌∙◌, ap, inl, inr, ℕ, zero, suc, ◌+◌, ◌*◌, ◌≤◌, ◌^◌, List, [], ◌∷◌, length, arith, mul-pos, not-le_of_lt}
+use Rattle.std.proofs.Common.{◌≡◌, sym, subst, ◌∙◌, ap, inl, inr, ℕ, zero, suc, ◌+◌, ◌*◌, ◌≤◌, List, [], ◌∷◌, length, mul-pos, not-le_of_lt}
 use Rattle.std.proofs.Math.IntN.{ℤ, pos, ◌*ℤ◌}
-use lib.Signed.{◌≤ℤ◌}
-use Rattle.std.proofs.lemmas.Int.{ints}
-use Rattle.std.proofs.lemmas.Nat.Gcd.{dvd_refl}
-use Rattle.base_laws.proofs.Ring.{mul_comm, mul-one}
 use Rattle.iolb_model.specs.Form.{AffineForm}
 use Rattle.iolb_model.specs.Polynomial.{Term}
 use Rattle.iolb_model.specs.Program.{AffineProgram}
 use Rattle.claims.specs.Claims.{AllHold, numbered}
 use Rattle.claims.specs.declared.key.TheConstants.{SUMS}
 use Rattle.claims.proofs.Laws.{AllHold-right, accepted-stand}
-use Rattle.poly_tree.specs.Expansion.{Expansion, DegreesAtMost, IsCanonical, IsContent, at, scaled, value}
-use Rattle.poly_tree.specs.Poly.{Quotient, IsLegal, numerator_at}
+use Rattle.poly_tree.specs.Expansion.{value}
+use Rattle.poly_tree.specs.Poly.{Quotient, IsLegal}
 use Rattle.poly_tree.specs.Printed.{written_terms}
-use Rattle.poly_tree.proofs.Products.{canonical-scaled, value-scaled}
-use Rattle.poly_tree.proofs.Reduced.{degrees-scaled, legal-reduced}
-use Rattle.poly_tree.proofs.SameLemmas.{divides-multiple, everywhere, nonzero}
-use Rattle.poly_tree.proofs.Unique.{unique}
 use Rattle.domain_count.specs.Antidifference.{BetweenPasses}
 use Rattle.domain_count.specs.Claims.{SumClaims}
 use Rattle.domain_count.specs.Count.{IsCount}
 use Rattle.domain_count.specs.CountClaims.{range_claim, sums_claims}
 use Rattle.domain_count.proofs.Claimed.{count-claims}
-use Rattle.domain_count.proofs.Determined.{between-stays}
+use Rattle.domain_count.proofs.Determined.{between-stays, degrees-of}
 use Rattle.nest_sums.specs.Coefficients.{coefficient_terms, degree_of}
 use Rattle.nest_sums.specs.Made.{AreMade, CheckPasses}
 use Rattle.nest_sums.specs.Summing.{AddingPasses, AdditionPasses, AreAdded, AreSummed, IsMultiplied, IsPart, IsPowerRow, IsPowersSum, MultiplicationPasses, PartPasses, PowerRowPasses, PowersSumPasses, SummationPasses}
@@ -31,28 +23,11 @@ use Rattle.nest_sums.proofs.Exact.{summed-legal}
 use Rattle.nest_sums.proofs.OneAnswer.{made-same, of-same, part-same, parts-same, powers-legal, powers-same, row-same, summed-one}
 use Rattle.nest_sums.proofs.PowerRows.{row-narrow}
 
--- a canonical tree that is a polynomial of the program times a number has degrees as such polynomials have
-multiple-degrees : (k : ℕ) (t : Expansion) (q : Quotient) → 1 ≤ k → IsLegal q → IsCanonical (2 ^ 16) t
-    → ((p : List ℤ) → (numerator_at q p *ℤ pos k) ≡ (value t (at p) *ℤ pos q.denominator)) → DegreesAtMost 8 t
-multiple-degrees k t q some legal canonical h =
-    let d = q.denominator in
-    let left = canonical-scaled (2 ^ 16) (pos k) q.tree (nonzero k some) legal.canonical in
-    let right = canonical-scaled (2 ^ 16) (pos d) t (nonzero d legal.positive) canonical in
-    let same : scaled (pos k) q.tree ≡ scaled (pos d) t
-    = unique (2 ^ 16) (scaled (pos k) q.tree) (scaled (pos d) t) left right
-    (everywhere (2 ^ 16) (scaled (pos k) q.tree) (scaled (pos d) t) left right
-    (λ p. value-scaled (pos k) q.tree (at p) ∙ mul_comm (pos k) (numerator_at q p) ∙ h p ∙ mul_comm (value t (at p)) (pos d) ∙ sym (value-scaled (pos d) t (at p)))) in
-    let content : IsContent (scaled (pos d) t) d d = record { divides_start = dvd_refl d; divides_all = divides-multiple d t; greatest = λ j start all. start } in
-    (legal-reduced (scaled (pos d) t) t (pos d) (pos 1) (pos d) (above d legal.positive) (above d legal.positive) content refl (mul-one (pos d)) right
-    (subst (DegreesAtMost 8) same (degrees-scaled 8 (pos k) q.tree legal.degrees))).0.degrees where
-      above : (n : ℕ) → 1 ≤ n → pos 1 ≤ℤ pos n
-      above n p = omega (arith, ints)
-
 multiplied-stays : (a b product : Quotient) → IsLegal a → IsLegal b → IsMultiplied a b product → MultiplicationPasses a b → ⊥
 multiplied-stays a b product first second h (inl wide) = not-le_of_lt h.narrow wide
 multiplied-stays a b product first second h (inr (t, (canonical, same, passes))) =
-    passes (multiple-degrees (a.denominator * b.denominator) t product (mul-pos first.positive second.positive) h.legal canonical
-    (λ p. h.value p ∙ ap (λ (z : ℤ). z *ℤ pos product.denominator) (sym (same p))))
+    passes (degrees-of 0 (a.denominator * b.denominator) t product (mul-pos first.positive second.positive) h.legal canonical
+    (λ p long. h.value p ∙ ap (λ (z : ℤ). z *ℤ pos product.denominator) (sym (same p))))
 
 row-stays : (v e : ℕ) (row : Quotient) → IsPowerRow v e row → PowerRowPasses v e → ⊥
 row-stays v e row h (inl past) = not-le_of_lt h.in_table past

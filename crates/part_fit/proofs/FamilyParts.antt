@@ -1,8 +1,9 @@
 -- Where what is asked of families and credits holds, they fit the program.
-use Rattle.std.proofs.Common.{◌≡◌, sym, ◌∙◌, ap, subst, ℕ, suc, ◌+◌, ◌<◌, ◌≤◌, List, [], ◌∷◌, ◌++◌, length, map, arith}
+use Rattle.std.proofs.Common.{◌≡◌, sym, ◌∙◌, ap, subst, ℕ, suc, ◌+◌, ◌<◌, ◌≤◌, List, [], ◌∷◌, ◌++◌, length, map, arith, zero-add}
 use Rattle.std.specs.Prelude.{Option, Some, None, slice_get}
 use Rattle.std.specs.List.{AllByRecursion}
 use Rattle.std.proofs.lemmas.List.{length-map}
+use Rattle.std.proofs.Math.Nat.{add-zero}
 use Rattle.iolb_model.specs.Form.{AffineForm}
 use Rattle.iolb_model.specs.Program.{Array, AffineProgram}
 use Rattle.iolb_model.specs.declared.limits.TheConstants.{NEST_VARIABLES, TREE_TESTS}
@@ -11,6 +12,7 @@ use Rattle.claims.specs.declared.place.Step.{Step}
 use Rattle.claims.specs.declared.place.Step.TheVariants.{Key, Index}
 use Rattle.claims.specs.declared.key.TheConstants.{INPUTS, LABEL, NEST, NODES, REGION, SET, START, TREE}
 use Rattle.claims.proofs.Laws.{AllHold-left, AllHold-right}
+use Rattle.claims.proofs.Members.{suc-moved}
 use Rattle.affine_form.specs.Matrix.{IntegerMatrix}
 use Rattle.affine_form.specs.Rows.{BoundsFit}
 use Rattle.affine_program.specs.Domain.{depth_of}
@@ -29,7 +31,7 @@ use Rattle.part_fit.specs.FamilyViews.{credit_at}
 use Rattle.part_fit.specs.Limits.{AreSmall, AreSmallBounds, IsSmallFamily, IsSmallFamilyNode, IsSmallLabel}
 use Rattle.part_fit.specs.TreeFit.{trees_fit}
 use Rattle.part_fit.specs.WalkFit.{region_fit_at, walk_fit}
-use Rattle.part_fit.proofs.ReadTrees.{none, from-none, bounds-fit}
+use Rattle.part_fit.proofs.ReadTrees.{bounds-fit}
 use Rattle.part_fit.proofs.TreeParts.{forms-over}
 use Rattle.part_fit.proofs.WalkParts.{walk-fits, region-fits}
 
@@ -38,16 +40,13 @@ use Rattle.part_fit.proofs.WalkParts.{walk-fits, region-fits}
 label-is : (size vars : ℕ) (place : List Step) (label : List AffineForm) → AreSmall label → AllHold (label_fit size vars place label) → IsLabel size vars label
 label-is size vars place label small h = record { each = h.0; over = forms-over vars place 0 label small h.1 }
 
-later : (i k : ℕ) → suc i + k ≡ i + suc k
-later i k = omega arith
-
 module _ (program : AffineProgram) (size : ℕ) (place : List Step) where
   -- the arrays from one on
   abbrev Follow : ℕ → List Array → Type 0
   Follow i arrays = (k : ℕ) → slice_get program.arrays (i + k) ≡ slice_get arrays k
 
   follow : (i : ℕ) (array : Array) (arrays : List Array) → Follow i (array ∷ arrays) → Follow (suc i) arrays
-  follow i array arrays from k = ap (slice_get program.arrays) (later i k) ∙ from (suc k)
+  follow i array arrays from k = ap (slice_get program.arrays) (suc-moved i k) ∙ from (suc k)
 
   cell-labels : (i : ℕ) (arrays : List Array) (labels : List (Option (List AffineForm))) → Follow i arrays → length labels ≡ length arrays
       → AllByRecursion IsSmallLabel labels → AllHold (numbered (input_fit program size place) i labels) → AreCellLabels program size arrays labels
@@ -59,7 +58,7 @@ module _ (program : AffineProgram) (size : ℕ) (place : List Step) where
       let vars : ℕ = length program.parameters + subscripts_of (slice_get program.arrays i) in
       let here : List Claim = label_fit size vars (place ++ Index i ∷ []) label in
       let rest : List Claim = numbered (input_fit program size place) (suc i) labels in
-      let ranked : subscripts_of (slice_get program.arrays i) ≡ array.rank = ap (λ (n : ℕ). subscripts_of (slice_get program.arrays n)) (sym (none i)) ∙ ap subscripts_of (from 0) in (
+      let ranked : subscripts_of (slice_get program.arrays i) ≡ array.rank = ap (λ (n : ℕ). subscripts_of (slice_get program.arrays n)) (sym (add-zero i)) ∙ ap subscripts_of (from 0) in (
         subst (λ (n : ℕ). IsLabel size (length program.parameters + n) label) ranked (label-is size vars (place ++ Index i ∷ []) label small.0 (AllHold-left here rest h)),
         cell-labels (suc i) arrays labels (follow i array arrays from) (omega (arith, many)) small.1 (AllHold-right here rest h),
       )
@@ -129,7 +128,7 @@ module _ (program : AffineProgram) (trees : List (List SelectionTree)) (fit : Al
         let in_nodes : AllHold nodes = AllHold-left nodes (set ++ start) past_inputs in
         let in_set : AllHold set = AllHold-left set start (AllHold-right nodes (set ++ start) past_inputs) in
         let in_start : AllHold start = AllHold-right set start (AllHold-right nodes (set ++ start) past_inputs) in
-        let same : (k : ℕ) → slice_get program.arrays (0 + k) ≡ slice_get program.arrays k = λ k. ap (slice_get program.arrays) (from-none k) in record {
+        let same : (k : ℕ) → slice_get program.arrays (0 + k) ≡ slice_get program.arrays k = λ k. ap (slice_get program.arrays) (zero-add k) in record {
           counted = counted;
           scale = small.some_scale;
           set = set-below (depth_of program statement) matrix.rows (place ++ Key SET ∷ []) 0 0 family.set counted.rows in_set;
@@ -162,7 +161,7 @@ module _ (program : AffineProgram) (trees : List (List SelectionTree)) (fit : Al
 credit-bounds : (program : AffineProgram) (place : List Step) (credit : CreditedNest) → AreSmallBounds credit.nest → AllHold (credit_nest_fit program place credit)
     → BoundsFit (length program.parameters) credit.nest
 credit-bounds program place credit small h =
-    subst (λ (n : ℕ). BoundsFit n credit.nest) (none (length program.parameters)) (bounds-fit (length program.parameters) 0 (place ++ Key NEST ∷ []) credit.nest small h.1)
+    subst (λ (n : ℕ). BoundsFit n credit.nest) (add-zero (length program.parameters)) (bounds-fit (length program.parameters) 0 (place ++ Key NEST ∷ []) credit.nest small h.1)
 
 -- a credit fits
 pub credit-fits : (program : AffineProgram) (place : List Step) (credit : CreditedNest) (count : SumClaims) → AreSmallBounds credit.nest → AllHold (credit_fit program place credit count)

@@ -5,3 +5,4 @@ pub mod TreeParts
 pub mod ReadTrees
 pub mod WalkParts
 pub mod FamilyParts
+pub mod FormsFit

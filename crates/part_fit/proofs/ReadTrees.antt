@@ -1,8 +1,9 @@
 -- What the source trees of reads have, where they fit a program: their leaves, their tests, and a tree for each read.
-use Rattle.std.proofs.Common.{Bool, true, false, ◌≡◌, refl, sym, ◌∙◌, ap, subst, ℕ, zero, suc, ◌+◌, ◌<◌, ◌≤◌, List, [], ◌∷◌, ◌++◌, length, arith}
+use Rattle.std.proofs.Common.{Bool, true, false, ◌≡◌, refl, sym, ◌∙◌, ap, subst, ℕ, zero, suc, ◌+◌, ◌<◌, ◌≤◌, List, [], ◌∷◌, ◌++◌, length, arith, zero-add}
 use Rattle.std.specs.Prelude.{Option, Some, option_and_then, slice_get, ◌==◌, if◌then◌else◌}
 use Rattle.std.proofs.lemmas.Bool.{eqb-true, lt-ltb}
 use Rattle.std.proofs.lemmas.List.{length-append}
+use Rattle.std.proofs.Math.Nat.{add-suc, add-zero}
 use Rattle.iolb_model.specs.Form.{AffineForm}
 use Rattle.iolb_model.specs.Program.{AffineProgram, statement_at}
 use Rattle.claims.specs.declared.place.Step.{Step}
@@ -17,6 +18,7 @@ use Rattle.reuse_paths.specs.Quasts.{tree_at as tree_of_read}
 use Rattle.reuse_paths.specs.Trees.{RowFits, RowsFit, read_of}
 use Rattle.claims.specs.Claims.{AllHold, numbered}
 use Rattle.claims.proofs.Laws.{AllHold-left, AllHold-right}
+use Rattle.claims.proofs.Members.{suc-moved}
 use Rattle.part_fit.specs.EntryFit.{names_in, names_if, leaf_names}
 use Rattle.part_fit.specs.Limits.{AreSmallBounds}
 use Rattle.part_fit.specs.PartFit.{bounds_at}
@@ -39,30 +41,18 @@ open-many vars point tests (test form above below) =
       open-many vars point below_tests below,
     )
 
-next : (m n : ℕ) → suc (m + n) ≡ m + suc n
-next m n = omega arith
-
-pub none : (n : ℕ) → n + 0 ≡ n
-none n = omega arith
-
-shift : (m n : ℕ) → suc m + n ≡ m + suc n
-shift m n = omega arith
-
-pub from-none : (n : ℕ) → 0 + n ≡ n
-from-none n = omega arith
-
 pub bounds-fit : (vars index : ℕ) (place : List Step) (nest : List (AffineForm × AffineForm))
     → AreSmallBounds nest → AllHold (numbered (bounds_at vars place) index nest) → BoundsFit (vars + index) nest
 bounds-fit vars index place [] small h = tt
 bounds-fit vars index place (bounds ∷ nest) small h = (
   (record { over = h.0; small = small.0.0 }, record { over = h.1.0; small = small.0.1 }),
-  subst (λ (n : ℕ). BoundsFit n nest) (sym (next vars index)) (bounds-fit vars (suc index) place nest small.1 h.1.1),
+  subst (λ (n : ℕ). BoundsFit n nest) (add-suc vars index) (bounds-fit vars (suc index) place nest small.1 h.1.1),
 )
 
 pub columns-many : (rows columns called : ℕ) → columns ≡ (if rows == 0 then 0 else called) → 1 ≤ rows → columns ≡ called
 columns-many rows columns called e some = by (rows == 0) refl e where
   by : (b : Bool) → (rows == 0) ≡ b → columns ≡ (if b then 0 else called) → columns ≡ called
-  by true none d = absurd (let no_rows : rows ≡ 0 = eqb-true rows 0 none in omega arith)
+  by true add-zero d = absurd (let no_rows : rows ≡ 0 = eqb-true rows 0 add-zero in omega arith)
   by false some d = d
 
 -- ---- trees of reads
@@ -91,8 +81,8 @@ module _ (program : AffineProgram) where
         row,
         record {
           there = refl;
-          many = subst (λ (n : ℕ). length row ≡ length (statement_at program n).reads) (sym (none first)) here.0;
-          fits = subst (λ (n : ℕ). RowFits program n 0 row) (sym (none first)) fits.0;
+          many = subst (λ (n : ℕ). length row ≡ length (statement_at program n).reads) (sym (add-zero first)) here.0;
+          fits = subst (λ (n : ℕ). RowFits program n 0 row) (sym (add-zero first)) fits.0;
         },
       )
   row-of place first (suc k) (row ∷ rows) below h fits =
@@ -100,32 +90,32 @@ module _ (program : AffineProgram) where
         later.0,
         record {
           there = later.1.there;
-          many = subst (λ (n : ℕ). length later.0 ≡ length (statement_at program n).reads) (shift first k) later.1.many;
-          fits = subst (λ (n : ℕ). RowFits program n 0 later.0) (shift first k) later.1.fits;
+          many = subst (λ (n : ℕ). length later.0 ≡ length (statement_at program n).reads) (suc-moved first k) later.1.many;
+          fits = subst (λ (n : ℕ). RowFits program n 0 later.0) (suc-moved first k) later.1.fits;
         },
       )
 
   tree-in : (statement first k : ℕ) (row : List SelectionTree) → k < length row → RowFits program statement first row → (tree : SelectionTree) × TreeIn program row k statement (first + k) tree
   tree-in statement first k [] below fits = absurd (omega arith)
   tree-in statement first zero (tree ∷ row) below fits =
-      (tree, record { there = refl; fits = subst (λ (n : ℕ). TreeFits program (read_of statement n) tree) (sym (none first)) fits.0.1 })
+      (tree, record { there = refl; fits = subst (λ (n : ℕ). TreeFits program (read_of statement n) tree) (sym (add-zero first)) fits.0.1 })
   tree-in statement first (suc k) (tree ∷ row) below fits =
       let later = tree-in statement (suc first) k row (omega arith) fits.1 in
-      (later.0, record { there = later.1.there; fits = subst (λ (n : ℕ). TreeFits program (read_of statement n) later.0) (shift first k) later.1.fits })
+      (later.0, record { there = later.1.there; fits = subst (λ (n : ℕ). TreeFits program (read_of statement n) later.0) (suc-moved first k) later.1.fits })
 
   -- the tree of a read that is there
   pub tree-of : (trees : List (List SelectionTree)) (reader : ReadOf) → ReadFits program reader → AllHold (trees_fit program trees) → RowsFit program 0 trees
       → (tree : SelectionTree) × TreeOfRead program trees reader tree
   tree-of trees reader read h fits =
       let row = row-of (Key QUASTS ∷ []) 0 reader.statement trees (omega (arith, h.0, read.statement)) h.1 fits in
-      let row_fits : RowFits program reader.statement 0 row.0 = subst (λ (n : ℕ). RowFits program n 0 row.0) (from-none reader.statement) row.1.fits in
+      let row_fits : RowFits program reader.statement 0 row.0 = subst (λ (n : ℕ). RowFits program n 0 row.0) (zero-add reader.statement) row.1.fits in
       let many : length row.0 ≡ length (statement_at program reader.statement).reads =
-      subst (λ (n : ℕ). length row.0 ≡ length (statement_at program n).reads) (from-none reader.statement) row.1.many in
+      subst (λ (n : ℕ). length row.0 ≡ length (statement_at program n).reads) (zero-add reader.statement) row.1.many in
       let tree = tree-in reader.statement 0 reader.read row.0 (omega (arith, read.read, many)) row_fits in (
         tree.0,
         record {
           there = ap (λ (o : Option (List SelectionTree)). option_and_then (λ (r : List SelectionTree). slice_get r reader.read) o) row.1.there ∙ tree.1.there;
-          fits = subst (λ (n : ℕ). TreeFits program (read_of reader.statement n) tree.0) (from-none reader.read) tree.1.fits;
+          fits = subst (λ (n : ℕ). TreeFits program (read_of reader.statement n) tree.0) (zero-add reader.read) tree.1.fits;
         },
       )
 

@@ -1,9 +1,10 @@
 -- Where what is asked of a walk holds, it fits the program.
-use Rattle.std.proofs.Common.{Bool, ◌≡◌, refl, sym, ◌∙◌, ap, subst, ℕ, zero, suc, ◌+◌, ◌*◌, ◌<◌, ◌≤◌, List, [], ◌∷◌, ◌++◌, length, map, arith}
+use Rattle.std.proofs.Common.{Bool, ◌≡◌, refl, sym, ◌∙◌, ap, subst, ℕ, zero, suc, ◌+◌, ◌*◌, ◌<◌, ◌≤◌, List, [], ◌∷◌, ◌++◌, length, map, arith, zero-add}
 use Rattle.std.specs.Prelude.{if◌then◌else◌, Option, Some, None, slice_get, slice_index_or, IsSomeAnd}
 use Rattle.std.specs.List.{AllByRecursion}
 use Rattle.std.proofs.lemmas.Bool.{eq-eqb}
 use Rattle.std.proofs.lemmas.List.{length-map}
+use Rattle.std.proofs.Math.Nat.{add-zero}
 use Rattle.iolb_model.specs.Form.{AffineForm}
 use Rattle.iolb_model.specs.Program.{AffineProgram, statement_at}
 use Rattle.claims.specs.Claims.{Claim, AllHold, numbered}
@@ -11,6 +12,7 @@ use Rattle.claims.specs.declared.place.Step.{Step}
 use Rattle.claims.specs.declared.place.Step.TheVariants.{Key, Index}
 use Rattle.claims.specs.declared.key.TheConstants.{LEAVES, NO, NODES, POINT, READ, ROWS, START, STATEMENT, TREE, YES}
 use Rattle.claims.proofs.Laws.{AllHold-left, AllHold-right}
+use Rattle.claims.proofs.Members.{suc-moved}
 use Rattle.affine_form.specs.Rows.{variables_from}
 use Rattle.affine_program.specs.Domain.{depth_of}
 use Rattle.dep_quast.specs.Context.{ReadOf}
@@ -34,7 +36,7 @@ use Rattle.part_fit.specs.PartFit.{forms_fit, shown_fit}
 use Rattle.part_fit.specs.TreeFit.{trees_fit}
 use Rattle.part_fit.specs.WalkFit.{aim_of_entries, entry_aim, row_count, rows_called, take_fit, walk_fit, region_fit, region_fit_at, fit_in, spot_fit}
 use Rattle.iolb_model.specs.declared.limits.TheConstants.{TREE_TESTS}
-use Rattle.part_fit.proofs.ReadTrees.{none, from-none, names-of, tree-of}
+use Rattle.part_fit.proofs.ReadTrees.{names-of, tree-of}
 use Rattle.part_fit.proofs.TreeParts.{forms-over}
 
 -- a spot fits
@@ -84,15 +86,12 @@ module _ (walk : WalkSetting) where
         Called-append (open_leaves vars point (tests ++ form_at vars point form ∷ []) above) (open_leaves vars point (tests ++ no_at vars point form ∷ []) below) (names_in above) (names_in below)
         (called (tests ++ form_at vars point form ∷ []) above) (called (tests ++ no_at vars point form ∷ []) below)
 
-    later : (i k : ℕ) → suc i + k ≡ i + suc k
-    later i k = omega arith
-
     -- what is called for at the leaves from one on
     abbrev Asked : List ℕ → ℕ → List (Option ℕ) → Type 0
     Asked all i named = (k : ℕ) → slice_index_or all (i + k) 0 ≡ slice_index_or (map (rows_called walk.nodes) named) k 0
 
     past : (all : List ℕ) (i : ℕ) (name : Option ℕ) (named : List (Option ℕ)) → Asked all i (name ∷ named) → Asked all (suc i) named
-    past all i name named asked k = ap (λ (n : ℕ). slice_index_or all n 0) (later i k) ∙ asked (suc k)
+    past all i name named asked k = ap (λ (n : ℕ). slice_index_or all n 0) (suc-moved i k) ∙ asked (suc k)
 
   module _ (reader : ReadOf) where
     abbrev vars : ℕ
@@ -126,7 +125,7 @@ module _ (walk : WalkSetting) where
     entries-fit place all i (l ∷ leaves) (name ∷ named) (entry ∷ entries) c asked many h =
         let here : List Claim = aimed_at (entry_aim walk) all place i entry in
         let rest : List Claim = numbered (aimed_at (entry_aim walk) all place) (suc i) entries in (
-          aimed walk.aim l.origin (slice_index_or all i 0) entry (place ++ Index i ∷ []) (ap (λ (n : ℕ). slice_index_or all n 0) (sym (none i)) ∙ asked 0 ∙ sym c.0) (AllHold-left here rest h),
+          aimed walk.aim l.origin (slice_index_or all i 0) entry (place ++ Index i ∷ []) (ap (λ (n : ℕ). slice_index_or all n 0) (sym (add-zero i)) ∙ asked 0 ∙ sym c.0) (AllHold-left here rest h),
           entries-fit place all (suc i) leaves named entries c.1 (past vars point all i name named asked) (omega (arith, many)) (AllHold-right here rest h),
         )
 
@@ -148,7 +147,7 @@ module _ (walk : WalkSetting) where
         let in_tree : asked ≡ names_in chosen.0 = names-of walk.program walk.trees reader chosen.0 read_fits.read chosen.1.there in
         let entries_in : EntriesFit walk reader (open_leaves vars point [] chosen.0) entries =
         entries-fit reader (place ++ Key LEAVES ∷ []) (map (rows_called walk.nodes) asked) 0 (open_leaves vars point [] chosen.0) (names_in chosen.0) entries (called vars point [] chosen.0)
-        (λ k. ap (λ (n : ℕ). slice_index_or (map (rows_called walk.nodes) asked) n 0) (from-none k) ∙ ap (λ (l : List (Option ℕ)). slice_index_or (map (rows_called walk.nodes) l) k 0) in_tree)
+        (λ k. ap (λ (n : ℕ). slice_index_or (map (rows_called walk.nodes) asked) n 0) (zero-add k) ∙ ap (λ (l : List (Option ℕ)). slice_index_or (map (rows_called walk.nodes) l) k 0) in_tree)
         (h.0 ∙ ap length in_tree) (AllHold-left middle last h.1) in record {
           read_fits = read_fits;
           there = chosen.1.there ∙ ap (λ (t : SelectionTree). Some t) (sym is);

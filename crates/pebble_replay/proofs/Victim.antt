@@ -1,11 +1,12 @@
 -- The vertex that goes: there is one where a red vertex may go, and it is the least of those with the furthest next use.
-use Rattle.std.proofs.Common.{◌≡◌, refl, sym, ◌∙◌, ap, inl, inr, ℕ, zero, suc, ◌+◌, ◌<◌, ◌≤◌, Bool, true, false, cond, not, leb, List, [], ◌∷◌, find, Some, None, arith}
+use Rattle.std.proofs.Common.{◌≡◌, refl, sym, ◌∙◌, ap, inl, inr, ℕ, ◌<◌, ◌≤◌, Bool, true, false, cond, not, leb, List, [], ◌∷◌, find, Some, None, arith}
 use Rattle.std.specs.Prelude.{◌⊎◌, ◌&&◌, ◌||◌}
 use Rattle.std.specs.List.{list_all, range_with_len}
 use Rattle.std.proofs.lemmas.Bool.{cases_Bool, cases_lt, and_parts, and_from, or_right, or_left, le-leb, not_from_false}
 use Rattle.iolb_model.specs.Graph.{ComputationGraph}
 use Rattle.iolb_model.specs.Game.{Board, vertices}
 use Rattle.execution_laws.proofs.Members.{Member}
+use Rattle.execution_laws.proofs.Domains.{counted-has}
 use Rattle.pebble_replay.specs.Played.{next_use, may_go, is_furthest, victim}
 
 -- what passes a test is found, or something before it
@@ -27,16 +28,9 @@ find-none_at p (z ∷ xs) x e m = by (p z) refl e m (λ (f : find p xs ≡ None)
   by false off f (inl w) rest = ap p w ∙ off
   by false off f (inr n) rest = rest f n
 
-Member-range : (a n k : ℕ) → a ≤ k → k < a + n → Member k (range_with_len a n)
-Member-range a zero k low high = absurd (omega (arith, low, high))
-Member-range a (suc n) k low high = by (cases_lt a k) (λ (less : a < k). Member-range (a + 1) n k (omega (arith, less)) (omega (arith, high))) where
-  by : (a < k) ⊎ (k ≤ a) → (a < k → Member k (range_with_len (a + 1) n)) → Member k (range_with_len a (suc n))
-  by (inl less) rest = inr (rest less)
-  by (inr more) rest = inl (omega (arith, low, more))
-
 -- a vertex is among all vertices
 pub Member-vertices : (n k : ℕ) → k < n → Member k (range_with_len 0 n)
-Member-vertices n k h = Member-range 0 n k (omega arith) (omega (arith, h))
+Member-vertices n k h = counted-has 0 n k (omega arith) (omega (arith, h))
 
 pub list_all-from : (p : ℕ → Bool) (xs : List ℕ) → ((x : ℕ) → Member x xs → p x ≡ true) → list_all p xs ≡ true
 list_all-from p [] h = refl

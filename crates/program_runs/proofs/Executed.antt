@@ -1,6 +1,6 @@
 -- What holds of each instance that is executed.
-use Rattle.std.proofs.Common.{◌≡◌, refl, sym, ap, ◌∙◌, subst, ℕ, suc, ◌+◌, ◌≤◌, List, [], ◌∷◌, ◌++◌, map, length}
-use Rattle.std.specs.Prelude.{flat_map, Option, None, Some, IsSomeAnd, unwrap_or}
+use Rattle.std.proofs.Common.{◌≡◌, sym, ap, ◌∙◌, subst, ℕ, suc, ◌+◌, ◌≤◌, List, [], ◌∷◌, ◌++◌, map, length}
+use Rattle.std.specs.Prelude.{flat_map}
 use Rattle.std.specs.List.{AllByRecursion}
 use Rattle.std.proofs.Math.IntN.{ℤ}
 use Rattle.std.proofs.lemmas.List.{length-append}
@@ -8,11 +8,12 @@ use Rattle.base_laws.proofs.Lists.{All-append}
 use Rattle.execution_laws.proofs.Domains.{row_runs-within, statements-rise, way-below}
 use Rattle.execution_laws.proofs.Members.{Member}
 use Rattle.execution_laws.proofs.Ordered.{All-from, All-member}
+use Rattle.execution_laws.proofs.Ways.{within-length, there-holds}
 use Rattle.affine_form.specs.Form.{IsSmall}
 use Rattle.affine_program.specs.Domain.{path_of, depth_of}
 use Rattle.iolb_model.specs.Domain.{IsWithin}
 use Rattle.iolb_model.specs.Form.{form_value}
-use Rattle.iolb_model.specs.Path.{PathStep, rises, row_path}
+use Rattle.iolb_model.specs.Path.{row_path}
 use Rattle.iolb_model.specs.Program.{Item, assign, loop, Row, done, next, AffineProgram, IsWellFormed}
 use Rattle.iolb_model.specs.Execution.{Instance, range, at_value, item_runs, row_runs, execution}
 use Rattle.program_runs.specs.Turns.{item_turns, row_turns, turns}
@@ -51,16 +52,6 @@ mutual
       All-append (HasAll P) (item_runs item point) (row_runs row point) (item_values P item point both.0) (row_values P row point both.1)
 
 -- ---- an instance has a value for each loop around its statement
-
-within-length : (path : List PathStep) (point values : List ℤ) → IsWithin path point values → length values ≡ length path
-within-length [] point [] h = refl
-within-length [] point (v ∷ values) h = absurd h
-within-length (rises lower upper ∷ path) point [] h = absurd h
-within-length (rises lower upper ∷ path) point (v ∷ values) h = ap suc (within-length path (point ++ v ∷ []) values h.2)
-
-there-holds : (o : Option (List PathStep)) (P : List PathStep → Type 0) → IsSomeAnd o P → P (unwrap_or o [])
-there-holds None P h = absurd h
-there-holds (Some path) P h = h
 
 -- an instance of the program, where its loop values are of size below 2^40
 pub record IsInstance (program : AffineProgram) (instance : Instance) : Type 0 where

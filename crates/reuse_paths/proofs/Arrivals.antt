@@ -1,6 +1,6 @@
 -- A reach whose claims hold arrives: by induction on the place of the instance from which a walk goes on, since the source
 -- of a read comes before its reader.
-use Rattle.std.proofs.Common.{◌≡◌, refl, sym, ◌∙◌, ap, subst, ℕ, zero, suc, ◌+◌, ◌*◌, ◌<◌, List, [], ◌∷◌, ◌++◌, length, map, arith}
+use Rattle.std.proofs.Common.{◌≡◌, refl, sym, ◌∙◌, ap, subst, ℕ, zero, suc, ◌+◌, ◌*◌, ◌<◌, List, [], ◌∷◌, ◌++◌, length, map, arith, zero-add}
 use Rattle.std.specs.Prelude.{Option, Some, Contains}
 use Rattle.std.proofs.Math.IntN.{ℤ}
 use Rattle.std.proofs.lemmas.List.{append-nil, length-map}
@@ -47,9 +47,6 @@ use Rattle.reuse_paths.proofs.ReadSources.{place-there, source-read, source-befo
 use Rattle.reuse_paths.proofs.Regions.{there-is, region-claimed, region-fits, spot-many, entering-met, going-met, reading-there, context-met}
 use Rattle.reuse_paths.proofs.WordsTaken.{IsTrueOrigin, Takes, walk-takes}
 use Rattle.pebble_game.proofs.InputVertices.{slice_get-below}
-
-none : (k : ℕ) → 0 + k ≡ k
-none k = omega arith
 
 module _ (condition : ℕ) (walk : WalkSetting) (target : SpotForms) (place : List Step) (values u : List ℤ) (formed : IsWellFormed walk.program) (admitted : IsAdmitted walk.program values)
     (within : IsWithin (map step_of walk.nest) values u) (trees-fit : RowsFit walk.program 0 walk.trees) (trees-true : RowsAreTrue walk.program 0 walk.trees)
@@ -178,8 +175,8 @@ module _ (condition : ℕ) (walk : WalkSetting) (target : SpotForms) (place : Li
         (read_taken region.tree ((values ++ u) ++ x)) (walk_pieces walk s (region_context walk s region.rows) region.tree)
         (walk-takes condition walk values u formed admitted within trees-fit trees-true n s x inside.0 (place ++ Index s ∷ Key TREE ∷ []) (region_context walk s region.rows) region.tree
         (context-met walk values u formed admitted within n s x inside.0 region.rows inside.2)
-        (subst (λ (k : ℕ). RegionFits walk k (Some region)) (none s) (region-fits walk 0 s walk.nodes region inside.1 regions-fit)).1
-        (subst (λ (k : ℕ). AllHold (region_claims condition walk place k (Some region))) (none s) (region-claimed condition walk place 0 s walk.nodes region inside.1 holds)))
+        (subst (λ (k : ℕ). RegionFits walk k (Some region)) (zero-add s) (region-fits walk 0 s walk.nodes region inside.1 regions-fit)).1
+        (subst (λ (k : ℕ). AllHold (region_claims condition walk place k (Some region))) (zero-add s) (region-claimed condition walk place 0 s walk.nodes region inside.1 holds)))
 
     -- from a start in a region it is reached
     pub start-reaches : (at : List Step) (from : SpotForms) (start : List FarkasMultipliers) (n : ℕ) → length start ≡ length (entering_rows walk (spot_variables walk) (region_at walk.nodes from.statement) from.point)

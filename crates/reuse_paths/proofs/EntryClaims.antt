@@ -1,8 +1,9 @@
 -- What is found in the claims of an entry.
-use Rattle.std.proofs.Common.{◌≡◌, refl, sym, subst, ℕ, zero, suc, ◌+◌, ◌*◌, ◌≤◌, List, [], ◌∷◌, ◌++◌, length, map, arith, lit<}
+use Rattle.std.proofs.Common.{◌≡◌, sym, subst, ℕ, zero, suc, ◌+◌, ◌≤◌, List, [], ◌∷◌, ◌++◌, map, arith, lit<, zero-add}
 use Rattle.std.specs.Prelude.{Option, Some, None, IsSomeAnd}
 use Rattle.std.specs.List.{AllByRecursion}
 use Rattle.std.proofs.Math.IntN.{pos}
+use Rattle.std.proofs.Math.Nat.{add-zero}
 use Rattle.base_laws.proofs.Lists.{All-append, All-replicate}
 use Rattle.iolb_model.specs.Form.{AffineForm}
 use Rattle.claims.specs.Claims.{Claim, Finds}
@@ -11,9 +12,10 @@ use Rattle.claims.specs.declared.place.Step.TheVariants.{Key}
 use Rattle.claims.specs.declared.key.TheConstants.{ROWS, START}
 use Rattle.claims.specs.declared.refused.No.{No}
 use Rattle.claims.proofs.Found.{Finds-later}
+use Rattle.claims.proofs.Members.{suc-moved}
 use Rattle.affine_form.specs.Form.{IsSmall}
 use Rattle.affine_form.specs.Multipliers.{FarkasMultipliers}
-use Rattle.affine_form.specs.Rows.{widened, equality_rows, IsSmallOver}
+use Rattle.affine_form.specs.Rows.{widened, IsSmallOver}
 use Rattle.affine_form.specs.System.{AffineSystem}
 use Rattle.affine_form.proofs.RowLemmas.{length-widened}
 use Rattle.dep_quast.specs.Claims.{follow_claims}
@@ -36,13 +38,6 @@ widened-small many vars (form ∷ forms) more h = (
   },
   widened-small many vars forms more h.1,
 )
-
--- two rows for each pair
-pub equality_rows-many : (vars : ℕ) (fs gs : List AffineForm) → length fs ≡ length gs → length (equality_rows vars fs gs) ≡ 2 * length gs
-equality_rows-many vars [] [] same = refl
-equality_rows-many vars [] (g ∷ gs) same = absurd (omega (arith, same))
-equality_rows-many vars (f ∷ fs) [] same = absurd (omega (arith, same))
-equality_rows-many vars (f ∷ fs) (g ∷ gs) same = omega (arith, equality_rows-many vars fs gs (omega (arith, same)))
 
 -- a walk goes on into a region
 pub going-found : (condition : ℕ) (walk : WalkSetting) (place : List Step) (system : AffineSystem) (point : List AffineForm) (writer : ℕ) (values : List AffineForm) (region : WalkRegion)
@@ -68,25 +63,17 @@ rows-at walk first s [] region e fits = absurd cc
 rows-at walk first zero (None ∷ nodes) region e fits = absurd cc
 rows-at walk first zero (Some other ∷ nodes) region e fits =
     let same : other ≡ region = cc in
-    subst (λ (n : ℕ). AllByRecursion (IsSmallOver (region_variables walk n)) region.rows) (plus first)
-    (subst (λ (r : WalkRegion). AllByRecursion (IsSmallOver (region_variables walk first)) r.rows) same fits.0) where
-      plus : (n : ℕ) → n ≡ n + 0
-      plus n = omega arith
+    subst (λ (n : ℕ). AllByRecursion (IsSmallOver (region_variables walk n)) region.rows) (sym (add-zero first))
+    (subst (λ (r : WalkRegion). AllByRecursion (IsSmallOver (region_variables walk first)) r.rows) same fits.0)
 rows-at walk first (suc s) (None ∷ nodes) region e fits =
-    subst (λ (n : ℕ). AllByRecursion (IsSmallOver (region_variables walk n)) region.rows) (shift first s) (rows-at walk (suc first) s nodes region e fits) where
-      shift : (m n : ℕ) → suc m + n ≡ m + suc n
-      shift m n = omega arith
+    subst (λ (n : ℕ). AllByRecursion (IsSmallOver (region_variables walk n)) region.rows) (suc-moved first s) (rows-at walk (suc first) s nodes region e fits)
 rows-at walk first (suc s) (Some other ∷ nodes) region e fits =
-    subst (λ (n : ℕ). AllByRecursion (IsSmallOver (region_variables walk n)) region.rows) (shift first s) (rows-at walk (suc first) s nodes region e fits.1) where
-      shift : (m n : ℕ) → suc m + n ≡ m + suc n
-      shift m n = omega arith
+    subst (λ (n : ℕ). AllByRecursion (IsSmallOver (region_variables walk n)) region.rows) (suc-moved first s) (rows-at walk (suc first) s nodes region e fits.1)
 
 -- those of a statement's region are
 pub region-over : (walk : WalkSetting) (s : ℕ) (region : WalkRegion) → RegionRowsFit walk 0 walk.nodes → region_at walk.nodes s ≡ Some region
     → AllByRecursion (IsSmallOver (region_variables walk s)) region.rows
-region-over walk s region fits is = subst (λ (n : ℕ). AllByRecursion (IsSmallOver (region_variables walk n)) region.rows) (none s) (rows-at walk 0 s walk.nodes region is fits) where
-  none : (n : ℕ) → 0 + n ≡ n
-  none n = omega arith
+region-over walk s region fits is = subst (λ (n : ℕ). AllByRecursion (IsSmallOver (region_variables walk n)) region.rows) (zero-add s) (rows-at walk 0 s walk.nodes region is fits)
 
 -- a spot is in its statement's region
 pub start-found : (condition : ℕ) (walk : WalkSetting) (place : List Step) (from : SpotForms) (region : WalkRegion) (start : List FarkasMultipliers) (found : Option No)

@@ -1,8 +1,9 @@
 -- The pieces of a family whose claims hold cover its footprint.
-use Rattle.std.proofs.Common.{◌≡◌, refl, sym, ◌∙◌, ap, subst, inl, inr, ℕ, zero, suc, ◌+◌, true, false, List, [], ◌∷◌, ◌++◌, length, map, arith}
+use Rattle.std.proofs.Common.{◌≡◌, refl, sym, ◌∙◌, ap, subst, inl, inr, ℕ, zero, suc, ◌+◌, true, false, List, [], ◌∷◌, ◌++◌, length, map, zero-add}
 use Rattle.std.specs.Prelude.{◌⊎◌, Option, Some, None, slice_get, IsSomeAnd}
 use Rattle.std.specs.List.{AllByRecursion}
 use Rattle.std.proofs.Math.IntN.{ℤ}
+use Rattle.std.proofs.Math.Nat.{add-zero}
 use Rattle.iolb_model.specs.Form.{AffineForm}
 use Rattle.iolb_model.specs.Program.{AffineProgram, IsWellFormed}
 use Rattle.iolb_model.specs.Bound.{IsAdmitted}
@@ -16,6 +17,7 @@ use Rattle.pebble_game.proofs.InputVertices.{Member-input_cells}
 use Rattle.pebble_game.proofs.Marks.{standing-member}
 use Rattle.claims.specs.Claims.{AllHold}
 use Rattle.claims.specs.declared.place.Step.{Step}
+use Rattle.claims.proofs.Members.{suc-moved}
 use Rattle.affine_form.specs.Rows.{step_of}
 use Rattle.affine_form.specs.Substitution.{values_at}
 use Rattle.affine_form.specs.System.{IsMet}
@@ -92,15 +94,11 @@ region-among walk first s [] region e piece m = absurd cc
 region-among walk first zero (r ∷ nodes) region e piece m =
     Member-append_left piece (region_pieces walk first r) (regions_pieces walk (suc first) nodes)
     (subst (λ (o : Option WalkRegion). Member piece (region_pieces walk first o)) (sym e)
-    (subst (λ (k : ℕ). Member piece (walk_pieces walk k (region_context walk k region.rows) region.tree)) (none first) m)) where
-      none : (k : ℕ) → k + 0 ≡ k
-      none k = omega arith
+    (subst (λ (k : ℕ). Member piece (walk_pieces walk k (region_context walk k region.rows) region.tree)) (add-zero first) m))
 region-among walk first (suc s) (r ∷ nodes) region e piece m =
     Member-append_right piece (region_pieces walk first r) (regions_pieces walk (suc first) nodes)
     (region-among walk (suc first) s nodes region e piece
-    (subst (λ (k : ℕ). Member piece (walk_pieces walk k (region_context walk k region.rows) region.tree)) (shift first s) m)) where
-      shift : (m k : ℕ) → m + suc k ≡ suc m + k
-      shift m k = omega arith
+    (subst (λ (k : ℕ). Member piece (walk_pieces walk k (region_context walk k region.rows) region.tree)) (sym (suc-moved first s)) m))
 
 module _ (program : AffineProgram) (trees : List (List SelectionTree)) (credits : List CreditedNest) (family : FamilyForms) (reader : List AffineForm)
     (values : List ℤ) (formed : IsWellFormed program) (admitted : IsAdmitted program values) (trees-fit : RowsFit program 0 trees) (trees-true : RowsAreTrue program 0 trees)
@@ -265,9 +263,7 @@ module _ (program : AffineProgram) (trees : List (List SelectionTree)) (statemen
       among-in (walk_pieces plain s rows tree) all (word_of program values tree n instance)
       (λ piece m. Member-append_right piece start-pieces (regions_pieces plain 0 (map node_region family.nodes))
       (region-among plain 0 s (map node_region family.nodes) inside.region inside.is piece
-      (subst (λ (k : ℕ). Member piece (walk_pieces plain k (region_context plain k inside.region.rows) tree)) (sym (none s)) m))) plainly where
-        none : (k : ℕ) → 0 + k ≡ k
-        none k = omega arith
+      (subst (λ (k : ℕ). Member piece (walk_pieces plain k (region_context plain k inside.region.rows) tree)) (sym (zero-add s)) m))) plainly
 
   footprint-in : (vertex : ℕ) → StartWord program statement nest family values vertex ⊎ RegionWord program family values vertex → IsInPieces program values all vertex
   footprint-in vertex (inl from) = start-in vertex from

@@ -5,6 +5,7 @@ use Rattle.std.specs.List.{AllByRecursion}
 use Rattle.std.proofs.Math.IntN.{pos}
 use Rattle.std.proofs.lemmas.List.{length-append}
 use Rattle.std.proofs.lemmas.Option.{get_or_from_slice_get, slice_get_within}
+use Rattle.std.proofs.Math.Nat.{add-zero}
 use Rattle.base_laws.proofs.Lists.{All-append, All-at, All-replicate, All-weaken}
 use Rattle.iolb_model.specs.Form.{AffineForm}
 use Rattle.iolb_model.specs.Program.{Array, AccessFits, AffineProgram, IsWellFormed, no_statement, statement_at}
@@ -12,6 +13,7 @@ use Rattle.claims.specs.Claims.{Finds}
 use Rattle.claims.specs.declared.place.Step.{Step}
 use Rattle.claims.specs.declared.place.Step.TheVariants.{Key}
 use Rattle.claims.specs.declared.refused.No.{No}
+use Rattle.claims.proofs.Members.{suc-moved}
 use Rattle.affine_form.specs.Form.{variables, IsSmall, IsSmallForm}
 use Rattle.affine_form.specs.Multipliers.{FarkasMultipliers}
 use Rattle.affine_form.specs.Rows.{equality_rows, variables_from, IsSmallOver}
@@ -37,13 +39,9 @@ module _ (program : AffineProgram) (size : ℕ) where
       → IsLabel size (length program.parameters + depth_of program (first + s)) label
   instance-label first s [] label fit e = absurd cc
   instance-label first zero (here ∷ labels) label fit e =
-      subst (λ (n : ℕ). IsLabel size (length program.parameters + depth_of program n) label) (plus first) (subst (IsLabelIf size (length program.parameters + depth_of program first)) e fit.0) where
-        plus : (n : ℕ) → n ≡ n + 0
-        plus n = omega arith
+      subst (λ (n : ℕ). IsLabel size (length program.parameters + depth_of program n) label) (sym (add-zero first)) (subst (IsLabelIf size (length program.parameters + depth_of program first)) e fit.0)
   instance-label first (suc s) (here ∷ labels) label fit e =
-      subst (λ (n : ℕ). IsLabel size (length program.parameters + depth_of program n) label) (shift first s) (instance-label (suc first) s labels label fit.1 e) where
-        shift : (m n : ℕ) → suc m + n ≡ m + suc n
-        shift m n = omega arith
+      subst (λ (n : ℕ). IsLabel size (length program.parameters + depth_of program n) label) (suc-moved first s) (instance-label (suc first) s labels label fit.1 e)
 
   -- and that of an array's cells, which have as many subscripts as it has
   pub cell-label : (number many : ℕ) (arrays : List Array) (labels : List (Option (List AffineForm))) (label : List AffineForm) → AreCellLabels program size arrays labels

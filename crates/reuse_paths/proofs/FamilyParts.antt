@@ -1,5 +1,5 @@
 -- The settings of a family's walks fit, and what is found in the claims of its start label.
-use Rattle.std.proofs.Common.{◌≡◌, refl, sym, ◌∙◌, ap, subst, ℕ, zero, suc, ◌+◌, ◌<◌, ◌≤◌, List, [], ◌∷◌, ◌++◌, length, map, get_or, drop, arith}
+use Rattle.std.proofs.Common.{◌≡◌, refl, sym, ◌∙◌, ap, subst, ℕ, zero, suc, ◌+◌, ◌<◌, ◌≤◌, List, [], ◌∷◌, ◌++◌, length, map, get_or, drop, arith, zero-add}
 use Rattle.std.specs.Prelude.{Option, Some, None}
 use Rattle.std.specs.List.{AllByRecursion}
 use Rattle.std.proofs.lemmas.List.{length-map, drop_all}
@@ -11,6 +11,7 @@ use Rattle.claims.specs.declared.place.Step.{Step}
 use Rattle.claims.specs.declared.place.Step.TheVariants.{Index}
 use Rattle.claims.specs.declared.refused.No.{No}
 use Rattle.claims.proofs.Found.{Finds-here, Finds-later}
+use Rattle.claims.proofs.Members.{suc-moved}
 use Rattle.affine_form.specs.Matrix.{IntegerMatrix}
 use Rattle.affine_form.specs.Rows.{IsSmallOver}
 use Rattle.affine_program.specs.Domain.{depth_of}
@@ -80,9 +81,7 @@ module _ (program : AffineProgram) (trees : List (List SelectionTree)) (credits 
       subst (λ (n : ℕ). IsLabel size (length program.parameters + depth_of program n) node.label) (flat first)
       (subst (λ (o : Option NodeForms). IsLabelIf size (length program.parameters + depth_of program first) (node_label o)) (sym is ∙ e) fit.0)
   label-at size first (suc i) (here ∷ nodes) node d fit below is e =
-      subst (λ (n : ℕ). IsLabel size (length program.parameters + depth_of program n) node.label) (shift first i) (label-at size (suc first) i nodes node d fit.1 (omega (arith, below)) is e) where
-        shift : (m n : ℕ) → suc m + n ≡ m + suc n
-        shift m n = omega arith
+      subst (λ (n : ℕ). IsLabel size (length program.parameters + depth_of program n) node.label) (suc-moved first i) (label-at size (suc first) i nodes node d fit.1 (omega (arith, below)) is e)
 
   -- and so does that from the instances of a node's region
   pub node-reading : (i : ℕ) (node : NodeForms) (d : Option NodeForms) → SettingFits (from family.start_label) → i < length family.nodes → d ≡ get_or family.nodes i d → d ≡ Some node
@@ -90,7 +89,7 @@ module _ (program : AffineProgram) (trees : List (List SelectionTree)) (credits 
   node-reading i node d fits below is e =
       let labels : LabelsFit program (length family.start_label) (kept family.start_label) = fits.ends.aim.1 in
       let label : IsLabel (length family.start_label) (length program.parameters + depth_of program i) node.label =
-      subst (λ (n : ℕ). IsLabel (length family.start_label) (length program.parameters + depth_of program n) node.label) (none i)
+      subst (λ (n : ℕ). IsLabel (length family.start_label) (length program.parameters + depth_of program n) node.label) (zero-add i)
       (label-at (length family.start_label) 0 i family.nodes node d labels.instances below is e) in
       let others : LabelsFit program (length family.start_label) (kept node.label) = record { instances = labels.instances; each = labels.each; cells = labels.cells; credits = labels.credits } in record {
         setting = record {
@@ -101,9 +100,7 @@ module _ (program : AffineProgram) (trees : List (List SelectionTree)) (credits 
         };
         there = omega (arith, below, fits.each, length-map family.nodes node_region);
         reader = label-over node.label node.label i label.over;
-      } where
-        none : (n : ℕ) → 0 + n ≡ n
-        none n = omega arith
+      }
 
   -- the region of a node fits
   pub node-fits : (first i : ℕ) (nodes : List (Option NodeForms)) (d : Option NodeForms) → NodesFit program trees credits family first nodes → i < length nodes → d ≡ get_or nodes i d
@@ -112,9 +109,7 @@ module _ (program : AffineProgram) (trees : List (List SelectionTree)) (credits 
   node-fits first zero (here ∷ nodes) d fits below is =
       subst (λ (n : ℕ). NodeFits program trees credits family n d) (flat first) (subst (NodeFits program trees credits family first) (sym is) fits.0)
   node-fits first (suc i) (here ∷ nodes) d fits below is =
-      subst (λ (n : ℕ). NodeFits program trees credits family n d) (shift first i) (node-fits (suc first) i nodes d fits.1 (omega (arith, below)) is) where
-        shift : (m n : ℕ) → suc m + n ≡ m + suc n
-        shift m n = omega arith
+      subst (λ (n : ℕ). NodeFits program trees credits family n d) (suc-moved first i) (node-fits (suc first) i nodes d fits.1 (omega (arith, below)) is)
 
 -- ---- what is found in the claims of a start label, form by form
 

@@ -1,8 +1,9 @@
 -- A family whose claims hold is sound: its start walk and the walks of its regions take words with the labels of their readers.
-use Rattle.std.proofs.Common.{◌≡◌, refl, sym, ◌∙◌, ap, subst, ℕ, zero, suc, ◌+◌, List, [], ◌∷◌, ◌++◌, length, map, arith}
+use Rattle.std.proofs.Common.{◌≡◌, refl, sym, ◌∙◌, ap, subst, ℕ, zero, suc, ◌+◌, List, [], ◌∷◌, ◌++◌, length, map, zero-add}
 use Rattle.std.specs.Prelude.{Option, Some, None, option_map}
 use Rattle.std.proofs.Math.IntN.{ℤ}
 use Rattle.std.proofs.lemmas.List.{append-nil}
+use Rattle.std.proofs.Math.Nat.{add-zero}
 use Rattle.iolb_model.specs.Form.{AffineForm}
 use Rattle.iolb_model.specs.Program.{AffineProgram, IsWellFormed}
 use Rattle.iolb_model.specs.Bound.{IsAdmitted}
@@ -13,6 +14,7 @@ use Rattle.claims.specs.declared.place.Step.{Step}
 use Rattle.claims.specs.declared.place.Step.TheVariants.{Key, Index}
 use Rattle.claims.specs.declared.key.TheConstants.{LABEL, NODES, REGION, START, TREE}
 use Rattle.claims.proofs.Laws.{AllHold-left, AllHold-right}
+use Rattle.claims.proofs.Members.{suc-moved}
 use Rattle.affine_form.specs.Matrix.{IntegerMatrix}
 use Rattle.affine_form.specs.Substitution.{values_at}
 use Rattle.affine_form.specs.System.{IsMet}
@@ -58,19 +60,15 @@ module _ (program : AffineProgram) (trees : List (List SelectionTree)) (credits 
       let walk : WalkSetting = family_setting program trees credits family node.label in record {
         label = node.label;
         is = refl;
-        fits = subst (λ (k : ℕ). RegionFits walk k (Some region)) (plus first) (subst (λ (o : Option WalkRegion). RegionFits walk first o) e fits.0);
-        hold = subst (λ (k : ℕ). AllHold (region_walk walk place k (Some region))) (plus first)
+        fits = subst (λ (k : ℕ). RegionFits walk k (Some region)) (sym (add-zero first)) (subst (λ (o : Option WalkRegion). RegionFits walk first o) e fits.0);
+        hold = subst (λ (k : ℕ). AllHold (region_walk walk place k (Some region))) (sym (add-zero first))
             (subst (λ (o : Option WalkRegion). AllHold (region_walk walk place first o)) e
             (AllHold-left (region_walk walk place first node.region) (numbered (node_walk program trees credits family place) (suc first) nodes) h));
-      } where
-        plus : (k : ℕ) → k ≡ k + 0
-        plus k = omega arith
+      }
   node-there place first (suc s) (node ∷ nodes) region e fits h =
       let later : IsNode place (suc first + s) region nodes s =
       node-there place (suc first) s nodes region e fits.1 (AllHold-right (node_walk program trees credits family place first node) (numbered (node_walk program trees credits family place) (suc first) nodes) h) in
-      subst (λ (k : ℕ). IsNode place k region (node ∷ nodes) (suc s)) (shift first s) (record { label = later.label; is = later.is; fits = later.fits; hold = later.hold }) where
-        shift : (m k : ℕ) → suc m + k ≡ m + suc k
-        shift m k = omega arith
+      subst (λ (k : ℕ). IsNode place k region (node ∷ nodes) (suc s)) (suc-moved first s) (record { label = later.label; is = later.is; fits = later.fits; hold = later.hold })
 
 module _ (program : AffineProgram) (trees : List (List SelectionTree)) (statement : ℕ) (nest : List (AffineForm × AffineForm)) (matrix : IntegerMatrix) (credits : List CreditedNest) (family : FamilyForms)
     (place : List Step) (formed : IsWellFormed program) (trees-fit : RowsFit program 0 trees) (trees-true : RowsAreTrue program 0 trees)
@@ -131,15 +129,13 @@ module _ (program : AffineProgram) (trees : List (List SelectionTree)) (statemen
         let node : IsNode program trees credits family at (0 + s) inside.region family.nodes s =
         node-there program trees credits family at 0 s family.nodes inside.region inside.is fits.regions holds-nodes in
         let walk : WalkSetting = setting node.label in
-        let region-fits : RegionFits walk s (Some inside.region) = subst (λ (k : ℕ). RegionFits walk k (Some inside.region)) (none s) node.fits in
-        let hold : AllHold (region_walk walk at s (Some inside.region)) = subst (λ (k : ℕ). AllHold (region_walk walk at k (Some inside.region))) (none s) node.hold in record {
+        let region-fits : RegionFits walk s (Some inside.region) = subst (λ (k : ℕ). RegionFits walk k (Some inside.region)) (zero-add s) node.fits in
+        let hold : AllHold (region_walk walk at s (Some inside.region)) = subst (λ (k : ℕ). AllHold (region_walk walk at k (Some inside.region))) (zero-add s) node.hold in record {
           label = node.label;
           is = node.is;
           takes = taken node.label n s instance.values here (at ++ Index s ∷ Key REGION ∷ Key TREE ∷ []) inside.region.rows inside.region.tree
               (subst (IsMet inside.region.rows) (sym (in-front values instance.values)) inside.met) region-fits.1 hold;
-        } where
-          none : (k : ℕ) → 0 + k ≡ k
-          none k = omega arith
+        }
 
     -- it is a word with the reader's label
     word-of-taken : (reader : List AffineForm) (n s : ℕ) (x : List ℤ) (here : IsAt program values n (record { statement = s; values = x })) (tree : WalkTree) (rows : List AffineForm)

@@ -2,6 +2,7 @@
 use Rattle.std.proofs.Common.{◌≡◌, refl, sym, ◌∙◌, ap, subst, ℕ, zero, suc, ◌+◌, ◌<◌, ◌≤◌, List, [], ◌∷◌, ◌++◌, length, get_or, map, drop, arith}
 use Rattle.std.specs.Prelude.{Option, Some, None}
 use Rattle.std.proofs.lemmas.List.{drop_all}
+use Rattle.std.proofs.Math.Nat.{add-zero}
 use Rattle.base_laws.proofs.Lists.{rest_at, add-one}
 use Rattle.iolb_model.specs.Form.{AffineForm}
 use Rattle.claims.specs.Claims.{Claim, AllHold, Finds, IsRefusal}
@@ -11,6 +12,7 @@ use Rattle.claims.specs.declared.refused.No.{No}
 use Rattle.claims.specs.declared.refused.Refused.{Refused}
 use Rattle.claims.specs.declared.refused.Refused.TheVariants.{No as not_so, Memory}
 use Rattle.claims.proofs.Found.{Finds-stop, Finds-go}
+use Rattle.claims.proofs.Members.{suc-moved}
 use Rattle.dep_quast.specs.Context.{ReadOf}
 use Rattle.reuse_paths.specs.declared.leaf.Leaf.{Leaf}
 use Rattle.reuse_paths.specs.LeafClaims.{LeafClaim, claim_of}
@@ -42,13 +44,9 @@ pub regions-fit-at : (walk : WalkSetting) (first i : ℕ) (nodes : List (Option 
     → RegionFits walk (first + i) region
 regions-fit-at walk first i [] region fits below is = absurd (omega (arith, below))
 regions-fit-at walk first zero (x ∷ nodes) region fits below is =
-    subst (λ (n : ℕ). RegionFits walk n region) (plus first) (subst (RegionFits walk first) (sym is) fits.0) where
-      plus : (n : ℕ) → n ≡ n + 0
-      plus n = omega arith
+    subst (λ (n : ℕ). RegionFits walk n region) (sym (add-zero first)) (subst (RegionFits walk first) (sym is) fits.0)
 regions-fit-at walk first (suc i) (x ∷ nodes) region fits below is =
-    subst (λ (n : ℕ). RegionFits walk n region) (shift first i) (regions-fit-at walk (suc first) i nodes region fits.1 (omega (arith, below)) is) where
-      shift : (m n : ℕ) → suc m + n ≡ m + suc n
-      shift m n = omega arith
+    subst (λ (n : ℕ). RegionFits walk n region) (suc-moved first i) (regions-fit-at walk (suc first) i nodes region fits.1 (omega (arith, below)) is)
 
 module _ (condition : ℕ) (walk : WalkSetting) (reader : ReadOf) (list : List Step) (rows : List AffineForm) (leaves : List OpenLeaf) (entries : List Leaf) where
   abbrev from : ℕ → List Claim

@@ -20,7 +20,7 @@ use Rattle.affine_form.specs.Substitution.{values_at}
 use Rattle.affine_form.specs.System.{IsMet}
 use Rattle.affine_form.specs.Rows.{widened, variables_from, within_rows, step_of}
 use Rattle.affine_form.proofs.Meaning.{values-front, values-middle, widened-met, within_rows-met}
-use Rattle.dep_quast.proofs.Points.{within-length}
+use Rattle.execution_laws.proofs.Ways.{within-length}
 use Rattle.domain_count.specs.Points.{points}
 use Rattle.domain_count.specs.Count.{rows_before}
 

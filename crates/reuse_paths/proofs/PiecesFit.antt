@@ -1,5 +1,5 @@
 -- The pieces of a family's walks fit.
-use Rattle.std.proofs.Common.{◌≡◌, refl, sym, ◌∙◌, ap, subst, ℕ, ◌+◌, ◌-◌, ◌≤◌, List, [], ◌∷◌, ◌++◌, length, map, take, replicate, append_assoc, arith}
+use Rattle.std.proofs.Common.{◌≡◌, refl, sym, ◌∙◌, ap, subst, ℕ, ◌+◌, ◌-◌, ◌≤◌, List, [], ◌∷◌, ◌++◌, length, map, take, replicate, append_assoc, arith, zero-add}
 use Rattle.std.specs.List.{AllByRecursion}
 use Rattle.std.proofs.Math.IntN.{ℤ, pos, negsuc}
 use Rattle.std.proofs.Math.Seq.{take-append_seam}
@@ -32,7 +32,7 @@ use Rattle.reuse_paths.proofs.TreeLemmas.{rows-fit-at}
 use Rattle.iolb_model.specs.declared.limits.TheConstants.{NEST_VARIABLES, PUT_SIZE}
 
 -- a form over all of so many variables is read over them as it is
-as-wide : (many : ℕ) (form : AffineForm) → variables form ≡ many → widened many form ≡ form
+pub as-wide : (many : ℕ) (form : AffineForm) → variables form ≡ many → widened many form ≡ form
 as-wide many form e =
     ap (λ (n : ℕ). record form { coefficients = form.coefficients ++ replicate n (pos 0) }) (nothing many (length form.coefficients) e)
     ∙ ap (λ (cs : List ℤ). record form { coefficients = cs }) (append-nil form.coefficients) where
@@ -151,10 +151,8 @@ module _ (walk : WalkSetting) (s : ℕ) (flat : length walk.nest ≡ 0) (few : d
     open-leaves-fit : (read : ℕ) (entries : List LeafClaim) → TakenFits walk s read entries → AllByRecursion (OpenLeafFits walk s) (leaves_at walk (read_of s read))
     open-leaves-fit read entries taken =
         let fits : TreeFits walk.program (read_of s read) (tree_for walk.trees (read_of s read)) =
-        subst (λ (n : ℕ). TreeFits walk.program (read_of n read) (tree_for walk.trees (read_of s read))) (zero-plus s) (rows-fit-at walk.program 0 s read walk.trees (tree_for walk.trees (read_of s read)) trees-fit taken.there) in
-        open-fits walk (read_of s read) reading-over [] [] (tree_for walk.trees (read_of s read)) fits reading-many tt where
-          zero-plus : (n : ℕ) → 0 + n ≡ n
-          zero-plus n = omega arith
+        subst (λ (n : ℕ). TreeFits walk.program (read_of n read) (tree_for walk.trees (read_of s read))) (zero-add s) (rows-fit-at walk.program 0 s read walk.trees (tree_for walk.trees (read_of s read)) trees-fit taken.there) in
+        open-fits walk (read_of s read) reading-over [] [] (tree_for walk.trees (read_of s read)) fits reading-many tt
 
     pub walk-fits : (rows : List AffineForm) → AllOver vars rows → Begins rows → (tree : WalkTree) → TakesFit walk s tree → AllByRecursion (PieceFits walk.program) (walk_pieces walk s rows tree)
     walk-fits rows over begins (take_read read entries) taken = leaves-fit read taken.read_fits rows over begins (leaves_at walk (read_of s read)) (open-leaves-fit read entries taken) entries

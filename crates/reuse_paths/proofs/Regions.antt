@@ -4,6 +4,7 @@ use Rattle.std.specs.Prelude.{Option, Some, None, IsSomeAnd}
 use Rattle.std.proofs.Math.IntN.{ℤ, pos}
 use lib.Signed.{◌≤ℤ◌}
 use Rattle.std.proofs.lemmas.List.{append_assoc, length-append, length-map, map-append}
+use Rattle.std.proofs.Math.Nat.{add-zero}
 use Rattle.base_laws.proofs.Lists.{All-append}
 use Rattle.iolb_model.specs.Form.{AffineForm, form_value}
 use Rattle.iolb_model.specs.Path.{row_path}
@@ -16,6 +17,7 @@ use Rattle.claims.specs.declared.place.Step.{Step}
 use Rattle.claims.specs.declared.place.Step.TheVariants.{Key}
 use Rattle.claims.specs.declared.key.TheConstants.{ROWS}
 use Rattle.claims.proofs.Laws.{AllHold-left, AllHold-right}
+use Rattle.claims.proofs.Members.{suc-moved}
 use Rattle.affine_form.specs.Multipliers.{FarkasMultipliers}
 use Rattle.affine_form.specs.Substitution.{values_at}
 use Rattle.affine_form.specs.System.{IsMet}
@@ -24,7 +26,7 @@ use Rattle.affine_form.proofs.Meaning.{values-end, values-front, widened-stay, w
 use Rattle.affine_program.specs.Domain.{path_of, depth_of}
 use Rattle.dep_quast.specs.Claims.{follow_claims}
 use Rattle.dep_quast.specs.Context.{parameter_point}
-use Rattle.dep_quast.proofs.Points.{within-length, there-holds}
+use Rattle.execution_laws.proofs.Ways.{within-length, there-holds}
 use Rattle.dep_quast.proofs.Shown.{goals-met}
 use Rattle.domain_count.specs.Count.{rows_before}
 use Rattle.reuse_paths.specs.EntryClaims.{IsInRegion, going_goals}
@@ -45,27 +47,19 @@ pub region-claimed : (condition : ℕ) (walk : WalkSetting) (place : List Step) 
     → AllHold (numbered (region_claims condition walk place) first nodes) → AllHold (region_claims condition walk place (first + s) (Some region))
 region-claimed condition walk place first s [] region e h = absurd cc
 region-claimed condition walk place first zero (first_region ∷ nodes) region e h =
-    subst (λ (n : ℕ). AllHold (region_claims condition walk place n (Some region))) (plus first)
-    (subst (λ (o : Option WalkRegion). AllHold (region_claims condition walk place first o)) e (AllHold-left (region_claims condition walk place first first_region) (numbered (region_claims condition walk place) (suc first) nodes) h)) where
-      plus : (n : ℕ) → n ≡ n + 0
-      plus n = omega arith
+    subst (λ (n : ℕ). AllHold (region_claims condition walk place n (Some region))) (sym (add-zero first))
+    (subst (λ (o : Option WalkRegion). AllHold (region_claims condition walk place first o)) e (AllHold-left (region_claims condition walk place first first_region) (numbered (region_claims condition walk place) (suc first) nodes) h))
 region-claimed condition walk place first (suc s) (first_region ∷ nodes) region e h =
-    subst (λ (n : ℕ). AllHold (region_claims condition walk place n (Some region))) (shift first s)
-    (region-claimed condition walk place (suc first) s nodes region e (AllHold-right (region_claims condition walk place first first_region) (numbered (region_claims condition walk place) (suc first) nodes) h)) where
-      shift : (m n : ℕ) → suc m + n ≡ m + suc n
-      shift m n = omega arith
+    subst (λ (n : ℕ). AllHold (region_claims condition walk place n (Some region))) (suc-moved first s)
+    (region-claimed condition walk place (suc first) s nodes region e (AllHold-right (region_claims condition walk place first first_region) (numbered (region_claims condition walk place) (suc first) nodes) h))
 
 pub region-fits : (walk : WalkSetting) (first s : ℕ) (nodes : List (Option WalkRegion)) (region : WalkRegion) → region_at nodes s ≡ Some region
     → RegionsFit walk first nodes → RegionFits walk (first + s) (Some region)
 region-fits walk first s [] region e h = absurd cc
 region-fits walk first zero (first_region ∷ nodes) region e h =
-    subst (λ (n : ℕ). RegionFits walk n (Some region)) (plus first) (subst (λ (o : Option WalkRegion). RegionFits walk first o) e h.0) where
-      plus : (n : ℕ) → n ≡ n + 0
-      plus n = omega arith
+    subst (λ (n : ℕ). RegionFits walk n (Some region)) (sym (add-zero first)) (subst (λ (o : Option WalkRegion). RegionFits walk first o) e h.0)
 region-fits walk first (suc s) (first_region ∷ nodes) region e h =
-    subst (λ (n : ℕ). RegionFits walk n (Some region)) (shift first s) (region-fits walk (suc first) s nodes region e h.1) where
-      shift : (m n : ℕ) → suc m + n ≡ m + suc n
-      shift m n = omega arith
+    subst (λ (n : ℕ). RegionFits walk n (Some region)) (suc-moved first s) (region-fits walk (suc first) s nodes region e h.1)
 
 module _ (walk : WalkSetting) (values u : List ℤ) (formed : IsWellFormed walk.program) (admitted : IsAdmitted walk.program values) (within : IsWithin (map step_of walk.nest) values u) where
   -- the parameters and the point of the nest have as many values as a spot has variables

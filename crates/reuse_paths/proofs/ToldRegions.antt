@@ -3,7 +3,9 @@ use Rattle.std.proofs.Common.{◌≡◌, sym, ◌∙◌, ap, subst, ℕ, zero, s
 use Rattle.std.specs.Prelude.{Option, option_map}
 use Rattle.std.specs.List.{AllByRecursion}
 use Rattle.std.proofs.lemmas.List.{append-nil, drop_all, get_or-map, length-map}
+use Rattle.std.proofs.Math.Nat.{add-zero}
 use Rattle.base_laws.proofs.Lists.{rest_at, add-one, All-append}
+use Rattle.claims.proofs.Members.{suc-moved}
 use Rattle.reuse_paths.specs.declared.family.FamilyNode.{FamilyNode}
 use Rattle.reuse_paths.specs.Families.{node_of, node_region}
 use Rattle.reuse_paths.specs.FamilyPieces.{region_pieces, regions_pieces}
@@ -30,13 +32,9 @@ pub takes-at : (walk : WalkSetting) (first i : ℕ) (regions : List (Option Walk
     → RegionTakesFit walk (first + i) region
 takes-at walk first i [] region fits below is = absurd (omega (arith, below))
 takes-at walk first zero (x ∷ regions) region fits below is =
-    subst (λ (n : ℕ). RegionTakesFit walk n region) (plus first) (subst (RegionTakesFit walk first) (sym is) fits.0) where
-      plus : (n : ℕ) → n ≡ n + 0
-      plus n = omega arith
+    subst (λ (n : ℕ). RegionTakesFit walk n region) (sym (add-zero first)) (subst (RegionTakesFit walk first) (sym is) fits.0)
 takes-at walk first (suc i) (x ∷ regions) region fits below is =
-    subst (λ (n : ℕ). RegionTakesFit walk n region) (shift first i) (takes-at walk (suc first) i regions region fits.1 (omega (arith, below)) is) where
-      shift : (m n : ℕ) → suc m + n ≡ m + suc n
-      shift m n = omega arith
+    subst (λ (n : ℕ). RegionTakesFit walk n region) (suc-moved first i) (takes-at walk (suc first) i regions region fits.1 (omega (arith, below)) is)
 
 module _ (walk : WalkSetting) (regions : List (Option WalkRegion)) where
   abbrev rest : ℕ → List FootprintPiece

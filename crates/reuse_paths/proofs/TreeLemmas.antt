@@ -1,7 +1,8 @@
 -- Claims of source trees, one after another.
-use Rattle.std.proofs.Common.{◌≡◌, ap, subst, ℕ, zero, suc, ◌+◌, ◌<◌, List, [], ◌∷◌, length, map, get_or, drop, arith, Vec, Global}
+use Rattle.std.proofs.Common.{◌≡◌, ap, subst, ℕ, zero, suc, ◌+◌, ◌<◌, List, [], ◌∷◌, length, map, get_or, drop, arith, Vec, Global, sym, zero-add}
 use Rattle.std.specs.Prelude.{Some, slice_get}
 use Rattle.std.proofs.lemmas.List.{length-map}
+use Rattle.std.proofs.Math.Nat.{add-zero}
 use Rattle.base_laws.proofs.Lists.{rest_after, there}
 use Rattle.iolb_model.specs.Program.{AffineProgram, Statement as ModelStatement}
 use Rattle.affine_program.specs.Parts.{ProgramParts, IsProgram, access_of, statement_of, meaning}
@@ -10,6 +11,7 @@ use Rattle.dep_quast.proofs.Fits.{statement-is}
 use Rattle.dep_quast.specs.declared.quast.Quast.{Quast}
 use Rattle.dep_quast.specs.Tree.{SelectionTree, tree_of}
 use Rattle.dep_quast.specs.Truth.{ReadFits, TreeFits, IsTrueTree}
+use Rattle.claims.proofs.Members.{suc-moved}
 use Rattle.reuse_paths.specs.Quasts.{row_trees, tree_at}
 use Rattle.reuse_paths.specs.Trees.{read_of, RowFits, RowsFit, RowIsTrue, RowsAreTrue}
 
@@ -19,33 +21,21 @@ row-at : (program : AffineProgram) (statement first read : ℕ) (row : List Sele
 row-at program statement first read [] tree h e = absurd cc
 row-at program statement first zero (q ∷ row) tree h e =
     subst (λ (t : SelectionTree). IsTrueTree program (read_of statement (first + 0)) t) (same q tree e)
-    (subst (λ (n : ℕ). IsTrueTree program (read_of statement n) q) (plus first) h.0) where
+    (subst (λ (n : ℕ). IsTrueTree program (read_of statement n) q) (sym (add-zero first)) h.0) where
       same : (t u : SelectionTree) → Some t ≡ Some u → t ≡ u
       same t u p = cc
-
-      plus : (n : ℕ) → n ≡ n + 0
-      plus n = omega arith
 row-at program statement first (suc read) (q ∷ row) tree h e =
-    subst (λ (n : ℕ). IsTrueTree program (read_of statement n) tree) (shift first read) (row-at program statement (suc first) read row tree h.1 e) where
-      shift : (m n : ℕ) → suc m + n ≡ m + suc n
-      shift m n = omega arith
+    subst (λ (n : ℕ). IsTrueTree program (read_of statement n) tree) (suc-moved first read) (row-at program statement (suc first) read row tree h.1 e)
 
 pub rows-at : (program : AffineProgram) (first statement read : ℕ) (rows : List (List SelectionTree)) (tree : SelectionTree) → RowsAreTrue program first rows
     → tree_at rows statement read ≡ Some tree
     → IsTrueTree program (read_of (first + statement) read) tree
 rows-at program first statement read [] tree h e = absurd cc
 rows-at program first zero read (row ∷ rows) tree h e =
-    subst (λ (n : ℕ). IsTrueTree program (read_of n read) tree) (plus first)
-    (subst (λ (n : ℕ). IsTrueTree program (read_of first n) tree) (none read) (row-at program first 0 read row tree h.0 e)) where
-      plus : (n : ℕ) → n ≡ n + 0
-      plus n = omega arith
-
-      none : (n : ℕ) → 0 + n ≡ n
-      none n = omega arith
+    subst (λ (n : ℕ). IsTrueTree program (read_of n read) tree) (sym (add-zero first))
+    (subst (λ (n : ℕ). IsTrueTree program (read_of first n) tree) (zero-add read) (row-at program first 0 read row tree h.0 e))
 rows-at program first (suc statement) read (row ∷ rows) tree h e =
-    subst (λ (n : ℕ). IsTrueTree program (read_of n read) tree) (shift first statement) (rows-at program (suc first) statement read rows tree h.1 e) where
-      shift : (m n : ℕ) → suc m + n ≡ m + suc n
-      shift m n = omega arith
+    subst (λ (n : ℕ). IsTrueTree program (read_of n read) tree) (suc-moved first statement) (rows-at program (suc first) statement read rows tree h.1 e)
 
 -- a read of a program has a small number
 pub read-few : (parts : ProgramParts) → IsProgram parts → (s r : ℕ) → ReadFits (meaning parts) (read_of s r) → (s < 32) × (r < 32)
@@ -72,29 +62,17 @@ row-fits-at : (program : AffineProgram) (statement first read : ℕ) (row : List
 row-fits-at program statement first read [] tree h e = absurd cc
 row-fits-at program statement first zero (q ∷ row) tree h e =
     subst (λ (t : SelectionTree). TreeFits program (read_of statement (first + 0)) t) (same q tree e)
-    (subst (λ (n : ℕ). TreeFits program (read_of statement n) q) (plus first) h.0.1) where
+    (subst (λ (n : ℕ). TreeFits program (read_of statement n) q) (sym (add-zero first)) h.0.1) where
       same : (t u : SelectionTree) → Some t ≡ Some u → t ≡ u
       same t u p = cc
-
-      plus : (n : ℕ) → n ≡ n + 0
-      plus n = omega arith
 row-fits-at program statement first (suc read) (q ∷ row) tree h e =
-    subst (λ (n : ℕ). TreeFits program (read_of statement n) tree) (shift first read) (row-fits-at program statement (suc first) read row tree h.1 e) where
-      shift : (m n : ℕ) → suc m + n ≡ m + suc n
-      shift m n = omega arith
+    subst (λ (n : ℕ). TreeFits program (read_of statement n) tree) (suc-moved first read) (row-fits-at program statement (suc first) read row tree h.1 e)
 
 pub rows-fit-at : (program : AffineProgram) (first statement read : ℕ) (rows : List (List SelectionTree)) (tree : SelectionTree) → RowsFit program first rows
     → tree_at rows statement read ≡ Some tree → TreeFits program (read_of (first + statement) read) tree
 rows-fit-at program first statement read [] tree h e = absurd cc
 rows-fit-at program first zero read (row ∷ rows) tree h e =
-    subst (λ (n : ℕ). TreeFits program (read_of n read) tree) (plus first)
-    (subst (λ (n : ℕ). TreeFits program (read_of first n) tree) (none read) (row-fits-at program first 0 read row tree h.0 e)) where
-      plus : (n : ℕ) → n ≡ n + 0
-      plus n = omega arith
-
-      none : (n : ℕ) → 0 + n ≡ n
-      none n = omega arith
+    subst (λ (n : ℕ). TreeFits program (read_of n read) tree) (sym (add-zero first))
+    (subst (λ (n : ℕ). TreeFits program (read_of first n) tree) (zero-add read) (row-fits-at program first 0 read row tree h.0 e))
 rows-fit-at program first (suc statement) read (row ∷ rows) tree h e =
-    subst (λ (n : ℕ). TreeFits program (read_of n read) tree) (shift first statement) (rows-fit-at program (suc first) statement read rows tree h.1 e) where
-      shift : (m n : ℕ) → suc m + n ≡ m + suc n
-      shift m n = omega arith
+    subst (λ (n : ℕ). TreeFits program (read_of n read) tree) (suc-moved first statement) (rows-fit-at program (suc first) statement read rows tree h.1 e)

@@ -1,5 +1,5 @@
 -- What a walk takes from an instance whose claims hold: a word whose entry's claims hold, and of which the source tree is true.
-use Rattle.std.proofs.Common.{◌≡◌, refl, subst, ℕ, ◌+◌, if◌then◌else◌, Bool, true, false, List, [], ◌∷◌, ◌++◌, length, map, arith}
+use Rattle.std.proofs.Common.{◌≡◌, refl, subst, ℕ, ◌+◌, if◌then◌else◌, Bool, true, false, List, [], ◌∷◌, ◌++◌, length, map, arith, zero-add}
 use Rattle.std.specs.Prelude.{◌<ℤ◌}
 use Rattle.std.proofs.Math.IntN.{ℤ, pos, negsuc}
 use lib.Signed.{◌≤ℤ◌}
@@ -51,9 +51,6 @@ chosen-fits program reader tests (tree_test form above below) point h =
           → (under : List AffineForm) × LeafFits program reader under (if b then leaf_at below point else leaf_at above point)
       by true up down = down
       by false up down = up
-
-none : (k : ℕ) → 0 + k ≡ k
-none k = omega arith
 
 -- where a word comes from is true of the reader at this place with these loop values
 abbrev pub IsTrueOrigin : AffineProgram → List ℤ → ReadOf → ℕ → List ℤ → LeafOrigin → Type 0
@@ -131,8 +128,8 @@ module _ (condition : ℕ) (walk : WalkSetting) (values u : List ℤ) (formed : 
     read-taken : TakesHere
     read-taken =
         chosen-taken (leaf_at tree (values ++ x))
-        ((subst (λ (k : ℕ). IsTrueTree walk.program (read_of k read) tree) (none s) (rows-at walk.program 0 s read walk.trees tree trees-true taken.there)) values n x admitted here)
-        (chosen-fits walk.program (read_of s read) [] tree (values ++ x) (subst (λ (k : ℕ). TreeFits walk.program (read_of k read) tree) (none s) (rows-fit-at walk.program 0 s read walk.trees tree trees-fit taken.there)))
+        ((subst (λ (k : ℕ). IsTrueTree walk.program (read_of k read) tree) (zero-add s) (rows-at walk.program 0 s read walk.trees tree trees-true taken.there)) values n x admitted here)
+        (chosen-fits walk.program (read_of s read) [] tree (values ++ x) (subst (λ (k : ℕ). TreeFits walk.program (read_of k read) tree) (zero-add s) (rows-fit-at walk.program 0 s read walk.trees tree trees-fit taken.there)))
         (chosen-stands (region_variables walk s) (reading_point walk s) point (values ++ x) there [] tree tt)
 
   wider : {read : ℕ} {some all : List FootprintPiece} → Takes read some → ((piece : FootprintPiece) → Member piece some → Member piece all) → Takes read all

@@ -5,6 +5,7 @@ use Rattle.std.proofs.Math.IntN.{ℤ, pos, negsuc, ◌+ℤ◌, ◌-ℤ◌}
 use lib.Signed.{◌≤ℤ◌}
 use Rattle.std.proofs.lemmas.Int.{ints}
 use Rattle.std.proofs.lemmas.List.{length-append, length-drop}
+use Rattle.std.proofs.Math.Nat.{add-zero}
 use Rattle.base_laws.proofs.Lists.{All-append}
 use Rattle.iolb_model.specs.Form.{AffineForm, form_value}
 use Rattle.iolb_model.specs.Program.{AffineProgram}
@@ -20,6 +21,7 @@ use Rattle.affine_form.proofs.Meaning.{form_value-widened, form_value-difference
 use Rattle.dep_quast.specs.Claims.{IsFew}
 use Rattle.claims.specs.Claims.{AllHold, Claim}
 use Rattle.claims.proofs.Laws.{AllHold-left, AllHold-right}
+use Rattle.claims.proofs.Members.{suc-moved}
 use Rattle.dep_quast.specs.Context.{ReadOf}
 use Rattle.dep_quast.specs.Tree.{Leaf as TreeLeaf, source, input as input_leaf, empty, blank, SelectionTree, leaf, test, leaf_at}
 use Rattle.dep_quast.specs.Truth.{IsTrueLeaf, source_at}
@@ -30,21 +32,16 @@ use Rattle.wavefront.specs.Leaves.{IsClosed, leaf_claim, leaves_claims}
 -- what is claimed at the leaves of two rows of leaves is what is claimed at each
 claims-append : (vars : ℕ) (rows : List AffineForm) (place : List Step) (index : ℕ) (xs ys : List OpenLeaf) (entries : List LeafClaim) → length xs ≤ length entries
     → leaves_claims vars rows place index (xs ++ ys) entries ≡ leaves_claims vars rows place index xs entries ++ leaves_claims vars rows place (index + length xs) ys (drop (length xs) entries)
-claims-append vars rows place index [] ys entries le = ap (λ (n : ℕ). leaves_claims vars rows place n ys entries) (plus index) where
-  plus : (n : ℕ) → n ≡ n + 0
-  plus n = omega arith
+claims-append vars rows place index [] ys entries le = ap (λ (n : ℕ). leaves_claims vars rows place n ys entries) (sym (add-zero index))
 claims-append vars rows place index (x ∷ xs) ys [] le = absurd (omega (arith, le))
 claims-append vars rows place index (x ∷ xs) ys (e ∷ entries) le =
     ap (λ (cs : List Claim). first ∷ second ∷ cs) (claims-append vars rows place (suc index) xs ys entries (omega (arith, le))
-    ∙ ap (λ (n : ℕ). leaves_claims vars rows place (suc index) xs entries ++ leaves_claims vars rows place n ys (drop (length xs) entries)) (shift index (length xs))) where
+    ∙ ap (λ (n : ℕ). leaves_claims vars rows place (suc index) xs entries ++ leaves_claims vars rows place n ys (drop (length xs) entries)) (suc-moved index (length xs))) where
       first : Claim
       first = record { condition = 2; place = place ++ Index index ∷ []; statement = IsFew (length (rows ++ x.tests)) }
 
       second : Claim
       second = leaf_claim (place ++ Index index ∷ []) (record { vars = vars; rows = rows ++ x.tests }) (is_input x.origin) e
-
-      shift : (m n : ℕ) → suc m + n ≡ m + suc n
-      shift m n = omega arith
 
 -- the row of a test at a point is met where the test goes this way at the instance
 yes-met : (vars : ℕ) (forms : List AffineForm) (form : AffineForm) (at there : List ℤ) → values_at forms at ≡ there → pos 0 ≤ℤ form_value form there

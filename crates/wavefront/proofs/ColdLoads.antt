@@ -24,7 +24,7 @@ use Rattle.affine_form.proofs.Meaning.{values-front, within_rows-says}
 use Rattle.affine_program.specs.Domain.{path_of}
 use Rattle.dep_quast.specs.Tree.{SelectionTree}
 use Rattle.dep_quast.specs.Truth.{IsTrueTree}
-use Rattle.dep_quast.proofs.Points.{holds-there}
+use Rattle.execution_laws.proofs.Ways.{holds-there}
 use Rattle.dep_quast.proofs.Shown.{goals-met, within_rows-few}
 use Rattle.domain_count.specs.Points.{points}
 use Rattle.wavefront.specs.Term.{ColdTerm, nest_variables, nest_system, instance_point, inside_goals, cell_forms}

@@ -25,7 +25,7 @@ use Rattle.claims.specs.declared.place.Step.{Step}
 use Rattle.dep_quast.specs.Context.{ReadOf}
 use Rattle.dep_quast.specs.Tree.{Leaf, SourceClaim, source as source_leaf, input as input_leaf, empty, blank}
 use Rattle.dep_quast.specs.Truth.{IsTrueLeaf, source_at}
-use Rattle.dep_quast.proofs.Points.{there-holds, within-length}
+use Rattle.execution_laws.proofs.Ways.{there-holds, within-length}
 use Rattle.reuse_paths.specs.Arrival.{instance_of}
 use Rattle.reuse_paths.specs.LeafClaims.{LeafClaim, no_point, stops, is_credited, goes_on, arrives}
 use Rattle.reuse_paths.specs.OpenLeaves.{LeafOrigin, written, as_input, unknown, OpenLeaf}

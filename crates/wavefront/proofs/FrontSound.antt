@@ -1,5 +1,5 @@
 -- A wavefront term whose claims hold, over true source trees, is sound.
-use Rattle.std.proofs.Common.{◌≡◌, sym, ◌∙◌, ap, subst, ℕ, ◌+◌, List, [], ◌∷◌, ◌++◌, length, map, arith}
+use Rattle.std.proofs.Common.{◌≡◌, sym, ◌∙◌, ap, subst, ℕ, ◌+◌, List, [], ◌∷◌, ◌++◌, length, map, arith, zero-add}
 use Rattle.std.specs.Prelude.{Option, Some, None}
 use Rattle.std.specs.List.{AllByRecursion}
 use Rattle.std.proofs.Math.IntN.{ℤ, pos}
@@ -28,7 +28,7 @@ use Rattle.affine_program.specs.Domain.{path_of}
 use Rattle.dep_quast.specs.Context.{parameter_point}
 use Rattle.dep_quast.specs.Tree.{SelectionTree, leaf_at}
 use Rattle.dep_quast.specs.Truth.{IsTrueTree}
-use Rattle.dep_quast.proofs.Points.{holds-there}
+use Rattle.execution_laws.proofs.Ways.{holds-there}
 use Rattle.dep_quast.proofs.Shown.{goals-met}
 use Rattle.domain_count.specs.Points.{points}
 use Rattle.reuse_paths.specs.Arrival.{instance_of}
@@ -163,10 +163,8 @@ module _ (program : AffineProgram) (place : List Step) (trees : List (List Selec
             parameters u (place_of program parameters user) admitted within user-there)
 
         true-tree : IsTrueTree program (user_read term) (tree_for trees (user_read term))
-        true-tree = subst (λ (n : ℕ). IsTrueTree program (record { statement = n; read = term.read }) (tree_for trees (user_read term))) (none term.user.statement)
-            (rows-at program 0 term.user.statement term.read trees (tree_for trees (user_read term)) trees-true fits.there) where
-              none : (n : ℕ) → 0 + n ≡ n
-              none n = omega arith
+        true-tree = subst (λ (n : ℕ). IsTrueTree program (record { statement = n; read = term.read }) (tree_for trees (user_read term))) (zero-add term.user.statement)
+            (rows-at program 0 term.user.statement term.read trees (tree_for trees (user_read term)) trees-true fits.there)
 
         there : (source : Option SpotForms) (arrives : Option ReachClaim) → ReachesFit program trees term source arrives → AllHold (source_reach program place trees term source arrives)
             → IsSaid program parameters u formed (user_read term) (place_of program parameters user) (spot_values term.user parameters u) (front_variables program term)

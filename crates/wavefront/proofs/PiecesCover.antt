@@ -32,7 +32,7 @@ use Rattle.dep_quast.specs.Claims.{IsFew}
 use Rattle.dep_quast.specs.Context.{reference_of}
 use Rattle.dep_quast.specs.Tree.{Leaf as TreeLeaf, source, input as input_leaf, empty, blank, SelectionTree, leaf_at}
 use Rattle.dep_quast.specs.Truth.{IsTrueTree, IsTrueLeaf}
-use Rattle.dep_quast.proofs.Points.{within-length}
+use Rattle.execution_laws.proofs.Ways.{within-length}
 use Rattle.domain_count.specs.Count.{rows_before}
 use Rattle.domain_count.specs.Points.{points}
 use Rattle.reuse_paths.specs.declared.piece.Target.TheVariants.{Cell}

@@ -1,10 +1,10 @@
 -- Words of waves are loaded, but for those that are red when a wave's vertex is computed.
-use Rattle.std.proofs.Common.{◌≡◌, ◌≢◌, refl, sym, ◌∙◌, ap, subst, inl, inr, ℕ, zero, suc, ◌+◌, ◌*◌, ◌<◌, ◌≤◌, Bool, true, false, cond, not, List, [], ◌∷◌, ◌++◌, length, map, set, arith, IsTrue}
+use Rattle.std.proofs.Common.{◌≡◌, ◌≢◌, refl, sym, ◌∙◌, ap, subst, inl, inr, ℕ, zero, suc, ◌+◌, ◌*◌, ◌<◌, ◌≤◌, Bool, true, false, cond, not, List, [], ◌∷◌, ◌++◌, length, map, set, arith, IsTrue, zero-add}
 use Rattle.std.specs.Prelude.{◌⊎◌, ◌&&◌, nat_eq, filter, Contains}
 use Rattle.std.specs.List.{AllByRecursion, IsDistinct}
 use Rattle.std.specs.Set.{is_member}
 use Rattle.std.specs.Cmp.{nat_eq_equiv}
-use Rattle.std.proofs.lemmas.Bool.{eqb-true, eqb-false, cases_eq}
+use Rattle.std.proofs.lemmas.Bool.{eqb-true, eqb-false, cases_eq, cases_Bool}
 use Rattle.std.proofs.lemmas.List.{get_or-set_other, get_or-set_same, length-append}
 use Rattle.std.proofs.lemmas.List.Elements.{filter-append}
 use Rattle.std.proofs.lemmas.List.Filters.{length-filter_both}
@@ -20,10 +20,6 @@ use Rattle.pebble_game.proofs.Marks.{all-contained, count-put, distinct-filtered
 use Rattle.reuse_paths.specs.Reached.{IsReached}
 use Rattle.wavefront.specs.Waves.{IsSoundPoint, IsSoundWave, Wave, WavePoint, WavesAreLoaded, all_words, words_of}
 use Rattle.wavefront.proofs.Kept.{IsKept, kept-first, kept-next, reached-computed}
-
-true_or : (b : Bool) → (b ≡ true) ⊎ (b ≡ false)
-true_or true = inl refl
-true_or false = inr refl
 
 module _ (graph : ComputationGraph) (s : ℕ) where
   -- Between a board where a word that is an input, or was computed, has no red pebble and the computing of its reader, it is
@@ -87,7 +83,7 @@ module _ (graph : ComputationGraph) (s : ℕ) where
         → ((v : ℕ) → v < graph.instances → marked (final_board board (Compute wave.vertex ∷ moves)).computed v ≡ true)
         → (point : WavePoint) → IsSoundPoint graph wave.vertex point → (is_loaded point.word moves ≡ true) ⊎ (marked (set board.red wave.vertex true) point.word ≡ true)
     front-here board moves kept allowed ends point sound =
-        by (true_or (marked (set board.red wave.vertex true) point.word)) where
+        by (cases_Bool (marked (set board.red wave.vertex true) point.word)) where
           next : Board
           next = board_after board (Compute wave.vertex)
 
@@ -132,7 +128,7 @@ module _ (graph : ComputationGraph) (s : ℕ) where
           by (inl on) = inr on
           by (inr white) =
               inl (loaded-before point.word point.reader sound.reads next moves kept-there.wide allowed.1 (available sound.before) white
-              (not-yet (other white) (true_or (marked next.computed point.reader))) (ends point.reader sound.reader_there))
+              (not-yet (other white) (cases_Bool (marked next.computed point.reader))) (ends point.reader sound.reader_there))
 
     load-later : (move : Move) (moves : List Move) (v : ℕ) → is_loaded v moves ≡ true → is_loaded v (move ∷ moves) ≡ true
     load-later (Load w) moves v h = or_true (nat_eq v w) (is_loaded v moves) (λ apart. h)
@@ -180,9 +176,7 @@ marked-few : (marks : List Bool) (xs : List ℕ) → IsDistinct nat_eq xs → ((
 marked-few marks xs distinct on =
     subst (λ (n : ℕ). length xs ≤ n) (length-marked_from 0 marks)
     (length-le_from_is_member nat_eq_equiv xs (marked_from 0 marks) distinct
-    (λ v h. member-stands (marked_from 0 marks) v (subst (λ (n : ℕ). Member n (marked_from 0 marks)) (none v) (marked-member 0 marks v (on v (standing-member xs v h)))))) where
-      none : (n : ℕ) → 0 + n ≡ n
-      none n = omega arith
+    (λ v h. member-stands (marked_from 0 marks) v (subst (λ (n : ℕ). Member n (marked_from 0 marks)) (zero-add v) (marked-member 0 marks v (on v (standing-member xs v h))))))
 
 filtered-member : (test : ℕ → Bool) (xs : List ℕ) (v : ℕ) → Member v (filter test xs) → Member v xs × (test v ≡ true)
 filtered-member test [] v m = absurd m

@@ -4,7 +4,7 @@ use Rattle.answers.specs.Answers.{Answers, HasNoShort, Question, following}
 use Rattle.answers.proofs.AnswerLaws.{found-none, found-some}
 use Rattle.domain_count.specs.Count.{range_goal, rows_before}
 use Rattle.domain_count.proofs.BoundsFit.{BoundsFit-read}
-use Rattle.nest_sums.proofs.RangeLemmas.{BoundsFit-take}
+use Rattle.domain_count.proofs.Front.{BoundsFit-take}
 use Rattle.find_terms.proofs.CountLaws.{range-not, ranges-more}
 use Rattle.find_terms.proofs.counted.ranges_answered.Goals as goal
 

@@ -1,6 +1,7 @@
-use Rattle.std.proofs.Common.{rules, ◌≡◌, refl, sym, ◌∙◌, ap, subst, ℕ, suc, ◌+◌, List, [], ◌∷◌, ◌++◌, drop, map, append_assoc, append-nil, Vec, Global, arith}
+use Rattle.std.proofs.Common.{rules, ◌≡◌, refl, sym, ◌∙◌, ap, subst, ℕ, suc, ◌+◌, List, [], ◌∷◌, ◌++◌, drop, map, append_assoc, append-nil, Vec, Global}
 use Rattle.std.specs.List.{AllByRecursion}
 use Rattle.std.proofs.lemmas.List.{drop_all, map-append}
+use Rattle.std.proofs.Math.Numerals.{suc-eq-add-one}
 use Rattle.base_laws.proofs.Lists.{All-append, rest_after}
 use Rattle.affine_program.specs.Parts.{meaning}
 use Rattle.claims.specs.Claims.{Claim, AllHold, IsRefusal, numbered}
@@ -16,9 +17,6 @@ use Rattle.iolb_check.specs.Conditions.{AreBranchValues, AreValuesOf, BranchHold
 use Rattle.iolb_check.specs.Sound.{IsSoundBranch}
 use Rattle.iolb_check.proofs.branches.check_branches.Goals as goal
 
-next : (n : ℕ) → suc n ≡ n + 1
-next n = omega arith
-
 grown : (old : List (Vec Value Global)) (v : Vec Value Global) → lists (old ++ v ∷ []) ≡ lists old ++ v.items ∷ []
 grown old v = map-append (λ (terms : Vec Value Global). terms.items) old (v ∷ [])
 
@@ -33,7 +31,7 @@ loop-number-preserved c =
     let value : Vec Value Global = c.in_ok-terms.terms in
     let split = rest_after branches i branch c.loop-number-test.true c.index-branches-number.is in
     let fits = subst (BranchesFit program trees) split c.loop-number.invariant.fits in
-    let more : drop (suc i) branches ≡ drop (i + 1) branches = ap (λ (n : ℕ). drop n branches) (next i) in
+    let more : drop (suc i) branches ≡ drop (i + 1) branches = ap (λ (n : ℕ). drop n branches) (suc-eq-add-one i) in
     let old : List (Vec Value Global) = c.loop-number.values.items in
     let items = ap lists c.in-Ok.ensures.items ∙ grown old value in
     let here : List Claim = each i (claim_of_branch branch) in
@@ -43,17 +41,17 @@ loop-number-preserved c =
     record {
       fits = subst (BranchesFit program trees) more fits.1;
       accepted = λ h. c.loop-number.invariant.accepted (subst (λ (l : List Branch). AllHold (numbered each i (map claim_of_branch l))) (sym split)
-          (AllHold-append here rest accepted (subst (λ (n : ℕ). AllHold (numbered each n (map claim_of_branch (drop n branches)))) (sym (next i)) h)));
+          (AllHold-append here rest accepted (subst (λ (n : ℕ). AllHold (numbered each n (map claim_of_branch (drop n branches)))) (sym (suc-eq-add-one i)) h)));
       values = λ others h. subst (λ (l : List (List Value)). AreBranchValues (meaning program) (map claim_of_branch branches) (l ++ others)) (sym items)
           (subst (AreBranchValues (meaning program) (map claim_of_branch branches)) (sym (append_assoc (lists old) (value.items ∷ []) others))
           (c.loop-number.invariant.values (value.items ∷ others) (subst (λ (l : List Branch). AreBranchValues (meaning program) (map claim_of_branch l) (value.items ∷ others)) (sym split)
-          (valued, subst (λ (n : ℕ). AreBranchValues (meaning program) (map claim_of_branch (drop n branches)) others) (sym (next i)) h))));
+          (valued, subst (λ (n : ℕ). AreBranchValues (meaning program) (map claim_of_branch (drop n branches)) others) (sym (suc-eq-add-one i)) h))));
       hold = subst (AllByRecursion (BranchHolds program)) (sym items)
           (All-append (BranchHolds program) (lists old) (value.items ∷ []) c.loop-number.invariant.hold
           (c.in_ok-terms.ensures.holds, tt));
       sound = λ h. c.loop-number.invariant.sound (subst (AllByRecursion (IsSoundBranch program)) (sym split) (c.in_ok-terms.ensures.sound, subst (AllByRecursion (IsSoundBranch program)) (sym more) h));
       refused = λ r h. c.loop-number.invariant.refused r (subst (λ (l : List Branch). IsRefusal (numbered each i (map claim_of_branch l)) r) (sym split)
-          (refused-later here rest r accepted (subst (λ (n : ℕ). IsRefusal (numbered each n (map claim_of_branch (drop n branches))) r) (sym (next i)) h)));
+          (refused-later here rest r accepted (subst (λ (n : ℕ). IsRefusal (numbered each n (map claim_of_branch (drop n branches))) r) (sym (suc-eq-add-one i)) h)));
     }
 
 pub returns-in_err-terms-clause-refused : goal.returns-in_err-terms-clause-refused

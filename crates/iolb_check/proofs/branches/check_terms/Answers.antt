@@ -1,6 +1,7 @@
-use Rattle.std.proofs.Common.{rules, ◌≡◌, refl, sym, ap, subst, ℕ, suc, ◌+◌, List, [], ◌∷◌, ◌++◌, drop, map, append_assoc, append-nil, arith}
+use Rattle.std.proofs.Common.{rules, ◌≡◌, refl, sym, ap, subst, ℕ, suc, ◌+◌, List, [], ◌∷◌, ◌++◌, drop, map, append_assoc, append-nil}
 use Rattle.std.specs.List.{AllByRecursion}
 use Rattle.std.proofs.lemmas.List.{drop_all}
+use Rattle.std.proofs.Math.Numerals.{suc-eq-add-one}
 use Rattle.base_laws.proofs.Lists.{rest_after}
 use Rattle.affine_program.specs.Parts.{meaning}
 use Rattle.claims.specs.Claims.{Claim, AllHold, IsRefusal, numbered}
@@ -16,9 +17,6 @@ use Rattle.iolb_check.specs.Conditions.{AreValuesOf, TermsHold, branch_pieces, t
 use Rattle.iolb_check.specs.Sound.{IsSound}
 use Rattle.iolb_check.proofs.branches.check_terms.Goals as goal
 
-next : (n : ℕ) → suc n ≡ n + 1
-next n = omega arith
-
 pub loop-index-preserved : goal.loop-index-preserved
 loop-index-preserved c =
     let program = c.args.program.now in
@@ -30,27 +28,27 @@ loop-index-preserved c =
     let value : Value = c.in_ok-value.value in
     let split = rest_after terms i term c.loop-index-test.true c.index-terms-index.is in
     let fits = subst (AllByRecursion (TermFits program trees)) split c.loop-index.invariant.fits in
-    let more : drop (suc i) terms ≡ drop (i + 1) terms = ap (λ (n : ℕ). drop n terms) (next i) in
+    let more : drop (suc i) terms ≡ drop (i + 1) terms = ap (λ (n : ℕ). drop n terms) (suc-eq-add-one i) in
     let pieces : List (List FootprintPiece) = branch_pieces (meaning program) trees (map claim_of_term terms) in
     let here : List Claim = each i (claim_of_term term) in
     let rest : List Claim = numbered each (suc i) (map claim_of_term (drop (suc i) terms)) in
     record {
       fits = subst (AllByRecursion (TermFits program trees)) more fits.1;
       accepted = λ h. c.loop-index.invariant.accepted (subst (λ (l : List Term). AllHold (numbered each i (map claim_of_term l))) (sym split)
-          (AllHold-append here rest c.in_ok-value.ensures.accepted (subst (λ (n : ℕ). AllHold (numbered each n (map claim_of_term (drop n terms)))) (sym (next i)) h)));
+          (AllHold-append here rest c.in_ok-value.ensures.accepted (subst (λ (n : ℕ). AllHold (numbered each n (map claim_of_term (drop n terms)))) (sym (suc-eq-add-one i)) h)));
       values = λ others h. subst (λ (items : List Value). AreValuesOf (meaning program) (map claim_of_term terms) (items ++ others)) (sym c.in-Ok.ensures.items)
           (subst (AreValuesOf (meaning program) (map claim_of_term terms)) (sym (append_assoc c.loop-index.values.items (value ∷ []) others))
           (c.loop-index.invariant.values (value ∷ others) (subst (λ (l : List Term). AreValuesOf (meaning program) (map claim_of_term l) (value ∷ others)) (sym split)
-          (c.in_ok-value.ensures.value, subst (λ (n : ℕ). AreValuesOf (meaning program) (map claim_of_term (drop n terms)) others) (sym (next i)) h))));
+          (c.in_ok-value.ensures.value, subst (λ (n : ℕ). AreValuesOf (meaning program) (map claim_of_term (drop n terms)) others) (sym (suc-eq-add-one i)) h))));
       hold = λ others h. subst (λ (items : List Value). TermsHold program pieces (items ++ others)) (sym c.in-Ok.ensures.items)
           (subst (TermsHold program pieces) (sym (append_assoc c.loop-index.values.items (value ∷ []) others))
           (c.loop-index.invariant.hold (value ∷ others) (subst (λ (l : List Term). TermsHold program (branch_pieces (meaning program) trees (map claim_of_term l)) (value ∷ others)) (sym split)
-          (c.in_ok-value.ensures.holds, subst (λ (n : ℕ). TermsHold program (branch_pieces (meaning program) trees (map claim_of_term (drop n terms))) others) (sym (next i)) h))));
+          (c.in_ok-value.ensures.holds, subst (λ (n : ℕ). TermsHold program (branch_pieces (meaning program) trees (map claim_of_term (drop n terms))) others) (sym (suc-eq-add-one i)) h))));
       pieces = λ h. c.loop-index.invariant.pieces (subst (AllByRecursion (HasPieces program trees)) (sym split)
           (c.in_ok-value.ensures.pieces, subst (AllByRecursion (HasPieces program trees)) (sym more) h));
       sound = λ h. c.loop-index.invariant.sound (subst (AllByRecursion (IsSound program)) (sym split) (c.in_ok-value.ensures.sound, subst (AllByRecursion (IsSound program)) (sym more) h));
       refused = λ r h. c.loop-index.invariant.refused r (subst (λ (l : List Term). IsRefusal (numbered each i (map claim_of_term l)) r) (sym split)
-          (refused-later here rest r c.in_ok-value.ensures.accepted (subst (λ (n : ℕ). IsRefusal (numbered each n (map claim_of_term (drop n terms))) r) (sym (next i)) h)));
+          (refused-later here rest r c.in_ok-value.ensures.accepted (subst (λ (n : ℕ). IsRefusal (numbered each n (map claim_of_term (drop n terms))) r) (sym (suc-eq-add-one i)) h)));
     }
 
 pub returns-in_err-value-clause-refused : goal.returns-in_err-value-clause-refused

@@ -1,6 +1,7 @@
 use Rattle.std.proofs.Common.{◌≡◌, refl, sym, ◌∙◌, ap, subst, ℕ, zero, suc, ◌+◌, ◌<◌, ◌≤◌, min, List, [], ◌∷◌, ◌++◌, length, map, drop, get_or, append-nil, append_assoc, arith, Vec, Global}
 use Rattle.std.specs.Prelude.{Option, None}
 use Rattle.std.specs.List.{cons_option}
+use Rattle.std.proofs.Math.Numerals.{suc-eq-add-one}
 use Rattle.reuse_paths.specs.declared.leaf.Leaf.{Leaf}
 use Rattle.reuse_paths.specs.declared.piece.Target.{Target}
 use Rattle.reuse_paths.specs.LeafClaims.{claim_of}
@@ -33,9 +34,6 @@ here i (t ∷ targets) [] entry p q is = absurd (omega (arith, q))
 here zero (t ∷ targets) (e ∷ entries) entry p q is = ap (λ (x : Leaf). cons_option (taken_target t (claim_of x)) (taken_targets targets (map claim_of entries))) (sym is)
 here (suc i) (t ∷ targets) (e ∷ entries) entry p q is = here i targets entries entry (omega (arith, p)) (omega (arith, q)) is
 
-next : (n : ℕ) → suc n ≡ n + 1
-next n = omega arith
-
 pub loop-i-preserved : goal.loop-i-preserved
 unfolding behind
 loop-i-preserved c =
@@ -55,7 +53,7 @@ loop-i-preserved c =
       | in_default w ↦ ap (λ (v : Vec Target Global). v.items ++ rest) w.targets-is
           ∙ ap (λ (t : Option Target). c.loop-i.targets.items ++ cons_option t rest) (sym w.in_default.is) ∙ taken
     ] in
-    subst (λ (n : ℕ). c.match-taken.targets.items ++ taken_targets (drop n leaves) (map claim_of (drop n entries)) ≡ c.args.targets.now.items ++ taken_targets leaves (map claim_of entries)) (next i) more
+    subst (λ (n : ℕ). c.match-taken.targets.items ++ taken_targets (drop n leaves) (map claim_of (drop n entries)) ≡ c.args.targets.now.items ++ taken_targets leaves (map claim_of entries)) (suc-eq-add-one i) more
 
 pub returns : goal.returns
 returns c =

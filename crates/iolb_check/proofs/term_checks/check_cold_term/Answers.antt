@@ -1,4 +1,4 @@
-use Rattle.std.proofs.Common.{◌≡◌, subst, ℕ, ◌+◌, arith}
+use Rattle.std.proofs.Common.{subst, ℕ, zero-add}
 use Rattle.affine_program.specs.Parts.{meaning}
 use Rattle.dep_quast.specs.Truth.{IsTrueTree}
 use Rattle.reuse_paths.specs.Quasts.{tree_for, trees_of}
@@ -8,9 +8,6 @@ use Rattle.wavefront.specs.declared.cold.Cold.{Cold}
 use Rattle.wavefront.specs.View.{term_of}
 use Rattle.iolb_check.proofs.term_checks.check_cold_term.Goals as goal
 
-none : (n : ℕ) → 0 + n ≡ n
-none n = omega arith
-
 pub check_cold-requires : goal.check_cold-requires
 check_cold-requires c =
     let cold : Cold = c.args.cold.now in
@@ -18,7 +15,7 @@ check_cold-requires c =
     let tree = tree_for trees (term_of cold).reader in record {
       there = c.requires.fits.there;
       fits = c.requires.fits.fits;
-      true_tree = subst (λ (n : ℕ). IsTrueTree (meaning c.args.program.now) (read_of n cold.read) tree) (none cold.statement)
+      true_tree = subst (λ (n : ℕ). IsTrueTree (meaning c.args.program.now) (read_of n cold.read) tree) (zero-add cold.statement)
           (rows-at (meaning c.args.program.now) 0 cold.statement cold.read trees tree c.requires.are_true c.requires.fits.there);
       count = c.requires.fits.count;
     }

@@ -1,6 +1,7 @@
-use Rattle.std.proofs.Common.{◌≡◌, refl, sym, ◌∙◌, ap, subst, ℕ, suc, List, ◌+◌, ◌++◌, ◌∷◌, [], map, length, drop, take, append_assoc, rules, arith}
+use Rattle.std.proofs.Common.{◌≡◌, refl, sym, ◌∙◌, ap, subst, ℕ, List, ◌+◌, ◌++◌, ◌∷◌, [], map, length, drop, take, append_assoc, rules, arith}
 use Rattle.std.specs.Prelude.{None}
 use Rattle.std.proofs.lemmas.List.{drop_all, length-map}
+use Rattle.std.proofs.Math.Numerals.{suc-eq-add-one}
 use Rattle.affine_program.specs.Parts.{meaning}
 use Rattle.claims.specs.Claims.{Claim, AllHold, IsRefusal, numbered}
 use Rattle.claims.specs.declared.key.TheConstants.{CREDITS}
@@ -20,9 +21,6 @@ use Rattle.k_partition.proofs.credits_counted.credits_counted.Goals as goal
 -- the place of a credit
 placed : (place list inner : List Step) (i : ℕ) → list ≡ place ++ Key CREDITS ∷ [] → inner ≡ list ++ Index i ∷ [] → inner ≡ credit_place place i
 placed place list inner i f g = g ∙ ap (λ (l : List Step). l ++ Index i ∷ []) f ∙ append_assoc place (Key CREDITS ∷ []) (Index i ∷ [])
-
-one-more : (n : ℕ) → suc n ≡ n + 1
-one-more n = omega arith
 
 pub returns-in_err-total-2-clause-refused : goal.returns-in_err-total-2-clause-refused
 returns-in_err-total-2-clause-refused c =
@@ -53,7 +51,7 @@ loop-i-preserved c =
     let there = member-of credit_term_of c.args.credits.now c.args.credits.now i c.index-credits-i.result refl c.loop-i-test.true c.index-credits-i.is in
     let here : c.in_ok-inner.inner ≡ credit_place place i = placed place c.in_ok-list.list c.in_ok-inner.inner i c.in_ok-list.ensures c.in_ok-inner.ensures in
     record {
-      total = subst (λ (n : ℕ). IsCreditsTotal (length c.args.program.now.params) no_points (take n credits) c.in_ok-total-2.total) (one-more i)
+      total = subst (λ (n : ℕ). IsCreditsTotal (length c.args.program.now.params) no_points (take n credits) c.in_ok-total-2.total) (suc-eq-add-one i)
           (total-next program place credits i credit c.loop-i.total there.0 there.1 c.loop-i.invariant.total c.in_ok-total-2.total c.in_ok-total-2.ensures.sum);
       claims = λ found h. c.loop-i.invariant.claims found
           (numbered-next (credit_claims program place credits) credits i credit there.0 there.1 found

@@ -8,7 +8,8 @@ use Rattle.int_sets.specs.ShortList.{HasShortList}
 use Rattle.domain_count.specs.Count.{ShowsRange, bounds_at, multipliers_at, range_goal, rows_before}
 use Rattle.domain_count.proofs.BoundsFit.{BoundsFit-read}
 use Rattle.nest_sums.specs.Ranges.{IsFirstNotShown}
-use Rattle.nest_sums.proofs.RangeLemmas.{BoundsFit-take, shown-more}
+use Rattle.domain_count.proofs.Front.{BoundsFit-take}
+use Rattle.nest_sums.proofs.RangeLemmas.{shown-more}
 use Rattle.nest_sums.proofs.count.ranges.Goals as goal
 
 pub range-requires-clause-fit : goal.range-requires-clause-fit

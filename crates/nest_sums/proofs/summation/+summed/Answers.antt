@@ -1,11 +1,8 @@
-use Rattle.std.proofs.Common.{◌≡◌, subst, sym, ℕ, suc, ◌+◌, List, ◌∷◌, inr, rules, arith}
+use Rattle.std.proofs.Common.{subst, sym, ℕ, List, ◌∷◌, inr, rules, add-one}
 use Rattle.iolb_model.specs.Form.{AffineForm}
 use Rattle.poly_tree.specs.Poly.{Quotient}
 use Rattle.nest_sums.specs.Summing.{AreSummed, SummationPasses}
 use Rattle.nest_sums.proofs.summation.+summed.Goals as goal
-
-next : (n : ℕ) → n + 1 ≡ suc n
-next n = omega arith
 
 pub returns-in_err-total-2-clause-wide : goal.returns-in_err-total-2-clause-wide
 returns-in_err-total-2-clause-wide t c = λ e.
@@ -14,7 +11,7 @@ returns-in_err-total-2-clause-wide t c = λ e.
       c.in_ok-behind.behind.sums.items,
       c.in_ok-behind.behind.total,
       (
-        subst (λ (n : ℕ). AreSummed n c.in-Some.others.now c.in_ok-behind.behind.sums.items c.in_ok-behind.behind.total) (next c.args.var) c.in_ok-behind.ensures.made,
+        subst (λ (n : ℕ). AreSummed n c.in-Some.others.now c.in_ok-behind.behind.sums.items c.in_ok-behind.behind.total) (add-one c.args.var) c.in_ok-behind.ensures.made,
         inr (c.in_ok-sum.sum, (c.in_ok-sum.ensures.sum, c.in_err-total-2.ensures.wide (search rules))),
       ),
     ))
@@ -25,7 +22,7 @@ returns-clause-made t c =
     (subst (λ (sums : List Quotient). AreSummed c.args.var (c.in-Some.first.now ∷ c.in-Some.others.now) sums c.in_ok-total-2.total) (sym c.in_ok-sums.ensures) (
       c.in_ok-behind.behind.total,
       (
-        subst (λ (n : ℕ). AreSummed n c.in-Some.others.now c.in_ok-behind.behind.sums.items c.in_ok-behind.behind.total) (next c.args.var) c.in_ok-behind.ensures.made,
+        subst (λ (n : ℕ). AreSummed n c.in-Some.others.now c.in_ok-behind.behind.sums.items c.in_ok-behind.behind.total) (add-one c.args.var) c.in_ok-behind.ensures.made,
         c.in_ok-sum.ensures.sum,
         c.in_ok-total-2.ensures.total,
       ),

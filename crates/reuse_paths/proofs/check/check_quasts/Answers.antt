@@ -1,4 +1,5 @@
-use Rattle.std.proofs.Common.{rules, ◌≡◌, sym, ◌∙◌, ap, subst, ℕ, suc, ◌+◌, ◌<◌, List, map, length, get_or, drop, arith, Vec, Global}
+use Rattle.std.proofs.Common.{rules, ◌≡◌, sym, ◌∙◌, ap, subst, ℕ, suc, ◌<◌, List, map, length, get_or, drop, Vec, Global}
+use Rattle.std.proofs.Math.Numerals.{suc-eq-add-one}
 use Rattle.affine_program.specs.Parts.{meaning}
 use Rattle.dep_quast.specs.declared.quast.Quast.{Quast}
 use Rattle.claims.specs.Claims.{Claim, AllHold, IsRefusal}
@@ -10,9 +11,6 @@ use Rattle.claims.proofs.Laws.{AllHold-append}
 use Rattle.reuse_paths.proofs.TreeLemmas.{rows-split}
 use Rattle.base_laws.proofs.Lists.{rest_after}
 use Rattle.reuse_paths.proofs.check.check_quasts.Goals as goal
-
-next : (n : ℕ) → suc n ≡ n + 1
-next n = omega arith
 
 pub loop-statement-preserved : goal.loop-statement-preserved
 loop-statement-preserved c =
@@ -29,13 +27,13 @@ loop-statement-preserved c =
     let hold : AllHold here = subst (λ (l : List Quast). AllHold (row_claims program i 0 (map tree_of l))) c.as_slice.ensures.value c.in_ok-check_row.ensures.hold in
     let are_true : RowIsTrue program i 0 (row_trees row) = subst (λ (l : List Quast). RowIsTrue program i 0 (map tree_of l)) c.as_slice.ensures.value c.in_ok-check_row.ensures.are_true in
     record {
-      fits = subst (λ (n : ℕ). RowsFit program n (map row_trees (drop n rows))) (next i) fits.1;
+      fits = subst (λ (n : ℕ). RowsFit program n (map row_trees (drop n rows))) (suc-eq-add-one i) fits.1;
       hold = λ h. c.loop-statement.invariant.hold (subst (λ (l : List (Vec Quast Global)). AllHold (rows_claims program i (map row_trees l))) (sym split)
-          (AllHold-append here rest hold (subst (λ (n : ℕ). AllHold (rows_claims program n (map row_trees (drop n rows)))) (sym (next i)) h)));
+          (AllHold-append here rest hold (subst (λ (n : ℕ). AllHold (rows_claims program n (map row_trees (drop n rows)))) (sym (suc-eq-add-one i)) h)));
       are_true = λ h. c.loop-statement.invariant.are_true (subst (λ (l : List (Vec Quast Global)). RowsAreTrue program i (map row_trees l)) (sym split)
-          (are_true, subst (λ (n : ℕ). RowsAreTrue program n (map row_trees (drop n rows))) (sym (next i)) h));
+          (are_true, subst (λ (n : ℕ). RowsAreTrue program n (map row_trees (drop n rows))) (sym (suc-eq-add-one i)) h));
       refused = λ r h. c.loop-statement.invariant.refused r (subst (λ (l : List (Vec Quast Global)). IsRefusal (rows_claims program i (map row_trees l)) r) (sym split)
-          (refused-later here rest r hold (subst (λ (n : ℕ). IsRefusal (rows_claims program n (map row_trees (drop n rows))) r) (sym (next i)) h)));
+          (refused-later here rest r hold (subst (λ (n : ℕ). IsRefusal (rows_claims program n (map row_trees (drop n rows))) r) (sym (suc-eq-add-one i)) h)));
     }
 
 pub returns-in_err-check_row-clause-refused : goal.returns-in_err-check_row-clause-refused

@@ -1,4 +1,5 @@
-use Rattle.std.proofs.Common.{rules, ◌≡◌, sym, subst, ℕ, suc, ◌+◌, List, [], map, drop, arith}
+use Rattle.std.proofs.Common.{rules, sym, subst, ℕ, suc, List, [], map, drop, arith}
+use Rattle.std.proofs.Math.Numerals.{suc-eq-add-one}
 use Rattle.claims.specs.declared.place.Step.{Step}
 use Rattle.affine_program.specs.Parts.{meaning}
 use Rattle.dep_quast.specs.declared.quast.Quast.{Quast}
@@ -11,9 +12,6 @@ use Rattle.claims.proofs.Laws.{AllHold-append}
 use Rattle.reuse_paths.proofs.TreeLemmas.{read-few, row-split}
 use Rattle.base_laws.proofs.Lists.{rest_after}
 use Rattle.reuse_paths.proofs.check.check_row.Goals as goal
-
-next : (n : ℕ) → suc n ≡ n + 1
-next n = omega arith
 
 pub overflow_cast-read : goal.overflow_cast-read
 overflow_cast-read c =
@@ -34,13 +32,13 @@ loop-read-preserved c =
     let rest : List Claim = row_claims program s (suc i) (map tree_of (drop (suc i) row)) in
     let valid : AllHold here = subst (λ (place : List Step). AllHold (claims program (read_of s i) [] place (tree_of q))) c.in-Ok.ensures c.in_ok-check_quast.ensures.valid in
     record {
-      fits = subst (λ (n : ℕ). RowFits program s n (map tree_of (drop n row))) (next i) fits.1;
+      fits = subst (λ (n : ℕ). RowFits program s n (map tree_of (drop n row))) (suc-eq-add-one i) fits.1;
       hold = λ h. c.loop-read.invariant.hold (subst (λ (l : List Quast). AllHold (row_claims program s i (map tree_of l))) (sym split)
-          (AllHold-append here rest valid (subst (λ (n : ℕ). AllHold (row_claims program s n (map tree_of (drop n row)))) (sym (next i)) h)));
+          (AllHold-append here rest valid (subst (λ (n : ℕ). AllHold (row_claims program s n (map tree_of (drop n row)))) (sym (suc-eq-add-one i)) h)));
       are_true = λ h. c.loop-read.invariant.are_true (subst (λ (l : List Quast). RowIsTrue program s i (map tree_of l)) (sym split)
-          (c.in_ok-check_quast.ensures.true_tree, subst (λ (n : ℕ). RowIsTrue program s n (map tree_of (drop n row))) (sym (next i)) h));
+          (c.in_ok-check_quast.ensures.true_tree, subst (λ (n : ℕ). RowIsTrue program s n (map tree_of (drop n row))) (sym (suc-eq-add-one i)) h));
       refused = λ r h. c.loop-read.invariant.refused r (subst (λ (l : List Quast). IsRefusal (row_claims program s i (map tree_of l)) r) (sym split)
-          (refused-later here rest r valid (subst (λ (n : ℕ). IsRefusal (row_claims program s n (map tree_of (drop n row))) r) (sym (next i)) h)));
+          (refused-later here rest r valid (subst (λ (n : ℕ). IsRefusal (row_claims program s n (map tree_of (drop n row))) r) (sym (suc-eq-add-one i)) h)));
     }
 
 pub returns-in_err-check_quast-clause-refused : goal.returns-in_err-check_quast-clause-refused

@@ -3,10 +3,11 @@ use Rattle.std.specs.List.{AllByRecursion}
 use Rattle.std.proofs.lemmas.List.{length-map}
 use Rattle.iolb_model.specs.Form.{AffineForm}
 use Rattle.affine_form.specs.Rows.{widened, IsSmallOver}
+use Rattle.dep_quast.proofs.Fits.{length-equality_rows}
 use Rattle.reuse_paths.specs.OpenLeaves.{form_at}
 use Rattle.reuse_paths.specs.WalkSettings.{WalkSetting, reading_point, region_variables, spot_variables}
 use Rattle.reuse_paths.specs.WalkViews.{walk_of}
-use Rattle.reuse_paths.proofs.EntryClaims.{widened-small, equality_rows-many}
+use Rattle.reuse_paths.proofs.EntryClaims.{widened-small}
 use Rattle.reuse_paths.proofs.entry_shown.target_shown.Goals as goal
 
 pub equality_rows-requires-clause-right_over : goal.equality_rows-requires-clause-right_over
@@ -28,5 +29,5 @@ goals_shown-requires c =
     ∙ length-map c.args.target.now.point.items (widened c.region_variables-vars.result) in
     let same : length c.as_slice-2.result.now ≡ length c.as_slice-3.result.now = here ∙ c.requires.origin.1 ∙ sym c.requires.target_fits.point ∙ sym there in
     let many : length c.as_slice-4.result.now ≡ 2 * length c.as_slice-3.result.now =
-    ap (λ (l : List AffineForm). length l) (c.as_slice-4.ensures.value ∙ c.in_ok-goals.ensures.rows) ∙ equality_rows-many c.region_variables-vars.result c.as_slice-2.result.now c.as_slice-3.result.now same in
+    ap (λ (l : List AffineForm). length l) (c.as_slice-4.ensures.value ∙ c.in_ok-goals.ensures.rows) ∙ length-equality_rows c.region_variables-vars.result c.as_slice-2.result.now c.as_slice-3.result.now same in
     omega (arith, many, there, c.requires.enough, c.requires.target_fits.point)

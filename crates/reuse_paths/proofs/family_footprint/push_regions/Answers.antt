@@ -1,4 +1,4 @@
-use Rattle.std.proofs.Common.{rules, ◌≡◌, ◌≤◌, sym, ap, subst, arith, refl, ℕ, ◌+◌, ◌++◌, List, map, drop, length}
+use Rattle.std.proofs.Common.{rules, ◌≡◌, ◌≤◌, sym, ap, subst, arith, refl, ℕ, ◌+◌, ◌++◌, List, map, drop, length, zero-add}
 use Rattle.std.specs.Prelude.{None, Option, option_map}
 use Rattle.std.proofs.lemmas.List.{drop_all, length-map}
 use Rattle.claims.specs.Claims.{Claim, IsRefusal, numbered}
@@ -15,9 +15,6 @@ use Rattle.reuse_paths.proofs.FoundLeaves.{refused-there}
 use Rattle.reuse_paths.proofs.ToldRegions.{fit-ended, fit-next, region_in, region-at, takes-at, told-ended, told-next}
 use Rattle.reuse_paths.proofs.family_footprint.push_regions.Goals as goal
 
-none : (n : ℕ) → 0 + n ≡ n
-none n = omega arith
-
 pub loop-i-init : goal.loop-i-init
 loop-i-init c = record { so_far = refl; fit = λ h. h; found = λ found h. h }
 
@@ -26,7 +23,7 @@ push_region-requires-clause-takes c =
     let walk = walk_of c.args.walking.now in
     let i : ℕ = c.loop-i.i in
     let there = region-at c.args.nodes.now walk.nodes i c.index-nodes-i.result c.requires.nodes c.loop-i-test.true c.index-nodes-i.is in
-    subst (λ (n : ℕ). RegionTakesFit walk n (region_in c.index-nodes-i.result)) (none i) (takes-at walk 0 i walk.nodes (region_in c.index-nodes-i.result) c.requires.take there.0 there.1)
+    subst (λ (n : ℕ). RegionTakesFit walk n (region_in c.index-nodes-i.result)) (zero-add i) (takes-at walk 0 i walk.nodes (region_in c.index-nodes-i.result) c.requires.take there.0 there.1)
 
 pub returns-in_err-push_region-clause-refused : goal.returns-in_err-push_region-clause-refused
 returns-in_err-push_region-clause-refused c =

@@ -1,4 +1,4 @@
-use Rattle.std.proofs.Common.{◌≡◌, ◌∙◌, sym, subst, arith, ap, ℕ, ◌+◌, ◌<◌, List, length, map, get_or}
+use Rattle.std.proofs.Common.{◌≡◌, ◌∙◌, sym, subst, arith, ap, ℕ, ◌<◌, List, length, map, get_or, zero-add}
 use Rattle.std.specs.Prelude.{Option, Some, None, option_map}
 use Rattle.std.proofs.lemmas.List.{length-map, get_or-map, drop_all}
 use Rattle.claims.specs.Claims.{Claim, Finds}
@@ -11,9 +11,6 @@ use Rattle.reuse_paths.specs.FamilyFits.{NodeFits}
 use Rattle.reuse_paths.specs.Quasts.{trees_of}
 use Rattle.reuse_paths.proofs.FamilyParts.{node-fits, node-reading}
 use Rattle.reuse_paths.proofs.family_shown.nodes_shown.Goals as goal
-
-none : (n : ℕ) → 0 + n ≡ n
-none n = omega arith
 
 -- a member of the list of nodes, as the code holds it
 member : (held nodes : List (Option FamilyNode)) (i : ℕ) (d : Option FamilyNode) → held ≡ nodes → i < length held → d ≡ get_or held i d
@@ -40,7 +37,7 @@ node_shown-requires-clause-region_fits c =
     let family : FamilyForms = family_of c.args.family.now in
     let node : Option NodeForms = option_map node_of c.index-nodes-i.result in
     let there = member c.as_slice-nodes.result.now c.args.family.now.nodes.items c.loop-i.i c.index-nodes-i.result c.as_slice-nodes.ensures.value c.loop-i-test.true c.index-nodes-i.is in
-    subst (λ (n : ℕ). NodeFits program trees credits family n node) (none c.loop-i.i) (node-fits program trees credits family 0 c.loop-i.i family.nodes node c.requires.regions_fit there.0 there.1)
+    subst (λ (n : ℕ). NodeFits program trees credits family n node) (zero-add c.loop-i.i) (node-fits program trees credits family 0 c.loop-i.i family.nodes node c.requires.regions_fit there.0 there.1)
 
 pub returns-in-Some : goal.returns-in-Some
 returns-in-Some c =

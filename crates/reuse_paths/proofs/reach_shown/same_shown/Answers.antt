@@ -10,12 +10,12 @@ use Rattle.affine_form.specs.Rows.{equality_rows}
 use Rattle.affine_form.specs.System.{AffineSystem}
 use Rattle.affine_program.specs.Domain.{depth_of}
 use Rattle.dep_quast.specs.Claims.{follow_claims}
+use Rattle.dep_quast.proofs.Fits.{length-equality_rows}
 use Rattle.domain_count.specs.Count.{rows_before}
 use Rattle.reuse_paths.specs.ReachClaims.{same_claims}
 use Rattle.reuse_paths.specs.WalkSettings.{WalkSetting, spot_variables}
 use Rattle.reuse_paths.specs.Walks.{SpotForms, spot_of}
 use Rattle.reuse_paths.specs.WalkViews.{walk_of}
-use Rattle.reuse_paths.proofs.EntryClaims.{equality_rows-many}
 use Rattle.reuse_paths.proofs.reach_shown.same_shown.Goals as goal
 
 pub goals_shown-requires : goal.goals_shown-requires
@@ -25,7 +25,7 @@ goals_shown-requires c =
     let right : length c.as_slice-2.result.now ≡ depth_of walk.program c.args.target.now.statement = ap (λ (l : List AffineForm). length l) c.as_slice-2.ensures.value ∙ c.requires.target_fits.point in
     let alike : length c.as_slice.result.now ≡ length c.as_slice-2.result.now = left ∙ ap (depth_of walk.program) c.if-from-target.false ∙ sym right in
     let many : length c.as_slice-3.result.now ≡ 2 * length c.as_slice-2.result.now =
-    ap (λ (l : List AffineForm). length l) (c.as_slice-3.ensures.value ∙ c.in_ok-goals.ensures.rows) ∙ equality_rows-many c.spot_variables-vars.result c.as_slice.result.now c.as_slice-2.result.now alike in
+    ap (λ (l : List AffineForm). length l) (c.as_slice-3.ensures.value ∙ c.in_ok-goals.ensures.rows) ∙ length-equality_rows c.spot_variables-vars.result c.as_slice.result.now c.as_slice-2.result.now alike in
     omega (arith, many, left, alike, c.requires.enough c.if-from-target.false)
 
 pub returns : goal.returns

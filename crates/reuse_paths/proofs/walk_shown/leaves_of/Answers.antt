@@ -1,4 +1,4 @@
-use Rattle.std.proofs.Common.{◌≡◌, ◌∙◌, sym, ap, subst, arith, ℕ, ◌+◌, List, [], ◌++◌, length}
+use Rattle.std.proofs.Common.{◌≡◌, ◌∙◌, sym, ap, subst, ℕ, ◌+◌, List, [], ◌++◌, length, zero-add}
 use Rattle.std.specs.List.{AllByRecursion}
 use Rattle.iolb_model.specs.Form.{AffineForm}
 use Rattle.affine_form.specs.Rows.{IsSmallOver}
@@ -14,15 +14,12 @@ use Rattle.reuse_paths.proofs.OpenLeaves.{tests-fit, open-fits}
 use Rattle.reuse_paths.proofs.TreeLemmas.{rows-fit-at}
 use Rattle.reuse_paths.proofs.walk_shown.leaves_of.Goals as goal
 
-none : (n : ℕ) → 0 + n ≡ n
-none n = omega arith
-
 pub push_open_leaves-requires-clause-fit : goal.push_open_leaves-requires-clause-fit
 push_open_leaves-requires-clause-fit c =
     let walk : WalkSetting = walk_of c.args.walking.now in
     let reader : ReadOf = read_of c.args.reader.statement c.args.reader.read in
     let fits : TreeFits walk.program reader (tree_of c.in-Some.quast.now) =
-    subst (λ (n : ℕ). TreeFits walk.program (read_of n c.args.reader.read) (tree_of c.in-Some.quast.now)) (none c.args.reader.statement)
+    subst (λ (n : ℕ). TreeFits walk.program (read_of n c.args.reader.read) (tree_of c.in-Some.quast.now)) (zero-add c.args.reader.statement)
     (rows-fit-at walk.program 0 c.args.reader.statement c.args.reader.read walk.trees (tree_of c.in-Some.quast.now) c.requires.fits.trees c.in-Some.ensures) in
     let many : length c.as_slice.result.now ≡ variables_at walk.program reader = ap (λ (l : List AffineForm). length l) c.as_slice.ensures.value ∙ c.in_ok-point.ensures.many in
     subst (λ (n : ℕ). TestsFit n (tree_of c.in-Some.quast.now)) (sym many) (tests-fit walk.program reader [] (tree_of c.in-Some.quast.now) fits)
@@ -34,7 +31,7 @@ returns-clause-fit c =
     let tree : SelectionTree = tree_for walk.trees reader in
     let point : List AffineForm = reading_point walk c.args.reader.statement in
     let fits : TreeFits walk.program reader tree =
-    subst (λ (n : ℕ). TreeFits walk.program (read_of n c.args.reader.read) tree) (none c.args.reader.statement) (rows-fit-at walk.program 0 c.args.reader.statement c.args.reader.read walk.trees tree c.requires.fits.trees c.requires.there) in
+    subst (λ (n : ℕ). TreeFits walk.program (read_of n c.args.reader.read) tree) (zero-add c.args.reader.statement) (rows-fit-at walk.program 0 c.args.reader.statement c.args.reader.read walk.trees tree c.requires.fits.trees c.requires.there) in
     let over : AllByRecursion (IsSmallOver (region_variables walk c.args.reader.statement)) point =
     subst (AllByRecursion (IsSmallOver (region_variables walk c.args.reader.statement))) c.in_ok-point.ensures.point c.in_ok-point.ensures.over in
     let many : length point ≡ variables_at walk.program reader = ap (λ (l : List AffineForm). length l) (sym c.in_ok-point.ensures.point) ∙ c.in_ok-point.ensures.many in

@@ -1,4 +1,4 @@
-use Rattle.std.proofs.Common.{◌≡◌, ◌∙◌, ap, sym, subst, arith, ℕ, ◌+◌, ◌<◌, List, length, map, get_or}
+use Rattle.std.proofs.Common.{◌≡◌, ◌∙◌, ap, sym, subst, arith, ℕ, ◌<◌, List, length, map, get_or, zero-add}
 use Rattle.std.specs.Prelude.{Option, Some, None, option_map}
 use Rattle.std.proofs.lemmas.List.{length-map, get_or-map, drop_all}
 use Rattle.claims.specs.Claims.{Claim, Finds}
@@ -11,9 +11,6 @@ use Rattle.reuse_paths.specs.Walks.{WalkRegion, region_of}
 use Rattle.reuse_paths.specs.WalkViews.{walk_of}
 use Rattle.reuse_paths.proofs.FoundLeaves.{regions-fit-at}
 use Rattle.reuse_paths.proofs.walk_shown.regions_shown.Goals as goal
-
-none : (n : ℕ) → 0 + n ≡ n
-none n = omega arith
 
 -- a member of the list of regions, as the code holds it
 member : (nodes : List (Option Region)) (i : ℕ) (d : Option Region) → i < length nodes → d ≡ get_or nodes i d
@@ -29,7 +26,7 @@ region_shown-requires-clause-region_fits c =
     let walk : WalkSetting = walk_of c.args.walking.now in
     let node : Option WalkRegion = option_map region_of c.index-nodes-i.result in
     let there = member c.args.nodes.now c.loop-i.i c.index-nodes-i.result c.loop-i-test.true c.index-nodes-i.is in
-    subst (λ (n : ℕ). RegionFits walk n node) (none c.loop-i.i) (regions-fit-at walk 0 c.loop-i.i (map (option_map region_of) c.args.nodes.now) node c.requires.regions_fit there.0 there.1)
+    subst (λ (n : ℕ). RegionFits walk n node) (zero-add c.loop-i.i) (regions-fit-at walk 0 c.loop-i.i (map (option_map region_of) c.args.nodes.now) node c.requires.regions_fit there.0 there.1)
 
 pub returns-in-Some : goal.returns-in-Some
 returns-in-Some c =

@@ -10,10 +10,10 @@ use Rattle.affine_form.specs.Form.{variables}
 use Rattle.affine_form.specs.Rows.{equality_rows, variables_from}
 use Rattle.affine_form.specs.System.{AffineSystem}
 use Rattle.dep_quast.specs.Claims.{follow_claims}
+use Rattle.dep_quast.proofs.Fits.{length-equality_rows}
 use Rattle.reuse_paths.specs.OpenLeaves.{form_at}
 use Rattle.reuse_paths.specs.WalkSettings.{WalkSetting, reading_point, region_variables, spot_variables}
 use Rattle.reuse_paths.specs.WalkViews.{walk_of}
-use Rattle.reuse_paths.proofs.EntryClaims.{equality_rows-many}
 use Rattle.reuse_paths.proofs.FamilyLabels.{own-small, own-within}
 use Rattle.reuse_paths.proofs.word_labels.same_shown.Goals as goal
 
@@ -35,7 +35,7 @@ goals_shown-requires c =
     ap (λ (l : List AffineForm). length l) (c.as_slice.ensures.value ∙ c.in_ok-word.ensures.word)
     ∙ length-map c.args.label.now (form_at vars (variables_from vars 0 (spot_variables walk) ++ here)) ∙ c.requires.one_each in
     let many : length c.as_slice-2.result.now ≡ 2 * length c.args.own.now =
-    ap (λ (l : List AffineForm). length l) (c.as_slice-2.ensures.value ∙ c.in_ok-goals.ensures) ∙ equality_rows-many c.region_variables-vars.result c.as_slice.result.now c.args.own.now word in
+    ap (λ (l : List AffineForm). length l) (c.as_slice-2.ensures.value ∙ c.in_ok-goals.ensures) ∙ length-equality_rows c.region_variables-vars.result c.as_slice.result.now c.args.own.now word in
     omega (arith, many, c.requires.enough)
 
 pub returns : goal.returns

@@ -1,4 +1,4 @@
-use Rattle.std.proofs.Common.{◌≡◌, subst, arith, ℕ, ◌+◌, List, [], ◌∷◌, ◌++◌, map, length}
+use Rattle.std.proofs.Common.{◌≡◌, subst, arith, ℕ, ◌+◌, List, [], ◌∷◌, ◌++◌, map, length, zero-add}
 use Rattle.std.specs.Prelude.{Some}
 use Rattle.std.specs.List.{AllByRecursion}
 use Rattle.std.proofs.lemmas.List.{length-map}
@@ -23,14 +23,11 @@ use Rattle.reuse_paths.specs.WalkViews.{kept_of, walk_of, ReadingFits}
 use Rattle.reuse_paths.proofs.FamilyLabels.{instance-label, label-found, labels-fit, own-over, spot-flat}
 use Rattle.reuse_paths.proofs.word_labels.written_shown.Goals as goal
 
-none : (n : ℕ) → 0 + n ≡ n
-none n = omega arith
-
 -- the label of the statement's instances fits
 label-fits : (walk : WalkSetting) (statement writer : ℕ) (kept : KeptLabels) (label : List AffineForm) → walk.aim ≡ keeps kept → ReadingFits walk statement → label_at kept.instances writer ≡ Some label
     → IsLabel (length kept.reader) (length walk.program.parameters + depth_of walk.program writer) label
 label-fits walk statement writer kept label aim fits e =
-    subst (λ (n : ℕ). IsLabel (length kept.reader) (length walk.program.parameters + depth_of walk.program n) label) (none writer)
+    subst (λ (n : ℕ). IsLabel (length kept.reader) (length walk.program.parameters + depth_of walk.program n) label) (zero-add writer)
     (instance-label walk.program (length kept.reader) 0 writer kept.instances label (labels-fit walk statement kept aim fits).instances e)
 
 pub same_shown-requires-clause-few_values : goal.same_shown-requires-clause-few_values
