@@ -1,23 +1,18 @@
 -- One step of a walk along lists of forms.
-use Rattle.std.proofs.Common.{◌≡◌, sym, ◌∙◌, ap, ℕ, zero, suc, ◌+◌, ◌-◌, ◌<◌, ◌≤◌, List, [], ◌∷◌, ◌++◌, length, replicate, get_or, drop, arith}
-use Rattle.std.proofs.Math.IntN.{pos, negsuc}
-use Rattle.std.proofs.lemmas.List.{drop_all, append_assoc, append-nil}
+use Rattle.std.proofs.Common.{◌≡◌, sym, ◌∙◌, ap, ℕ, zero, suc, ◌+◌, ◌-◌, ◌<◌, ◌≤◌, List, [], ◌∷◌, ◌++◌, length, replicate, get_or, take, drop, arith}
+use Rattle.std.proofs.Math.IntN.{ℤ, pos, negsuc}
+use Rattle.std.proofs.lemmas.List.{drop_all, take_all, append_assoc, append-nil}
 use Rattle.base_laws.proofs.Lists.{rest_at}
 use Rattle.iolb_model.specs.Form.{AffineForm}
 use Rattle.iolb_model.specs.Order.{upward}
 use Rattle.affine_form.specs.Rows.{difference, order_rows}
-
--- two rows pushed
-two_more : (rows rest whole : List AffineForm) (f g : AffineForm) → rows ++ f ∷ g ∷ rest ≡ whole → ((rows ++ f ∷ []) ++ g ∷ []) ++ rest ≡ whole
-two_more rows rest whole f g h =
-    append_assoc (rows ++ f ∷ []) (g ∷ []) rest ∙ append_assoc rows (f ∷ []) (g ∷ rest) ∙ h
 
 below-more : (n i : ℕ) → i < n → n - i ≡ suc (n - (i + 1))
 below-more n i h = omega arith
 
 pub order-step : (vars common level i : ℕ) (ys xs : List AffineForm) (y x : AffineForm) (rows more whole : List AffineForm)
     → i < level → level ≤ common → i < length ys → i < length xs → y ≡ get_or ys i y → x ≡ get_or xs i x
-    → more ≡ (rows ++ difference vars y x (pos 0) ∷ []) ++ difference vars x y (pos 0) ∷ []
+    → more ≡ rows ++ difference vars y x (pos 0) ∷ difference vars x y (pos 0) ∷ []
     → rows ++ order_rows vars (replicate (common - i) upward) (level - i) (drop i ys) (drop i xs) ≡ whole
     → more ++ order_rows vars (replicate (common - (i + 1)) upward) (level - (i + 1)) (drop (i + 1) ys) (drop (i + 1) xs) ≡ whole
 order-step vars common level i ys xs y x rows more whole p q r s a b pushed h =
@@ -27,7 +22,7 @@ order-step vars common level i ys xs y x rows more whole p q r s a b pushed h =
     ∙ ap (λ (n : ℕ). order_rows vars (upward ∷ replicate (common - (i + 1)) upward) n (drop i ys) (drop i xs)) (below-more level i p)
     ∙ ap (λ (zs : List AffineForm). order_rows vars (upward ∷ replicate (common - (i + 1)) upward) (suc (level - (i + 1))) zs (drop i xs)) (rest_at ys i y r a)
     ∙ ap (λ (zs : List AffineForm). order_rows vars (upward ∷ replicate (common - (i + 1)) upward) (suc (level - (i + 1))) (y ∷ drop (i + 1) ys) zs) (rest_at xs i x s b) in
-    ap (λ (zs : List AffineForm). zs ++ rest) pushed ∙ two_more rows rest whole (difference vars y x (pos 0)) (difference vars x y (pos 0)) (ap (λ (zs : List AffineForm). rows ++ zs) (sym first) ∙ h)
+    ap (λ (zs : List AffineForm). zs ++ rest) pushed ∙ append_assoc rows (difference vars y x (pos 0) ∷ difference vars x y (pos 0) ∷ []) rest ∙ ap (λ (zs : List AffineForm). rows ++ zs) (sym first) ∙ h
 
 -- the row of the loop in which the values differ
 pub order-last : (vars common level i : ℕ) (ys xs : List AffineForm) (y x : AffineForm) (rows more whole : List AffineForm)
@@ -59,11 +54,7 @@ order-none vars common level i ys xs rows whole e q h =
       none : order_rows vars (replicate (common - i) upward) (level - i) (drop i ys) (drop i xs) ≡ []
       none = ap (λ (n : ℕ). order_rows vars (replicate n upward) (level - i) (drop i ys) (drop i xs)) zero_left
 
--- what two pushes give
-pub pushed-two : (rows one two : List AffineForm) (f g first second : AffineForm) → one ≡ rows ++ f ∷ [] → two ≡ one ++ g ∷ [] → f ≡ first → g ≡ second
-    → two ≡ (rows ++ first ∷ []) ++ second ∷ []
-pushed-two rows one two f g first second p q a b = cc
-
+-- what a push gives
 pub pushed-one : (rows one : List AffineForm) (f first : AffineForm) → one ≡ rows ++ f ∷ [] → f ≡ first → one ≡ rows ++ first ∷ []
 pushed-one rows one f first p a = cc
 
@@ -75,3 +66,9 @@ at_end left xs i rows whole past none h =
 pub at_count_end : {Y : Type 0} (left : ℕ → List Y) (n : ℕ) (rows whole : List Y) → n ≡ 0 → left 0 ≡ [] → rows ++ left n ≡ whole → rows ≡ whole
 at_count_end left n rows whole past none h =
     sym (append-nil rows) ∙ ap (λ zs. rows ++ zs) (sym (ap left past ∙ none)) ∙ h
+
+-- a form that has another's coefficients, as far as they go, and its constant
+pub form_is : (form result : AffineForm) (coefs : List ℤ) (k : ℕ) (x : ℤ) → coefs ≡ take k form.coefficients → length form.coefficients ≤ k → x ≡ form.constant
+    → result ≡ record { coefficients = coefs; constant = x } → result ≡ form
+form_is form result coefs k x so_far past constant is =
+    is ∙ ap (λ (xs : List ℤ). record { coefficients = xs; constant = x }) (so_far ∙ take_all k form.coefficients past) ∙ ap (λ (y : ℤ). record { coefficients = form.coefficients; constant = y }) constant

@@ -1,12 +1,12 @@
 //! Rows that say where points lie, which cells they touch and in which order they come.
 
-ghost use Rattle.std.specs.Prelude.{◌≡◌, ◌≤◌, ◌+◌, ◌*◌, length, map, replicate, IfOk};
+ghost use Rattle.std.specs.Prelude.{◌≡◌, ◌≤◌, ◌+◌, ◌*◌, ◌∷◌, ◌++◌, [], pos, length, map, replicate, IfOk, OnOk};
 ghost use Rattle.std.specs.List.{AllByRecursion};
 ghost use Rattle.iolb_model.specs.Order.{upward};
 ghost use Rattle.affine_form.specs.Form.{variables, IsSmallForm};
 ghost use Rattle.affine_form.specs.Substitution.{substitution};
 ghost use Rattle.affine_form.specs.System.{AllOver};
-ghost use Rattle.affine_form.specs.Rows.{within_rows, equality_rows, put_in, order_rows, IsSmallOver, IsSmallWithin, BoundsFit, step_of};
+ghost use Rattle.affine_form.specs.Rows.{within_rows, equality_rows, put_in, order_rows, difference, IsSmallOver, IsSmallWithin, BoundsFit, step_of};
 ghost use Rattle.iolb_model.specs.declared.limits.TheConstants.{PUT_SIZE, VARIABLES};
 
 use crate::differences::difference;
@@ -34,15 +34,72 @@ pub fn within_rows(
 {
     let mut before = copies(alloc, params)?;
     let mut rows = Vec::new(alloc);
-    for (i, (lower, upper)) in bounds.iter().enumerate() {
+    for (i, pair) in bounds.iter().enumerate() {
         let value = &values[i];
-        let least = put(alloc, vars, lower, &before)?;
-        let greatest = put(alloc, vars, upper, &before)?;
-        rows.push(difference(alloc, vars, value, &least, 0)?)?;
-        rows.push(difference(alloc, vars, &greatest, value, 0)?)?;
+        push_within(alloc, vars, pair, &before, value, &mut rows)?;
         before.push(value.try_clone(alloc)?)?;
     }
     Ok(rows)
+}
+
+/// Puts the two rows of one loop at the end, where the forms before stand for the variables of its bounds.
+fn push_within(
+    alloc: Global,
+    vars: usize,
+    bounds: &(Form, Form),
+    before: &[Form],
+    value: &Form,
+    rows: &mut Vec<Form>,
+) -> Result<(), Memory>
+    requires few { vars ≤ VARIABLES }
+    requires few_forms { length before.now ≤ VARIABLES }
+    requires lower_over { IsSmallOver (length before.now) bounds.now.0 }
+    requires upper_over { IsSmallOver (length before.now) bounds.now.1 }
+    requires before_over { AllByRecursion (IsSmallOver vars) before.now }
+    requires value_over { IsSmallOver vars value.now }
+    ensures { OnOk result (rows.new.items ≡ rows.old.items ++ within_rows vars (step_of bounds.now ∷ []) before.now (value.now ∷ [])) }
+{
+    rows.push(row_above(alloc, vars, &bounds.0, before, value)?)?;
+    rows.push(row_below(alloc, vars, &bounds.1, before, value)?)?;
+    Ok(())
+}
+
+/// The row which says that a value is at least a lower bound.
+fn row_above(
+    alloc: Global,
+    vars: usize,
+    lower: &Form,
+    before: &[Form],
+    value: &Form,
+) -> Result<Form, Memory>
+    requires few { vars ≤ VARIABLES }
+    requires few_forms { length before.now ≤ VARIABLES }
+    requires over { IsSmallOver (length before.now) lower.now }
+    requires before_over { AllByRecursion (IsSmallOver vars) before.now }
+    requires value_over { IsSmallOver vars value.now }
+    ensures { IfOk result (λ row. row ≡ difference vars value.now (substitution lower.now before.now) (pos 0)) }
+{
+    let least = put(alloc, vars, lower, before)?;
+    difference(alloc, vars, value, &least, 0)
+}
+
+/// The row which says that a value is at most an upper bound.
+fn row_below(
+    alloc: Global,
+    vars: usize,
+    upper: &Form,
+    before: &[Form],
+    value: &Form,
+) -> Result<Form, Memory>
+    requires few { vars ≤ VARIABLES }
+    requires few_forms { length before.now ≤ VARIABLES }
+    requires over { IsSmallOver (length before.now) upper.now }
+    requires before_over { AllByRecursion (IsSmallOver vars) before.now }
+    requires value_over { IsSmallOver vars value.now }
+    ensures { IfOk result (λ row. row ≡ difference vars (substitution upper.now before.now) value.now (pos 0)) }
+{
+    let greatest = put(alloc, vars, upper, before)?;
+    difference(alloc, vars, &greatest, value, 0)
 }
 
 /// The rows which say that the cell of subscripts at a point is the cell of others at another point: the subscripts
@@ -70,10 +127,29 @@ pub fn cell_rows(
     for (i, subscript) in written.iter().enumerate() {
         let f = put(alloc, vars, subscript, at)?;
         let g = put(alloc, vars, &read[i], reader)?;
-        rows.push(difference(alloc, vars, &f, &g, 0)?)?;
-        rows.push(difference(alloc, vars, &g, &f, 0)?)?;
+        push_equal(alloc, vars, &f, &g, &mut rows)?;
     }
     Ok(rows)
+}
+
+/// Puts the two rows at the end which say that two forms are equal.
+pub fn push_equal(
+    alloc: Global,
+    vars: usize,
+    one: &Form,
+    other: &Form,
+    rows: &mut Vec<Form>,
+) -> Result<(), Memory>
+    requires few { vars ≤ VARIABLES }
+    requires one_within { variables one.now ≤ vars }
+    requires other_within { variables other.now ≤ vars }
+    requires one_small { IsSmallForm PUT_SIZE one.now }
+    requires other_small { IsSmallForm PUT_SIZE other.now }
+    ensures { OnOk result (rows.new.items ≡ rows.old.items ++ equality_rows vars (one.now ∷ []) (other.now ∷ [])) }
+{
+    rows.push(difference(alloc, vars, one, other, 0)?)?;
+    rows.push(difference(alloc, vars, other, one, 0)?)?;
+    Ok(())
 }
 
 /// The rows which say that the loop values ys come before the loop values xs at a level of so many loops around both,
@@ -97,9 +173,7 @@ pub fn order_rows(
 {
     let mut rows = Vec::new(alloc);
     for i in 0..level {
-        let (y, x) = (&ys[i], &xs[i]);
-        rows.push(difference(alloc, vars, y, x, 0)?)?;
-        rows.push(difference(alloc, vars, x, y, 0)?)?;
+        push_equal(alloc, vars, &ys[i], &xs[i], &mut rows)?;
     }
     if level < common {
         rows.push(difference(alloc, vars, &xs[level], &ys[level], -1)?)?;

@@ -3,7 +3,7 @@
 ghost use Rattle.std.specs.Prelude.{◌≡◌, ◌↔◌, IsTrue, ℕ, map, Some, ◌++◌, length, OnOk, IfOk, ◌≤◌};
 ghost use Rattle.std.specs.List.{AllByRecursion, enumerate_from, range_with_len};
 ghost use Rattle.iolb_model.specs.Path.{row_path};
-ghost use Rattle.iolb_model.specs.Program.{IsOver, AccessFits, StatementFits, ItemFits, RowFits, row_statements, IsWellFormed};
+ghost use Rattle.iolb_model.specs.Program.{IsOver, AccessFits, StatementFits, ItemFits, RowFits, item_statements, row_statements, IsWellFormed};
 ghost use Rattle.affine_program.specs.Draft.{parts_of};
 ghost use Rattle.affine_form.specs.Rows.{step_of};
 ghost use Rattle.affine_program.specs.Parts.{meaning, access_of, IsProgram};
@@ -98,15 +98,25 @@ fn row_fits(draft: &Draft, variables: usize, items: &[Item]) -> bool
     true
 }
 
+/// Puts the numbers of the statements of an item at the end, in the order of the text.
+#[cycle(numbering)]
+fn push_item_numbers(item: &Item, numbers: &mut Vec<u16>) -> Result<(), Memory>
+    ensures { OnOk result (numbers.new.items ≡ numbers.old.items ++ item_statements (item_of item.now)) }
+{
+    match item {
+        Item::Assign(number) => numbers.push(*number)?,
+        Item::Loop { body, .. } => push_numbers(body, numbers)?,
+    }
+    Ok(())
+}
+
 /// Puts the numbers of the statements of a row of items at the end, in the order of the text.
+#[cycle(numbering)]
 fn push_numbers(items: &[Item], numbers: &mut Vec<u16>) -> Result<(), Memory>
     ensures { OnOk result (numbers.new.items ≡ numbers.old.items ++ row_statements (row_of items.now)) }
 {
     for item in items {
-        match item {
-            Item::Assign(number) => numbers.push(*number)?,
-            Item::Loop { body, .. } => push_numbers(body, numbers)?,
-        }
+        push_item_numbers(item, numbers)?;
     }
     Ok(())
 }

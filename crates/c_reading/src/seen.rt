@@ -63,11 +63,11 @@ impl<'a> Names<'a> {
     {
         let owned = Name::new(Vec::from_slice(self.alloc, name)?);
         let at = self.list.len();
-        if self.number_of(name).is_some() {
-            self.list.push(owned)?;
+        let seen = self.number_of(name).is_some();
+        self.list.push(owned)?;
+        if seen {
             return Ok(());
         }
-        self.list.push(owned)?;
         if self.numbers.insert(name, at).is_err() {
             self.list.pop();
             return Err(ReadError::Memory);

@@ -1,7 +1,7 @@
 //! Values: what a statement assigns.
 
-ghost use Rattle.std.specs.Prelude.{◌≡◌, [], ◌∷◌, ◌++◌, length, OnOk};
-ghost use Rattle.c_reading.specs.Input.{Reads, spelling};
+ghost use Rattle.std.specs.Prelude.{◌≡◌, [], ◌∷◌, ◌++◌, length, OnOk, codes};
+ghost use Rattle.c_reading.specs.Input.{Reads, and_then, pure, spelling};
 ghost use Rattle.c_reading.specs.Affine.{kind_of};
 ghost use Rattle.c_reading.specs.Values as spec;
 
@@ -131,6 +131,14 @@ impl<'a> Reader<'a> {
         self.sees(b"+") || self.sees(b"-") || self.sees(b"*") || self.sees(b"/") || self.sees(b"%")
     }
 
+    /// The references, where the closing bracket follows.
+    fn closed_value(&mut self, reads: Accesses) -> Result<Accesses, ReadError>
+        ensures { Reads (and_then (spec.expect (codes ")") self.old) (λ _. pure reads)) result self.new }
+    {
+        self.expect(b")")?;
+        Ok(reads)
+    }
+
     /// Values with commas between them, and the bracket that closes them.
     #[cycle(value)]
     #[tactic(auto, using(crate::proofs::Turns::turns), unfolding(crate::specs::Values::arguments, crate::specs::Values::all_arguments))]
@@ -141,8 +149,7 @@ impl<'a> Reader<'a> {
         for _turn in 0..self.left() {
             reads = self.inside(brackets, reads)?;
             if !self.takes(b",") {
-                self.expect(b")")?;
-                return Ok(reads);
+                return self.closed_value(reads);
             }
         }
         Err(ReadError::Fault(self.refusal()))
@@ -201,8 +208,7 @@ impl<'a> Reader<'a> {
     {
         self.open_bracket(brackets)?;
         let more = self.inside(brackets, reads)?;
-        self.expect(b")")?;
-        Ok(more)
+        self.closed_value(more)
     }
 
     /// A value with its signs.

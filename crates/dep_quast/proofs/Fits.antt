@@ -16,7 +16,7 @@ use Rattle.execution_laws.proofs.Orders.{row_common-within, row_common-turn}
 use Rattle.affine_form.specs.Form.{variables, IsSmallForm}
 use Rattle.affine_form.specs.System.{AllOver}
 use Rattle.affine_form.proofs.RowLemmas.{length-widened}
-use Rattle.affine_form.specs.Rows.{IsSmallOver, widened, equality_rows, put_in, step_of, within_rows}
+use Rattle.affine_form.specs.Rows.{IsSmallOver, IsSmallWithin, widened, equality_rows, put_in, step_of, within_rows}
 use Rattle.affine_form.specs.Substitution.{substitution}
 use Rattle.affine_program.specs.declared.reference.Reference.{Reference}
 use Rattle.affine_program.specs.declared.statement.Statement.{Statement}
@@ -196,3 +196,13 @@ cells-many vars point here written read e =
           (length-map written (λ form. substitution form point) ∙ e ∙ sym (length-map read (λ form. substitution form here))),
       length-map read (λ form. substitution form here),
     )
+
+-- small forms over so many variables are within more
+pub within-more : (many vars : ℕ) (forms : List AffineForm) → many ≤ vars → AllByRecursion (IsSmallOver many) forms → AllByRecursion (IsSmallWithin vars) forms
+within-more many vars [] more h = tt
+within-more many vars (f ∷ fs) more h = (record { within = omega (arith, more, h.0.over); small = h.0.small }, within-more many vars fs more h.1)
+
+-- a level below their number is at most the loops in common
+pub level-within : (level common : ℕ) (first : Bool) → level < common + (if first then 1 else 0) → level ≤ common
+level-within level common true h = omega (arith, h)
+level-within level common false h = omega (arith, h)

@@ -1,6 +1,6 @@
 //! Rows of writes of the cell that is read.
 
-ghost use Rattle.std.specs.Prelude.{◌≡◌, ◌<◌, ◌≤◌, length, IfOk, ◌+◌};
+ghost use Rattle.std.specs.Prelude.{◌≡◌, ◌<◌, ◌≤◌, length, IfOk, ◌+◌, ◌++◌};
 ghost use Rattle.std.specs.List.{AllByRecursion};
 ghost use Rattle.affine_form.specs.System.{AllOver};
 ghost use Rattle.affine_form.specs.Rows.{IsSmallOver};
@@ -119,7 +119,7 @@ pub(crate) fn rows_before_reader(
         reader.statement,
         xs.as_slice(),
     )?;
-    followed_by(alloc, copies(alloc, rows)?, order.as_slice())
+    joined(alloc, rows, order.as_slice())
 }
 
 /// Rows about a writer, and those which say that it comes after the source at a level.
@@ -154,12 +154,13 @@ pub(crate) fn rows_after_source(
         writer,
         zs.as_slice(),
     )?;
-    followed_by(alloc, copies(alloc, rows)?, order.as_slice())
+    joined(alloc, rows, order.as_slice())
 }
 
-/// Copies of forms.
-fn copies(alloc: Global, forms: &[Form]) -> Result<Vec<Form>, Memory>
-    ensures { IfOk result (λ copies. copies.items ≡ forms.now) }
+/// Copies of forms, and then of others.
+fn joined(alloc: Global, forms: &[Form], more: &[Form]) -> Result<Vec<Form>, Memory>
+    ensures { IfOk result (λ all. all.items ≡ forms.now ++ more.now) }
 {
-    followed_by(alloc, Vec::new(alloc), forms)
+    let copies = followed_by(alloc, Vec::new(alloc), forms)?;
+    followed_by(alloc, copies, more)
 }

@@ -94,19 +94,21 @@ two-held rows small halves k all kept pairs past (v ∷ w ∷ []) few named take
     first.2 v w first.1 rise.0.0 (all (w ∷ []) (omega arith) (named.1.0, tt) (taken.1.0, tt) (tt, tt))
 two-held rows small halves k all kept pairs past (v ∷ w ∷ u ∷ us) few named taken rise = absurd (omega arith)
 
+-- a row's halves that are put at the end are held
+pub row-held : (halves : List Half) (row : ℕ) (once twice : Half) → weights_of once ≡ (row, 1) ∷ [] → weights_of twice ≡ (row, 2) ∷ []
+    → (times : ℕ) → IsOnceOrTwice (row, times) → Holds ((halves ++ once ∷ []) ++ twice ∷ []) ((row, times) ∷ [])
+row-held halves row once twice one two zero right = absurd (omega (arith, right.0))
+row-held halves row once twice one two (suc zero) right = Holds-append (halves ++ once ∷ []) (twice ∷ []) ((row, 1) ∷ []) (Holds-push halves once ((row, 1) ∷ []) one)
+row-held halves row once twice one two (suc (suc zero)) right = Holds-push (halves ++ once ∷ []) twice ((row, 2) ∷ []) two
+row-held halves row once twice one two (suc (suc (suc n))) right = absurd (omega (arith, right.1))
+
 -- a row more, once and twice
-pub row-more : (halves : List Half) (i : ℕ) (once twice : Half) → weights_of once ≡ (i, 1) ∷ [] → weights_of twice ≡ (i, 2) ∷ []
-    → ((w : ℕ × ℕ) → w.0 < i → IsOnceOrTwice w → Holds halves (w ∷ []))
-    → (w : ℕ × ℕ) → w.0 < i + 1 → IsOnceOrTwice w → Holds ((halves ++ once ∷ []) ++ twice ∷ []) (w ∷ [])
-row-more halves i once twice one two held w below taken =
-    below_more (λ (row : ℕ). (times : ℕ) → IsOnceOrTwice (row, times) → Holds ((halves ++ once ∷ []) ++ twice ∷ []) ((row, times) ∷ [])) i
-    (λ row less times right. Holds-append (halves ++ once ∷ []) (twice ∷ []) ((row, times) ∷ []) (Holds-append halves (once ∷ []) ((row, times) ∷ []) (held (row, times) less right)))
-    here w.0 below w.1 taken where
-      here : (times : ℕ) → IsOnceOrTwice (i, times) → Holds ((halves ++ once ∷ []) ++ twice ∷ []) ((i, times) ∷ [])
-      here zero right = absurd (omega (arith, right.0))
-      here (suc zero) right = Holds-append (halves ++ once ∷ []) (twice ∷ []) ((i, 1) ∷ []) (Holds-push halves once ((i, 1) ∷ []) one)
-      here (suc (suc zero)) right = Holds-push (halves ++ once ∷ []) twice ((i, 2) ∷ []) two
-      here (suc (suc (suc n))) right = absurd (omega (arith, right.1))
+pub row-more : (old new : List Half) (i : ℕ) → ((ws : List (ℕ × ℕ)) → Holds old ws → Holds new ws)
+    → ((times : ℕ) → IsOnceOrTwice (i, times) → Holds new ((i, times) ∷ [])) → ((w : ℕ × ℕ) → w.0 < i → IsOnceOrTwice w → Holds old (w ∷ []))
+    → (w : ℕ × ℕ) → w.0 < i + 1 → IsOnceOrTwice w → Holds new (w ∷ [])
+row-more old new i kept here held w below taken =
+    below_more (λ (row : ℕ). (times : ℕ) → IsOnceOrTwice (row, times) → Holds new ((row, times) ∷ [])) i
+    (λ row less times right. kept ((row, times) ∷ []) (held (row, times) less right)) here w.0 below w.1 taken
 
 -- all rows and none
 pub one-held : (rows : List AffineForm) (halves : List Half) (none : Half) (k : ℕ) → weights_of none ≡ [] → length rows ≤ k

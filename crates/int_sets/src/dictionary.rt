@@ -177,8 +177,8 @@ impl Dictionary {
 
     /// Whether the goal still has a variable.
     fn has_variable(&self) -> bool {
-        for (label, cell) in self.columns.iter().zip(self.goal.cells.iter()) {
-            if *label >= self.rows && *cell != 0 {
+        for (column, label) in self.columns.iter().enumerate() {
+            if *label >= self.rows && self.goal.cell(column) != 0 {
                 return true;
             }
         }
@@ -261,8 +261,8 @@ fn line_with(lines: &[Line], column: usize) -> Option<usize> {
 fn least_column(columns: &[usize], line: &Line, sign: i64) -> Option<usize> {
     let mut least = usize::MAX;
     let mut found = None;
-    for (column, (label, cell)) in columns.iter().zip(line.cells.iter()).enumerate() {
-        if *label < least && cell.signum() == sign {
+    for (column, label) in columns.iter().enumerate() {
+        if *label < least && line.cell(column).signum() == sign {
             least = *label;
             found = Some(column);
         }
@@ -304,9 +304,10 @@ fn terms_of(
     sign: i64,
 ) -> Result<Vec<(usize, i64)>, Memory> {
     let mut terms = Vec::new(alloc);
-    for (label, cell) in columns.iter().zip(line.cells.iter()) {
-        if *cell != 0 {
-            terms.push((*label, sign.wrapping_mul(*cell)))?;
+    for (column, label) in columns.iter().enumerate() {
+        let cell = line.cell(column);
+        if cell != 0 {
+            terms.push((*label, sign.wrapping_mul(cell)))?;
         }
     }
     Ok(terms)

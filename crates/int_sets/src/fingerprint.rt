@@ -1,9 +1,9 @@
 //! Fingerprints of forms: values by which sums of rows are told apart.
 
-ghost use Rattle.std.specs.Prelude.{◌≡◌, ◌≤◌, ◌<◌, ◌+◌, ◌*◌, ◌^◌, ◌+ℤ◌, ◌*ℤ◌, unsigned_abs};
+ghost use Rattle.std.specs.Prelude.{◌≡◌, ◌≤◌, ◌*◌, ◌^◌, unsigned_abs};
 ghost use Rattle.int_sets.specs.Fingerprint.{value_at_point, VALUE_LIMIT};
 
-use affine_form::Form;
+use affine_form::{Form, add_product};
 
 /// A fixed point, of numbers below 2^40 drawn at random. Forms without constants that differ have different values there,
 /// but for rare ones.
@@ -44,13 +44,4 @@ pub(crate) fn value_of(form: &Form) -> i128
         sum = add_product(sum, *coefficient, POINT[i]);
     }
     sum
-}
-
-/// A sum and one product more.
-fn add_product(sum: i128, x: i128, y: i128) -> i128
-    requires { unsigned_abs sum + unsigned_abs x * unsigned_abs y < 2 ^ 127 }
-    ensures { result ≡ sum +ℤ (x *ℤ y) }
-{
-    let product = x * y;
-    sum + product
 }

@@ -93,13 +93,24 @@ pub(crate) fn small_halves(alloc: Global, system: &System) -> Result<Vec<Half>, 
 {
     let mut halves = Vec::new(alloc);
     for (i, row) in system.rows().iter().enumerate() {
-        let number = i as u8;
-        let value = value_of(row);
-        halves.push(one_row(system, number, row, value, 1))?;
-        halves.push(one_row(system, number, row, value, 2))?;
+        push_row(system, i as u8, row, &mut halves)?;
     }
     halves.push(no_row())?;
     Ok(halves)
+}
+
+/// Puts the halves of one row, once and twice, at the end.
+fn push_row(system: &System, number: u8, row: &Form, halves: &mut Vec<Half>) -> Result<(), Memory>
+    requires row { row_at system.now.rows number ≡ row.now }
+    requires halves { AllByRecursion (IsHalf system.now.rows) halves.old.items }
+    ensures halves { OnOk result (AllByRecursion (IsHalf system.now.rows) halves.new.items) }
+    ensures kept { OnOk result ((weights : List (ℕ × ℕ)) → Holds halves.old.items weights → Holds halves.new.items weights) }
+    ensures row { OnOk result ((times : ℕ) → IsOnceOrTwice (number, times) → Holds halves.new.items ((number, times) ∷ [])) }
+{
+    let value = value_of(row);
+    halves.push(one_row(system, number, row, value, 1))?;
+    halves.push(one_row(system, number, row, value, 2))?;
+    Ok(())
 }
 
 /// All halves, where those of at most one row are lent: these, and each two of them of one row.

@@ -14,13 +14,9 @@ pub(crate) struct Line {
 impl Line {
     /// A form as a sum of its variables, or None where a number is too large.
     pub(crate) fn of(alloc: Global, label: usize, form: &Form) -> Result<Option<Line>, Memory> {
-        let mut cells = Vec::new(alloc);
-        for coefficient in form.coef() {
-            let Ok(cell) = i64::try_from(*coefficient) else {
-                return Ok(None);
-            };
-            cells.push(cell)?;
-        }
+        let Some(cells) = cells_of(alloc, form.coef())? else {
+            return Ok(None);
+        };
         let Ok(constant) = i64::try_from(form.constant()) else {
             return Ok(None);
         };
@@ -84,16 +80,36 @@ impl Line {
     }
 }
 
+/// Coefficients as cells, or None where one is too large.
+fn cells_of(alloc: Global, coefficients: &[i128]) -> Result<Option<Vec<i64>>, Memory> {
+    let mut cells = Vec::new(alloc);
+    for coefficient in coefficients {
+        let Ok(cell) = i64::try_from(*coefficient) else {
+            return Ok(None);
+        };
+        cells.push(cell)?;
+    }
+    Ok(Some(cells))
+}
+
 /// A number times a sign, turned.
 fn opposite(sign: i64, number: i64) -> Option<i64> {
     sign.checked_mul(number)?.checked_neg()
 }
 
+/// The product of two numbers.
+fn product(x: i64, y: i64) -> Option<i128> {
+    i128::from(x).checked_mul(i128::from(y))
+}
+
+/// The difference of two products.
+fn difference(size: i64, cell: i64, factor: i64, other: i64) -> Option<i128> {
+    product(size, cell)?.checked_sub(product(factor, other)?)
+}
+
 /// The difference of two products over a denominator that divides it, or None where that is too large.
 fn reduced(size: i64, cell: i64, factor: i64, other: i64, den: i64) -> Option<i64> {
-    let left = i128::from(size).checked_mul(i128::from(cell))?;
-    let right = i128::from(factor).checked_mul(i128::from(other))?;
-    let difference = left.checked_sub(right)?;
+    let difference = difference(size, cell, factor, other)?;
     if den == 1 {
         return i64::try_from(difference).ok();
     }

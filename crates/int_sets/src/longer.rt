@@ -86,9 +86,14 @@ fn divisor_of(first: u64, second: u64) -> u64 {
 fn weight(number: i64, divisor: u64) -> Option<u64>
     ensures { IfSome result (λ weight. weight < MULTIPLIER_SIZE) }
 {
-    match u64::try_from(number).ok()?.checked_div(divisor) {
-        Some(weight) if weight < MULTIPLIER_SIZE => Some(weight),
-        _ => None,
+    if number < 0 || divisor == 0 {
+        return None;
+    }
+    let weight = number.unsigned_abs() / divisor;
+    if weight < MULTIPLIER_SIZE {
+        Some(weight)
+    } else {
+        None
     }
 }
 

@@ -107,10 +107,7 @@ fn tried(
     ensures some { IfOk result (λ found. IfSome found (λ shown. IsShort shown × Shows system.now goal.now shown)) }
     ensures none { IfOk result (λ found. IfNone found (NeverJoins system.now goal.now first.now second.now)) }
 {
-    if less(value, first.value) != second.value {
-        return Ok(None);
-    }
-    let Some(rest) = rest_of(less(goal.constant(), first.constant), second.constant) else {
+    let Some(rest) = rest_beside(system, goal, value, first, second) else {
         return Ok(None);
     };
     let rows = rows_of(alloc, first, second)?;
@@ -122,6 +119,28 @@ fn tried(
         return Ok(None);
     }
     Ok(Some(shown))
+}
+
+/// The number beside two halves whose values and constants make up the goal's, or None where there is none from 0 below
+/// 2^48.
+fn rest_beside(
+    system: &System,
+    goal: &Form,
+    value: i128,
+    first: &Half,
+    second: &Half,
+) -> Option<u64>
+    requires value { value ≡ value_at_point goal.now }
+    requires small { unsigned_abs value ≤ VALUE_LIMIT }
+    requires first { IsHalf system.now.rows first.now }
+    requires second { IsHalf system.now.rows second.now }
+    ensures some { IfSome result (λ rest. (rest < MULTIPLIER_SIZE) × (goal.now.constant ≡ (first.now.constant +ℤ second.now.constant) +ℤ pos rest)) }
+    ensures none { IfNone result (NeverJoins system.now goal.now first.now second.now) }
+{
+    if less(value, first.value) != second.value {
+        return None;
+    }
+    rest_of(less(goal.constant(), first.constant), second.constant)
 }
 
 /// What a number is above another, where that is from 0 below 2^48.

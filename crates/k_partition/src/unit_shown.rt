@@ -1,6 +1,6 @@
 //! Whether the matrix of coordinates has the inverse that stands beside it.
 
-ghost use Rattle.std.specs.Prelude.{◌≡◌, ◌≤◌, ◌<◌, ◌++◌, ◌∷◌, [], ◌+ℤ◌, ◌*ℤ◌, ◌+◌, ◌*◌, ◌^◌, unsigned_abs, length, Some, IfOk, IsTrue, ◌↔◌};
+ghost use Rattle.std.specs.Prelude.{◌≡◌, ◌<◌, ◌++◌, ◌∷◌, [], ◌+◌, length, Some, IfOk, IsTrue, ◌↔◌};
 ghost use Rattle.execution_laws.specs.Inverse.{product_entry, scaled_entry};
 ghost use Rattle.reuse_paths.specs.MatrixRows.{matrix_rows};
 ghost use Rattle.claims.specs.Claims.{Finds, counted};
@@ -11,7 +11,7 @@ ghost use Rattle.k_partition.specs.View.{partition_of, FitsMatrices};
 ghost use Rattle.iolb_model.specs.declared.limits.TheConstants.{NUMBER_SIZE};
 
 use crate::term::Partition;
-use affine_form::{Matrix, Memory};
+use affine_form::{Matrix, Memory, add_entry};
 use claims::key::INVERSE;
 use claims::{No, Place, Step, refusal};
 use std::alloc::Global;
@@ -74,18 +74,9 @@ fn product_entry(first: &Matrix, second: &Matrix, row: usize, col: usize) -> i12
     let _second = second.cells();
     let mut sum = 0;
     for k in 0..first.cols() {
-        sum = add_product(sum, first.entry(row, k), i128::from(second.entry(k, col)));
+        sum = add_entry(sum, first.entry(row, k), i128::from(second.entry(k, col)));
     }
     sum
-}
-
-/// A sum and one product more.
-fn add_product(sum: i128, x: i32, y: i128) -> i128
-    requires { unsigned_abs sum + unsigned_abs x * unsigned_abs y < 2 ^ 127 }
-    ensures { result ≡ sum +ℤ (x *ℤ y) }
-{
-    let product = i128::from(x) * y;
-    sum + product
 }
 
 /// The refusal by condition 16 at an entry of the product.

@@ -74,6 +74,18 @@ pub fn loop_values(alloc: Global, lower: i128, upper: i128) -> Result<Vec<i128>,
     values_from(alloc, lower, count)
 }
 
+/// The values of a loop with these bounds at a point.
+fn values_between(
+    alloc: Global,
+    lower: &Form,
+    upper: &Form,
+    point: &[i128],
+) -> Result<Vec<i128>, Stopped>
+    ensures { IfOk result (λ values. values.items ≡ range (form_value lower.now point.now) (form_value upper.now point.now)) }
+{
+    loop_values(alloc, value_at(lower, point)?, value_at(upper, point)?)
+}
+
 /// A point with one value more.
 pub fn with_value(alloc: Global, point: &[i128], value: i128) -> Result<Vec<i128>, Stopped>
     ensures { IfOk result (λ longer. longer.items ≡ point.now ++ value ∷ []) }
@@ -112,7 +124,7 @@ pub fn runs_of_row(alloc: Global, row: &[Item], point: &[i128]) -> Result<Vec<In
                 body,
                 ..
             } => {
-                let values = loop_values(alloc, value_at(lower, point)?, value_at(upper, point)?)?;
+                let values = values_between(alloc, lower, upper, point)?;
                 for value in values.as_slice() {
                     let inner = with_value(alloc, point, *value)?;
                     push_at_value(

@@ -4,6 +4,7 @@ pub mod EvaluateLemmas
 pub mod Expansions
 pub mod Factors
 pub mod LinearLemmas
+pub mod Made
 pub mod Powers
 pub mod PrintOrder
 pub mod PrintedLemmas

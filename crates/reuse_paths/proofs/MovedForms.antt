@@ -1,9 +1,9 @@
 -- Forms with variables more: how many they have, and how large their numbers are.
-use Rattle.std.proofs.Common.{◌≡◌, ℕ, zero, suc, ◌+◌, ◌≤◌, List, [], ◌∷◌, ◌++◌, map, replicate, take, drop, arith}
+use Rattle.std.proofs.Common.{◌≡◌, sym, ◌∙◌, ap, ℕ, zero, suc, ◌+◌, ◌<◌, ◌≤◌, List, [], ◌∷◌, ◌++◌, length, map, replicate, take, drop, get_or, append-nil, arith}
 use Rattle.std.specs.List.{AllByRecursion}
 use Rattle.std.proofs.Math.IntN.{ℤ, pos}
-use Rattle.std.proofs.lemmas.List.{length-append, length-drop, length-take, length-replicate}
-use Rattle.base_laws.proofs.Lists.{All-append, All-replicate}
+use Rattle.std.proofs.lemmas.List.{append_assoc, drop_all, length-append, length-drop, length-take, length-replicate}
+use Rattle.base_laws.proofs.Lists.{All-append, All-replicate, rest_at}
 use Rattle.iolb_model.specs.Form.{AffineForm}
 use Rattle.affine_form.specs.Form.{variables, IsSmall, IsSmallForm}
 use Rattle.affine_form.specs.System.{AllOver}
@@ -20,7 +20,7 @@ All-take P (suc n) [] h = tt
 All-take P (suc n) (x ∷ xs) h = (h.0, All-take P n xs h.1)
 
 -- the variables of a form that was moved
-length-moved : (place more : ℕ) (form : AffineForm) → place ≤ variables form → variables (moved place more form) ≡ variables form + more
+pub length-moved : (place more : ℕ) (form : AffineForm) → place ≤ variables form → variables (moved place more form) ≡ variables form + more
 length-moved place more form h = omega (
   arith,
   length-append (take place form.coefficients ++ replicate more (pos 0)) (drop place form.coefficients),
@@ -49,3 +49,14 @@ moved-small limit place more (form ∷ forms) none h = ((moved-numbers limit pla
 pub over-within : (many vars : ℕ) (forms : List AffineForm) → many ≤ vars → AllOver many forms → AllByRecursion (λ (form : AffineForm). variables form ≤ vars) forms
 over-within many vars [] few over = tt
 over-within many vars (form ∷ forms) few over = (omega (arith, over.0, few), over-within many vars forms few over.1)
+
+-- one item more of a list of which each has an image
+pub mapped-more : {X Y : Type 0} (f : X → Y) (xs : List X) (i : ℕ) (x : X) (y : Y) (old new : List Y) → i < length xs → x ≡ get_or xs i x → y ≡ f x → new ≡ old ++ y ∷ []
+    → old ++ map f (drop i xs) ≡ map f xs → new ++ map f (drop (i + 1) xs) ≡ map f xs
+mapped-more {X} {Y} f xs i x y old new below read is pushed h =
+    let rest : List Y = map f (drop (i + 1) xs) in
+    ap (λ (l : List Y). l ++ rest) pushed ∙ append_assoc old (y ∷ []) rest ∙ ap (λ (z : Y). old ++ z ∷ rest) is ∙ ap (λ (l : List X). old ++ map f l) (sym (rest_at xs i x below read)) ∙ h
+
+-- all of them
+pub mapped-all : {X Y : Type 0} (f : X → Y) (xs : List X) (i : ℕ) (old : List Y) → length xs ≤ i → old ++ map f (drop i xs) ≡ map f xs → old ≡ map f xs
+mapped-all {X} {Y} f xs i old past h = sym (append-nil old) ∙ ap (λ (l : List X). old ++ map f l) (sym (drop_all i xs past)) ∙ h

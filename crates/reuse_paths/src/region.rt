@@ -12,8 +12,9 @@ ghost use Rattle.reuse_paths.specs.WalkSettings.{forms_behind, reading_point, re
 ghost use Rattle.reuse_paths.specs.WalkViews.{walk_of, EndsFit, OriginFits};
 ghost use Rattle.iolb_model.specs.declared.limits.TheConstants.{LOOPS, NEST_VARIABLES, PARAMETERS, PUT_SIZE, VARIABLES};
 
+use crate::shared::equal_rows;
 use crate::walking::{Walking, reading_point, region_values, region_variables, spot_variables};
-use affine_form::{Form, Memory, difference, put, variables_from, widened};
+use affine_form::{Form, Memory, put, variables_from, widened};
 use dep_quast::lists::{all_widened, followed_by};
 use dep_quast::point_rows::domain_rows;
 use domain_count::rows_before;
@@ -57,10 +58,21 @@ pub(crate) fn forms_at(
 {
     let mut all = Vec::new(alloc);
     for form in forms {
-        let put = put(alloc, vars, form, point)?;
-        all.push(widened(alloc, vars, &put)?)?;
+        all.push(form_at(alloc, vars, form, point)?)?;
     }
     Ok(all)
+}
+
+/// A form at an instance.
+fn form_at(alloc: Global, vars: usize, form: &Form, point: &[Form]) -> Result<Form, Memory>
+    requires few { vars ≤ VARIABLES }
+    requires few_forms { length point.now ≤ VARIABLES }
+    requires over { IsSmallOver (length point.now) form.now }
+    requires point_over { AllByRecursion (IsSmallOver vars) point.now }
+    ensures { IfOk result (λ at. at ≡ form_at vars point.now form.now) }
+{
+    let put = put(alloc, vars, form, point)?;
+    widened(alloc, vars, &put)
 }
 
 /// Forms over the parameters, the nest's variables and some values, with forms put in for the values.
@@ -115,11 +127,5 @@ pub(crate) fn equality_rows(
     requires right_over { AllByRecursion (IsSmallOver vars) right.now }
     ensures rows { IfOk result (λ rows. rows.items ≡ equality_rows vars left.now right.now) }
 {
-    let mut rows = Vec::new(alloc);
-    for (i, f) in left.iter().enumerate() {
-        let g = &right[i];
-        rows.push(difference(alloc, vars, f, g, 0)?)?;
-        rows.push(difference(alloc, vars, g, f, 0)?)?;
-    }
-    Ok(rows)
+    equal_rows(alloc, vars, left, right)
 }

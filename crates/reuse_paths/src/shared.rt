@@ -11,7 +11,7 @@ ghost use Rattle.reuse_paths.specs.Pieces.{PieceFits, piece_of};
 ghost use Rattle.iolb_model.specs.declared.limits.TheConstants.{NEST_VARIABLES, PUT_SIZE, VARIABLES};
 
 use crate::piece::{Piece, Target};
-use affine_form::{Form, Memory, difference};
+use affine_form::{Form, Memory, push_equal};
 use affine_program::Program;
 use dep_quast::lists::{all_widened, followed_by};
 use std::alloc::Global;
@@ -81,8 +81,7 @@ pub(crate) fn equal_rows(
 {
     let mut rows = Vec::new(alloc);
     for i in 0..one.len().min(other.len()) {
-        rows.push(difference(alloc, vars, &one[i], &other[i], 0)?)?;
-        rows.push(difference(alloc, vars, &other[i], &one[i], 0)?)?;
+        push_equal(alloc, vars, &one[i], &other[i], &mut rows)?;
     }
     Ok(rows)
 }

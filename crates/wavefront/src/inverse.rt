@@ -1,6 +1,6 @@
 //! Whether a matrix undoes the order of subscripts.
 
-ghost use Rattle.std.specs.Prelude.{◌≡◌, ◌≢◌, ◌+◌, ◌*◌, ◌^◌, ◌<◌, ◌≤◌, ◌+ℤ◌, ◌*ℤ◌, unsigned_abs, length, pos, take, drop, slice_index_or, IfSome, IfNone};
+ghost use Rattle.std.specs.Prelude.{◌≡◌, ◌≢◌, ◌+◌, ◌*◌, ◌<◌, ◌≤◌, unsigned_abs, length, pos, take, drop, slice_index_or, IfSome, IfNone};
 ghost use Rattle.std.specs.List.{AllByRecursion};
 ghost use Rattle.iolb_model.specs.Form.{dot};
 ghost use Rattle.execution_laws.specs.Inverse.{scaled_entry, IsScaledInverse, IsFirstDifference};
@@ -10,7 +10,7 @@ ghost use Rattle.reuse_paths.specs.MatrixRows.{matrix_rows};
 ghost use Rattle.wavefront.specs.Columns.{coefficients_at, AgreesBelow};
 ghost use Rattle.iolb_model.specs.declared.limits.TheConstants.{NUMBER_SIZE, COEFFICIENT_SIZE, VARIABLES, NEST_VARIABLES};
 
-use affine_form::{Form, Matrix};
+use affine_form::{Form, Matrix, add_entry};
 
 /// The first entry, by rows, in which a matrix times the forms' coefficients past so many, of so many columns, isn't
 /// `scale` times the identity: its row and its column.
@@ -86,7 +86,7 @@ fn combination(row: &[i32], forms: &[Form], place: usize) -> i128
 {
     let mut sum = 0;
     for (i, entry) in row.iter().enumerate() {
-        sum = add_product(sum, *entry, coefficient(&forms[i], place));
+        sum = add_entry(sum, *entry, coefficient(&forms[i], place));
     }
     sum
 }
@@ -98,13 +98,4 @@ fn coefficient(form: &Form, place: usize) -> i128
 {
     let coef = form.coef();
     if place < coef.len() { coef[place] } else { 0 }
-}
-
-/// A sum and one product more.
-fn add_product(sum: i128, x: i32, y: i128) -> i128
-    requires { unsigned_abs sum + unsigned_abs x * unsigned_abs y < 2 ^ 127 }
-    ensures { result ≡ sum +ℤ (x *ℤ y) }
-{
-    let product = i128::from(x) * y;
-    sum + product
 }

@@ -2,13 +2,14 @@ use Rattle.std.proofs.Common.{◌≡◌, ◌<◌, ◌++◌, ◌∷◌, [], ap, s
 use mir.Syntax.{w128}
 use Rattle.std.specs.Prelude.{unsigned_abs}
 use Rattle.std.proofs.lemmas.Int.{to_z-of_z}
-use Rattle.std.proofs.lemmas.List.{take_all, take_more}
+use Rattle.std.proofs.lemmas.List.{take_more}
 use Rattle.affine_form.specs.Form.{IsSmall}
 use Rattle.affine_form.specs.Combination.{coefficient_of}
 use Rattle.base_laws.proofs.Lists.{All-push}
 use Rattle.affine_form.proofs.Sizes.{small-bits}
 use Rattle.affine_form.specs.Rows.{difference}
 use Rattle.affine_form.proofs.RowLemmas.{coefficient_of-difference, length-difference}
+use Rattle.affine_form.proofs.Steps.{form_is}
 use Rattle.affine_form.proofs.differences.difference.Goals as goal
 use Rattle.iolb_model.specs.declared.limits.TheConstants.{COEFFICIENT_SIZE}
 
@@ -32,11 +33,7 @@ pub returns : goal.returns
 returns c =
     let x = c.constant_less.result in
     let fits : FitsSigned w128 x = search rules in
-    let form = difference c.args.vars c.args.left.now c.args.right.now (pos 0) in
-    let items : c.loop-place.coef.items ≡ form.coefficients = c.loop-place.invariant.so_far
-    ∙ take_all c.loop-place.place form.coefficients
-    (omega (arith, c.loop-place-test.false, length-difference c.args.vars c.args.left.now c.args.right.now (pos 0) c.requires.left_in c.requires.right_in)) in
-    let is = simp (to_z-of_z w128 x fits) at c.new.ensures in
     let number : unsigned_abs c.args.number < 2 = omega (arith, c.requires.small_number) in
-    let value = simp (small-bits c.args.number 2 number (lit≤ tt)) at c.constant_less.ensures.value in
-    is ∙ ap (λ (xs : List ℤ). record { coefficients = xs; constant = x }) items ∙ ap (λ (y : ℤ). record { coefficients = form.coefficients; constant = y }) value
+    form_is (difference c.args.vars c.args.left.now c.args.right.now c.args.number) c.new.result c.loop-place.coef.items c.loop-place.place x c.loop-place.invariant.so_far
+    (omega (arith, c.loop-place-test.false, length-difference c.args.vars c.args.left.now c.args.right.now (pos 0) c.requires.left_in c.requires.right_in))
+    (simp (small-bits c.args.number 2 number (lit≤ tt)) at c.constant_less.ensures.value) (simp (to_z-of_z w128 x fits) at c.new.ensures)

@@ -1,32 +1,18 @@
-use Rattle.std.proofs.Common.{◌≡◌, ◌<◌, ℕ, pos, ◌+ℤ◌, ◌-ℤ◌, rules, sym, ◌∙◌, ap, subst, FitsSigned, of_z, refl, ◌++◌, List}
-use mir.Syntax.{w128}
-use Rattle.std.proofs.lemmas.Int.{to_z-of_z}
-use Rattle.affine_form.specs.Multipliers.{RowsRise}
+use Rattle.std.proofs.Common.{◌≡◌, ℕ, ◌+ℤ◌, sym, ◌∙◌, ap, subst, refl, ◌++◌, List}
+use Rattle.affine_form.specs.Multipliers.{FarkasMultipliers, RowsRise}
 use Rattle.affine_form.specs.Shown.{Shows}
-use Rattle.iolb_model.specs.declared.limits.TheConstants.{MULTIPLIER_SIZE}
 use Rattle.int_sets.specs.ShortList.{IsShort}
 use Rattle.int_sets.specs.Halves.{weights_of}
-use Rattle.int_sets.proofs.Joined.{joins-value, joins-constant, small-weights, halves-few, halves-taken, rising-different, left_over, left_above, same-rest}
+use Rattle.int_sets.proofs.Joined.{joins-constant, small-weights, halves-few, halves-taken, rising-different, same-rest}
 use Rattle.int_sets.proofs.short.tried.Goals as goal
 
-pub returns-then-less-second-clause-none : goal.returns-then-less-second-clause-none
-returns-then-less-second-clause-none c = λ rest joins.
-    let fits : FitsSigned w128 c.args.first.now.value = search rules in
-    let is : c.less.result ≡ c.args.value -ℤ c.args.first.now.value = simp (to_z-of_z w128 c.args.value c.ranges.value, to_z-of_z w128 c.args.first.now.value fits) at c.less.ensures in
-    c.if-less-second.true (ap (of_z w128) (left_over c.args.value c.args.first.now.value c.args.second.now.value c.less.result is
-    (c.requires.value ∙ joins-value c.args.system.now c.args.goal.now c.args.first.now c.args.second.now rest c.requires.first c.requires.second joins)))
+-- multipliers with another number and other rows that are the same
+shown_is : (shown : FarkasMultipliers) (r rest : ℕ) (ws vs : List (ℕ × ℕ)) → shown ≡ record { scale = 1; rest = r; weights = ws } → rest ≡ r → ws ≡ vs
+    → shown ≡ record { scale = 1; rest = rest; weights = vs }
+shown_is shown r rest ws vs is same alike = is ∙ ap (λ (n : ℕ). record { scale = 1; rest = n; weights = ws }) (sym same) ∙ ap (λ (us : List (ℕ × ℕ)). record { scale = 1; rest = rest; weights = us }) alike
 
 pub returns-in_default-clause-none : goal.returns-in_default-clause-none
-returns-in_default-clause-none c = λ rest joins.
-    let fits : FitsSigned w128 c.args.first.now.constant = search rules in
-    let fits_second : FitsSigned w128 c.args.second.now.constant = search rules in
-    let fits_goal : FitsSigned w128 c.constant.result = search rules in
-    let fits_less : FitsSigned w128 c.less-2.result = search rules in
-    let is : c.less-2.result ≡ c.constant.result -ℤ c.args.first.now.constant = simp (to_z-of_z w128 c.constant.result fits_goal, to_z-of_z w128 c.args.first.now.constant fits) at c.less-2.ensures in
-    let none : (r : ℕ) → r < MULTIPLIER_SIZE → c.less-2.result ≡ c.args.second.now.constant +ℤ pos r → ⊥
-    = simp (to_z-of_z w128 c.less-2.result fits_less, to_z-of_z w128 c.args.second.now.constant fits_second) at c.in_default.ensures.none in
-    none rest joins.small (left_above c.constant.result c.args.first.now.constant c.args.second.now.constant c.less-2.result (pos rest) is
-    (c.constant.ensures.constant ∙ joins-constant c.args.system.now c.args.goal.now c.args.first.now c.args.second.now rest c.requires.first c.requires.second joins))
+returns-in_default-clause-none c = c.in_default.ensures.none
 
 pub new-shown-requires-clause-small : goal.new-shown-requires-clause-small
 new-shown-requires-clause-small c =
@@ -34,19 +20,10 @@ new-shown-requires-clause-small c =
 
 pub returns-then-not-entails-clause-none : goal.returns-then-not-entails-clause-none
 returns-then-not-entails-clause-none c = λ rest joins.
-    let fits : FitsSigned w128 c.args.first.now.constant = search rules in
-    let fits_second : FitsSigned w128 c.args.second.now.constant = search rules in
-    let fits_goal : FitsSigned w128 c.constant.result = search rules in
-    let fits_less : FitsSigned w128 c.less-2.result = search rules in
-    let is : c.less-2.result ≡ c.constant.result -ℤ c.args.first.now.constant = simp (to_z-of_z w128 c.constant.result fits_goal, to_z-of_z w128 c.args.first.now.constant fits) at c.less-2.ensures in
-    let found : (c.in-Some.rest < MULTIPLIER_SIZE) × (c.less-2.result ≡ c.args.second.now.constant +ℤ pos c.in-Some.rest)
-    = simp (to_z-of_z w128 c.less-2.result fits_less, to_z-of_z w128 c.args.second.now.constant fits_second) at c.in-Some.ensures.some in
-    let same : rest ≡ c.in-Some.rest = same-rest c.less-2.result c.args.second.now.constant rest c.in-Some.rest
-    (left_above c.constant.result c.args.first.now.constant c.args.second.now.constant c.less-2.result (pos rest) is
-    (c.constant.ensures.constant ∙ joins-constant c.args.system.now c.args.goal.now c.args.first.now c.args.second.now rest c.requires.first c.requires.second joins)) found.1 in
+    let same : rest ≡ c.in-Some.rest = same-rest c.args.goal.now.constant (c.args.first.now.constant +ℤ c.args.second.now.constant) rest c.in-Some.rest
+    (joins-constant c.args.system.now c.args.goal.now c.args.first.now c.args.second.now rest c.requires.first c.requires.second joins) c.in-Some.ensures.some.1 in
     let shown : c.new-shown.result ≡ record { scale = 1; rest = rest; weights = weights_of c.args.first.now ++ weights_of c.args.second.now }
-    = c.new-shown.ensures ∙ ap (λ (r : ℕ). record { scale = 1; rest = r; weights = c.in_ok-rows.rows.items }) (sym same)
-    ∙ ap (λ (ws : List (ℕ × ℕ)). record { scale = 1; rest = rest; weights = ws }) c.in_ok-rows.ensures in
+    = shown_is c.new-shown.result c.in-Some.rest rest c.in_ok-rows.rows.items (weights_of c.args.first.now ++ weights_of c.args.second.now) c.new-shown.ensures same c.in_ok-rows.ensures in
     let yes = c.if-not-entails.ensures.exact.1 (subst (Shows c.args.system.now c.args.goal.now) (sym shown) joins.shows) in
     absurd cc
 

@@ -38,15 +38,15 @@ loop-k-preserved c =
     let y_is : y ≡ c.entry-in-loop-k.result = c.from.ensures ∙ bits_e in
     let small_y : unsigned_abs y < NUMBER_SIZE = subst (λ (z : ℤ). unsigned_abs z < NUMBER_SIZE) (sym y_is) small_e in
     let bits_y : to_z w128 (of_z w128 y) ≡ y = small-bits y NUMBER_SIZE small_y (lit≤ tt) in
-    let is : c.add_product-sum.result ≡ sum +ℤ (x *ℤ y) = c.add_product-sum.ensures ∙ ap (λ (z : ℤ). sum +ℤ (z *ℤ to_z w128 (of_z w128 y))) bits_x ∙ ap (λ (z : ℤ). sum +ℤ (x *ℤ z)) bits_y in
-    let fits : FitsSigned w128 c.add_product-sum.result = search rules in
-    rw (to_z-of_z w128 c.add_product-sum.result fits)
+    let is : c.add_entry-sum.result ≡ sum +ℤ (x *ℤ y) = c.add_entry-sum.ensures ∙ ap (λ (z : ℤ). sum +ℤ (z *ℤ to_z w128 (of_z w128 y))) bits_x ∙ ap (λ (z : ℤ). sum +ℤ (x *ℤ z)) bits_y in
+    let fits : FitsSigned w128 c.add_entry-sum.result = search rules in
+    rw (to_z-of_z w128 c.add_entry-sum.result fits)
     (record {
-      so_far = dot-step row (column c.args.col (matrix_rows second)) k sum _ x y (pos 0) c.add_product-sum.result long
+      so_far = dot-step row (column c.args.col (matrix_rows second)) k sum _ x y (pos 0) c.add_entry-sum.result long
           (below k second.rows (length (column c.args.col (matrix_rows second))) there_second (sym (column-long second c.args.col)))
           (entry-in-row first c.args.row k x c.requires.row_in there c.entry.ensures long)
           (entry-in-column second k c.args.col y there_second c.requires.col_in (y_is ∙ c.entry-in-loop-k.ensures)) is c.loop-k.invariant.so_far;
-      small = sum-step sum c.add_product-sum.result x y 0 k NUMBER_SIZE NUMBER_SIZE is small_x small_y c.loop-k.invariant.small;
+      small = sum-step sum c.add_entry-sum.result x y 0 k NUMBER_SIZE NUMBER_SIZE is small_x small_y c.loop-k.invariant.small;
     })
 
 ended : (sum total : ℤ) → sum +ℤ pos 0 ≡ total → sum ≡ total

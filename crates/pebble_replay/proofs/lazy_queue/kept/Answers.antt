@@ -1,6 +1,9 @@
-use Rattle.std.proofs.Common.{refl, sym, ◌∙◌, ℕ, get_or}
+use Rattle.std.proofs.Common.{refl, sym, ◌∙◌, ap, ℕ, get_or}
 use Rattle.std.specs.BinaryHeap.{heap_items}
 use Rattle.std.specs.declared.cmp.Reverse.{Reverse}
+use Rattle.std.specs.List.{list_any}
+use Rattle.std.proofs.lemmas.List.{take_all}
+use Rattle.pebble_replay.specs.Queue.{is_key}
 use Rattle.pebble_replay.proofs.Waiting.{kept-one, kept-none}
 use Rattle.pebble_replay.proofs.lazy_queue.kept.Goals as goal
 use Rattle.pebble_replay.proofs.lazy_queue.kept.Goals.{then-is_waiting+in_ok-push, else-is_waiting}
@@ -19,3 +22,11 @@ loop-key-preserved c =
         kept = kept-none c.args.marks.now c.as_slice-key-items.result.now c.loop-key.key-index entry d (heap_items c.loop-key.kept) c.loop-key-test.true refl c.loop-key.invariant.kept (sym c.is_waiting.ensures ∙ w.if-is_waiting.false);
       })
     ]
+
+pub returns : goal.returns
+returns c = λ covered. record {
+  ordered = c.loop-key.invariant.ordered;
+  covers = λ q on.
+      c.loop-key.invariant.kept q on
+      (ap (list_any (is_key q)) (take_all c.loop-key.key-index c.as_slice-key-items.result.now c.loop-key-test.false ∙ c.as_slice-key-items.ensures.value) ∙ covered.covers q on);
+}

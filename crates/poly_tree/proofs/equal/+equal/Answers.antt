@@ -2,6 +2,7 @@ use Rattle.std.proofs.Common.{◌<◌, length, arith}
 use Rattle.poly_tree.specs.Expansion.{nodes}
 use Rattle.poly_tree.specs.Tree.{expansion}
 use Rattle.poly_tree.proofs.Trees.{nodes-below, same-parts, same-lengths, same-at}
+use Rattle.poly_tree.proofs.Made.{same-more}
 use Rattle.poly_tree.proofs.equal.+equal.Goals as goal
 
 pub returns-then-first-second : goal.returns-then-first-second
@@ -29,3 +30,11 @@ returns-then-not-equal t c =
           (same-parts (expansion c.args.a.now) (expansion c.args.b.now) i.v i.w i.first.now i.second.now i.ensures i.ensures' h) c.loop-power-test.true within c.index-first-power.is c.index-second-power.is) in
           let no = c.if-not-equal.true in absurd cc,
     )
+
+pub loop-power-preserved : goal.loop-power-preserved
+loop-power-preserved t c =
+    let i = c.in-Over-Over in
+    let k = c.loop-power.power in
+    let within : k < length i.second.now = omega (arith, c.loop-power-test.true, c.if-first-second.false) in
+    same-more i.first.now i.second.now k c.index-first-power.result c.index-second-power.result c.loop-power-test.true within c.index-first-power.is c.index-second-power.is
+    (c.equal.ensures.0 c.if-not-equal.false) c.loop-power.invariant

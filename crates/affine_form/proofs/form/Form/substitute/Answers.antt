@@ -6,6 +6,7 @@ use Rattle.iolb_model.specs.Form.{AffineForm, form_value}
 use Rattle.affine_form.specs.Form.{IsSmall}
 use Rattle.affine_form.specs.Substitution.{substitution}
 use Rattle.base_laws.proofs.Lists.{All-push}
+use Rattle.affine_form.proofs.Steps.{form_is}
 use Rattle.affine_form.proofs.SubstitutionLemmas.{form_value-substitution, length-substitution}
 use Rattle.affine_form.proofs.form.Form.substitute.Goals as goal
 use Rattle.iolb_model.specs.declared.limits.TheConstants.{COEFFICIENT_SIZE}
@@ -38,12 +39,9 @@ result_is : (c : goal.After-new) → c.new.result ≡ substitution c.args.self.n
 result_is c =
     let x = c.composed_constant.result in
     let fits : FitsSigned w128 x = search rules in
-    let form = substitution c.args.self.now c.args.map.now in
-    let items : c.loop-variable.coef.items ≡ form.coefficients = c.loop-variable.invariant.so_far
-    ∙ take_all c.loop-variable.variable form.coefficients
-    (omega (arith, c.loop-variable-test.false, c.variables_of-variable-end.ensures.width, length-substitution c.args.self.now c.args.map.now c.requires.one_each c.requires.same_variables)) in
-    let is = simp (to_z-of_z w128 x fits) at c.new.ensures in
-    is ∙ ap (λ (xs : List ℤ). record { coefficients = xs; constant = x }) items ∙ ap (λ (y : ℤ). record { coefficients = form.coefficients; constant = y }) c.composed_constant.ensures.value
+    form_is (substitution c.args.self.now c.args.map.now) c.new.result c.loop-variable.coef.items c.loop-variable.variable x c.loop-variable.invariant.so_far
+    (omega (arith, c.loop-variable-test.false, c.variables_of-variable-end.ensures.width, length-substitution c.args.self.now c.args.map.now c.requires.one_each c.requires.same_variables))
+    c.composed_constant.ensures.value (simp (to_z-of_z w128 x fits) at c.new.ensures)
 
 pub returns-clause-form : goal.returns-clause-form
 returns-clause-form c = result_is c

@@ -3,16 +3,16 @@ use Rattle.c_reading.proofs.Numbered.{numbers_same, numbers_insert, from_ok, non
 use Rattle.indexmap.specs.IndexMap.{insert_entry}
 use Rattle.c_reading.proofs.seen.Names.push.Goals as goal
 
-pub invariant_of-self-then-is_some : goal.invariant_of-self-then-is_some
-invariant_of-self-then-is_some c = λ name.
-    let there : is_some (position (bytes_eq c.args.name.now) c.self.inside.list.items) ≡ true = rw (c.self.view_is, ← c.number_of.ensures, ← c.is_some.ensures) c.if-is_some.true in
+pub invariant_of-self-then-seen : goal.invariant_of-self-then-seen
+invariant_of-self-then-seen c = λ name.
+    let there : is_some (position (bytes_eq c.args.name.now) c.self.inside.list.items) ≡ true = rw (c.self.view_is, ← c.number_of.ensures, ← c.is_some-seen.ensures) c.if-seen.true in
     rw (c.in_ok-push.ensures.items, c.new-owned.ensures, c.in_ok-from_slice.ensures.items) (c.self.invariant name ∙ sym (numbers_same c.self.inside.list.items c.args.name.now there name))
 
 pub invariant_of-self-else-is_err : goal.invariant_of-self-else-is_err
 invariant_of-self-else-is_err c = λ name.
-    let missing : is_some (position (bytes_eq c.args.name.now) c.self.inside.list.items) ≡ false = rw (c.self.view_is, ← c.number_of.ensures, ← c.is_some.ensures) c.if-is_some.false in
+    let missing : is_some (position (bytes_eq c.args.name.now) c.self.inside.list.items) ≡ false = rw (c.self.view_is, ← c.number_of.ensures, ← c.is_some-seen.ensures) c.if-seen.false in
     let at : c.len-at.result ≡ length c.self.inside.list.items = omega (arith, c.len-at.ensures, c.self.inside.list.ok.0) in
     let inserted = from_ok c.insert.result (sym c.is_err.ensures.value ∙ c.if-is_err.false) c.insert.ensures.entries in
-    rw (c.in_ok-push-2.ensures.items, c.new-owned.ensures, c.in_ok-from_slice.ensures.items)
+    rw (c.in_ok-push.ensures.items, c.new-owned.ensures, c.in_ok-from_slice.ensures.items)
     (numbers_insert c.self.inside.numbers c.insert.new.self c.self.inside.list.items c.args.name c.self.invariant (none_from_not_some _ missing)
     (inserted ∙ ap (λ n. insert_entry (λ a b. bytes_eq a.now b.now) c.self.inside.numbers.entries c.args.name n) at) name)

@@ -3,7 +3,7 @@ use Rattle.iolb_model.specs.Game.{loads}
 use Rattle.pebble_replay.specs.Played.{stores, computes}
 use Rattle.pebble_replay.specs.Player.{StandsFor}
 use Rattle.pebble_replay.specs.declared.player.Player.{Player}
-use Rattle.pebble_replay.proofs.Stepping.{going, loads-fit, stores-fit, computes-fit, stands-next}
+use Rattle.pebble_replay.proofs.Stepping.{going, holds-here, loads-fit, stores-fit, computes-fit, stands-next}
 use Rattle.pebble_replay.proofs.player.Player.step.Goals as goal
 
 pub with-self-requires-clause-loads : goal.with-self-requires-clause-loads
@@ -44,3 +44,15 @@ returns-clause-more c =
       add-one c.args.self.now.place,
       refl,
     )
+
+pub returns-clause-moves : goal.returns-clause-moves
+returns-clause-moves c =
+    let here = sym c.in-Some.ensures.value in
+    let stands = going c.args.graph.now c.args.order.now c.args.self.now c.in-Some.hand here c.requires in
+    let holds = holds-here c.args.graph.now c.args.order.now c.args.self.now c.in-Some.hand here stands in
+    rw holds.board at c.in_ok-hand.ensures.moves
+
+pub returns-clause-before_end : goal.returns-clause-before_end
+returns-clause-before_end c =
+    let stands = going c.args.graph.now c.args.order.now c.args.self.now c.in-Some.hand (sym c.in-Some.ensures.value) c.requires in
+    omega (arith, stands.place, c.if-self-order.false)

@@ -46,3 +46,22 @@ returns-clause-value c =
     let n : IsReduced t (a.denominator * b.denominator) r
     = subst (λ (m : ℕ). IsReduced t m r) (ap unsigned_abs (to_z-of_z w128 c.common_denominator.result fits_d ∙ c.common_denominator.ensures.product)) c.in_ok-reduced.ensures.reduced in
     product-value a b r t product n
+
+pub reduced-requires : goal.reduced-requires
+reduced-requires c =
+    let t = expansion c.in_ok-tree.tree in
+    let product : IsProduct c.args.self.now.tree c.args.other.now.tree t
+    = subst (λ (u : Expansion). IsProduct u c.args.other.now.tree t) c.tree.ensures.tree
+    (subst (λ (u : Expansion). IsProduct (expansion c.tree.result.now) u t) c.tree-2.ensures.tree c.in_ok-tree.ensures) in
+    let fits_d : FitsSigned w128 c.common_denominator.result = search rules in record {
+      positive = rw (to_z-of_z w128 c.common_denominator.result fits_d) c.common_denominator.ensures.positive;
+      canonical = product.canonical (2 ^ 16) c.tree.ensures.legal.canonical c.tree-2.ensures.legal.canonical;
+      degrees = c.degrees_fit.ensures.0 c.if-not-degrees_fit.false;
+    }
+
+pub returns-clause-narrow : goal.returns-clause-narrow
+returns-clause-narrow c = λ e.
+    below-cap (size c.args.self.now * size c.args.other.now) c.size_product.result MEASURE MEASURE c.size_product.ensures c.if-size_product-ge-MEASURE.false (lit≤ tt)
+
+pub returns-clause-wide : goal.returns-clause-wide
+returns-clause-wide c = λ e. absurd cc
