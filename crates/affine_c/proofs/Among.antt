@@ -11,9 +11,9 @@ use Rattle.c_reading.specs.declared.named.Kind.TheVariants.{Parameter, Array}
 use Rattle.c_reading.specs.Names.{parameters_among, arrays_among}
 use Rattle.c_grammar.specs.Well.{AreDistinct}
 use Rattle.c_grammar.proofs.NameKinds.{bytes_are}
-use Rattle.c_printing.proofs.Readable.{array_names}
-use Rattle.c_printing.proofs.Roles.{names_of}
-use Rattle.c_printing.proofs.State.{among_differ}
+use Rattle.affine_c.proofs.Readable.{array_names}
+use Rattle.affine_c.proofs.Roles.{names_of}
+use Rattle.affine_c.proofs.State.{among_differ}
 use Rattle.c_grammar.proofs.Steps.{bool_cases}
 
 -- the names of kinds that pass a test

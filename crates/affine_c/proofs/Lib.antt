@@ -1,3 +1,15 @@
+pub mod Pieces
+pub mod Roles
+pub mod Lexed
+pub mod LexedForms
+pub mod RowForms
+pub mod MeansForms
+pub mod State
+pub mod MeansRefs
+pub mod MeansItems
+pub mod MeansText
+pub mod WordsAre
+pub mod Readable
 pub mod Rows
 pub mod TreeGrows
 pub mod Among

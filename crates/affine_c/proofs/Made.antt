@@ -23,7 +23,7 @@ use Rattle.affine_program.specs.Limits.{IsStatementWithinLimits}
 use Rattle.affine_program.specs.Parts.{ProgramParts, meaning, statement_of, array_of, IsProgram}
 use Rattle.affine_program.specs.Tree.{row_of}
 use Rattle.affine_c.proofs.Rows.{narrowed_all_small}
-use Rattle.base_laws.proofs.Lists.{All-push, All-weaken, rest_at}
+use Rattle.base_laws.proofs.Lists.{All-push, All-weaken}
 use Rattle.c_reading.specs.Access.{Access, Statement as ReadStatement}
 use Rattle.c_reading.specs.declared.lines.Loop.{Loop}
 use Rattle.affine_program.specs.declared.statement.Statement.{Statement}
@@ -44,12 +44,6 @@ pub record Kept (reading : Reading) (parameters : ℕ) (tree : Row) (made : List
 placed_push : {X : Type 0} (P : ℕ × X → Type 0) (first : ℕ) (xs : List X) (x : X) → AllByRecursion P (enumerate_from first xs) → P (first + length xs, x) → AllByRecursion P (enumerate_from first (xs ++ x ∷ []))
 placed_push P first [] x h p = (subst (λ (n : ℕ). P (n, x)) (omega arith) p, tt)
 placed_push P first (y ∷ xs) x h p = (h.0, placed_push P (first + 1) xs x h.1 (subst (λ (n : ℕ). P (n, x)) (omega arith) p))
-
--- at the line that is next
-pub at_line : (reading : Reading) (p : ℕ) (tree : Row) (made : List Statement) (depth : ℕ) (items : List Line) (k : ℕ) (x line : Line)
-    → Kept reading p tree made depth (drop k items) → k < length items → x ≡ get_or items k x → x ≡ line → Kept reading p tree made depth (line ∷ drop (k + 1) items)
-at_line reading p tree made depth items k x line h below e is =
-    subst (λ (ls : List Line). Kept reading p tree made depth ls) (rest_at items k x below e ∙ ap (λ (l : Line). l ∷ drop (k + 1) items) is) h
 
 -- what a statement's line says
 pub rows_there : (reading : Reading) (depth : ℕ) (accesses : List Access) → AllByRecursion (IsAccessIn reading depth) accesses → AllByRecursion (AreRowsOver (length (parameters_of reading)) depth) accesses

@@ -22,8 +22,8 @@ use Rattle.c_grammar.specs.Well.{IsRowOver, AreLinesIn, IsAccessIn, IsStatementI
 use Rattle.c_grammar.specs.Program.{TreeLine, begins, does, ends, narrowed, narrowed_access, narrowed_statement, item_lines, row_lines, tree_lines, statements_among, IsReadingOf}
 use Rattle.affine_c.proofs.Rows.{All-mapped, narrowed_over, narrowed_small, narrowed_all_over}
 use Rattle.affine_c.proofs.Among.{none_any, among, is_parameter, is_array, parameters-among, arrays-among, distinct-different, among_differs, among_all, among_none, Found, among_found, different_arrays, all_named}
-use Rattle.c_printing.proofs.Roles.{names_of}
-use Rattle.c_printing.proofs.Readable.{array_names}
+use Rattle.affine_c.proofs.Roles.{names_of}
+use Rattle.affine_c.proofs.Readable.{array_names}
 use Rattle.c_grammar.proofs.NameKinds.{All-get}
 use Rattle.c_grammar.proofs.Lists.{range_more}
 

@@ -68,10 +68,8 @@ pub record Kept (reading : Reading) (parameters : ℕ) (so_far : List TreeLine) 
   pub count : number + statement_count rest ≡ statement_count reading.lines
 
 -- at the line that is next
-pub at_line : (reading : Reading) (p : ℕ) (so : List TreeLine) (depth number : ℕ) (items : List Line) (k : ℕ) (x line : Line)
-    → Kept reading p so depth number (drop k items) → k < length items → x ≡ get_or items k x → x ≡ line → Kept reading p so depth number (line ∷ drop (k + 1) items)
-at_line reading p so depth number items k x line h below e is =
-    subst (λ (ls : List Line). Kept reading p so depth number ls) (rest_at items k x below e ∙ ap (λ (l : Line). l ∷ drop (k + 1) items) is) h
+pub at_line : (P : List Line → Type 0) (lines : List Line) (k : ℕ) (x line : Line) → P (drop k lines) → k < length lines → x ≡ get_or lines k x → x ≡ line → P (line ∷ drop (k + 1) lines)
+at_line P lines k x line h below e is = subst P (rest_at lines k x below e ∙ ap (λ (l : Line). l ∷ drop (k + 1) lines) is) h
 
 pub kept_begin : (reading : Reading) (p : ℕ) (so new : List TreeLine) (depth number : ℕ) (l : Loop) (rest : List Line) (name : List ℕ) (lower upper : AffineForm)
     → Kept reading p so depth number (Begin l ∷ rest) → new ≡ so ++ begins name lower upper ∷ [] → name ≡ slice_index_or reading.names l.name [] → lower ≡ narrowed p depth l.lower → upper ≡ narrowed p depth l.upper

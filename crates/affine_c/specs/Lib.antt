@@ -1,3 +1,6 @@
+pub mod Text
+pub mod Tree
+pub mod PrintedWords
 pub mod Meaning
 pub mod Built
 pub mod Laws

@@ -10,9 +10,8 @@ use crate::facts::Facts;
 use crate::shown::{Rows, all_shown, followed, within};
 use affine_form::Memory;
 use affine_program::Program;
-use domain_count::{Nest, Sums};
+use domain_count::{CountFault, Nest, Sums, make_count};
 use iolb_model::limits;
-use nest_sums::{CountFault, make_count};
 use std::alloc::Global;
 
 /// Copies of bounds.

@@ -6,7 +6,7 @@ ghost use Rattle.iolb_model.specs.declared.limits.TheConstants.{VARIABLES};
 
 use crate::affine::Affine;
 use affine_form::{Form, Memory, Multipliers, system_of};
-use answers::{Wanted, goals_answered, system_answered};
+use flow_deps::{Wanted, goals_answered, system_answered};
 use iolb_model::limits;
 use std::alloc::Global;
 

@@ -8,9 +8,9 @@ use Rattle.iolb_model.specs.Program.{AffineProgram}
 use Rattle.iolb_model.specs.declared.limits.TheConstants.{NUMBER_SIZE}
 use Rattle.affine_form.specs.Form.{IsSmallForm}
 use Rattle.affine_form.specs.Rows.{IsSmallOver}
-use Rattle.answers.specs.declared.wanted.Wanted.{Wanted}
-use Rattle.answers.specs.Answers.{Answers, HasShortAnswer, following}
-use Rattle.answers.proofs.AnswerLaws.{AreAnswered-length, answers-name, follow-hold}
+use Rattle.flow_deps.specs.declared.wanted.Wanted.{Wanted}
+use Rattle.flow_deps.specs.Answers.{Answers, HasShortAnswer, following}
+use Rattle.flow_deps.proofs.AnswerLaws.{AreAnswered-length, answers-name, follow-hold}
 use Rattle.claims.specs.Claims.{AllHold, Claim}
 use Rattle.claims.specs.declared.place.Step.{Step}
 use Rattle.claims.specs.declared.place.Step.TheVariants.{Key}

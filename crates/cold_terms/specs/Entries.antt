@@ -4,9 +4,9 @@ use Rattle.std.specs.Global.{Global}
 use Rattle.std.specs.List.{AllByRecursion}
 use Rattle.iolb_model.specs.Form.{AffineForm}
 use Rattle.affine_form.specs.System.{AffineSystem}
-use Rattle.answers.specs.declared.wanted.Wanted.{Wanted}
-use Rattle.answers.specs.declared.wanted.Wanted.TheVariants.{Short}
-use Rattle.answers.specs.Answers.{IsAsShort}
+use Rattle.flow_deps.specs.declared.wanted.Wanted.{Wanted}
+use Rattle.flow_deps.specs.declared.wanted.Wanted.TheVariants.{Short}
+use Rattle.flow_deps.specs.Answers.{IsAsShort}
 use Rattle.dep_quast.specs.Claims.{IsFew}
 use Rattle.reuse_paths.specs.declared.leaf.Leaf.{Leaf}
 use Rattle.reuse_paths.specs.LeafClaims.{LeafClaim, no_point, stops, is_credited, goes_on, arrives, claim_of}

@@ -8,8 +8,8 @@ ghost use Rattle.cold_terms.specs.Entries.{FindsEntry, FindsEntries, system_at};
 ghost use Rattle.iolb_model.specs.declared.limits.TheConstants.{VARIABLES};
 
 use affine_form::{Form, Memory};
-use answers::{Wanted, system_answered};
 use dep_quast::lists::followed_by;
+use flow_deps::{Wanted, system_answered};
 use iolb_model::limits;
 use reuse_paths::Leaf;
 use reuse_paths::open_leaves::OpenLeaf;

@@ -14,3 +14,12 @@ pub mod Whole
 pub mod Parted
 pub mod Front
 pub mod Counted
+pub mod Adding
+pub mod Exact
+pub mod OneAnswer
+pub mod PowerRows
+pub mod RangeLemmas
+pub mod Ratios
+pub mod TermLemmas
+pub mod Values
+pub mod WithinLimits

@@ -5,3 +5,7 @@ pub mod Antidifference
 pub mod Count
 pub mod CountClaims
 pub mod Exact
+pub mod Ranges
+pub mod Coefficients
+pub mod Summing
+pub mod Made

@@ -91,7 +91,8 @@ fn widened_rows(alloc: Global, vars: usize, system: &System) -> Result<Vec<Form>
 {
     let mut wide = Vec::new(alloc);
     for row in system.rows() {
-        wide.push(widened(alloc, vars, row)?)?;
+        let longer = widened(alloc, vars, row)?;
+        wide.push(longer)?;
     }
     Ok(wide)
 }

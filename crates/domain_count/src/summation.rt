@@ -2,11 +2,12 @@
 
 ghost use Rattle.std.specs.Prelude.{◌≡◌, ◌<◌, IfOk, IfErr};
 ghost use Rattle.affine_form.specs.Form.{IsSmallForm};
-ghost use Rattle.domain_count.specs.Antidifference.{BetweenPasses, DifferencePasses, FailsAs, IsBackwardDifference, IsBetween, IsShifted, IsSubstituted, IsSubtracted, IsSummed, ShiftPasses, SubstitutionPasses, SubtractionPasses, less_one};
+ghost use Rattle.domain_count.specs.Antidifference.{DifferencePasses, FailsAs, IsBackwardDifference, IsShifted, IsSummed, ShiftPasses};
 ghost use Rattle.poly_tree.specs.Poly.{IsLegal};
 ghost use Rattle.iolb_model.specs.declared.limits.TheConstants.{NUMBER_SIZE};
 
-use affine_form::{Form, Memory};
+use crate::operations::{between, subtracted};
+use affine_form::Form;
 use poly_tree::{Poly, PolyFault};
 use std::alloc::Global;
 
@@ -63,19 +64,7 @@ fn backward_difference(alloc: Global, var: u16, sum: &Poly) -> Result<Poly, Poly
     ensures wide { result ≡ Err PolyFault.Wide → DifferencePasses var sum.now }
 {
     let shifted = shift(alloc, var, sum)?;
-    subtract(alloc, sum, &shifted)
-}
-
-/// A polynomial with a variable's upper form for it, minus the polynomial with its lower form less 1.
-fn between(alloc: Global, var: u16, bounds: &(Form, Form), sum: &Poly) -> Result<Poly, PolyFault>
-    requires { IsSmallForm NUMBER_SIZE bounds.now.0 }
-    ensures total { IfOk result (λ total. IsBetween var bounds.now sum.now total) }
-    ensures wide { result ≡ Err PolyFault.Wide → BetweenPasses var bounds.now sum.now }
-{
-    let upper = substitute(alloc, var, &bounds.1, sum)?;
-    let before = less_one(alloc, &bounds.0)?;
-    let lower = substitute(alloc, var, &before, sum)?;
-    subtract(alloc, &upper, &lower)
+    subtracted(alloc, sum, &shifted)
 }
 
 /// A polynomial with `x - 1` for a variable `x`.
@@ -86,33 +75,4 @@ fn shift(alloc: Global, var: u16, sum: &Poly) -> Result<Poly, PolyFault>
     let shifted = sum.shift(alloc, var)?;
     let _den = shifted.den();
     Ok(shifted)
-}
-
-/// A polynomial minus another.
-fn subtract(alloc: Global, a: &Poly, b: &Poly) -> Result<Poly, PolyFault>
-    ensures less { IfOk result (λ less. IsSubtracted a.now b.now less) }
-    ensures wide { result ≡ Err PolyFault.Wide → SubtractionPasses a.now b.now }
-{
-    let less = a.sub(alloc, b)?;
-    let _den = less.den();
-    Ok(less)
-}
-
-/// A polynomial with a form for a variable.
-fn substitute(alloc: Global, var: u16, form: &Form, sum: &Poly) -> Result<Poly, PolyFault>
-    ensures at_form { IfOk result (λ at_form. IsSubstituted var form.now sum.now at_form) }
-    ensures wide { result ≡ Err PolyFault.Wide → SubstitutionPasses var form.now sum.now }
-{
-    let at_form = sum.substitute(alloc, var, form)?;
-    let _den = at_form.den();
-    Ok(at_form)
-}
-
-/// A form less 1.
-fn less_one(alloc: Global, form: &Form) -> Result<Form, Memory>
-    requires { IsSmallForm NUMBER_SIZE form.now }
-    ensures { IfOk result (λ less. less ≡ less_one form.now) }
-{
-    let coef = Vec::from_slice(alloc, form.coef())?;
-    Ok(Form::new(coef, form.constant() - 1))
 }

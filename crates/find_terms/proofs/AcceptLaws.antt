@@ -5,7 +5,7 @@ use Rattle.std.specs.List.{AllByRecursion}
 use Rattle.std.proofs.lemmas.List.{length-map}
 use Rattle.iolb_model.specs.Program.{AffineProgram}
 use Rattle.affine_program.specs.Parts.{ProgramParts, meaning}
-use Rattle.answers.specs.declared.wanted.Wanted.TheVariants.{Short}
+use Rattle.flow_deps.specs.declared.wanted.Wanted.TheVariants.{Short}
 use Rattle.claims.specs.Claims.{AllHold, Claim}
 use Rattle.claims.specs.declared.place.Step.TheVariants.{Key, Index}
 use Rattle.claims.specs.declared.key.TheConstants.{BRANCHES}

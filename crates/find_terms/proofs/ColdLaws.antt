@@ -1,10 +1,10 @@
 -- Cold terms that are shown, by their parts.
 use Rattle.std.proofs.Common.{◌≡◌, sym, ◌∙◌, ◌*◌, [], ◌∷◌, length, map}
 use Rattle.iolb_model.specs.Program.{AffineProgram}
-use Rattle.answers.specs.declared.wanted.Wanted.{Wanted}
-use Rattle.answers.specs.declared.wanted.Wanted.TheVariants.{Short}
-use Rattle.answers.specs.Answers.{Answers, following}
-use Rattle.answers.proofs.AnswerLaws.{follow-short}
+use Rattle.flow_deps.specs.declared.wanted.Wanted.{Wanted}
+use Rattle.flow_deps.specs.declared.wanted.Wanted.TheVariants.{Short}
+use Rattle.flow_deps.specs.Answers.{Answers, following}
+use Rattle.flow_deps.proofs.AnswerLaws.{follow-short}
 use Rattle.claims.specs.declared.place.Step.TheVariants.{Key}
 use Rattle.claims.specs.declared.key.TheConstants.{INSIDE, LEAVES}
 use Rattle.dep_quast.specs.Claims.{IsFew}

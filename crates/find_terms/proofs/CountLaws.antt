@@ -7,23 +7,23 @@ use Rattle.base_laws.proofs.Lists.{All-append, All-at}
 use Rattle.iolb_model.specs.Form.{AffineForm}
 use Rattle.iolb_model.specs.Program.{AffineProgram}
 use Rattle.affine_form.specs.Multipliers.{FarkasMultipliers}
-use Rattle.answers.specs.declared.wanted.Wanted.{Wanted}
-use Rattle.answers.specs.declared.wanted.Wanted.TheVariants.{Short}
-use Rattle.answers.specs.Answers.{AreAnswered, Answers, HasNoShort, IsAnswered, IsAsShort, Question, following}
-use Rattle.answers.proofs.AnswerLaws.{answers-name}
+use Rattle.flow_deps.specs.declared.wanted.Wanted.{Wanted}
+use Rattle.flow_deps.specs.declared.wanted.Wanted.TheVariants.{Short}
+use Rattle.flow_deps.specs.Answers.{AreAnswered, Answers, HasNoShort, IsAnswered, IsAsShort, Question, following}
+use Rattle.flow_deps.proofs.AnswerLaws.{answers-name}
 use Rattle.claims.specs.Claims.{AllHold, numbered}
 use Rattle.claims.specs.declared.place.Step.{Step}
 use Rattle.dep_quast.specs.Claims.{IsFew}
 use Rattle.domain_count.specs.Count.{AreShownBelow, ShowsRange, bounds_at, multipliers_at, range_goal, rows_before}
 use Rattle.int_sets.specs.ShortList.{HasShortList, IsShort}
 use Rattle.domain_count.specs.Claims.{SumClaims}
-use Rattle.nest_sums.proofs.RangeLemmas.{shown-more}
-use Rattle.nest_sums.proofs.WithinLimits.{count-stays, made-one}
+use Rattle.domain_count.proofs.RangeLemmas.{shown-more}
+use Rattle.domain_count.proofs.WithinLimits.{count-stays, made-one}
 use Rattle.poly_tree.specs.Poly.{Quotient}
 use Rattle.part_fit.specs.Limits.{NamesRows}
 use Rattle.part_fit.specs.PartFit.{polynomials_fit, sum_at}
-use Rattle.nest_sums.specs.Made.{AreMade, CheckPasses}
-use Rattle.nest_sums.specs.Ranges.{AreRight, IsFirstNotShown}
+use Rattle.domain_count.specs.Made.{AreMade, CheckPasses}
+use Rattle.domain_count.specs.Ranges.{AreRight, IsFirstNotShown}
 use Rattle.find_terms.specs.Counted.{AreCounted, AreRanges, FindsRanges, HasShortRange}
 use Rattle.cold_terms.specs.Held.{ArePolynomials}
 

@@ -6,3 +6,7 @@ pub mod PlainLaws
 pub mod TermLaws
 pub mod ReadLaws
 pub mod AcceptLaws
+pub mod Standing
+pub mod Opened
+pub mod Rows
+pub mod OfProjective

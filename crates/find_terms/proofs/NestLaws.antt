@@ -12,8 +12,8 @@ use Rattle.iolb_model.specs.declared.limits.TheConstants.{NUMBER_SIZE}
 use Rattle.affine_form.specs.Form.{variables, IsSmall, IsSmallForm}
 use Rattle.affine_form.specs.Rows.{BoundsFit, IsSmallOver, step_of, variable, widened}
 use Rattle.affine_form.proofs.RowLemmas.{length-widened}
-use Rattle.answers.proofs.AnswerLaws.{All-left, All-right}
-use Rattle.shown_leaves.proofs.SmallForms.{variable-small}
+use Rattle.flow_deps.proofs.AnswerLaws.{All-left, All-right}
+use Rattle.flow_deps.proofs.SmallForms.{variable-small}
 use Rattle.part_fit.specs.Limits.{AreSmall}
 use Rattle.find_terms.specs.Found.{FarFits, IsSmallNest}
 use Rattle.find_terms.specs.Openings.{NestSoFar, at_values, into_loop, is_named, nest_along, same_loop, width, with_first, with_variable}

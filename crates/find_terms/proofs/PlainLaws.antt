@@ -4,7 +4,7 @@ use Rattle.std.specs.Prelude.{⊤}
 use Rattle.iolb_model.specs.Form.{AffineForm}
 use Rattle.iolb_model.specs.Program.{AffineProgram}
 use Rattle.iolb_model.specs.declared.limits.TheConstants.{TREE_TESTS}
-use Rattle.answers.specs.declared.wanted.Wanted.{Wanted}
+use Rattle.flow_deps.specs.declared.wanted.Wanted.{Wanted}
 use Rattle.claims.specs.Claims.{AllHold}
 use Rattle.claims.specs.declared.place.Step.TheVariants.{Key}
 use Rattle.claims.specs.declared.key.TheConstants.{LEAVES}
@@ -13,10 +13,10 @@ use Rattle.dep_quast.specs.Tree.{source, input, empty, blank, SelectionTree, lea
 use Rattle.domain_count.specs.CountClaims.{count_claims}
 use Rattle.flow_deps.specs.declared.candidate.Candidate.{Candidate}
 use Rattle.flow_deps.specs.declared.candidate.Candidate.TheVariants.{NoWrite, SameTurn, TurnBefore}
-use Rattle.shown_leaves.specs.Shapes.{Shape, shape_of, no_write, last_write, other, split}
+use Rattle.flow_deps.specs.Shapes.{Shape, shape_of, no_write, last_write, other, split}
 use Rattle.flow_deps.specs.Candidates.{candidate_shape, candidates}
 use Rattle.flow_deps.specs.Plain.{IsFirstShown, IsPlain}
-use Rattle.shown_leaves.specs.Shown.{Stands}
+use Rattle.flow_deps.specs.Shown.{Stands}
 use Rattle.reuse_paths.specs.OpenLeaves.{OpenLeaf, TestsFit, as_input, form_at, no_at, open_leaves, written}
 use Rattle.reuse_paths.proofs.OpenLeaves.{tests-fit}
 use Rattle.wavefront.specs.declared.cold.Cold.{Cold}

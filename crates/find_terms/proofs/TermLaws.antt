@@ -4,7 +4,7 @@ use Rattle.std.specs.Prelude.{Option, Some, None}
 use Rattle.iolb_model.specs.Program.{AffineProgram}
 use Rattle.iolb_model.specs.declared.limits.TheConstants.{NEST_VARIABLES}
 use Rattle.affine_program.specs.Domain.{path_of, depth_of}
-use Rattle.answers.specs.declared.wanted.Wanted.TheVariants.{Short}
+use Rattle.flow_deps.specs.declared.wanted.Wanted.TheVariants.{Short}
 use Rattle.dep_quast.specs.Context.{ReadOf, reference_of, variables_at}
 use Rattle.dep_quast.specs.Tree.{SelectionTree}
 use Rattle.dep_quast.specs.Truth.{ReadFits}

@@ -6,12 +6,12 @@ use Rattle.iolb_model.specs.Form.{AffineForm}
 use Rattle.iolb_model.specs.Program.{AffineProgram}
 use Rattle.affine_form.specs.declared.multipliers.Multipliers.{Multipliers}
 use Rattle.affine_form.specs.Multipliers.{FarkasMultipliers}
-use Rattle.answers.specs.declared.wanted.Wanted.{Wanted}
-use Rattle.answers.specs.declared.wanted.Wanted.TheVariants.{Short}
-use Rattle.answers.specs.Answers.{IsAsShort}
+use Rattle.flow_deps.specs.declared.wanted.Wanted.{Wanted}
+use Rattle.flow_deps.specs.declared.wanted.Wanted.TheVariants.{Short}
+use Rattle.flow_deps.specs.Answers.{IsAsShort}
 use Rattle.int_sets.specs.ShortList.{HasShortList}
 use Rattle.cold_terms.specs.Held.{ArePolynomials}
-use Rattle.nest_sums.specs.Made.{AreMade}
+use Rattle.domain_count.specs.Made.{AreMade}
 use Rattle.domain_count.specs.Claims.{SumClaims}
 use Rattle.domain_count.specs.Count.{AreShownBelow, IsCount, bounds_at, range_goal, rows_before}
 use Rattle.poly_tree.specs.Poly.{Quotient}

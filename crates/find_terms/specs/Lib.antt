@@ -3,3 +3,7 @@ pub mod Shown
 pub mod Openings
 pub mod Found
 pub mod Accepted
+pub mod Trees
+pub mod AcceptedCertificates
+pub mod Opened
+pub mod Made

@@ -2,13 +2,13 @@
 use Rattle.std.specs.Prelude.{◌≡◌, List, length, map, Option, Some, None}
 use Rattle.std.specs.List.{AllByRecursion}
 use Rattle.iolb_model.specs.Program.{AffineProgram}
-use Rattle.answers.specs.declared.wanted.Wanted.{Wanted}
-use Rattle.answers.specs.declared.wanted.Wanted.TheVariants.{Short}
-use Rattle.answers.specs.Answers.{IsAsShort}
+use Rattle.flow_deps.specs.declared.wanted.Wanted.{Wanted}
+use Rattle.flow_deps.specs.declared.wanted.Wanted.TheVariants.{Short}
+use Rattle.flow_deps.specs.Answers.{IsAsShort}
 use Rattle.claims.specs.Claims.{AllHold}
 use Rattle.claims.specs.declared.place.Step.{Step}
 use Rattle.dep_quast.specs.Tree.{SelectionTree}
-use Rattle.nest_sums.specs.Made.{AreMade}
+use Rattle.domain_count.specs.Made.{AreMade}
 use Rattle.reuse_paths.specs.LeafClaims.{claim_of}
 use Rattle.wavefront.specs.declared.cold.Cold.{Cold}
 use Rattle.wavefront.specs.ColdClaims.{cold_claims}

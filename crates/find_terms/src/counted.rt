@@ -3,7 +3,7 @@
 ghost use Rattle.std.specs.Prelude.{◌≡◌, ◌+◌, ◌≤◌, ◌<◌, [], ◌∷◌, length, IfOk, OnOk, MatchOption, IsTrue, ◌↔◌};
 ghost use Rattle.affine_form.specs.Rows.{BoundsFit, IsSmallOver};
 ghost use Rattle.affine_program.specs.Parts.{meaning};
-ghost use Rattle.answers.specs.Answers.{Answers, HasNoShort, following};
+ghost use Rattle.flow_deps.specs.Answers.{Answers, HasNoShort, following};
 ghost use Rattle.dep_quast.specs.Claims.{IsFew};
 ghost use Rattle.domain_count.specs.Count.{rows_before, range_goal};
 ghost use Rattle.cold_terms.specs.Held.{ArePolynomials};
@@ -12,10 +12,9 @@ ghost use Rattle.iolb_model.specs.declared.limits.TheConstants.{NEST_VARIABLES, 
 
 use affine_form::{Form, Memory, Multipliers, difference};
 use affine_program::Program;
-use answers::{Wanted, goals_answered, with_answers};
 use claims::{Place, key};
-use domain_count::{Nest, Sums, rows_before};
-use nest_sums::{CountFault, make_count};
+use domain_count::{CountFault, Nest, Sums, make_count, rows_before};
+use flow_deps::{Wanted, goals_answered, with_answers};
 use part_fit::lists::polynomials_misfit;
 use part_fit::part_limits::are_small_polynomials;
 use poly_tree::Poly;

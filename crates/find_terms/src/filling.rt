@@ -11,10 +11,10 @@ ghost use Rattle.find_terms.specs.Shown.{FindsCold};
 use crate::counted::counted;
 use affine_form::Memory;
 use affine_program::Program;
-use answers::Wanted;
 use cold_terms::Outline;
 use cold_terms::outlined::{cells_undone, inside_answered, leaves_closed};
 use dep_quast::Quast;
+use flow_deps::Wanted;
 use std::alloc::Global;
 use wavefront::Cold;
 

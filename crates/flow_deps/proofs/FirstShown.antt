@@ -10,12 +10,12 @@ use Rattle.dep_quast.specs.Context.{ReadOf}
 use Rattle.dep_quast.specs.Tree.{SelectionTree, leaf_count}
 use Rattle.flow_deps.specs.declared.candidate.Candidate.{Candidate}
 use Rattle.flow_deps.specs.declared.candidate.Candidate.TheVariants.{NoWrite, SameTurn, TurnBefore}
-use Rattle.answers.specs.declared.wanted.Wanted.TheVariants.{Short}
-use Rattle.shown_leaves.specs.Shapes.{Shape}
+use Rattle.flow_deps.specs.declared.wanted.Wanted.TheVariants.{Short}
+use Rattle.flow_deps.specs.Shapes.{Shape}
 use Rattle.flow_deps.specs.Candidates.{candidate_shape, candidates}
-use Rattle.shown_leaves.specs.Shown.{IsShown, IsNotShown, Stands}
+use Rattle.flow_deps.specs.Shown.{IsShown, IsNotShown, Stands}
 use Rattle.flow_deps.specs.Plain.{IsFirstShown, IsPlain}
-use Rattle.shown_leaves.proofs.ShownTrees.{shape_leaves, leaves-of_shape}
+use Rattle.flow_deps.proofs.ShownTrees.{shape_leaves, leaves-of_shape}
 
 module _ (program : AffineProgram) (reader : ReadOf) (shapes : List Shape) (i : ℕ) (shape : Shape) (below : i < length shapes) (is : shape ≡ get_or shapes i shape) where
   -- what is found first from a shape on, where none before is shown, is found first of all

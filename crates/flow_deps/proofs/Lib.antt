@@ -1,3 +1,10 @@
+pub mod AnswerLaws
+pub mod SmallForms
+pub mod Moved
+pub mod ShownLeaves
+pub mod StandingLaws
+pub mod ShownTrees
+pub mod StandingTrees
 pub mod PointLaws
 pub mod CandidateLaws
 pub mod GrownLaws

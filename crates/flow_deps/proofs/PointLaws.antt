@@ -11,7 +11,7 @@ use Rattle.iolb_model.specs.Program.{AffineProgram}
 use Rattle.affine_form.specs.Rows.{IsSmallOver, BoundsFit, step_of}
 use Rattle.affine_form.specs.declared.form.Form.{Form}
 use Rattle.dep_quast.specs.Context.{ReadOf, variables_at}
-use Rattle.answers.proofs.AnswerLaws.{All-left, All-right}
+use Rattle.flow_deps.proofs.AnswerLaws.{All-left, All-right}
 use Rattle.flow_deps.specs.Candidates.{subscript_for, is_name, loop_value, values_along, point_from, FindsPoint}
 
 -- ---- subscripts

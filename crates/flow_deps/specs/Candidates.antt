@@ -15,7 +15,7 @@ use Rattle.affine_form.specs.Substitution.{substitution}
 use Rattle.affine_program.specs.Domain.{path_of, depth_of}
 use Rattle.dep_quast.specs.Context.{ReadOf, reference_of, variables_at, parameter_point}
 use Rattle.dep_quast.specs.Levels.{writers, IsWriter}
-use Rattle.shown_leaves.specs.Shapes.{Shape, no_write, last_write, split}
+use Rattle.flow_deps.specs.Shapes.{Shape, no_write, last_write, split}
 use Rattle.flow_deps.specs.declared.candidate.Candidate.{Candidate}
 use Rattle.flow_deps.specs.declared.candidate.Candidate.TheVariants.{NoWrite, SameTurn, TurnBefore}
 

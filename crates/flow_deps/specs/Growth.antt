@@ -6,7 +6,7 @@ use Rattle.iolb_model.specs.Program.{AffineProgram}
 use Rattle.affine_form.specs.Rows.{IsSmallOver}
 use Rattle.dep_quast.specs.Context.{ReadOf, variables_at}
 use Rattle.dep_quast.specs.Tree.{tree_of}
-use Rattle.shown_leaves.specs.Shown.{IsLeafUnder}
+use Rattle.flow_deps.specs.Shown.{IsLeafUnder}
 use Rattle.flow_deps.specs.declared.growth.Guarded.{Guarded}
 
 -- a leaf stands under tests and its guards, which are small forms, at most so many

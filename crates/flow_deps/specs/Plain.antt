@@ -4,9 +4,9 @@ use Rattle.iolb_model.specs.Program.{AffineProgram}
 use Rattle.dep_quast.specs.Context.{ReadOf}
 use Rattle.dep_quast.specs.Tree.{SelectionTree}
 use Rattle.iolb_model.specs.declared.limits.TheConstants.{TREE_TESTS}
-use Rattle.answers.specs.declared.wanted.Wanted.TheVariants.{Short}
-use Rattle.shown_leaves.specs.Shapes.{Shape}
-use Rattle.shown_leaves.specs.Shown.{IsShown, IsNotShown}
+use Rattle.flow_deps.specs.declared.wanted.Wanted.TheVariants.{Short}
+use Rattle.flow_deps.specs.Shapes.{Shape}
+use Rattle.flow_deps.specs.Shown.{IsShown, IsNotShown}
 use Rattle.flow_deps.specs.Candidates.{candidates, candidate_shape}
 
 -- a tree of the first of these shapes that short lists show

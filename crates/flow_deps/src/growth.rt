@@ -13,25 +13,26 @@ ghost use Rattle.dep_quast.specs.Truth.{ReadFits, IsThere};
 ghost use Rattle.dep_quast.specs.Views.{claim_of, read_of};
 ghost use Rattle.flow_deps.specs.Origins.{OriginFits};
 ghost use Rattle.flow_deps.specs.Growth.{IsGuarded};
-ghost use Rattle.shown_leaves.specs.Shown.{IsLeafUnder};
-ghost use Rattle.shown_leaves.specs.Shown.{Stands};
+ghost use Rattle.flow_deps.specs.Shown.{IsLeafUnder};
+ghost use Rattle.flow_deps.specs.Shown.{Stands};
 ghost use Rattle.iolb_model.specs.declared.limits.TheConstants.{TREE_TESTS, TREE_LEAVES};
 
+use crate::answers::is_answered;
+use crate::leaves::{has_no_point, source_leaf, sure_leaf, unshown};
 use crate::origins::Origin;
+use crate::rows::{
+    context_rows, precedence_rows, tests_of_no, tests_of_yes, values_of_reader, written_rows,
+};
 use crate::solved::solved_point;
+use crate::wanted::Wanted;
 use affine_form::{Form, Memory, system_of};
 use affine_program::{Program, is_small_form};
-use answers::{Wanted, is_answered};
 use dep_quast::Quast;
 use dep_quast::claimed::Claimed;
 use dep_quast::lists::followed_by;
 use dep_quast::point_rows::domain_rows;
 use dep_quast::reader::{Reader, variables};
 use iolb_model::limits;
-use shown_leaves::leaves::{has_no_point, source_leaf, sure_leaf, unshown};
-use shown_leaves::rows::{
-    context_rows, precedence_rows, tests_of_no, tests_of_yes, values_of_reader, written_rows,
-};
 use std::alloc::Global;
 
 /// What a source claims of its point: that it is in its statement's domain, comes before the reader and writes the cell.

@@ -11,22 +11,22 @@ ghost use Rattle.dep_quast.specs.Context.{reference_of, variables_at};
 ghost use Rattle.dep_quast.specs.Levels.{IsWriter};
 ghost use Rattle.dep_quast.specs.Truth.{ReadFits, IsThere};
 ghost use Rattle.dep_quast.specs.Views.{claim_of, read_of};
-ghost use Rattle.answers.specs.declared.wanted.Wanted.TheVariants.{Short};
-ghost use Rattle.shown_leaves.specs.Shapes.{last_write, no_write, split};
+ghost use Rattle.flow_deps.specs.declared.wanted.Wanted.TheVariants.{Short};
+ghost use Rattle.flow_deps.specs.Shapes.{last_write, no_write, split};
 ghost use Rattle.flow_deps.specs.Candidates.{first_values, turn_before, later_turn, candidate_shape, CandidateFits, FindsPoint};
-ghost use Rattle.shown_leaves.specs.Shown.{FindsTree};
+ghost use Rattle.flow_deps.specs.Shown.{FindsTree};
 ghost use Rattle.iolb_model.specs.declared.limits.TheConstants.{TREE_TESTS};
 
 use crate::candidate::Candidate;
+use crate::leaves::{input_leaf, source_leaf, unshown};
 use crate::points::{bounds_at, point_from};
+use crate::rows::{tests_of_no, tests_of_yes};
+use crate::wanted::Wanted;
 use affine_form::{Form, Memory, difference, variable, variables_from};
 use affine_program::{Program, is_small_form};
-use answers::Wanted;
 use dep_quast::Quast;
 use dep_quast::claimed::Claimed;
 use dep_quast::reader::{Reader, variables};
-use shown_leaves::leaves::{input_leaf, source_leaf, unshown};
-use shown_leaves::rows::{tests_of_no, tests_of_yes};
 use std::alloc::Global;
 
 /// The reader's values of its first loops.

@@ -16,11 +16,11 @@ ghost use Rattle.iolb_model.specs.declared.limits.TheConstants.{VARIABLES};
 use crate::origins::Origin;
 use crate::planted::{first_values, turn_before};
 use crate::points::{bounds_at, last_value};
+use crate::rows::written_rows;
 use affine_form::{Form, Memory};
 use affine_program::{Program, is_small_form};
 use dep_quast::lists::followed_by;
 use dep_quast::reader::{Reader, depth, variables, written};
-use shown_leaves::rows::written_rows;
 use std::alloc::Global;
 
 /// 1 or -1 where that is a form's coefficient at a variable and all later ones are 0; else 0.

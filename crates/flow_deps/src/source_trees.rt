@@ -5,7 +5,7 @@ ghost use Rattle.affine_program.specs.Parts.{meaning};
 ghost use Rattle.dep_quast.specs.Tree.{SelectionTree, leaf_count, tree_of};
 ghost use Rattle.dep_quast.specs.Truth.{ReadFits};
 ghost use Rattle.flow_deps.specs.Plain.{IsPlain};
-ghost use Rattle.shown_leaves.specs.Shown.{Stands};
+ghost use Rattle.flow_deps.specs.Shown.{Stands};
 ghost use Rattle.iolb_model.specs.declared.limits.TheConstants.{TREE_TESTS, TREE_LEAVES};
 
 use crate::growth::grown;

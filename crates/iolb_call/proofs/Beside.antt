@@ -6,8 +6,8 @@ use Rattle.iolb_model.specs.Graph.{computation_graph}
 use Rattle.iolb_model.specs.Program.{AffineProgram}
 use Rattle.command_words.specs.Requests.{Request, Work, judges, evaluates, replays, request_of}
 use Rattle.command_words.specs.Sizes.{values_for}
-use Rattle.replay_call.specs.Laws.{PlaysAreComplete}
-use Rattle.replay_call.proofs.Refusals.{same_some}
+use Rattle.tile_sched.specs.ReplayLaws.{PlaysAreComplete}
+use Rattle.tile_sched.proofs.Refusals.{same_some}
 use Rattle.iolb_call.specs.Headline.{IsDoneAsAsked, IsLowerBoundPrinted, IsPlayPrinted, IsPrinted}
 use Rattle.iolb_call.specs.Laws.{BoundsAreBelowPlays}
 use Rattle.iolb_call.specs.Stop.{Call, HoldsProgram}

@@ -38,11 +38,11 @@ use Rattle.tile_sched.specs.declared.error.SchedFault.{SchedFault}
 use Rattle.tile_sched.specs.declared.schedule.Key.{Key}
 use Rattle.tile_sched.specs.OneSchedule.{IsTextFault as IsScheduleFault, TextsHaveOneSchedule}
 use Rattle.tile_sched.specs.Texts.{IsTextOf as IsScheduleOf}
-use Rattle.replay_call.proofs.Refusals.{first_one, met_first, none_some, same_some}
-use Rattle.replay_call.specs.Laws.{OrdersAreOne, PlayedOrRefused, RefusalsAreOne as UnplayedAreOne}
-use Rattle.replay_call.specs.Lines.{play_text}
-use Rattle.replay_call.specs.Plays.{CanBePlayed, IsUnplayed}
-use Rattle.replay_call.specs.declared.unplayed.Unplayed.{Unplayed as NoPlay}
+use Rattle.tile_sched.proofs.Refusals.{first_one, met_first, none_some, same_some}
+use Rattle.tile_sched.specs.ReplayLaws.{PlayedOrdersAreOne, PlayedOrRefused, UnplayedAreOne}
+use Rattle.tile_sched.specs.Lines.{play_text}
+use Rattle.tile_sched.specs.Plays.{CanBePlayed, IsUnplayed}
+use Rattle.tile_sched.specs.declared.unplayed.Unplayed.{Unplayed as NoPlay}
 use Rattle.command_words.specs.Sizes.{NamedSize}
 
 -- What the crates below say: texts, conditions and schedules have one answer.
@@ -54,7 +54,7 @@ pub record AreExact : Type 0 where
   pub one_values : ValidCertificatesGiveOne
   pub one_refusal : RefusalsAreOne
   pub schedules : TextsHaveOneSchedule
-  pub one_order : OrdersAreOne
+  pub one_order : PlayedOrdersAreOne
   pub one_unplayed : UnplayedAreOne
   pub played_or_refused : PlayedOrRefused
 

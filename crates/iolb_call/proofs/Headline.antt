@@ -8,7 +8,7 @@ use Rattle.iolb_model.specs.Headline.{BoundHolds}
 use Rattle.iolb_model.specs.Program.{AffineProgram}
 use Rattle.command_words.specs.Requests.{Request, Task, checks, evaluates, Work, judges, replays, bounds}
 use Rattle.command_words.specs.Sizes.{NamedSize, times, value_for, values_for}
-use Rattle.replay_call.specs.Laws.{PlaysAreComplete}
+use Rattle.tile_sched.specs.ReplayLaws.{PlaysAreComplete}
 use Rattle.iolb_check.specs.declared.bound.Value.{Value}
 use Rattle.iolb_call.specs.declared.status.Status.{Status}
 use Rattle.iolb_call.specs.declared.status.Status.TheVariants.{Done}

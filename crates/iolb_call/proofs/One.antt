@@ -14,8 +14,8 @@ use Rattle.iolb_call.specs.declared.status.Status.TheVariants.{Done, Refused, Wo
 use Rattle.iolb_call.specs.declared.stop.Stop.{Stop}
 use Rattle.iolb_call.specs.Laws.{IsUndisturbed, OutcomesAreOne, HasAnswer, PrintsBound, ValidCertificatesPass, OthersNeverPass, PlayableSchedulesPass, ReadableProgramsHaveCertificates, WriteAlike}
 use Rattle.iolb_call.specs.Outcome.{IsStopped, Outcome}
-use Rattle.replay_call.specs.Lines.{play_text}
-use Rattle.replay_call.proofs.Refusals.{same_some}
+use Rattle.tile_sched.specs.Lines.{play_text}
+use Rattle.tile_sched.proofs.Refusals.{same_some}
 use Rattle.iolb_call.specs.Replays.{HoldsSchedule, moves_at}
 use Rattle.iolb_call.specs.Stop.{HoldsProgram, HoldsCertificate, IsAnswered, IsGoodFor, IsWorkDone, stop_status, Call, Stops}
 use Rattle.iolb_call.specs.Task.{IsAnswer, bound_with}

@@ -7,8 +7,8 @@ use Rattle.iolb_host.specs.Files.{FileMap}
 use Rattle.command_words.specs.Sizes.{NamedSize, values_for}
 use Rattle.pebble_replay.specs.Played.{played}
 use Rattle.tile_sched.specs.declared.schedule.Key.{Key}
-use Rattle.replay_call.specs.Lines.{play_text}
-use Rattle.replay_call.specs.Plays.{IsPlayOf, Setting, moves_of}
+use Rattle.tile_sched.specs.Lines.{play_text}
+use Rattle.tile_sched.specs.Plays.{IsPlayOf, Setting, moves_of}
 use Rattle.iolb_call.specs.Replays.{HoldsSchedule, IsReplayed}
 
 -- a play answers a replay

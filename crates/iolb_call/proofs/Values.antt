@@ -6,7 +6,7 @@ use Rattle.iolb_check.specs.declared.bound.Value.{Value}
 use Rattle.iolb_check.specs.declared.value_fault.ValueFault.{ValueFault}
 use Rattle.iolb_check.specs.declared.value_fault.ValueFault.TheVariants.{OutsideAssumption, Wide}
 use Rattle.iolb_check.specs.Bounds.{BoundParts, EvaluatesBranch, HasWideBranch, IsWideBranch, terms_of}
-use Rattle.replay_call.proofs.Refusals.{met_first}
+use Rattle.tile_sched.proofs.Refusals.{met_first}
 use Rattle.iolb_call.specs.Values.{branch_value_lines}
 use Rattle.iolb_cert.proofs.Branches.{drop_get, terms-at}
 

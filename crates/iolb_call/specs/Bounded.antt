@@ -3,7 +3,7 @@ use Rattle.std.specs.Prelude.{◌≡◌, ℕ, List}
 use Rattle.iolb_model.specs.Headline.{BoundHolds}
 use Rattle.iolb_model.specs.Printed.{bound_text}
 use Rattle.iolb_model.specs.Program.{AffineProgram}
-use Rattle.bound_maker.specs.Made.{IsMadeFor}
+use Rattle.find_terms.specs.Made.{IsMadeFor}
 use Rattle.iolb_cert.specs.OneCertificate.{HasCertificate}
 use Rattle.iolb_check.specs.Claims.{CertificateClaim, claim_of_certificate}
 use Rattle.iolb_check.specs.Conditions.{MeetsConditions}

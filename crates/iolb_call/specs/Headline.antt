@@ -14,7 +14,7 @@ use Rattle.command_words.specs.Sizes.{NamedSize, values_for}
 use Rattle.pebble_replay.specs.Played.{played}
 use Rattle.tile_sched.specs.declared.schedule.Key.{Key}
 use Rattle.tile_sched.specs.Order.{IsOrder, said}
-use Rattle.replay_call.specs.Lines.{play_text}
+use Rattle.tile_sched.specs.Lines.{play_text}
 use Rattle.iolb_check.specs.declared.bound.Value.{Value}
 use Rattle.iolb_call.specs.Bounded.{IsOfMaker}
 use Rattle.iolb_call.specs.Replays.{HoldsSchedule}

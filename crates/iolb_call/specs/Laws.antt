@@ -14,8 +14,8 @@ use Rattle.iolb_host.specs.Files.{FileMap}
 use Rattle.iolb_call.specs.declared.status.Status.{Status}
 use Rattle.iolb_call.specs.declared.status.Status.TheVariants.{Done, NoMemory}
 use Rattle.tile_sched.specs.declared.schedule.Key.{Key}
-use Rattle.replay_call.specs.Lines.{play_text}
-use Rattle.replay_call.specs.Plays.{CanBePlayed}
+use Rattle.tile_sched.specs.Lines.{play_text}
+use Rattle.tile_sched.specs.Plays.{CanBePlayed}
 use Rattle.iolb_call.specs.Bounded.{IsBounded}
 use Rattle.iolb_call.specs.Outcome.{Outcome}
 use Rattle.iolb_call.specs.Replays.{HoldsSchedule}

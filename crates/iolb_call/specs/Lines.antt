@@ -6,8 +6,8 @@ use Rattle.affine_c.specs.declared.fault.ProgramFault.{ProgramFault}
 use Rattle.claims.specs.declared.place.Step.{Step}
 use Rattle.cert_parts.specs.declared.error.CertFault.{CertFault}
 use Rattle.tile_sched.specs.declared.error.SchedFault.{SchedFault}
-use Rattle.replay_call.specs.declared.unplayed.Unplayed.{Unplayed as NoPlay}
-use Rattle.replay_call.specs.declared.unplayed.Unplayed.TheVariants.{Assumption, TooMany, OutOfOrder, TooSmall}
+use Rattle.tile_sched.specs.declared.unplayed.Unplayed.{Unplayed as NoPlay}
+use Rattle.tile_sched.specs.declared.unplayed.Unplayed.TheVariants.{Assumption, TooMany, OutOfOrder, TooSmall}
 use Rattle.iolb_call.specs.PointerText.{pointer_text}
 
 -- the usage text

@@ -8,8 +8,8 @@ use Rattle.command_words.specs.Sizes.{NamedSize, values_for}
 use Rattle.pebble_replay.specs.Played.{played}
 use Rattle.tile_sched.specs.declared.schedule.Key.{Key}
 use Rattle.tile_sched.specs.Texts.{IsTextOf}
-use Rattle.replay_call.specs.Lines.{play_text}
-use Rattle.replay_call.specs.Plays.{CanBePlayed}
+use Rattle.tile_sched.specs.Lines.{play_text}
+use Rattle.tile_sched.specs.Plays.{CanBePlayed}
 use Rattle.iolb_call.specs.Reading.{IsContent}
 
 -- a schedule file has at most 1 MiB

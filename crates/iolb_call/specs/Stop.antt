@@ -30,8 +30,8 @@ use Rattle.iolb_check.specs.Conditions.{MeetsConditions, conditions}
 use Rattle.claims.specs.Claims.{FirstFails}
 use Rattle.tile_sched.specs.declared.schedule.Key.{Key}
 use Rattle.tile_sched.specs.OneSchedule.{IsTextFault as IsScheduleFault}
-use Rattle.replay_call.specs.declared.unplayed.Unplayed.{Unplayed as NoPlay}
-use Rattle.replay_call.specs.Plays.{IsUnplayed}
+use Rattle.tile_sched.specs.declared.unplayed.Unplayed.{Unplayed as NoPlay}
+use Rattle.tile_sched.specs.Plays.{IsUnplayed}
 
 -- a program file has at most 4 MiB, and a certificate file at most 64 MiB
 abbrev pub program_most : ℕ

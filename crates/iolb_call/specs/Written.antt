@@ -1,8 +1,8 @@
 -- What a write at the end of a call leaves.
 use Rattle.std.specs.Prelude.{◌≡◌, ⊤, ℕ, ◌⊎◌, List, []}
 use Rattle.command_words.specs.Requests.{Work, judges, replays, bounds}
-use Rattle.replay_call.specs.Lines.{play_text}
-use Rattle.replay_call.specs.Plays.{moves_of}
+use Rattle.tile_sched.specs.Lines.{play_text}
+use Rattle.tile_sched.specs.Plays.{moves_of}
 use Rattle.iolb_call.specs.declared.answered.Answer.{Answer}
 use Rattle.iolb_call.specs.declared.answered.Answer.TheVariants.{Text, Lines, Bound}
 use Rattle.iolb_call.specs.declared.status.Status.{Status}

@@ -1,6 +1,6 @@
 //! What a command is answered with.
 
-use replay_call::Play;
+use tile_sched::Play;
 
 /// What is written where a command is done.
 #[derive(Drop)]

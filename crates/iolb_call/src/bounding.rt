@@ -10,7 +10,7 @@ use crate::answered::Answer;
 use crate::stop::Stop;
 use affine_form::Memory;
 use affine_program::Program;
-use bound_maker::made;
+use find_terms::made;
 use iolb_cert::bound_text;
 use std::alloc::Global;
 

@@ -14,8 +14,8 @@ use crate::stop::Stop;
 use crate::writing::{no_memory, write_answer, write_line};
 use command_words::command_of;
 use iolb_host::{Files, Sink};
-use replay_call::replays_are_one;
 use std::alloc::Global;
+use tile_sched::replays_are_one;
 
 /// Writes why a request about these two files stops.
 fn stopped<E: Sink>(alloc: Global, program: &str, second: &str, stop: &Stop, err: &mut E) -> Status

@@ -5,8 +5,7 @@ ghost use Rattle.iolb_call.specs.Laws.{BoundsAreBelowPlays, OthersNeverPass, Out
 use affine_c::texts_mean_one_program;
 use iolb_cert::{texts_have_one_answer, texts_have_one_certificate};
 use iolb_check::law::answers_are_exact;
-use replay_call::replays_are_one;
-use tile_sched::schedules_are_one;
+use tile_sched::{replays_are_one, schedules_are_one};
 
 /// A law of `run`'s outcomes, over files that tell what they hold. Two outcomes of one call in which no read and no write
 /// failed, and that aren't want of memory, have the same status, and the output and the standard error have gained the

@@ -11,9 +11,8 @@ use affine_form::Memory;
 use claims::{No, Place};
 use iolb_cert::CertFault;
 use iolb_host::FileFault;
-use replay_call::Unplayed;
 use std::alloc::Global;
-use tile_sched::SchedFault;
+use tile_sched::{SchedFault, Unplayed};
 
 const USAGE: &[u8] =
     b"usage: iolb check PROGRAM CERTIFICATE\n       iolb bound PROGRAM\n       iolb eval PROGRAM CERTIFICATE S NAME=NUMBER...\n       iolb replay PROGRAM SCHEDULE S NAME=NUMBER...\n       iolb sample N\n";

@@ -6,8 +6,8 @@ ghost use Rattle.affine_form.specs.Form.{IsSmall};
 ghost use Rattle.affine_program.specs.Parts.{meaning};
 ghost use Rattle.command_words.specs.Sizes.{NamedSize, values_for};
 ghost use Rattle.iolb_host.specs.Files.{FileMap};
-ghost use Rattle.replay_call.specs.Lines.{play_text};
-ghost use Rattle.replay_call.specs.Plays.{moves_of};
+ghost use Rattle.tile_sched.specs.Lines.{play_text};
+ghost use Rattle.tile_sched.specs.Plays.{moves_of};
 ghost use Rattle.iolb_call.specs.Reading.{IsContent};
 ghost use Rattle.iolb_call.specs.Replays.{IsReplayed, schedule_most};
 ghost use Rattle.iolb_call.specs.Stop.{ScheduleStop};
@@ -15,9 +15,8 @@ ghost use Rattle.iolb_model.specs.declared.limits.TheConstants.{VALUE_SIZE};
 
 use crate::stop::Stop;
 use affine_program::Program;
-use replay_call::{Play, PlayFault};
 use std::alloc::Global;
-use tile_sched::{SchedError, read_schedule};
+use tile_sched::{Play, PlayFault, SchedError, read_schedule};
 
 /// Reads a schedule from its text, and makes it ready to be played at the sizes with `s` red pebbles.
 pub(crate) fn readied(

@@ -8,8 +8,7 @@ use affine_c::ProgramFault;
 use claims::No;
 use iolb_cert::CertFault;
 use iolb_host::FileFault;
-use replay_call::Unplayed;
-use tile_sched::SchedFault;
+use tile_sched::{SchedFault, Unplayed};
 
 /// Why a call of the program stops before it is done.
 #[derive(Debug, Drop)]

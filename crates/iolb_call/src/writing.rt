@@ -7,8 +7,8 @@ use crate::answered::Answer;
 use crate::lines::OUT_OF_MEMORY;
 use crate::status::Status;
 use iolb_host::{Sink, SinkFault};
-use replay_call::Play;
 use std::alloc::Global;
+use tile_sched::Play;
 
 /// Says on the standard error that there was no memory.
 pub(crate) fn no_memory<E: Sink>(err: &mut E) -> Status

@@ -1,3 +1,6 @@
+pub mod Walks
+pub mod Executed
+pub mod Counting
 pub mod Distinct
 pub mod References
 pub mod Newest

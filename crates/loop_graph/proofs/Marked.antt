@@ -14,8 +14,8 @@ use Rattle.iolb_model.specs.Graph.{distinct, is_last_writer, placed}
 use Rattle.execution_laws.proofs.Cells.{same_cell-equal, same_cell_refl}
 use Rattle.arrayvec.specs.ArrayVec.{ArrayVec}
 use Rattle.base_laws.proofs.Lists.{add-one}
-use Rattle.program_runs.specs.Runs.{with_point, run_of}
-use Rattle.program_runs.specs.declared.listed.Run.{Run}
+use Rattle.loop_graph.specs.Runs.{with_point, run_of}
+use Rattle.loop_graph.specs.declared.listed.Run.{Run}
 use Rattle.loop_graph.specs.Cells.{cell_view, cell_written}
 use Rattle.loop_graph.specs.Found.{unmarked, AreListed}
 use Rattle.loop_graph.specs.Known.{known_vertex, vertex_in}

@@ -13,8 +13,8 @@ use Rattle.affine_program.specs.declared.reference.Reference.{Reference}
 use Rattle.affine_program.specs.declared.statement.Statement.{Statement}
 use Rattle.affine_program.specs.Parts.{ProgramParts, IsProgram, access_of, array_of, statement_of, meaning}
 use Rattle.affine_program.proofs.Bounds.{stands, path-is, limits-at}
-use Rattle.program_runs.specs.declared.listed.Run.{Run}
-use Rattle.program_runs.specs.Runs.{IsRun, run_of}
+use Rattle.loop_graph.specs.declared.listed.Run.{Run}
+use Rattle.loop_graph.specs.Runs.{IsRun, run_of}
 use Rattle.loop_graph.specs.Cells.{Fits, cells_read}
 
 -- a reference of a program has few subscripts

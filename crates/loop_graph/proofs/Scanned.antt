@@ -15,8 +15,8 @@ use Rattle.iolb_model.specs.Source.{Cell, same_cell, written_cell, read_cells, l
 use Rattle.iolb_model.specs.Graph.{distinct, placed, input_cell, input_cells, vertex_of, predecessors_of, computation_graph}
 use Rattle.iolb_model.specs.Game.{vertices}
 use Rattle.execution_laws.proofs.Cells.{same_cell-equal, same_cell_refl}
-use Rattle.program_runs.specs.Runs.{with_point, run_of}
-use Rattle.program_runs.specs.declared.listed.Run.{Run}
+use Rattle.loop_graph.specs.Runs.{with_point, run_of}
+use Rattle.loop_graph.specs.declared.listed.Run.{Run}
 use Rattle.loop_graph.specs.Cells.{cell_view, is_cell, cell_written, cells_read}
 use Rattle.loop_graph.specs.Known.{newest_or, source_by, vertex_in, AreKnown, ArePreceded, KnowsNothing, Puts}
 use Rattle.loop_graph.specs.declared.known.Known.{Known}

@@ -7,7 +7,7 @@ use Rattle.iolb_model.specs.Graph.{ComputationGraph, computation_graph}
 use Rattle.iolb_model.specs.Game.{vertices}
 use Rattle.affine_form.specs.Form.{IsSmall}
 use Rattle.affine_program.specs.Assumptions.{IsFirstUnmet}
-use Rattle.program_runs.specs.Turns.{turns as turns_of}
+use Rattle.loop_graph.specs.Turns.{turns as turns_of}
 use Rattle.loop_graph.specs.declared.fault.GraphFault.{GraphFault}
 use Rattle.loop_graph.specs.declared.fault.GraphFault.TheVariants.{OutsideAssumption, TooMany, Memory}
 use Rattle.loop_graph.specs.declared.limits.TheConstants.{VERTICES, TURNS}

@@ -5,8 +5,8 @@ use Rattle.iolb_model.specs.Program.{AffineProgram}
 use Rattle.iolb_model.specs.Execution.{execution}
 use Rattle.iolb_model.specs.Graph.{ComputationGraph}
 use Rattle.iolb_model.specs.Game.{vertices}
-use Rattle.program_runs.specs.Runs.{with_point, run_of}
-use Rattle.program_runs.specs.declared.listed.Run.{Run}
+use Rattle.loop_graph.specs.Runs.{with_point, run_of}
+use Rattle.loop_graph.specs.declared.listed.Run.{Run}
 use Rattle.loop_graph.specs.declared.predecessors.Found.{Found}
 use Rattle.loop_graph.specs.declared.limits.TheConstants.{VERTICES}
 

@@ -1,3 +1,6 @@
+pub mod Turns
+pub mod Runs
+pub mod Rooms
 pub mod Cells
 pub mod Known
 pub mod Found

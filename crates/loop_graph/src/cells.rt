@@ -6,13 +6,13 @@ ghost use Rattle.iolb_model.specs.Program.{IsOver};
 ghost use Rattle.iolb_model.specs.Source.{cell_of};
 ghost use Rattle.affine_form.specs.Form.{IsSmall};
 ghost use Rattle.affine_program.specs.Parts.{access_of, meaning};
-ghost use Rattle.program_runs.specs.Runs.{run_of, IsRun};
+ghost use Rattle.loop_graph.specs.Runs.{run_of, IsRun};
 ghost use Rattle.loop_graph.specs.Cells.{cell_view, cell_written};
 ghost use Rattle.iolb_model.specs.declared.limits.TheConstants.{SUBSCRIPTS, VALUE_SIZE};
 
+use crate::listed::Run;
 use affine_program::{Program, Reference};
 use arrayvec::ArrayVec;
-use program_runs::Run;
 
 /// A cell of an array: the array's number, and a whole number for each subscript, at most 4, which lie in the value itself.
 pub(crate) type Cell = (u16, ArrayVec<i128, 4>);

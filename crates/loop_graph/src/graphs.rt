@@ -7,12 +7,13 @@ ghost use Rattle.affine_program.specs.Parts.{meaning};
 ghost use Rattle.loop_graph.specs.Builds.{Builds};
 ghost use Rattle.iolb_model.specs.declared.limits.TheConstants.{VALUE_SIZE};
 
+use crate::counted::{Room, has_room};
 use crate::fault::GraphFault;
 use crate::limits;
+use crate::listed::{runs, values_of};
 use crate::predecessors::{Found, gathered};
 use affine_program::{Program, first_unmet};
 use pebble_game::Graph;
-use program_runs::{Room, has_room, runs, values_of};
 use std::alloc::Global;
 
 /// The computation graph of a program at values for its parameters.

@@ -3,11 +3,15 @@
 #![tactic(auto)]
 
 mod cells;
+mod counted;
 mod fault;
 mod graphs;
 mod known;
 pub mod limits;
+mod listed;
 mod predecessors;
 
+pub use counted::{Room, has_room};
 pub use fault::GraphFault;
 pub use graphs::build;
+pub use listed::{Run, runs, values_of};

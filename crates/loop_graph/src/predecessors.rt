@@ -5,7 +5,7 @@ ghost use Rattle.std.specs.List.{AllByRecursion};
 ghost use Rattle.iolb_model.specs.Graph.{computation_graph};
 ghost use Rattle.iolb_model.specs.Source.{Cell as ModelCell};
 ghost use Rattle.affine_program.specs.Parts.{meaning};
-ghost use Rattle.program_runs.specs.Runs.{run_of, IsRun};
+ghost use Rattle.loop_graph.specs.Runs.{run_of, IsRun};
 ghost use Rattle.loop_graph.specs.Cells.{cells_read};
 ghost use Rattle.loop_graph.specs.Known.{AreKnown, ArePreceded, source_by};
 ghost use Rattle.loop_graph.specs.Found.{unmarked, AreFound, AreListed};
@@ -15,9 +15,9 @@ ghost use Rattle.loop_graph.specs.declared.limits.TheConstants.{VERTICES};
 use crate::cells::written_by;
 use crate::known::Known;
 use crate::limits;
+use crate::listed::Run;
 use affine_form::Memory;
 use affine_program::Program;
-use program_runs::Run;
 use std::alloc::Global;
 
 /// The predecessors of a run: the vertices of the cells that it reads, each once, in the order of the reads.

@@ -17,8 +17,8 @@ use Rattle.part_fit.specs.TreeFit.{trees_fit}
 use Rattle.reuse_paths.specs.declared.quasts.Quasts.{Quasts}
 use Rattle.reuse_paths.specs.Quasts.{trees_of}
 use Rattle.reuse_paths.specs.Trees.{rows_claims}
-use Rattle.shown_leaves.specs.Standing.{AllStand}
-use Rattle.shown_leaves.proofs.StandingTrees.{trees-fit, trees-small, trees-valid}
+use Rattle.flow_deps.specs.Standing.{AllStand}
+use Rattle.flow_deps.proofs.StandingTrees.{trees-fit, trees-small, trees-valid}
 use Rattle.k_partition.specs.PartitionClaims.{partition_claims}
 use Rattle.k_partition.specs.Term.{PartitionTerm}
 use Rattle.k_partition.specs.View.{partition_of}
@@ -32,11 +32,11 @@ use Rattle.iolb_check.specs.PartitionFit.{partition_fit}
 use Rattle.iolb_check.specs.TermFit.{branch_at, branch_fit}
 use Rattle.cold_terms.specs.Held.{AreRising, IsPlaced, array_read}
 use Rattle.cold_terms.proofs.BranchLaws.{branch-fits, branch-holds, made}
-use Rattle.whole_terms.specs.Laws.{CanBeShown}
-use Rattle.whole_terms.proofs.Asked.{whole-terms-asked}
-use Rattle.whole_terms.proofs.Held.{whole-terms-hold}
-use Rattle.whole_terms.proofs.Small.{whole-terms-small}
-use Rattle.projective_trees.specs.SourceTrees.{AreSourceTrees}
+use Rattle.projective_bounds.specs.WholeLaws.{CanBeShown}
+use Rattle.projective_bounds.proofs.Asked.{whole-terms-asked}
+use Rattle.projective_bounds.proofs.Held.{whole-terms-hold}
+use Rattle.projective_bounds.proofs.Small.{whole-terms-small}
+use Rattle.projective.specs.SourceTrees.{AreSourceTrees}
 use Rattle.projective_bounds.specs.Certified.{IsWholeBranch}
 use Rattle.projective_bounds.proofs.Standing.{all-standing}
 

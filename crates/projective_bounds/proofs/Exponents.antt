@@ -14,7 +14,7 @@ use Rattle.k_partition.specs.View.{partition_of}
 use Rattle.iolb_check.specs.Claims.{claim_of_certificate}
 use Rattle.iolb_check.specs.Conditions.{conditions}
 use Rattle.projective.specs.Projective.{projection_sets}
-use Rattle.whole_terms.proofs.Small.{weights-all}
+use Rattle.projective_bounds.proofs.Small.{weights-all}
 use Rattle.projective_bounds.specs.Certified.{family_weights}
 use Rattle.projective_bounds.specs.Laws.{CertifiedAreAccepted, CertifiedHaveLeastExponents}
 

@@ -7,9 +7,9 @@ use Rattle.reuse_paths.specs.declared.quasts.Quasts.{Quasts}
 use Rattle.iolb_check.specs.declared.term.Branch.{Branch}
 use Rattle.iolb_check.specs.Limits.{CertificateParts}
 use Rattle.projective.specs.Projective.{IsProjective}
-use Rattle.projective_colds.specs.Colds.{AreArrayColds}
-use Rattle.whole_terms.specs.Laws.{CanBeShown}
-use Rattle.whole_terms.specs.Trees.{HaveKeepingTrees}
+use Rattle.projective_bounds.specs.Colds.{AreArrayColds}
+use Rattle.projective_bounds.specs.WholeLaws.{CanBeShown}
+use Rattle.projective_bounds.specs.Trees.{HaveKeepingTrees}
 use Rattle.projective_bounds.specs.Certified.{IsCertified, IsCoverInReach}
 use Rattle.projective_bounds.proofs.Conditions.{AreParts, conditions-met}
 

@@ -2,8 +2,8 @@
 use Rattle.std.proofs.Common.{◌≡◌, sym, subst, ℕ, suc, List, [], ◌∷◌, length}
 use Rattle.iolb_model.specs.Program.{AffineProgram}
 use Rattle.dep_quast.specs.Tree.{SelectionTree}
-use Rattle.shown_leaves.specs.Standing.{AllStand, AreStanding}
-use Rattle.projective_trees.specs.SourceTrees.{AreFromRead, AreSourceTrees}
+use Rattle.flow_deps.specs.Standing.{AllStand, AreStanding}
+use Rattle.projective.specs.SourceTrees.{AreFromRead, AreSourceTrees}
 
 each-standing : (program : AffineProgram) (read : ℕ) (row : List SelectionTree) → AreFromRead program read row → AreStanding program 0 read row
 each-standing program read [] h = tt

@@ -20,9 +20,9 @@ use Rattle.iolb_check.specs.Conditions.{conditions}
 use Rattle.iolb_check.specs.Limits.{CertificateParts}
 use Rattle.projective.specs.Exponent.{HasLeastExponent}
 use Rattle.projective.specs.Projective.{IsProjective, projection_sets}
-use Rattle.projective_trees.specs.SourceTrees.{AreSourceTrees}
-use Rattle.projective_colds.specs.Colds.{AreArrayColds}
-use Rattle.whole_terms.specs.Whole.{IsWholeTerm}
+use Rattle.projective.specs.SourceTrees.{AreSourceTrees}
+use Rattle.projective_bounds.specs.Colds.{AreArrayColds}
+use Rattle.projective_bounds.specs.Whole.{IsWholeTerm}
 
 -- a least cover of a program's loops by the sets of its arrays, with a packing of the same total, which is within reach
 pub record IsCoverInReach (program : AffineProgram) (q : ℕ) (weights packing : List ℕ) : Type 0 where

@@ -1,2 +1,12 @@
+pub mod Multipliers
+pub mod Families
+pub mod Readable
+pub mod Trees
+pub mod Whole
+pub mod WholeLaws
+pub mod KeptLaws
+pub mod Loops
+pub mod Outline
+pub mod Colds
 pub mod Certified
 pub mod Laws

@@ -5,13 +5,13 @@ ghost use Rattle.affine_program.specs.Parts.{meaning};
 ghost use Rattle.projective.specs.Shape.{IsShapeOf};
 ghost use Rattle.projective_bounds.specs.Certified.{IsWholeBranch};
 ghost use Rattle.reuse_paths.specs.Quasts.{trees_of};
-ghost use Rattle.whole_terms.specs.Laws.{CanBeShown};
+ghost use Rattle.projective_bounds.specs.WholeLaws.{CanBeShown};
 
+use crate::whole::whole_term;
 use affine_form::Memory;
 use affine_program::Program;
 use iolb_check::{Branch, Term};
 use projective::Projective;
-use projective_terms::whole_term;
 use reuse_paths::Quasts;
 use std::alloc::Global;
 

@@ -13,15 +13,14 @@ ghost use Rattle.projective_bounds.specs.Certified.{HasCoverInReach, IsCertified
 use crate::branches::whole_branch;
 use crate::covers::cover_of;
 use crate::fault::CertifyFault;
+use crate::kept_laws::source_trees_keep_loops;
 use crate::law::certified_have_least_exponents;
+use crate::terms::cold_terms;
 use affine_form::Memory;
 use affine_program::Program;
 use cold_terms::cold_branch;
 use iolb_check::{Branch, Certificate};
-use kept_trees::law::source_trees_keep_loops;
-use projective::Projective;
-use projective_colds::cold_terms;
-use projective_trees::source_trees;
+use projective::{Projective, source_trees};
 use reuse_paths::Quasts;
 use std::alloc::Global;
 

@@ -5,8 +5,21 @@
 mod branches;
 mod certificates;
 mod covers;
+mod entries;
+mod families;
 mod fault;
+pub mod kept_laws;
+mod labels;
 pub mod law;
+mod loops;
+mod matrices;
+mod multipliers;
+mod nest;
+mod outline;
+mod terms;
+mod values;
+mod whole;
+pub mod whole_laws;
 
 pub use certificates::certify;
 pub use fault::CertifyFault;

@@ -1,3 +1,6 @@
+pub mod Pieces
+pub mod Texts
+pub mod Refusals
 pub mod RowLoop
 pub mod Members
 pub mod Ranked

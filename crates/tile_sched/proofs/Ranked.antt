@@ -18,8 +18,8 @@ use Rattle.tile_sched.specs.declared.schedule.Key.{Key}
 use Rattle.iolb_model.specs.Program.{AffineProgram}
 use Rattle.iolb_model.specs.Execution.{Instance}
 use Rattle.affine_program.proofs.Bounds.{All-placed}
-use Rattle.program_runs.specs.declared.listed.Run.{Run}
-use Rattle.program_runs.specs.Runs.{with_point, run_of, IsRun}
+use Rattle.loop_graph.specs.declared.listed.Run.{Run}
+use Rattle.loop_graph.specs.Runs.{with_point, run_of, IsRun}
 
 -- what a sort compares
 abbrev pub compare_ranks : Vec ℤ Global × ℕ → Vec ℤ Global × ℕ → Ordering

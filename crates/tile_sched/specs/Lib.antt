@@ -1,3 +1,6 @@
+pub mod Lines
+pub mod Plays
+pub mod ReplayLaws
 pub mod Schedules
 pub mod Reading
 pub mod Texts

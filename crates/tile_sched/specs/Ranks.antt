@@ -3,7 +3,7 @@ use Rattle.std.specs.Prelude.{◌≡◌, ℕ, suc, ◌≤◌, ℤ, List, [], len
 use Rattle.std.specs.Global.{Global}
 use Rattle.std.specs.List.{AllByRecursion}
 use Rattle.affine_form.specs.Form.{IsSmall}
-use Rattle.program_runs.specs.declared.listed.Run.{Run}
+use Rattle.loop_graph.specs.declared.listed.Run.{Run}
 use Rattle.tile_sched.specs.declared.schedule.Key.{Key}
 use Rattle.tile_sched.specs.Schedules.{IsKey}
 use Rattle.tile_sched.specs.Order.{keys_of, said_by}

@@ -6,7 +6,7 @@ ghost use Rattle.iolb_model.specs.Graph.{computation_graph};
 ghost use Rattle.affine_form.specs.Form.{IsSmall};
 ghost use Rattle.affine_program.specs.Parts.{meaning};
 ghost use Rattle.pebble_replay.specs.Order.{HoldsEachOnce};
-ghost use Rattle.program_runs.specs.Turns.{turns};
+ghost use Rattle.loop_graph.specs.Turns.{turns};
 ghost use Rattle.tile_sched.specs.Schedules.{IsKey, IsSchedule};
 ghost use Rattle.tile_sched.specs.Order.{floor as rounded_down, said_by, said, IsOrder};
 ghost use Rattle.tile_sched.specs.Ranks.{rank_of, said_of_run, CanSay, SaysNothing};
@@ -15,8 +15,8 @@ ghost use Rattle.iolb_model.specs.declared.limits.TheConstants.{VALUE_SIZE};
 use crate::schedule::{Key, Schedule};
 use affine_form::Memory;
 use affine_program::Program;
+use loop_graph::{Run, runs, values_of};
 use pebble_game::Graph;
-use program_runs::{Run, runs, values_of};
 use std::alloc::Global;
 
 /// A number over a divisor, rounded down.

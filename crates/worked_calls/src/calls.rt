@@ -38,11 +38,12 @@ fn last_lines(text: &[u8], count: usize) -> &[u8] {
     text
 }
 
-/// What a call wrote to the output, and what is printed of it.
+/// What a call wrote to the output, what is printed of it, and its status.
 #[derive(Drop)]
 struct Answered {
     output: Vec<u8>,
     printed: Vec<u8>,
+    status: u8,
 }
 
 /// What a call with these words over these files answers. What it wrote to the output is printed, or only the last lines of it,
@@ -71,7 +72,11 @@ fn answer(
     printed.extend_from_slice(err.bytes())?;
     printed.extend_from_slice(format!(in alloc; "status {status}\n")?.as_bytes())?;
     let output = Vec::from_slice(alloc, out.bytes())?;
-    Ok(Answered { output, printed })
+    Ok(Answered {
+        output,
+        printed,
+        status,
+    })
 }
 
 /// Writes lengths in a row, and the answer that they have in common.
@@ -163,6 +168,7 @@ pub(crate) fn call<F: Files>(
             let files = scene.files(folder, words.as_slice())?;
             let answer = answer(alloc, scene, &words, files)?;
             transcript.extend_from_slice(answer.printed.as_slice())?;
+            scene.status = answer.status;
             scene.keep(answer.output)
         }
     }

@@ -163,20 +163,21 @@ fn play_line<F: Files>(
     arrange(alloc, scene, folder, (kind, name, rest), transcript)
 }
 
-/// Plays the script of this name, and writes what comes of it.
+/// Plays the script of this name, and writes what comes of it. The status of its last call; 0 where there is none.
 pub(crate) fn play<F: Files>(
     alloc: Global,
     folder: &mut F,
     name: &str,
     transcript: &mut Vec<u8>,
-) -> Result<(), AllocError> {
+) -> Result<u8, AllocError> {
     let Ok(bytes) = folder.read(name, MOST) else {
-        return transcript.extend_from_slice(b"no such script\n");
+        transcript.extend_from_slice(b"no such script\n")?;
+        return Ok(0);
     };
     let text = str::from_utf8(bytes.as_slice()).unwrap_or("");
     let mut scene = Scene::new(alloc);
     for line in text.lines() {
         play_line(alloc, &mut scene, folder, line, transcript)?;
     }
-    Ok(())
+    Ok(scene.status)
 }

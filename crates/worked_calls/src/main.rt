@@ -1,7 +1,8 @@
 //! Worked calls of `iolb`, as scripts say them.
 //!
 //! Each word behind the program's name is the name of a script. Its lines are printed, and behind each call what it wrote to
-//! the output, what it wrote to the standard error, and `status` with its number.
+//! the output, what it wrote to the standard error, and `status` with its number. The program ends with the status of the last
+//! call.
 //!
 //! The lines of a script:
 //!
@@ -29,16 +30,19 @@ mod scene;
 
 use iolb_host::StdFiles;
 use std::io::Write;
+use std::process::ExitCode;
 use std::{env, io};
 
-fn main(rt: HostRuntime) -> io::Result<()> {
+fn main(rt: HostRuntime) -> io::Result<ExitCode> {
     let alloc = rt.alloc();
     let mut folder = StdFiles::new(&rt);
     let mut transcript = Vec::new(alloc);
     let mut names = env::args(&rt)?;
     let _program = names.next();
+    let mut status = 0;
     for name in names {
-        lines::play(alloc, &mut folder, name.as_str(), &mut transcript)?;
+        status = lines::play(alloc, &mut folder, name.as_str(), &mut transcript)?;
     }
-    io::writer(&rt).write_all(transcript.as_slice())
+    io::writer(&rt).write_all(transcript.as_slice())?;
+    Ok(ExitCode::from(status))
 }

@@ -17,7 +17,7 @@ pub(crate) enum Failing {
 
 /// The files that a script made, and what it arranged for the next call: files as they are edited, the read or the write
 /// that fails, the file that is cut after each of its bytes, how many lines of the output are printed, and the file that gets
-/// the output.
+/// the output; and the status of the last call.
 #[derive(Drop)]
 pub(crate) struct Scene {
     alloc: Global,
@@ -27,6 +27,7 @@ pub(crate) struct Scene {
     pub(crate) cuts: Option<String>,
     pub(crate) last: Option<usize>,
     pub(crate) kept: Option<String>,
+    pub(crate) status: u8,
 }
 
 impl Scene {
@@ -40,6 +41,7 @@ impl Scene {
             cuts: None,
             last: None,
             kept: None,
+            status: 0,
         }
     }
 

@@ -1,8 +1,8 @@
 //! Certificates that are made.
 
 use affine_c::read_program;
-use bound_maker::{Accepted, made_within};
 use dep_quast::Quast;
+use find_terms::{Accepted, made_within};
 use std::test::Fail;
 
 /// A letter for the leaf that is the source tree of a statement's first read.

@@ -3,8 +3,7 @@
 use affine_c::read_program;
 use affine_form::Form;
 use claims::Place;
-use domain_count::{Nest, check_count};
-use nest_sums::{CountFault, make_count};
+use domain_count::{CountFault, Nest, check_count, make_count};
 use std::test::Fail;
 
 /// A program whose parameter is at least 1.

@@ -9,16 +9,13 @@ pub(crate) fn program_of(alloc: Global, line: &str) -> Result<Option<Program>, A
     let Some((assumed, statements)) = line.split_once('|') else {
         return Ok(None);
     };
-    let mut text = Vec::new(alloc);
-    if !assumed.trim().is_empty() {
-        text.extend_from_slice(b"#pragma iolb assume ")?;
-        text.extend_from_slice(assumed.as_bytes())?;
-        text.push(b'\n')?;
-    }
-    text.extend_from_slice(b"#pragma scop\n")?;
-    text.extend_from_slice(statements.as_bytes())?;
-    text.extend_from_slice(b"\n#pragma endscop\n")?;
-    Ok(read_program(alloc, text.as_slice()).ok())
+    let assumption = if assumed.trim().is_empty() {
+        String::new(alloc)
+    } else {
+        format!(in alloc; "#pragma iolb assume {assumed}\n")?
+    };
+    let text = format!(in alloc; "{assumption}#pragma scop\n{statements}\n#pragma endscop\n")?;
+    Ok(read_program(alloc, text.as_bytes()).ok())
 }
 
 /// Writes a line, and what is said of it: a line for each of these, or that nothing is known.

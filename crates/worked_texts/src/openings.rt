@@ -64,13 +64,19 @@ fn write_count(
     Ok(())
 }
 
+/// The statement and the read of a cold term.
+fn read_of(term: &Term) -> Option<(u16, u16)> {
+    match term {
+        Term::Cold(cold) => Some((cold.statement, cold.read)),
+        _ => None,
+    }
+}
+
 /// The statements and reads of cold terms.
-fn reads_of(alloc: Global, branch: &Branch) -> Result<Vec<(u16, u16)>, AllocError> {
+fn reads_of(alloc: Global, terms: &[Term]) -> Result<Vec<(u16, u16)>, AllocError> {
     let mut reads = Vec::new(alloc);
-    for term in branch.terms.as_slice() {
-        if let Term::Cold(cold) = term {
-            reads.push((cold.statement, cold.read))?;
-        }
+    for read in terms.iter().filter_map(read_of) {
+        reads.push(read)?;
     }
     Ok(reads)
 }
@@ -90,7 +96,7 @@ fn said_of(alloc: Global, line: &str) -> Result<Option<Vec<u8>>, AllocError> {
         }
         Err(_) => return Ok(None),
     };
-    let reads = reads_of(alloc, &branch)?;
+    let reads = reads_of(alloc, branch.terms.as_slice())?;
     let Some(bound) = bound_of(alloc, &program, branch) else {
         return Ok(None);
     };

@@ -1,18 +1,28 @@
 //! Programs, as they are written again.
 
 use crate::graphs;
-use affine_c::read_program;
+use affine_c::{program_text, read_program};
+use affine_form::Name;
 use affine_program::Program;
-use c_printing::program_text;
 use std::alloc::{AllocError, Global};
+
+/// Writes an array, with its number of subscripts.
+fn write_array(
+    alloc: Global,
+    name: &Name,
+    subscripts: u8,
+    page: &mut Vec<u8>,
+) -> Result<(), AllocError> {
+    page.push(b' ')?;
+    page.extend_from_slice(name.bytes())?;
+    page.extend_from_slice(format!(in alloc; "/{subscripts}")?.as_bytes())
+}
 
 /// Writes the arrays of a program, each with its number of subscripts.
 fn write_arrays(alloc: Global, program: &Program, page: &mut Vec<u8>) -> Result<(), AllocError> {
     page.extend_from_slice(b"arrays")?;
     for (name, subscripts) in program.arrays() {
-        page.push(b' ')?;
-        page.extend_from_slice(name.bytes())?;
-        page.extend_from_slice(format!(in alloc; "/{subscripts}")?.as_bytes())?;
+        write_array(alloc, name, *subscripts, page)?;
     }
     page.push(b'\n')?;
     Ok(())

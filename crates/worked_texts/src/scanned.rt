@@ -81,8 +81,15 @@ fn is_instance(
     let Some(run) = runs.get(place) else {
         return Ok(false);
     };
-    let values = run.values.as_slice();
-    if run.statement != statement || values.len() != forms.len() {
+    if run.statement != statement {
+        return Ok(false);
+    }
+    have_values(forms, point, run.values.as_slice())
+}
+
+/// Whether forms have these values at a point.
+fn have_values(forms: &[Form], point: &[i128], values: &[i128]) -> Result<bool, Stopped> {
+    if values.len() != forms.len() {
         return Ok(false);
     }
     for (i, form) in forms.iter().enumerate() {

@@ -5,10 +5,10 @@ use projective::as_projective;
 use std::alloc::{AllocError, Global};
 
 /// Writes the places of loops, behind a blank.
-fn write_places(text: &mut Vec<u8>, places: &[u8]) -> Result<(), AllocError> {
+fn write_places(alloc: Global, places: &[u8], text: &mut Vec<u8>) -> Result<(), AllocError> {
     text.push(b' ')?;
     for place in places {
-        text.push(b'0' + *place % 10)?;
+        text.extend_from_slice(format!(in alloc; "{place}")?.as_bytes())?;
     }
     Ok(())
 }
@@ -23,7 +23,7 @@ fn said_of(alloc: Global, line: &str) -> Result<Option<Vec<u8>>, AllocError> {
         Ok(Some(shape)) => {
             said.push(b'0' + shape.depth() % 10)?;
             for set in shape.sets() {
-                write_places(&mut said, set.coords())?;
+                write_places(alloc, set.coords(), &mut said)?;
             }
         }
         Ok(None) => said.extend_from_slice(b"not projective")?,

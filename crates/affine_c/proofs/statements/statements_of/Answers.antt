@@ -5,7 +5,8 @@ use Rattle.c_reading.specs.declared.lines.Line.TheVariants.{Begin, Does, End}
 use Rattle.affine_program.specs.Tree.{row_of}
 use Rattle.affine_program.specs.declared.statement.Statement.{Statement}
 use Rattle.affine_c.specs.Built.{AreRowsOver}
-use Rattle.affine_c.proofs.Made.{StandsIn, Kept, at_line, rows_there, kept_begin, kept_does, kept_end}
+use Rattle.affine_c.proofs.TreeGrows.{at_line}
+use Rattle.affine_c.proofs.Made.{StandsIn, Kept, rows_there, kept_begin, kept_does, kept_end}
 use Rattle.affine_c.proofs.statements.statements_of.Goals.{in-Begin, in-Does+in_ok-statement_at-in-Does+in_ok-push-in-Does, in-End}
 use Rattle.affine_c.proofs.statements.statements_of.Goals as goal
 
@@ -14,7 +15,7 @@ statement_at-requires-clause-inner c = c.loop-line.invariant.inner
 
 pub statement_at-requires-clause-reads : goal.statement_at-requires-clause-reads
 statement_at-requires-clause-reads c =
-    let here = at_line c.args.reading.now c.args.parameters (row_of c.args.tree.now) c.loop-line.statements.items c.loop-line.depth c.lines-line-items.result.now c.loop-line.line-index c.line-item.result (Does c.in-Does.statement)
+    let here = at_line (Kept c.args.reading.now c.args.parameters (row_of c.args.tree.now) c.loop-line.statements.items c.loop-line.depth) c.lines-line-items.result.now c.loop-line.line-index c.line-item.result (Does c.in-Does.statement)
     c.loop-line.invariant c.loop-line-test.true c.line-item.is c.in-Does.is in
     subst (λ (n : ℕ). AllByRecursion (AreRowsOver n c.loop-line.depth) c.in-Does.statement.reads) (sym c.requires.parameters)
     (rows_there c.args.reading.now c.loop-line.depth c.in-Does.statement.reads here.well.0.reads)
@@ -23,7 +24,7 @@ statement_at-requires-clause-reads c =
 here : (c : goal.Joined-line) (line : Line) → c.line-item.result ≡ line
     → Kept c.args.reading.now c.args.parameters (row_of c.args.tree.now) c.loop-line.statements.items c.loop-line.depth (line ∷ drop (c.loop-line.line-index + 1) c.lines-line-items.result.now)
 here c line is =
-    at_line c.args.reading.now c.args.parameters (row_of c.args.tree.now) c.loop-line.statements.items c.loop-line.depth c.lines-line-items.result.now c.loop-line.line-index c.line-item.result line
+    at_line (Kept c.args.reading.now c.args.parameters (row_of c.args.tree.now) c.loop-line.statements.items c.loop-line.depth) c.lines-line-items.result.now c.loop-line.line-index c.line-item.result line
     c.loop-line.invariant c.loop-line-test.true c.line-item.is is
 
 moved : (c : goal.Joined-line) (made : List Statement) (depth : ℕ) → c.match-line.statements.items ≡ made → c.match-line.depth ≡ depth

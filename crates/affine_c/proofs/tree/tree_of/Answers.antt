@@ -12,7 +12,7 @@ use Rattle.affine_c.proofs.tree.tree_of.Goals as goal
 -- the invariant at the line that is next
 here : (c : goal.Joined-line) (line : Line) → c.line-item.result ≡ line
     → Kept c.args.reading.now c.args.parameters (lines_so_far c.loop-line.tree) (length c.loop-line.tree.open.items) c.loop-line.number (line ∷ drop (c.loop-line.line-index + 1) c.lines-line-items.result.now)
-here c line is = at_line c.args.reading.now c.args.parameters (lines_so_far c.loop-line.tree) (length c.loop-line.tree.open.items) c.loop-line.number c.lines-line-items.result.now c.loop-line.line-index c.line-item.result line c.loop-line.invariant c.loop-line-test.true c.line-item.is is
+here c line is = at_line (Kept c.args.reading.now c.args.parameters (lines_so_far c.loop-line.tree) (length c.loop-line.tree.open.items) c.loop-line.number) c.lines-line-items.result.now c.loop-line.line-index c.line-item.result line c.loop-line.invariant c.loop-line-test.true c.line-item.is is
 
 moved : (c : goal.Joined-line) (tree : GrowingTree) (depth number : ℕ) → c.match-line.tree ≡ tree → length tree.open.items ≡ depth → c.match-line.number ≡ number
     → Kept c.args.reading.now c.args.parameters (lines_so_far tree) depth number (drop (c.loop-line.line-index + 1) c.lines-line-items.result.now)
@@ -49,10 +49,10 @@ loop-line-preserved c =
 
 pub bounds-names-header : goal.bounds-names-header
 bounds-names-header c =
-    let next = at_line c.args.reading.now c.args.parameters (lines_so_far c.loop-line.tree) (length c.loop-line.tree.open.items) c.loop-line.number c.lines-line-items.result.now c.loop-line.line-index c.line-item.result (Begin c.in-Begin.header) c.loop-line.invariant c.loop-line-test.true c.line-item.is c.in-Begin.is in
+    let next = at_line (Kept c.args.reading.now c.args.parameters (lines_so_far c.loop-line.tree) (length c.loop-line.tree.open.items) c.loop-line.number) c.lines-line-items.result.now c.loop-line.line-index c.line-item.result (Begin c.in-Begin.header) c.loop-line.invariant c.loop-line-test.true c.line-item.is c.in-Begin.is in
     subst (λ (ns : List (List ℕ)). c.in-Begin.header.name < length ns) (sym c.names-names.ensures) next.well.0
 
 pub end-requires : goal.end-requires
 end-requires c =
-    let next = at_line c.args.reading.now c.args.parameters (lines_so_far c.loop-line.tree) (length c.loop-line.tree.open.items) c.loop-line.number c.lines-line-items.result.now c.loop-line.line-index c.line-item.result End c.loop-line.invariant c.loop-line-test.true c.line-item.is c.in-End.is in
+    let next = at_line (Kept c.args.reading.now c.args.parameters (lines_so_far c.loop-line.tree) (length c.loop-line.tree.open.items) c.loop-line.number) c.lines-line-items.result.now c.loop-line.line-index c.line-item.result End c.loop-line.invariant c.loop-line-test.true c.line-item.is c.in-End.is in
     (deep c.args.reading.now (length c.loop-line.tree.open.items) (drop (c.loop-line.line-index + 1) c.lines-line-items.result.now) next.well).0

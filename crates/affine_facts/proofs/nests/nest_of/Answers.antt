@@ -2,7 +2,7 @@ use Rattle.std.proofs.Common.{◌≡◌, ◌∙◌, sym, ap, subst, ℕ, ◌+◌
 use Rattle.std.proofs.lemmas.List.{length-append}
 use Rattle.iolb_model.specs.Form.{AffineForm}
 use Rattle.affine_form.specs.Rows.{IsSmallOver}
-use Rattle.answers.proofs.AnswerLaws.{some-has}
+use Rattle.flow_deps.proofs.AnswerLaws.{some-has}
 use Rattle.affine_facts.proofs.BoundsLaws.{BoundsFit-push}
 use Rattle.affine_facts.proofs.nests.nest_of.Goals as goal
 

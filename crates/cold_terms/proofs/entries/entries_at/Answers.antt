@@ -1,6 +1,6 @@
 use Rattle.std.proofs.Common.{subst, ℕ, List, map}
 use Rattle.std.proofs.lemmas.List.{take_all}
-use Rattle.answers.specs.declared.wanted.Wanted.TheVariants.{Short}
+use Rattle.flow_deps.specs.declared.wanted.Wanted.TheVariants.{Short}
 use Rattle.iolb_model.specs.Form.{AffineForm}
 use Rattle.reuse_paths.specs.LeafClaims.{claim_of}
 use Rattle.reuse_paths.specs.OpenLeaves.{OpenLeaf, is_input}

@@ -2,8 +2,8 @@ use Rattle.std.proofs.Common.{◌≡◌, sym, ◌∙◌, ap, subst, ◌≤◌, L
 use Rattle.iolb_model.specs.Form.{AffineForm}
 use Rattle.iolb_model.specs.declared.limits.TheConstants.{ROWS}
 use Rattle.affine_form.specs.System.{AffineSystem}
-use Rattle.answers.specs.Answers.{HasShortAnswer, IsAnswered, IsAsShort, pointless}
-use Rattle.answers.proofs.AnswerLaws.{found-none, found-some}
+use Rattle.flow_deps.specs.Answers.{HasShortAnswer, IsAnswered, IsAsShort, pointless}
+use Rattle.flow_deps.proofs.AnswerLaws.{found-none, found-some}
 use Rattle.dep_quast.specs.Claims.{IsFew}
 use Rattle.reuse_paths.specs.OpenLeaves.{OpenLeaf, is_input}
 use Rattle.affine_form.specs.Multipliers.{FarkasMultipliers}

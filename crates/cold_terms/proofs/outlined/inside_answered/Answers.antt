@@ -5,7 +5,7 @@ use Rattle.affine_form.specs.Rows.{within_rows}
 use Rattle.affine_form.specs.System.{AffineSystem}
 use Rattle.affine_program.specs.Domain.{path_of}
 use Rattle.affine_program.specs.Parts.{meaning}
-use Rattle.answers.specs.Answers.{Answers, HasNoShort, following}
+use Rattle.flow_deps.specs.Answers.{Answers, HasNoShort, following}
 use Rattle.dep_quast.specs.Claims.{IsFew}
 use Rattle.dep_quast.specs.Context.{parameter_point}
 use Rattle.domain_count.specs.Count.{rows_before}

@@ -6,7 +6,7 @@ use Rattle.affine_form.specs.Rows.{difference}
 use Rattle.affine_form.specs.System.{AffineSystem, AllOver}
 use Rattle.affine_form.proofs.RowLemmas.{length-difference}
 use Rattle.affine_program.specs.Parts.{meaning}
-use Rattle.answers.specs.Answers.{Answers, HasNoShort, following}
+use Rattle.flow_deps.specs.Answers.{Answers, HasNoShort, following}
 use Rattle.domain_count.specs.Count.{range_goal, rows_before}
 use Rattle.find_terms.proofs.counted.range_answered.Goals as goal
 

@@ -1,7 +1,7 @@
 use Rattle.std.proofs.Common.{refl, ℕ, ◌+◌, List, [], ◌∷◌, length, take}
 use Rattle.affine_program.specs.Parts.{meaning}
-use Rattle.answers.specs.Answers.{Answers, HasNoShort, Question, following}
-use Rattle.answers.proofs.AnswerLaws.{found-none, found-some}
+use Rattle.flow_deps.specs.Answers.{Answers, HasNoShort, Question, following}
+use Rattle.flow_deps.proofs.AnswerLaws.{found-none, found-some}
 use Rattle.domain_count.specs.Count.{range_goal, rows_before}
 use Rattle.domain_count.proofs.BoundsFit.{BoundsFit-read}
 use Rattle.domain_count.proofs.Front.{BoundsFit-take}

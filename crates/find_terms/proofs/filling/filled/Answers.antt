@@ -1,8 +1,8 @@
 use Rattle.std.proofs.Common.{◌≡◌, refl, sym, subst, Bool, true, false, List, length, map}
 use Rattle.affine_program.specs.Parts.{meaning}
-use Rattle.answers.specs.declared.wanted.Wanted.TheVariants.{Short}
-use Rattle.answers.specs.Answers.{Answers, HasNoShort, Question, following}
-use Rattle.answers.proofs.AnswerLaws.{found-none, found-some}
+use Rattle.flow_deps.specs.declared.wanted.Wanted.TheVariants.{Short}
+use Rattle.flow_deps.specs.Answers.{Answers, HasNoShort, Question, following}
+use Rattle.flow_deps.proofs.AnswerLaws.{found-none, found-some}
 use Rattle.dep_quast.specs.Claims.{IsFew}
 use Rattle.dep_quast.specs.Tree.{SelectionTree, tree_of}
 use Rattle.reuse_paths.specs.LeafClaims.{claim_of}

@@ -9,7 +9,7 @@ use Rattle.dep_quast.specs.Views.{read_of}
 use Rattle.flow_deps.specs.declared.candidate.Candidate.{Candidate}
 use Rattle.flow_deps.specs.declared.candidate.Candidate.TheVariants.{NoWrite}
 use Rattle.flow_deps.specs.Candidates.{same_turn, turn_of, CandidateFits}
-use Rattle.answers.proofs.AnswerLaws.{flat-range-more}
+use Rattle.flow_deps.proofs.AnswerLaws.{flat-range-more}
 use Rattle.flow_deps.proofs.CandidateLaws.{candidates-fit}
 use Rattle.flow_deps.proofs.candidates.candidates.Goals as goal
 

@@ -9,10 +9,10 @@ use Rattle.dep_quast.specs.Context.{variables_at, no_row}
 use Rattle.dep_quast.specs.Tree.{test, tree_of}
 use Rattle.dep_quast.specs.Views.{read_of}
 use Rattle.dep_quast.specs.declared.quast.Quast.{Quast}
-use Rattle.shown_leaves.specs.Shown.{Stands}
-use Rattle.shown_leaves.specs.Shown.{IsLeafUnder}
-use Rattle.answers.proofs.AnswerLaws.{some-has}
-use Rattle.shown_leaves.proofs.StandingLaws.{context-few, blank-stands, test-stands}
+use Rattle.flow_deps.specs.Shown.{Stands}
+use Rattle.flow_deps.specs.Shown.{IsLeafUnder}
+use Rattle.flow_deps.proofs.AnswerLaws.{some-has}
+use Rattle.flow_deps.proofs.StandingLaws.{context-few, blank-stands, test-stands}
 use Rattle.flow_deps.proofs.GrownLaws.{none-there}
 use Rattle.flow_deps.proofs.growth.+growth.Goals as goal
 

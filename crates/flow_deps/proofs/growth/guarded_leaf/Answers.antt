@@ -6,11 +6,11 @@ use Rattle.affine_program.specs.Parts.{meaning}
 use Rattle.dep_quast.specs.Context.{variables_at}
 use Rattle.dep_quast.specs.Tree.{tree_of}
 use Rattle.dep_quast.specs.Views.{read_of}
-use Rattle.answers.specs.declared.wanted.Wanted.TheVariants.{Any}
-use Rattle.shown_leaves.specs.Shapes.{last_write}
-use Rattle.shown_leaves.specs.Shown.{IsLeafUnder}
-use Rattle.answers.proofs.AnswerLaws.{some-has}
-use Rattle.shown_leaves.proofs.ShownTrees.{leaf-stands}
+use Rattle.flow_deps.specs.declared.wanted.Wanted.TheVariants.{Any}
+use Rattle.flow_deps.specs.Shapes.{last_write}
+use Rattle.flow_deps.specs.Shown.{IsLeafUnder}
+use Rattle.flow_deps.proofs.AnswerLaws.{some-has}
+use Rattle.flow_deps.proofs.ShownTrees.{leaf-stands}
 use Rattle.flow_deps.proofs.growth.guarded_leaf.Goals as goal
 
 pub returns : goal.returns

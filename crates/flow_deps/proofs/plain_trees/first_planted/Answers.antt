@@ -6,11 +6,11 @@ use Rattle.dep_quast.specs.Tree.{tree_of}
 use Rattle.dep_quast.specs.Views.{read_of}
 use Rattle.flow_deps.specs.declared.candidate.Candidate.{Candidate}
 use Rattle.flow_deps.specs.declared.candidate.Candidate.TheVariants.{NoWrite}
-use Rattle.answers.specs.declared.wanted.Wanted.TheVariants.{Short}
-use Rattle.shown_leaves.specs.Shapes.{Shape}
+use Rattle.flow_deps.specs.declared.wanted.Wanted.TheVariants.{Short}
+use Rattle.flow_deps.specs.Shapes.{Shape}
 use Rattle.flow_deps.specs.Candidates.{candidate_shape}
 use Rattle.flow_deps.proofs.FirstShown.{first-here, first-later, first-none}
-use Rattle.shown_leaves.proofs.ShownTrees.{finds-none, finds-some}
+use Rattle.flow_deps.proofs.ShownTrees.{finds-none, finds-some}
 use Rattle.flow_deps.proofs.plain_trees.first_planted.Goals as goal
 
 pub returns-in-Some : goal.returns-in-Some

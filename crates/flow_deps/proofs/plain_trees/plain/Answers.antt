@@ -4,7 +4,7 @@ use Rattle.affine_program.specs.Parts.{meaning}
 use Rattle.claims.proofs.Found.{IfOk-then}
 use Rattle.dep_quast.specs.Context.{ReadOf}
 use Rattle.dep_quast.specs.Tree.{SelectionTree, tree_of}
-use Rattle.shown_leaves.specs.Shapes.{Shape}
+use Rattle.flow_deps.specs.Shapes.{Shape}
 use Rattle.flow_deps.specs.Candidates.{candidate_shape, candidates}
 use Rattle.flow_deps.specs.Plain.{IsFirstShown, IsPlain}
 use Rattle.flow_deps.proofs.plain_trees.plain.Goals as goal

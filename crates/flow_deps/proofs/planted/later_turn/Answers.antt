@@ -7,7 +7,7 @@ use Rattle.affine_program.specs.Parts.{meaning}
 use Rattle.claims.proofs.Found.{IfOk-then}
 use Rattle.dep_quast.specs.Context.{variables_at}
 use Rattle.dep_quast.specs.Views.{read_of}
-use Rattle.shown_leaves.proofs.SmallForms.{variable-small}
+use Rattle.flow_deps.proofs.SmallForms.{variable-small}
 use Rattle.flow_deps.proofs.planted.later_turn.Goals as goal
 
 pub returns-clause-over : goal.returns-clause-over

@@ -8,12 +8,12 @@ use Rattle.claims.proofs.Found.{IfOk-then}
 use Rattle.dep_quast.specs.Views.{read_of}
 use Rattle.dep_quast.proofs.Fits.{common-few}
 use Rattle.flow_deps.specs.declared.candidate.Candidate.TheVariants.{SameTurn}
-use Rattle.answers.specs.declared.wanted.Wanted.TheVariants.{Short}
-use Rattle.shown_leaves.specs.Shapes.{Shape, last_write}
+use Rattle.flow_deps.specs.declared.wanted.Wanted.TheVariants.{Short}
+use Rattle.flow_deps.specs.Shapes.{Shape, last_write}
 use Rattle.flow_deps.specs.Candidates.{first_values, point_from, candidate_shape}
-use Rattle.shown_leaves.specs.Shown.{FindsTree}
+use Rattle.flow_deps.specs.Shown.{FindsTree}
 use Rattle.flow_deps.proofs.PointLaws.{point-none, point-some}
-use Rattle.shown_leaves.proofs.ShownLeaves.{source-not}
+use Rattle.flow_deps.proofs.ShownLeaves.{source-not}
 use Rattle.flow_deps.proofs.planted.same_turn_tree.Goals as goal
 
 pub returns-in_default : goal.returns-in_default

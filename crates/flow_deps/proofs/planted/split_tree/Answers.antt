@@ -5,10 +5,10 @@ use Rattle.dep_quast.specs.Context.{variables_at, no_row}
 use Rattle.dep_quast.specs.Tree.{test, tree_of}
 use Rattle.dep_quast.specs.Views.{read_of}
 use Rattle.dep_quast.specs.declared.quast.Quast.{Quast}
-use Rattle.answers.specs.declared.wanted.Wanted.TheVariants.{Short}
-use Rattle.shown_leaves.specs.Shapes.{Shape, last_write, no_write, split}
-use Rattle.shown_leaves.specs.Shown.{IsShown, IsNotShown}
-use Rattle.shown_leaves.proofs.ShownTrees.{split-shown, split-sides, finds-none, finds-some}
+use Rattle.flow_deps.specs.declared.wanted.Wanted.TheVariants.{Short}
+use Rattle.flow_deps.specs.Shapes.{Shape, last_write, no_write, split}
+use Rattle.flow_deps.specs.Shown.{IsShown, IsNotShown}
+use Rattle.flow_deps.proofs.ShownTrees.{split-shown, split-sides, finds-none, finds-some}
 use Rattle.flow_deps.proofs.planted.split_tree.Goals as goal
 
 pub returns-in_default : goal.returns-in_default

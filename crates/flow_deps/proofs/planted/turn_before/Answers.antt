@@ -9,7 +9,7 @@ use Rattle.affine_program.specs.Parts.{meaning}
 use Rattle.claims.proofs.Found.{IfOk-then}
 use Rattle.dep_quast.specs.Context.{variables_at}
 use Rattle.dep_quast.specs.Views.{read_of}
-use Rattle.shown_leaves.proofs.SmallForms.{variable-small, turn-small}
+use Rattle.flow_deps.proofs.SmallForms.{variable-small, turn-small}
 use Rattle.flow_deps.proofs.planted.turn_before.Goals as goal
 
 pub difference-requires-clause-small_left : goal.difference-requires-clause-small_left

@@ -7,13 +7,13 @@ use Rattle.claims.proofs.Found.{IfOk-then}
 use Rattle.dep_quast.specs.Views.{read_of}
 use Rattle.dep_quast.proofs.Fits.{common-second}
 use Rattle.flow_deps.specs.declared.candidate.Candidate.TheVariants.{TurnBefore}
-use Rattle.answers.specs.declared.wanted.Wanted.TheVariants.{Short}
-use Rattle.shown_leaves.specs.Shapes.{Shape, last_write, no_write, split}
+use Rattle.flow_deps.specs.declared.wanted.Wanted.TheVariants.{Short}
+use Rattle.flow_deps.specs.Shapes.{Shape, last_write, no_write, split}
 use Rattle.flow_deps.specs.Candidates.{first_values, turn_before, later_turn, point_from, candidate_shape, FindsPoint}
-use Rattle.shown_leaves.specs.Shown.{FindsTree}
+use Rattle.flow_deps.specs.Shown.{FindsTree}
 use Rattle.flow_deps.proofs.PointLaws.{point-none, point-some, not-both}
-use Rattle.shown_leaves.proofs.ShownLeaves.{source-not}
-use Rattle.shown_leaves.proofs.ShownTrees.{split-sides}
+use Rattle.flow_deps.proofs.ShownLeaves.{source-not}
+use Rattle.flow_deps.proofs.ShownTrees.{split-sides}
 use Rattle.flow_deps.proofs.planted.turn_before_tree.Goals as goal
 
 pub later_turn-requires-clause-there : goal.later_turn-requires-clause-there

@@ -5,7 +5,7 @@ use Rattle.dep_quast.specs.Context.{ReadOf}
 use Rattle.dep_quast.specs.Tree.{SelectionTree, leaf_count, tree_of}
 use Rattle.flow_deps.specs.Candidates.{candidate_shape, candidates}
 use Rattle.flow_deps.specs.Plain.{IsPlain}
-use Rattle.answers.proofs.AnswerLaws.{found-none, found-some}
+use Rattle.flow_deps.proofs.AnswerLaws.{found-none, found-some}
 use Rattle.flow_deps.proofs.FirstShown.{first-stands, plain-few}
 use Rattle.flow_deps.proofs.source_trees.quast.Goals as goal
 

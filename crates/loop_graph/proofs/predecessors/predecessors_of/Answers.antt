@@ -5,7 +5,7 @@ use Rattle.iolb_model.specs.Source.{Cell, cell_of}
 use Rattle.affine_program.specs.declared.reference.Reference.{Reference}
 use Rattle.affine_program.specs.declared.statement.Statement.{Statement}
 use Rattle.affine_program.specs.Parts.{access_of, meaning}
-use Rattle.program_runs.specs.Runs.{run_of}
+use Rattle.loop_graph.specs.Runs.{run_of}
 use Rattle.loop_graph.specs.Cells.{Fits, cells_read}
 use Rattle.loop_graph.specs.Known.{ArePreceded, source_by}
 use Rattle.loop_graph.proofs.References.{read-fit, read-cells}

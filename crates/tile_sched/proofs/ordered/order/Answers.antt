@@ -8,7 +8,7 @@ use Rattle.tile_sched.proofs.Once.{holds_each_once}
 use Rattle.std.proofs.lemmas.List.{length-map}
 use Rattle.affine_program.specs.Parts.{meaning}
 use Rattle.claims.proofs.Found.{IfOk-then}
-use Rattle.program_runs.specs.Runs.{with_point, run_of}
+use Rattle.loop_graph.specs.Runs.{with_point, run_of}
 use Rattle.tile_sched.specs.Order.{said_of, said, IsOrder}
 use Rattle.tile_sched.specs.Ranks.{rank_of, CanSay, SaysNothing}
 use Rattle.tile_sched.proofs.AsWritten.{as_written}

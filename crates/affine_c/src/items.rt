@@ -1,0 +1,101 @@
+//! Items, printed.
+
+ghost use Rattle.std.specs.Prelude.{◌≡◌, ◌++◌, length, OnOk};
+ghost use Rattle.iolb_model.specs.Printed.{form_text};
+ghost use Rattle.iolb_model.specs.Program.{IsOver, ItemFits, RowFits};
+ghost use Rattle.affine_program.specs.Parts.{meaning};
+ghost use Rattle.affine_program.specs.Tree.{item_of, row_of};
+ghost use Rattle.affine_c.specs.Text.{header_text, item_text, row_text};
+
+use crate::references::push_statement;
+use affine_form::{Form, Memory, Name};
+use affine_program::{Item, Program, with_name};
+use std::alloc::Global;
+
+/// Items in a row, written at the end.
+#[cycle(printing)]
+pub(crate) fn push_items(
+    alloc: Global,
+    text: &mut Vec<u8>,
+    program: &Program,
+    names: &[Name],
+    items: &[Item],
+) -> Result<(), Memory>
+    requires { RowFits (meaning program.now) (length names.now) (row_of items.now) }
+    ensures { OnOk result (text.new.items ≡ text.old.items ++ row_text (meaning program.now) names.now (row_of items.now)) }
+{
+    for item in items {
+        push_item(alloc, text, program, names, item)?;
+    }
+    Ok(())
+}
+
+/// An item, written at the end.
+#[cycle(printing)]
+fn push_item(
+    alloc: Global,
+    text: &mut Vec<u8>,
+    program: &Program,
+    names: &[Name],
+    item: &Item,
+) -> Result<(), Memory>
+    requires { ItemFits (meaning program.now) (length names.now) (item_of item.now) }
+    ensures { OnOk result (text.new.items ≡ text.old.items ++ item_text (meaning program.now) names.now (item_of item.now)) }
+{
+    match item {
+        Item::Assign(number) => push_statement(alloc, text, program, names, *number),
+        Item::Loop {
+            name,
+            lower,
+            upper,
+            body,
+        } => {
+            push_header(alloc, text, names, name, lower, upper)?;
+            let inner = with_name(alloc, names, name)?;
+            push_items(alloc, text, program, inner.as_slice(), body)?;
+            text.extend_from_slice(b"}\n")?;
+            Ok(())
+        }
+    }
+}
+
+/// A loop's header, written on a line at the end.
+fn push_header(
+    alloc: Global,
+    text: &mut Vec<u8>,
+    names: &[Name],
+    name: &Name,
+    lower: &Form,
+    upper: &Form,
+) -> Result<(), Memory>
+    requires lower_over { IsOver (length names.now) lower.now }
+    requires upper_over { IsOver (length names.now) upper.now }
+    ensures { OnOk result (text.new.items ≡ text.old.items ++ header_text names.now name.now lower.now upper.now) }
+{
+    push_bound(alloc, text, b"for (", names, name, b" = ", lower)?;
+    push_bound(alloc, text, b"; ", names, name, b" <= ", upper)?;
+    text.extend_from_slice(b"; ")?;
+    text.extend_from_slice(name.bytes())?;
+    text.extend_from_slice(b"++) {\n")?;
+    Ok(())
+}
+
+/// A loop's name between two pieces, and then a form, written at the end.
+fn push_bound(
+    alloc: Global,
+    text: &mut Vec<u8>,
+    before: &[u8],
+    names: &[Name],
+    name: &Name,
+    sign: &[u8],
+    form: &Form,
+) -> Result<(), Memory>
+    requires { IsOver (length names.now) form.now }
+    ensures { OnOk result (text.new.items ≡ text.old.items ++ before.now ++ name.now ++ sign.now ++ form_text names.now form.now) }
+{
+    text.extend_from_slice(before)?;
+    text.extend_from_slice(name.bytes())?;
+    text.extend_from_slice(sign)?;
+    text.extend_from_slice(form.text(alloc, names)?.as_slice())?;
+    Ok(())
+}

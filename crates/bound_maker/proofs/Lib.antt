@@ -1,4 +1,0 @@
-pub mod Standing
-pub mod Opened
-pub mod Rows
-pub mod OfProjective

@@ -1,8 +1,0 @@
-use Rattle.std.proofs.Common.{◌≡◌, drop}
-use Rattle.std.specs.List.{list_any}
-use Rattle.dep_quast.specs.Views.{read_of}
-use Rattle.bound_maker.specs.Trees.{is_of_read}
-use Rattle.bound_maker.proofs.trees.are_of.Given as goal
-
-abbrev pub invariant-loop-term : goal.invariant-loop-term
-invariant-loop-term l = list_any (is_of_read (read_of l.reader)) (drop l.term-index l.terms) ≡ list_any (is_of_read (read_of l.reader)) l.terms

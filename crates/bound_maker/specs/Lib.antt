@@ -1,4 +1,0 @@
-pub mod Trees
-pub mod Accepted
-pub mod Opened
-pub mod Made

@@ -1,8 +1,0 @@
-//! The words of printed texts.
-
-ghost use Rattle.c_printing.specs.Laws.{WordsArePrinted};
-
-/// The words of the text that prints a program are those of the program's syntax tree.
-pub fn words_are_printed()
-    ensures { WordsArePrinted }
-{}

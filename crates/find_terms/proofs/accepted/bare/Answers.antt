@@ -1,0 +1,11 @@
+use Rattle.affine_program.specs.Parts.{meaning}
+use Rattle.find_terms.proofs.Opened.{bare-accepted, bare-small}
+use Rattle.find_terms.proofs.accepted.bare.Goals as goal
+
+pub certificate_of-certificate-requires : goal.certificate_of-certificate-requires
+certificate_of-certificate-requires c = bare-small (meaning c.args.program.now) c.args.quasts c.new.result.items c.requires c.new.ensures.items
+
+pub unreachable-requires : goal.unreachable-requires
+unreachable-requires c =
+    bare-accepted c.args.program.now c.certificate_of-certificate.result c.args.quasts c.new.result.items c.in_ok-accepted.field-0 c.params-params.ensures.kept c.requires
+    c.certificate_of-certificate.ensures c.new.ensures.items c.in-None.is c.in_ok-accepted.ensures.none

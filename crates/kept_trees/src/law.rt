@@ -1,8 +1,0 @@
-//! What is shown of source trees.
-
-ghost use Rattle.kept_trees.specs.Laws.{SourceTreesKeepLoops};
-
-/// The source trees of a projective program keep the loops that stand in the references that are read.
-pub fn source_trees_keep_loops()
-    ensures { SourceTreesKeepLoops }
-{}

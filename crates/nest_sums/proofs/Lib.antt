@@ -1,9 +1,0 @@
-pub mod Adding
-pub mod Exact
-pub mod OneAnswer
-pub mod PowerRows
-pub mod RangeLemmas
-pub mod Ratios
-pub mod TermLemmas
-pub mod Values
-pub mod WithinLimits

@@ -1,7 +1,0 @@
-use Rattle.std.proofs.Common.{◌≡◌, take}
-use Rattle.poly_tree.specs.Terms.{terms_of}
-use Rattle.nest_sums.specs.Coefficients.{coefficient_terms}
-use Rattle.nest_sums.proofs.coefficients.coefficient_terms.Given as goal
-
-abbrev pub invariant-loop-coefficient : goal.invariant-loop-coefficient
-invariant-loop-coefficient l = terms_of l.found.items ≡ coefficient_terms l.var l.power (terms_of (take l.coefficient-index l.terms))

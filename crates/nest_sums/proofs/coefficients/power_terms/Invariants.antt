@@ -1,7 +1,0 @@
-use Rattle.std.proofs.Common.{◌≡◌, take}
-use Rattle.poly_tree.specs.Terms.{terms_of}
-use Rattle.nest_sums.specs.Coefficients.{power_terms}
-use Rattle.nest_sums.proofs.coefficients.power_terms.Given as goal
-
-abbrev pub invariant-loop-power : goal.invariant-loop-power
-invariant-loop-power l = terms_of l.terms.items ≡ power_terms l.var 0 (take l.power l.numbers)

@@ -1,4 +1,0 @@
-pub mod Ranges
-pub mod Coefficients
-pub mod Summing
-pub mod Made

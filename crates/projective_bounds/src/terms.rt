@@ -1,0 +1,96 @@
+//! The cold terms of arrays.
+
+ghost use Rattle.std.specs.Prelude.{◌≡◌, ◌≤◌, true, IfOk, length, map};
+ghost use Rattle.std.specs.List.{AllByRecursion};
+ghost use Rattle.affine_program.specs.Parts.{meaning};
+ghost use Rattle.cold_terms.specs.Held.{AreRising, IsHeldCold, IsPlaced, array_read as array_of_cold};
+ghost use Rattle.dep_quast.specs.Tree.{tree_of};
+ghost use Rattle.dep_quast.specs.Truth.{ReadFits};
+ghost use Rattle.projective.specs.Projective.{IsProjective};
+ghost use Rattle.iolb_model.specs.declared.limits.TheConstants.{TERMS};
+ghost use Rattle.projective.specs.SourceTrees.{AreSourceTrees, IsSourceTree, read_number};
+ghost use Rattle.reuse_paths.specs.Quasts.{trees_of};
+ghost use Rattle.projective_bounds.specs.Colds.{AreArrayColds, IsArrayCold, IsReadCold, is_read};
+
+use crate::families::array_read;
+use crate::outline::outline;
+use affine_form::Memory;
+use affine_program::Program;
+use cold_terms::outlined::{inside_answered, leaves_closed};
+use dep_quast::Quast;
+use flow_deps::Wanted;
+use projective::product_sums;
+use reuse_paths::Quasts;
+use std::alloc::Global;
+use wavefront::Cold;
+
+/// The cold term of a read over its source tree.
+fn read_cold(alloc: Global, program: &Program, quast: &Quast, read: u16) -> Result<Cold, Memory>
+    requires projective { IsProjective (meaning program.now) }
+    requires read { ReadFits (meaning program.now) (read_number read) }
+    requires tree { IsSourceTree (meaning program.now) read (tree_of quast.now) }
+    ensures is { IfOk result (IsReadCold (meaning program.now) read) }
+    ensures held { IfOk result (IsHeldCold (meaning program.now) (tree_of quast.now)) }
+{
+    let _params = program.params();
+    let outline = outline(alloc, program, read)?;
+    let Some(inside) = inside_answered(alloc, Wanted::Short, program, &outline)? else {
+        unreachable!()
+    };
+    let Some(leaves) = leaves_closed(alloc, Wanted::Short, program, quast, &outline)? else {
+        unreachable!()
+    };
+    let sums = product_sums(alloc, program, outline.nest.bounds())?;
+    Ok(Cold {
+        statement: outline.statement,
+        read: outline.read,
+        nest: outline.nest,
+        sums,
+        point: outline.point,
+        inside,
+        inverse: outline.inverse,
+        leaves,
+    })
+}
+
+/// The cold term of an array that is read.
+fn array_cold(alloc: Global, program: &Program, quasts: &Quasts, array: u16) -> Result<Cold, Memory>
+    requires projective { IsProjective (meaning program.now) }
+    requires trees { AreSourceTrees (meaning program.now) (trees_of quasts.now) }
+    requires read { is_read (meaning program.now) array ≡ true }
+    ensures is { IfOk result (IsArrayCold (meaning program.now) array) }
+    ensures placed { IfOk result (IsPlaced (meaning program.now) (trees_of quasts.now)) }
+    ensures array { IfOk result (λ cold. array_of_cold (meaning program.now) cold ≡ array) }
+{
+    let _params = program.params();
+    let read = array_read(program, array);
+    match quasts.tree(0, read) {
+        Some(quast) => read_cold(alloc, program, quast, read),
+        None => unreachable!(),
+    }
+}
+
+/// The cold terms of a projective program over its source trees: for each array that is read, in their order, that of its
+/// first read. Each holds, and their arrays rise, so that they make a branch without multipliers.
+///
+/// # Errors
+///
+/// Want of memory alone.
+pub fn cold_terms(alloc: Global, program: &Program, quasts: &Quasts) -> Result<Vec<Cold>, Memory>
+    requires projective { IsProjective (meaning program.now) }
+    requires trees { AreSourceTrees (meaning program.now) (trees_of quasts.now) }
+    ensures terms { IfOk result (λ colds. AreArrayColds (meaning program.now) colds.items) }
+    ensures placed { IfOk result (λ colds. AllByRecursion (IsPlaced (meaning program.now) (trees_of quasts.now)) colds.items) }
+    ensures rising { IfOk result (λ colds. AreRising (map (array_of_cold (meaning program.now)) colds.items)) }
+    ensures few { IfOk result (λ colds. length colds.items ≤ TERMS) }
+{
+    let reads = program.statements()[0].reads.as_slice().len();
+    let mut colds = Vec::new(alloc);
+    for array in 0..program.arrays().len() {
+        let array = array as u16;
+        if usize::from(array_read(program, array)) < reads {
+            colds.push(array_cold(alloc, program, quasts, array)?)?;
+        }
+    }
+    Ok(colds)
+}

@@ -1,9 +1,0 @@
-pub mod LoopValues
-pub mod Nests
-pub mod Assumed
-pub mod Outlines
-pub mod Inside
-pub mod Cells
-pub mod Closed
-pub mod HeldColds
-pub mod Codes

@@ -1,5 +1,0 @@
-use Rattle.std.proofs.Common.{length}
-use Rattle.projective_terms.proofs.families.+families.Given as goal
-
-abbrev pub decreases-families : goal.decreases-families
-decreases-families l = length l.sets.now

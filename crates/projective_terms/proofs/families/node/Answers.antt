@@ -1,5 +1,0 @@
-use Rattle.std.proofs.Common.{ap, length, arith}
-use Rattle.projective_terms.proofs.families.node.Goals as goal
-
-pub array_walk-requires-clause-few : goal.array_walk-requires-clause-few
-array_walk-requires-clause-few c = omega (arith, c.requires.readable.few, ap length c.coords.ensures)

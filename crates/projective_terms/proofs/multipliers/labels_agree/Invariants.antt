@@ -1,6 +1,0 @@
-use Rattle.std.proofs.Common.{◌≡◌, replicate}
-use Rattle.whole_terms.specs.Multipliers.{none_taken}
-use Rattle.projective_terms.proofs.multipliers.labels_agree.Given as goal
-
-abbrev pub invariant-loop-member : goal.invariant-loop-member
-invariant-loop-member l = l.all.items ≡ replicate l._member none_taken

@@ -1,4 +1,0 @@
-use Rattle.projective_trees.proofs.trees.+turns.Given as goal
-
-abbrev pub decreases-turns : goal.decreases-turns
-decreases-turns l = l.loops

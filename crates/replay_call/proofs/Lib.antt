@@ -1,3 +1,0 @@
-pub mod Pieces
-pub mod Texts
-pub mod Refusals
