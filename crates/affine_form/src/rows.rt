@@ -132,7 +132,7 @@ pub fn cell_rows(
     Ok(rows)
 }
 
-/// Puts the two rows at the end which say that two forms are equal.
+/// Puts the two rows at the end which say that two forms are equal. Where memory is wanted, the first may stand there alone.
 pub fn push_equal(
     alloc: Global,
     vars: usize,
