@@ -6,8 +6,7 @@ use Rattle.std.proofs.lemmas.Bool.{or_parts}
 use Rattle.std.proofs.lemmas.List.{length-map, drop_all}
 use Rattle.std.proofs.lemmas.List.FromFn.{length-range_with_len}
 use Rattle.std.proofs.lemmas.Option.{slice_get-map}
-use Rattle.c_grammar.proofs.Lists.{All-take, All-drop}
-use Rattle.base_laws.proofs.Lists.{All-append, All-map, All-weaken}
+use Rattle.base_laws.proofs.Lists.{All-append, All-map, All-weaken, All-take, All-drop}
 use Rattle.iolb_model.specs.Form.{AffineForm}
 use Rattle.iolb_model.specs.Program.{Item, assign, loop, Row, done, next, AffineProgram, statement_at, no_statement, AccessFits, ItemFits, RowFits, item_statements, row_statements}
 use Rattle.iolb_model.specs.Program as program

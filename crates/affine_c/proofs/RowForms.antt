@@ -2,8 +2,7 @@
 use Rattle.std.proofs.Common.{◌≡◌, refl, sym, ap, subst, ◌∙◌, ℕ, zero, suc, ◌≤◌, Bool, true, false, cond, List, [], ◌∷◌, ◌++◌, append_assoc, length, take, drop, arith, length-take, ◌<◌, get_or, replicate, ℤ, pos, ◌+◌, map}
 use Rattle.std.specs.Prelude.{ℤ, ⊤, zip, filter, ◌+ℤ◌, ◌-ℤ◌, ◌*ℤ◌, set, Some}
 use Rattle.std.specs.List.{AllByRecursion}
-use Rattle.base_laws.proofs.Lists.{All-append}
-use Rattle.c_grammar.proofs.Lists.{All-first, All-second}
+use Rattle.base_laws.proofs.Lists.{All-append, All-left, All-right}
 use Rattle.iolb_model.specs.Form.{AffineForm}
 use Rattle.iolb_model.specs.Printed.{nonzero}
 use Rattle.affine_c.specs.Tree.{form_terms}
@@ -94,8 +93,8 @@ pub form_terms-are : (parameters around : List (List ℕ)) (form : AffineForm) �
 form_terms-are parameters around form named loops few deep small =
     let first : List ℤ = take (length parameters) form.coefficients in
     let second : List ℤ = take (length around) (drop (length parameters) form.coefficients) in
-    let a : AllByRecursion IsSmall first = small_padded PARAMETERS first (omega (arith, length-take (length parameters) form.coefficients)) (All-first IsSmall (padded PARAMETERS first) (padded LOOPS second) small.1) in
-    let b : AllByRecursion IsSmall second = small_padded LOOPS second (omega (arith, length-take (length around) (drop (length parameters) form.coefficients))) (All-second IsSmall (padded PARAMETERS first) (padded LOOPS second) small.1) in
+    let a : AllByRecursion IsSmall first = small_padded PARAMETERS first (omega (arith, length-take (length parameters) form.coefficients)) (All-left IsSmall (padded PARAMETERS first) (padded LOOPS second) small.1) in
+    let b : AllByRecursion IsSmall second = small_padded LOOPS second (omega (arith, length-take (length around) (drop (length parameters) form.coefficients))) (All-right IsSmall (padded PARAMETERS first) (padded LOOPS second) small.1) in
     subst AreTerms (sym (form_terms-parts parameters around form))
     (All_filter IsTerm _ _ (All-append IsTerm (zip first parameters) _ (zip_terms first parameters a named) (All-append IsTerm (zip second around) _ (zip_terms second around b loops) ((small.0, tt), tt))))
 

@@ -3,8 +3,7 @@ use Rattle.std.proofs.Common.{ℕ, ◌+◌, ◌<◌, List, [], ◌∷◌, map, t
 use Rattle.std.proofs.lemmas.List.{length-append, length-take-le, length-drop}
 use Rattle.std.specs.List.{AllByRecursion}
 use Rattle.std.specs.Prelude.{unsigned_abs}
-use Rattle.base_laws.proofs.Lists.{All-append, All-map, All-weaken}
-use Rattle.c_grammar.proofs.Lists.{All-take, All-drop}
+use Rattle.base_laws.proofs.Lists.{All-append, All-map, All-weaken, All-take, All-drop}
 use Rattle.iolb_model.specs.Program.{IsOver}
 use Rattle.affine_form.specs.Form.{IsSmall, IsSmallForm}
 use Rattle.c_reading.specs.Numbers.{constant_of}

@@ -1,14 +1,14 @@
 //! Affine forms in which proposals are thought out: their numbers saturate, and what is missing is 0. What is handed out is
 //! made of forms whose numbers are within the limits.
 
-ghost use Rattle.std.specs.Prelude.{◌≡◌, ◌≤◌, ◌<◌, ◌↔◌, IsTrue, length, unsigned_abs, IfOk, IfSome};
+ghost use Rattle.std.specs.Prelude.{◌≡◌, ◌≤◌, ◌<◌, length, IfOk, IfSome};
 ghost use Rattle.std.specs.List.{AllByRecursion};
 ghost use Rattle.affine_form.specs.Form.{IsSmall};
 ghost use Rattle.affine_form.specs.Rows.{IsSmallOver};
 ghost use Rattle.iolb_model.specs.declared.limits.TheConstants.{NUMBER_SIZE, VARIABLES};
 
 use affine_form::{Form, Memory};
-use iolb_model::limits;
+use affine_program::is_small;
 use std::alloc::Global;
 
 /// What stands for a number that is too large.
@@ -24,13 +24,6 @@ pub struct Affine {
 /// A number as one that saturates.
 fn narrow(number: i128) -> i64 {
     i64::try_from(number).unwrap_or(LARGE)
-}
-
-/// Whether a number is within the limits.
-fn is_small(number: i128) -> bool
-    ensures { IsTrue result ↔ IsSmall NUMBER_SIZE number }
-{
-    number.unsigned_abs() < limits::NUMBER_SIZE
 }
 
 impl Affine {

@@ -24,7 +24,7 @@ length-widened vars form h =
     omega (arith, length-append form.coefficients (replicate (vars - length form.coefficients) (pos 0)), length-replicate (vars - length form.coefficients) (pos 0))
 
 -- zeros at the end change no coefficient
-get_or-zeros : (cs : List ℤ) (n k : ℕ) → get_or (cs ++ replicate n (pos 0)) k (pos 0) ≡ get_or cs k (pos 0)
+pub get_or-zeros : (cs : List ℤ) (n k : ℕ) → get_or (cs ++ replicate n (pos 0)) k (pos 0) ≡ get_or cs k (pos 0)
 get_or-zeros [] zero k = refl
 get_or-zeros [] (suc n) zero = refl
 get_or-zeros [] (suc n) (suc k) = get_or-zeros [] n k

@@ -29,7 +29,7 @@ rising-few low high (w ∷ ws) rise below above le =
       weaken (v ∷ vs) h = (omega (arith, h.0), weaken vs h.1)
 
 -- every number is at least 0
-above_zero : (ws : List (ℕ × ℕ)) → AllByRecursion (λ (w : ℕ × ℕ). 0 ≤ w.0) ws
+pub above_zero : (ws : List (ℕ × ℕ)) → AllByRecursion (λ (w : ℕ × ℕ). 0 ≤ w.0) ws
 above_zero [] = tt
 above_zero (w ∷ ws) = (omega arith, above_zero ws)
 

@@ -7,7 +7,7 @@ use Rattle.iolb_model.specs.Form.{AffineForm}
 use Rattle.iolb_model.specs.Order.{upward}
 use Rattle.affine_form.specs.Rows.{difference, order_rows}
 
-below-more : (n i : ℕ) → i < n → n - i ≡ suc (n - (i + 1))
+pub below-more : (n i : ℕ) → i < n → n - i ≡ suc (n - (i + 1))
 below-more n i h = omega arith
 
 pub order-step : (vars common level i : ℕ) (ys xs : List AffineForm) (y x : AffineForm) (rows more whole : List AffineForm)

@@ -1,9 +1,10 @@
 //! Affine forms.
 
-ghost use Rattle.std.specs.Prelude.{◌≡◌, ◌≤◌, length, IfOk};
+ghost use Rattle.std.specs.Prelude.{◌≡◌, ◌<◌, ◌≤◌, length, unsigned_abs, IfOk};
 ghost use Rattle.std.specs.List.{AllByRecursion};
 ghost use Rattle.iolb_model.specs.Form.{form_value};
 ghost use Rattle.iolb_model.specs.Printed.{form_text};
+ghost use Rattle.affine_form.specs.Combination.{coefficient_of};
 ghost use Rattle.affine_form.specs.Form.{IsSmall, IsLegalForm};
 ghost use Rattle.iolb_model.specs.declared.limits.TheConstants.{COEFFICIENT_SIZE, VALUE_SIZE, VARIABLES};
 
@@ -63,6 +64,19 @@ impl Form {
         ensures legal { IsLegalForm self.now }
     {
         self.constant
+    }
+
+    /// The coefficient of a variable, 0 past the form's variables.
+    pub fn coefficient(&self, variable: usize) -> i128
+        ensures value { result ≡ coefficient_of variable self.now }
+        ensures small { unsigned_abs result < COEFFICIENT_SIZE }
+    {
+        let coef = self.coef();
+        if variable < coef.len() {
+            coef[variable]
+        } else {
+            0
+        }
     }
 
     /// The form's value at a point: each coefficient times its variable's value, and the constant.

@@ -195,6 +195,28 @@ pub fn put(alloc: Global, vars: usize, form: &Form, point: &[Form]) -> Result<Fo
     Ok(put)
 }
 
+/// Forms with forms put in for their variables.
+pub fn put_all(
+    alloc: Global,
+    vars: usize,
+    forms: &[Form],
+    point: &[Form],
+) -> Result<Vec<Form>, Memory>
+    requires few { vars ≤ VARIABLES }
+    requires few_forms { length point.now ≤ VARIABLES }
+    requires over { AllByRecursion (IsSmallOver (length point.now)) forms.now }
+    requires point_over { AllByRecursion (IsSmallOver vars) point.now }
+    ensures all { IfOk result (λ all. all.items ≡ put_in point.now forms.now) }
+    ensures within { IfOk result (λ all. AllByRecursion (λ form. variables form ≤ vars) all.items) }
+    ensures small { IfOk result (λ all. AllByRecursion (IsSmallForm PUT_SIZE) all.items) }
+{
+    let mut all = Vec::new(alloc);
+    for form in forms {
+        all.push(put(alloc, vars, form, point)?)?;
+    }
+    Ok(all)
+}
+
 /// Copies of forms.
 fn copies(alloc: Global, forms: &[Form]) -> Result<Vec<Form>, Memory>
     ensures { IfOk result (λ copies. copies.items ≡ forms.now) }

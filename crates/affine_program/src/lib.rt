@@ -15,7 +15,7 @@ mod well_formed;
 
 pub use assumptions::first_unmet;
 pub use item::Item;
-pub use limits::is_small_form;
+pub use limits::{is_small, is_small_form};
 pub use names::with_name;
 pub use program::Program;
 pub use reference::Reference;

@@ -14,8 +14,8 @@ use crate::statement::Statement;
 use affine_form::{Form, Name};
 use iolb_model::limits;
 
-/// Whether a number is small.
-fn is_small(number: i128) -> bool
+/// Whether a number of a form is within the limits of programs and certificates: of size below 2^20.
+pub fn is_small(number: i128) -> bool
     ensures { IsTrue result ↔ IsSmall NUMBER_SIZE number }
 {
     number.unsigned_abs() < limits::NUMBER_SIZE

@@ -140,20 +140,6 @@ fn count_up_to(numbers: &[u16], many: usize) -> bool
     numbers.len() == many && are_counted(numbers)
 }
 
-/// Whether the constants of two forms are the same.
-fn has_same_constant(a: &Form, b: &Form) -> bool
-    ensures { IsTrue result ↔ (a.now.constant ≡ b.now.constant) }
-{
-    a.constant() == b.constant()
-}
-
-/// Whether two forms are the same.
-fn is_same(a: &Form, b: &Form) -> bool
-    ensures { IsTrue result ↔ (a.now ≡ b.now) }
-{
-    a.coef() == b.coef() && has_same_constant(a, b)
-}
-
 /// Whether the bounds of the loops around a statement in a row of items are these, outermost first.
 fn stands(items: &[Item], number: u16, bounds: &[(Form, Form)]) -> bool
     ensures { IsTrue result ↔ (row_path (row_of items.now) number ≡ Some (map step_of bounds.now)) }
@@ -168,8 +154,8 @@ fn stands(items: &[Item], number: u16, bounds: &[(Form, Form)]) -> bool
                     ..
                 } => {
                     !bounds.is_empty()
-                        && is_same(lower, &bounds[0].0)
-                        && is_same(upper, &bounds[0].1)
+                        && lower.is_same(&bounds[0].0)
+                        && upper.is_same(&bounds[0].1)
                         && stands(body, number, &bounds[1..])
                 }
                 Item::Assign(_) => bounds.is_empty(),

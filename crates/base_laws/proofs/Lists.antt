@@ -1,5 +1,5 @@
 -- What holds of each member of a list, and what stands at a place.
-use Rattle.std.proofs.Common.{◌≡◌, refl, sym, ◌∙◌, ap, ℕ, zero, suc, ◌+◌, ◌<◌, List, [], ◌∷◌, ◌++◌, length, map, replicate, get_or, drop, subst, arith}
+use Rattle.std.proofs.Common.{◌≡◌, refl, sym, ◌∙◌, ap, ℕ, zero, suc, ◌+◌, ◌<◌, List, [], ◌∷◌, ◌++◌, length, map, replicate, get_or, drop, take, subst, arith}
 use Rattle.std.specs.Prelude.{flat_map}
 use Rattle.std.specs.List.{AllByRecursion}
 use Rattle.std.proofs.lemmas.List.{drop_more}
@@ -8,6 +8,27 @@ use Rattle.std.proofs.lemmas.List.{drop_more}
 pub All-append : {X : Type 0} (P : X → Type 0) (xs ys : List X) → AllByRecursion P xs → AllByRecursion P ys → AllByRecursion P (xs ++ ys)
 All-append P [] ys h g = g
 All-append P (x ∷ xs) ys h g = (h.0, All-append P xs ys h.1 g)
+
+-- of the first of two
+pub All-left : {X : Type 0} (P : X → Type 0) (xs ys : List X) → AllByRecursion P (xs ++ ys) → AllByRecursion P xs
+All-left P [] ys h = tt
+All-left P (x ∷ xs) ys h = (h.0, All-left P xs ys h.1)
+
+-- of the second of two
+pub All-right : {X : Type 0} (P : X → Type 0) (xs ys : List X) → AllByRecursion P (xs ++ ys) → AllByRecursion P ys
+All-right P [] ys h = h
+All-right P (x ∷ xs) ys h = All-right P xs ys h.1
+
+-- of some in front
+pub All-take : {X : Type 0} (P : X → Type 0) (n : ℕ) (xs : List X) → AllByRecursion P xs → AllByRecursion P (take n xs)
+All-take P (suc n) (x ∷ xs) h = (h.0, All-take P n xs h.1)
+All-take P _ _ h = tt
+
+-- of those behind them
+pub All-drop : {X : Type 0} (P : X → Type 0) (n : ℕ) (xs : List X) → AllByRecursion P xs → AllByRecursion P (drop n xs)
+All-drop P zero xs h = h
+All-drop P (suc n) [] h = tt
+All-drop P (suc n) (x ∷ xs) h = All-drop P n xs h.1
 
 -- of one value, so many times
 pub All-replicate : {X : Type 0} (P : X → Type 0) (n : ℕ) (x : X) → P x → AllByRecursion P (replicate n x)
@@ -69,3 +90,7 @@ add-one i = omega arith
 -- what is left at a place, by its first member and what is left after it
 pub rest_after : {X : Type 0} (xs : List X) (i : ℕ) (x : X) → i < length xs → x ≡ get_or xs i x → drop i xs ≡ x ∷ drop (suc i) xs
 rest_after xs i x below is = rest_at xs i x below is ∙ ap (λ n. x ∷ drop n xs) (sym (add-one i))
+
+-- two lists that begin alike, with the same behind
+pub cons-same : {X : Type 0} (x y : X) (xs ys : List X) → x ≡ y → xs ≡ ys → x ∷ xs ≡ y ∷ ys
+cons-same x y xs ys e f = λ i. e i ∷ f i

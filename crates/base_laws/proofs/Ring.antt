@@ -92,6 +92,14 @@ mul_assoc_ℤ a b c = ℤ_ind (λ (x : ℤ). (x *ℤ b) *ℤ c ≡ x *ℤ (b *�
 pub mul_turn : (a b c : ℤ) → (a *ℤ b) *ℤ c ≡ (a *ℤ c) *ℤ b
 mul_turn a b c = mul_assoc_ℤ a b c ∙ ap (λ (z : ℤ). a *ℤ z) (*ℤ_comm b c) ∙ sym (mul_assoc_ℤ a c b)
 
+-- the second of three factors goes before the first
+pub mul-swap : (a b c : ℤ) → a *ℤ (b *ℤ c) ≡ b *ℤ (a *ℤ c)
+mul-swap a b c = sym (mul_assoc_ℤ a b c) ∙ ap (λ (z : ℤ). z *ℤ c) (*ℤ_comm a b) ∙ mul_assoc_ℤ b a c
+
+-- two sums that begin alike, and are the same with one number more, end alike
+pub sums-cancel : (a b p x y c : ℤ) → a ≡ p +ℤ x → b ≡ p +ℤ y → a +ℤ c ≡ b +ℤ c → x ≡ y
+sums-cancel a b p x y c e f g = omega (arith, ints)
+
 -- a product of numbers of at least 0 is at least 0
 pub mul-nonneg : (a b : ℤ) → pos 0 ≤ℤ a → pos 0 ≤ℤ b → pos 0 ≤ℤ (a *ℤ b)
 mul-nonneg (pos m) (pos n) p q = search (arith, ints)

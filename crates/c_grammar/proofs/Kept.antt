@@ -4,7 +4,7 @@ use Rattle.std.specs.Prelude.{◌⊎◌, ℤ, bytes_eq, slice_get, slice_set, op
 use Rattle.std.specs.List.{AllByRecursion, range_with_len}
 use Rattle.std.proofs.lemmas.Grind.{flat_map-append}
 use Rattle.std.proofs.lemmas.Bool.{and_parts}
-use Rattle.base_laws.proofs.Lists.{All-append, All-weaken}
+use Rattle.base_laws.proofs.Lists.{All-append, All-weaken, All-left, All-right}
 use Rattle.iolb_model.specs.declared.limits.TheConstants.{PARAMETERS, STATEMENTS, ARRAYS, NAME_BYTES, LOOPS, READS}
 use Rattle.c_tokens.specs.declared.token.TokenKind.TheVariants as token
 use Rattle.c_reading.specs.declared.named.Kind.{Kind}
@@ -16,7 +16,6 @@ use Rattle.c_tokens.specs.Names.{IsWord, IsName}
 use Rattle.affine_program.specs.Printable.{IsOrdered, next_seen}
 use Rattle.c_grammar.specs.Well.{AreDistinct, numbers_of, line_numbers, Nests, IsLoopAt, IsLoopLine, statement_count}
 use Rattle.c_grammar.specs.Meaning.{Names, Meaning, then_in, given, end}
-use Rattle.c_grammar.proofs.Lists.{All-first, All-second}
 use Rattle.c_grammar.proofs.Forms.{IsWhereSome, IsRow, more_row}
 use Rattle.c_grammar.proofs.NameKinds.{KindFits, parameter_count, ranks, AreNumbered, more_fits, rank_of, parameter_of, array_number, flat_map-set, All-get, get-append, lookup, kind_of-lookup, bytes_same, cond_none}
 use Rattle.c_reading.specs.declared.lines.Loop.{Loop}
@@ -36,10 +35,10 @@ AreNamed ws = AllByRecursion IsNamed ws
 
 -- the names among the first of both lists, and among the second
 pub first_named : (xs ys : List Word) → AreNamed (xs ++ ys) → AreNamed xs
-first_named xs ys h = All-first IsNamed xs ys h
+first_named xs ys h = All-left IsNamed xs ys h
 
 pub second_named : (xs ys : List Word) → AreNamed (xs ++ ys) → AreNamed ys
-second_named xs ys h = All-second IsNamed xs ys h
+second_named xs ys h = All-right IsNamed xs ys h
 
 -- a short word is a name
 pub short_word : (name : List ℕ) → IsWord name → is_short name ≡ true → IsName name

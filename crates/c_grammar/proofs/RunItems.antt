@@ -1,6 +1,7 @@
 -- Headers of loops, statements, blocks and whole texts that are spelled within the limits are read, with their meaning.
 use Rattle.std.proofs.Common.{◌≡◌, ℕ, suc, Bool, true, false, List, [], ◌∷◌, ◌++◌, refl, sym, ap, ◌∙◌, Option, Some, None, subst, zero, ◌+◌, ◌-◌, ◌≤◌, not, length, arith, map}
 use Rattle.std.specs.Prelude.{ℤ, pos, Ok, codes, ◌||◌, nat_le, if◌then◌else◌, option_map}
+use Rattle.base_laws.proofs.Lists.{All-left}
 use Rattle.c_tokens.specs.declared.token.TokenKind.TheVariants as token
 use Rattle.c_reading.specs.declared.named.Kind.{Kind}
 use Rattle.c_reading.specs.declared.named.Kind.TheVariants.{OpenLoop, ClosedLoop}
@@ -33,7 +34,6 @@ use Rattle.c_reading.specs.Text as whole
 use Rattle.c_reading.specs.Text.{Reading, start_of}
 use Rattle.c_grammar.specs.Text as text_tree
 use Rattle.c_grammar.specs.Text.{Text, compares_words, lines_words, text_words}
-use Rattle.c_grammar.proofs.Lists.{All-first}
 
 -- the name of a loop that was left is taken
 loop_again_run : (i : Input) (o : Option ℕ) (rest : List Word) → At i (a_name (spelling i) ∷ rest) → Runs (λ a. a) (rule.loop_again o i) rest (mean.loop_again o (bare i))
@@ -303,7 +303,7 @@ spelled bytes t r None lexical e f = absurd cc
 spelled bytes t r (Some tokens) lexical e f =
     let together : map (word_of bytes) tokens ≡ (lines_words t.lines ++ items_words t.items) ++ program_end ∷ [] = same_some e ∙ sym (append_assoc (lines_words t.lines) (items_words t.items) (program_end ∷ [])) in
     let all : AllByRecursion IsSpelled ((lines_words t.lines ++ items_words t.items) ++ program_end ∷ []) = subst (AllByRecursion IsSpelled) together (all_spelled _ (lexical tokens refl)) in
-    read (whole_means t (start_of [] [])) refl f (record { are = together; spelled = All-first IsSpelled (lines_words t.lines ++ items_words t.items) (program_end ∷ []) all }) where
+    read (whole_means t (start_of [] [])) refl f (record { are = together; spelled = All-left IsSpelled (lines_words t.lines ++ items_words t.items) (program_end ∷ []) all }) where
       read : (o : Option (Head × Names)) → whole_means t (start_of [] []) ≡ o → mean.reading_from o ≡ Some r → At (start_of bytes tokens) (lines_words t.lines ++ items_words t.items) → whole.reading_from (whole.text_rule (start_of bytes tokens)) ≡ Ok r
       read None is f at = absurd cc
       read (Some x) is f at =

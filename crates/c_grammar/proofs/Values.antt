@@ -7,6 +7,7 @@ use Rattle.std.proofs.lemmas.Bool.Decides.{nat_tests}
 use Rattle.base_laws.proofs.Ring.{add-mul, mul-add, mul_comm, mul_assoc_ℤ, mul-zero, mul-one, one-mul, zero-mul, neg-mul}
 use Rattle.iolb_model.specs.Form.{dot}
 use Rattle.iolb_model.specs.declared.limits.TheConstants.{LOOPS, PARAMETERS, NUMBER_SIZE}
+use Rattle.affine_form.proofs.Combination.{dot-zeros}
 use Rattle.c_reading.specs.declared.named.Kind.{Kind}
 use Rattle.c_reading.specs.declared.named.Kind.TheVariants.{Parameter, OpenLoop, ClosedLoop}
 use Rattle.c_reading.specs.Affine.{kind_of, with_name, is_short, sign_of, number_of}
@@ -25,11 +26,6 @@ use Rattle.c_reading.specs.declared.lines.Loop.{Loop}
 use Rattle.c_reading.specs.Compare.{Rows, most_brackets, most_rows}
 
 -- ---- sums of rows
-
--- the dot product of zeros
-dot_zeros : (m : ℕ) (ns : List ℤ) → dot (replicate m (pos 0)) ns ≡ pos 0
-dot_zeros (suc m) (n ∷ ns) = let rest = dot_zeros m ns in omega (arith, ints, zero-mul n)
-dot_zeros _ _ = refl
 
 -- what is added, at a number of its variable
 add_at : (k x y n z u v : ℤ) → z ≡ (x +ℤ (k *ℤ y)) -ℤ pos 0 → (z *ℤ n) +ℤ (u +ℤ (k *ℤ v)) ≡ ((x *ℤ n) +ℤ u) +ℤ (k *ℤ ((y *ℤ n) +ℤ v))
@@ -75,7 +71,7 @@ combined_sum k less (x ∷ xs) (y ∷ ys) zs p q e =
 
 -- the row of zeros
 pub zeros_value : (ns : List ℤ) → row_value zeros ns ≡ pos 0
-zeros_value ns = dot_zeros width (pos 1 ∷ ns)
+zeros_value ns = dot-zeros width (pos 1 ∷ ns)
 
 -- ---- one variable
 
@@ -83,12 +79,12 @@ zeros_value ns = dot_zeros width (pos 1 ∷ ns)
 dot_set : (m k : ℕ) (n v : ℤ) (ns : List ℤ) → k < m → slice_get ns k ≡ Some v → dot (slice_set (replicate m (pos 0)) k n) ns ≡ n *ℤ v
 dot_set zero k n v ns below e = absurd (omega arith)
 dot_set (suc m) k n v [] below e = cc
-dot_set (suc m) zero n v (w ∷ ns) below e = let same : w ≡ v = cc in let rest = dot_zeros m ns in omega (arith, ints, rest, ap (λ x. n *ℤ x) same)
+dot_set (suc m) zero n v (w ∷ ns) below e = let same : w ≡ v = cc in let rest = dot-zeros m ns in omega (arith, ints, rest, ap (λ x. n *ℤ x) same)
 dot_set (suc m) (suc k) n v (w ∷ ns) below e = let rest = dot_set m k n v ns (omega arith) e in omega (arith, ints, rest, zero-mul w)
 
 -- the row of a constant
 constant_value : (n : ℤ) (ns : List ℤ) → row_value (single 0 n) ns ≡ n
-constant_value n ns = let rest = dot_zeros (PARAMETERS + LOOPS) ns in omega (arith, ints, rest, mul-one n)
+constant_value n ns = let rest = dot-zeros (PARAMETERS + LOOPS) ns in omega (arith, ints, rest, mul-one n)
 
 -- the row of a variable
 variable_value : (k : ℕ) (v : ℤ) (ns : List ℤ) → length ns ≡ PARAMETERS + LOOPS → slice_get ns k ≡ Some v → row_value (single (1 + k) (pos 1)) ns ≡ v

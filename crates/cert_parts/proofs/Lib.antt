@@ -10,3 +10,4 @@ pub mod Members
 pub mod Nested
 pub mod ApartLists
 pub mod NestedWalks
+pub mod Texts

@@ -12,3 +12,4 @@ pub mod Walks
 pub mod Reaches
 pub mod Families
 pub mod Credits
+pub mod Texts

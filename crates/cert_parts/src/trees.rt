@@ -1,8 +1,8 @@
 //! The texts of source trees.
 
-ghost use Rattle.std.specs.Prelude.{◌≡◌, ◌≤◌, min, map, codes};
+ghost use Rattle.std.specs.Prelude.{map, codes};
 ghost use Rattle.claims.specs.declared.key.TheConstants.{BLANK};
-ghost use Rattle.dep_quast.specs.Tree.{leaf_count, tree_of};
+ghost use Rattle.dep_quast.specs.Tree.{tree_of};
 ghost use Rattle.serde_json.specs.View.{view};
 ghost use Rattle.cert_parts.specs.Outcome.{Gives};
 ghost use Rattle.cert_parts.specs.Json.{part};
@@ -13,7 +13,7 @@ use crate::error::{CertError, fault, under};
 use crate::json::{has_keys, list};
 use crate::parts::{all_shown_part, form_part, forms_part, natural_part, shown_part};
 use claims::{Step, key};
-use dep_quast::Quast;
+use dep_quast::{Quast, leaf_count};
 use serde_json::Value;
 use std::alloc::Global;
 
@@ -130,23 +130,13 @@ fn nested(alloc: Global, value: &Value, left: u8) -> Result<Quast, CertError>
     }
 }
 
-/// How many leaves a tree has, or 65 if they are more.
-fn leaves(tree: &Quast) -> u8
-    ensures { result ≡ min (leaf_count (tree_of tree.now)) 65 }
-{
-    match tree {
-        Quast::Test { yes, no, .. } => (leaves(yes) + leaves(no)).min(65),
-        _ => 1,
-    }
-}
-
 /// A source tree.
 #[tactic(auto, unfolding(crate::specs::Trees::reads_tree))]
 fn tree(alloc: Global, value: &Value) -> Result<Quast, CertError>
     ensures { Gives tree_of result (reads_tree (view value.now)) }
 {
     let tree = nested(alloc, value, 16)?;
-    if leaves(&tree) <= 64 {
+    if leaf_count(&tree) <= 64 {
         Ok(tree)
     } else {
         Err(fault(alloc, 3))

@@ -1,8 +1,7 @@
 //! The texts of walks.
 
-ghost use Rattle.std.specs.Prelude.{◌≡◌, ◌≤◌, min};
 ghost use Rattle.serde_json.specs.View.{view};
-ghost use Rattle.reuse_paths.specs.Walks.{entry_count, tree_of_walk};
+ghost use Rattle.reuse_paths.specs.Walks.{tree_of_walk};
 ghost use Rattle.cert_parts.specs.Outcome.{Gives};
 ghost use Rattle.cert_parts.specs.Walks.{reads_taken, reads_take, reads_nested_walk, reads_walk};
 ghost use Rattle.iolb_model.specs.declared.limits.TheConstants.{TREE_LEAVES};
@@ -10,7 +9,7 @@ ghost use Rattle.iolb_model.specs.declared.limits.TheConstants.{TREE_LEAVES};
 use crate::{CertError, fault, form_part, has_keys, leaves_part, natural_part, under};
 use claims::{Step, key};
 use iolb_model::limits;
-use reuse_paths::Walk;
+use reuse_paths::{Walk, entry_count};
 use serde_json::Value;
 use std::alloc::Global;
 
@@ -67,16 +66,6 @@ fn nested(alloc: Global, value: &Value, left: u8) -> Result<Walk, CertError>
     }
 }
 
-/// How many claims at leaves a walk has, or 65 if they are more.
-fn entries(walk: &Walk) -> usize
-    ensures { result ≡ min (entry_count (tree_of_walk walk.now)) 65 }
-{
-    match walk {
-        Walk::Test { yes, no, .. } => (entries(yes) + entries(no)).min(65),
-        Walk::Take { leaves, .. } => leaves.len().min(65),
-    }
-}
-
 /// A walk.
 ///
 /// # Errors
@@ -88,7 +77,7 @@ pub fn walk(alloc: Global, value: &Value) -> Result<Walk, CertError>
     ensures { Gives tree_of_walk result (reads_walk (view value.now)) }
 {
     let walk = nested(alloc, value, limits::TREE_TESTS)?;
-    if entries(&walk) <= usize::from(limits::TREE_LEAVES) {
+    if entry_count(&walk) <= usize::from(limits::TREE_LEAVES) {
         Ok(walk)
     } else {
         Err(fault(alloc, 3))

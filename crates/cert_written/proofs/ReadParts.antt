@@ -6,6 +6,7 @@ use Rattle.std.specs.List.{AllByRecursion}
 use Rattle.std.proofs.lemmas.Bool.{le-leb}
 use Rattle.std.proofs.lemmas.List.{length-map, length_push, length-take-le, length-drop, take-append-drop}
 use Rattle.iolb_model.specs.Form.{AffineForm}
+use Rattle.affine_form.proofs.ShownLemmas.{above_zero}
 use Rattle.affine_form.specs.Form.{IsSmall, IsSmallForm, IsLegalForm}
 use Rattle.affine_form.specs.Matrix.{IntegerMatrix, HasShape}
 use Rattle.affine_form.specs.Multipliers.{FarkasMultipliers, IsWeight, RowsRise}
@@ -63,10 +64,6 @@ rise-from : (least : ℕ) (weights : List (ℕ × ℕ)) → AllByRecursion (λ (
 rise-from least [] h k = refl
 rise-from least (w ∷ weights) h k = rw (le-leb least w.0 h.0) (rise-from (w.0 + 1) weights (least-of w weights k.0) k.1)
 
-from-zero : (weights : List (ℕ × ℕ)) → AllByRecursion (λ (w : ℕ × ℕ). 0 ≤ w.0) weights
-from-zero [] = tt
-from-zero (w ∷ weights) = (omega arith, from-zero weights)
-
 even : (weights : List (ℕ × ℕ)) → length (weights_data weights) ≡ 2 * length weights
 even [] = refl
 even (w ∷ weights) = omega (arith, even weights)
@@ -85,7 +82,7 @@ multipliers-read shown some scale rest weights rising rows =
       natural-read 1 (MULTIPLIER_SIZE - 1) shown.scale some (omega (arith, scale)),
       natural-read 0 (MULTIPLIER_SIZE - 1) shown.rest (omega arith) (omega (arith, rest)),
       weights-read 2 shown.weights weights rows,
-      rise-from 0 shown.weights (from-zero shown.weights) rising,
+      rise-from 0 shown.weights (above_zero shown.weights) rising,
     ) refl
 
 pub all_multipliers-read : (all : List FarkasMultipliers) → AllByRecursion AreMultipliersRead all → NameRows all → reads_all_multipliers (all_multipliers_data all) ≡ Ok all

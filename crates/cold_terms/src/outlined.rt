@@ -3,7 +3,7 @@
 ghost use Rattle.std.specs.Prelude.{◌≡◌, ◌≤◌, ◌+◌, length, IfOk, OnOk, MatchOption, IsTrue, ◌↔◌};
 ghost use Rattle.std.specs.List.{AllByRecursion};
 ghost use Rattle.affine_form.specs.Form.{variables};
-ghost use Rattle.affine_form.specs.Rows.{IsSmallOver, put_in};
+ghost use Rattle.affine_form.specs.Rows.{IsSmallOver};
 ghost use Rattle.affine_program.specs.Parts.{meaning, IsProgram};
 ghost use Rattle.flow_deps.specs.Answers.{Answers, HasNoShort, following};
 ghost use Rattle.dep_quast.specs.Claims.{IsFew};
@@ -15,12 +15,12 @@ ghost use Rattle.wavefront.specs.Inverse.{AreUndone};
 ghost use Rattle.wavefront.specs.Term.{cell_forms, inside_goals, instance_point, nest_system, nest_variables};
 ghost use Rattle.cold_terms.specs.Entries.{FindsEntries};
 ghost use Rattle.cold_terms.specs.Outline.{OutlineFits, bare, outline_of};
-ghost use Rattle.iolb_model.specs.declared.limits.TheConstants.{VARIABLES, PARAMETERS, NEST_VARIABLES};
+ghost use Rattle.iolb_model.specs.declared.limits.TheConstants.{PARAMETERS, NEST_VARIABLES};
 
 use crate::entries::entries_at;
 use crate::outline::Outline;
 use crate::undone::is_undone;
-use affine_form::{Form, Memory, Multipliers, put, variables_from};
+use affine_form::{Form, Memory, Multipliers, put_all, variables_from};
 use affine_program::Program;
 use dep_quast::Quast;
 use dep_quast::lists::followed_by;
@@ -52,21 +52,6 @@ fn instance_of(alloc: Global, program: &Program, outline: &Outline) -> Result<Ve
     let vars = variables(program, outline);
     let first = variables_from(alloc, vars, 0, program.params().len())?;
     followed_by(alloc, first, outline.point.as_slice())
-}
-
-/// Forms with forms put in for their variables.
-fn put_all(alloc: Global, vars: usize, forms: &[Form], point: &[Form]) -> Result<Vec<Form>, Memory>
-    requires few { vars ≤ VARIABLES }
-    requires few_forms { length point.now ≤ VARIABLES }
-    requires over { AllByRecursion (IsSmallOver (length point.now)) forms.now }
-    requires point_over { AllByRecursion (IsSmallOver vars) point.now }
-    ensures { IfOk result (λ all. all.items ≡ put_in point.now forms.now) }
-{
-    let mut all = Vec::new(alloc);
-    for form in forms {
-        all.push(put(alloc, vars, form, point)?)?;
-    }
-    Ok(all)
 }
 
 /// The cell that the instance reads, by its subscripts.

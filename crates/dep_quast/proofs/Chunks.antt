@@ -6,6 +6,7 @@ use Rattle.base_laws.proofs.Lists.{rest_after, there}
 use Rattle.std.proofs.lemmas.List.{drop_more, drop_all, length-append}
 use Rattle.std.proofs.lemmas.List.FromFn.{length-map-range_with_len}
 use Rattle.iolb_model.specs.Form.{AffineForm}
+use Rattle.affine_form.proofs.Steps.{below-more}
 use Rattle.claims.specs.declared.place.Step.{Step}
 use Rattle.claims.specs.declared.place.Step.TheVariants.{Index}
 use Rattle.claims.specs.declared.refused.No.{No}
@@ -66,15 +67,11 @@ pub one-from : (condition : ℕ) (place : List Step) (at : ℕ) (system : Affine
     → at < length shown → m ≡ get_or shown at m → Finds (claims_on condition place at system m) found → Finds (claims_from condition place at (system ∷ []) shown) found
 one-from condition place at system shown m found below is h = subst (λ (cs : List Claim). Finds cs found) (sym (first-from condition place at system [] shown m below is)) h
 
--- what is left of a range
-less-more : (n i : ℕ) → i < n → n - i ≡ suc (n - (i + 1))
-less-more n i h = omega arith
-
 pub range-map : (f : ℕ → AffineSystem) (n i : ℕ) → i < n → map f (range_with_len i (n - i)) ≡ (f i ∷ []) ++ map f (range_with_len (i + 1) (n - (i + 1)))
-range-map f n i h = ap (λ (k : ℕ). map f (range_with_len i k)) (less-more n i h)
+range-map f n i h = ap (λ (k : ℕ). map f (range_with_len i k)) (below-more n i h)
 
 pub range-flat : (f : ℕ → List AffineSystem) (n i : ℕ) → i < n → flat_map f (range_with_len i (n - i)) ≡ f i ++ flat_map f (range_with_len (i + 1) (n - (i + 1)))
-range-flat f n i h = ap (λ (k : ℕ). flat_map f (range_with_len i k)) (less-more n i h)
+range-flat f n i h = ap (λ (k : ℕ). flat_map f (range_with_len i k)) (below-more n i h)
 
 pub list-flat : (f : ℕ → List AffineSystem) (xs : List ℕ) (i : ℕ) → i < length xs → flat_map f (drop i xs) ≡ f (get_or xs i 0) ++ flat_map f (drop (i + 1) xs)
 list-flat f xs i below = ap (flat_map f) (drop_more xs i 0 below)
@@ -124,7 +121,7 @@ module _ (g : ℕ → List AffineSystem) (many : ℕ) (each : (k : ℕ) → leng
 
   pub levels-room : (after n at total : ℕ) → after < n → at + (n - after) * many ≤ total → (at + many) + (n - (after + 1)) * many ≤ total
   levels-room after n at total below enough =
-      let step : (n - after) * many ≡ many + (n - (after + 1)) * many = ap (λ (k : ℕ). k * many) (less-more n after below) ∙ omega arith in
+      let step : (n - after) * many ≡ many + (n - (after + 1)) * many = ap (λ (k : ℕ). k * many) (below-more n after below) ∙ omega arith in
       omega (arith, step, enough)
 
   module _ (condition : ℕ) (place : List Step) (after n at : ℕ) (shown : List FarkasMultipliers) (found : Option No) (below : after < n) (enough : at + (n - after) * many ≤ length shown)

@@ -2,6 +2,7 @@
 use Rattle.std.proofs.Common.{◌≡◌, refl, sym, ◌∙◌, ap, subst, inl, inr, ℕ, zero, suc, ◌<◌, ◌≤◌, Bool, true, false, List, arith}
 use Rattle.std.specs.Prelude.{◌⊎◌, if◌then◌else◌, ℤ, Option, Some, None, slice_get}
 use Rattle.std.specs.Option.{option_map_or}
+use Rattle.std.proofs.Math.Nat.{eq-or-lt_of_le}
 use Rattle.iolb_model.specs.Program.{AffineProgram}
 use Rattle.iolb_model.specs.Execution.{Instance}
 use Rattle.iolb_model.specs.Source.{Cell, same_cell, written_cell, writes_at, last_write_before}
@@ -38,13 +39,7 @@ pub is_last : (program : AffineProgram) (parameters : List ℤ) (runs : List Ins
     → ((k : ℕ) → m < k → k < n → writes_at program parameters runs cell k ≡ true → ⊥) → last_write_before program parameters runs cell n ≡ Some m
 is_last program parameters runs cell m zero less here none = absurd (omega arith)
 is_last program parameters runs cell m (suc n) less here none =
-    by (writes_at program parameters runs cell n) refl (cases m n (omega arith)) (λ smaller. is_last program parameters runs cell m n smaller here (λ k p q. none k p (omega arith))) where
-      cases : (a b : ℕ) → a ≤ b → (a ≡ b) ⊎ (a < b)
-      cases zero zero p = inl refl
-      cases zero (suc b) p = inr (omega arith)
-      cases (suc a) zero p = absurd (omega arith)
-      cases (suc a) (suc b) p = elim (cases a b (omega arith)) [ inl e ↦ inl (ap suc e) | inr l ↦ inr (omega arith) ]
-
+    by (writes_at program parameters runs cell n) refl (eq-or-lt_of_le {n = m} {m = n} (omega arith)) (λ smaller. is_last program parameters runs cell m n smaller here (λ k p q. none k p (omega arith))) where
       by : (b : Bool) → b ≡ writes_at program parameters runs cell n → (m ≡ n) ⊎ (m < n) → (m < n → last_write_before program parameters runs cell n ≡ Some m)
           → (if b then Some n else last_write_before program parameters runs cell n) ≡ Some m
       by true e (inl same) h = ap Some (sym same)

@@ -14,7 +14,7 @@ use affine_program::Program;
 use std::alloc::Global;
 
 /// The rows of a leaf under these tests: the assumptions, the domain of the reading statement, and the tests.
-pub(crate) fn context_rows(
+pub fn context_rows(
     alloc: Global,
     program: &Program,
     reader: Reader,
@@ -33,14 +33,14 @@ pub(crate) fn context_rows(
 }
 
 /// The tests on the way to the side where the form is at least 0.
-pub(crate) fn tests_of_yes(alloc: Global, tests: &[Form], form: &Form) -> Result<Vec<Form>, Memory>
+pub fn tests_of_yes(alloc: Global, tests: &[Form], form: &Form) -> Result<Vec<Form>, Memory>
     ensures { IfOk result (λ all. all.items ≡ tests.now ++ form.now ∷ []) }
 {
     with_form(alloc, tests, form.try_clone(alloc)?)
 }
 
 /// The tests on the way to the side where the form is at most -1.
-pub(crate) fn tests_of_no(
+pub fn tests_of_no(
     alloc: Global,
     program: &Program,
     reader: Reader,

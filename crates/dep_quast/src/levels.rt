@@ -24,7 +24,7 @@ pub fn level_count(program: &Program, t: u16, s: u16) -> usize
 }
 
 /// The statements that write an array, ascending.
-pub(crate) fn writers(alloc: Global, program: &Program, array: u16) -> Result<Vec<u16>, Memory>
+pub fn writers(alloc: Global, program: &Program, array: u16) -> Result<Vec<u16>, Memory>
     ensures writers { IfOk result (λ found. found.items ≡ writers (meaning program.now) array) }
     ensures each { IfOk result (λ found. AllByRecursion (IsWriter (meaning program.now) array) found.items) }
 {

@@ -5,7 +5,7 @@
 mod check;
 pub mod claimed;
 pub mod claims_shown;
-mod context;
+pub mod context;
 pub mod fitting;
 mod leaves;
 pub mod levels;
@@ -15,8 +15,8 @@ mod quast;
 pub mod reader;
 mod source_claims;
 pub mod truth;
-mod writes;
+pub mod writes;
 mod writes_shown;
 
 pub use check::check_quast;
-pub use quast::Quast;
+pub use quast::{Quast, leaf_count};

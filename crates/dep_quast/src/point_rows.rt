@@ -45,7 +45,7 @@ pub fn domain_rows(
 }
 
 /// The rows which say that a statement at these loop values writes the cell that is read.
-pub(crate) fn written_rows(
+pub fn written_rows(
     alloc: Global,
     program: &Program,
     reader: Reader,
@@ -76,7 +76,7 @@ pub(crate) fn written_rows(
 }
 
 /// The rows which say that loop values ys of statement t come before loop values xs of statement s at a level.
-pub(crate) fn precedence_rows(
+pub fn precedence_rows(
     alloc: Global,
     program: &Program,
     vars: usize,

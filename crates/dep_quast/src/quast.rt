@@ -1,5 +1,8 @@
 //! Source trees.
 
+ghost use Rattle.std.specs.Prelude.{◌≡◌, min};
+ghost use Rattle.dep_quast.specs.Tree.{leaf_count, tree_of};
+
 use affine_form::{Form, Multipliers};
 
 /// A source tree of a read (a quasi-affine selection tree, Feautrier 1991). Its forms are over the parameters and the
@@ -34,4 +37,14 @@ pub enum Quast {
     },
     /// Nothing is claimed.
     Blank,
+}
+
+/// How many leaves a tree has, or 65 if they are more.
+pub fn leaf_count(quast: &Quast) -> u8
+    ensures { result ≡ min (leaf_count (tree_of quast.now)) 65 }
+{
+    match quast {
+        Quast::Test { yes, no, .. } => (leaf_count(yes) + leaf_count(no)).min(65),
+        _ => 1,
+    }
 }

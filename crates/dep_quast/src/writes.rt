@@ -21,7 +21,7 @@ use affine_program::Program;
 use std::alloc::Global;
 
 /// How many variables there are with a writer's.
-pub(crate) fn variables_beside(program: &Program, reader: Reader, writer: u16) -> usize
+pub fn variables_beside(program: &Program, reader: Reader, writer: u16) -> usize
     requires read { reader.statement < length program.now.statements }
     requires writer { writer < length program.now.statements }
     ensures variables { result ≡ variables_with (meaning program.now) (read_of reader) writer }
@@ -49,7 +49,7 @@ fn values_of_writer(
 }
 
 /// The loop values of the reader, of so many variables.
-pub(crate) fn values_of_reader(
+pub fn values_of_reader(
     alloc: Global,
     program: &Program,
     reader: Reader,
@@ -68,7 +68,7 @@ pub(crate) fn values_of_reader(
 }
 
 /// The rows of a write of the cell by another statement: those given, the writer's domain, and that the cells are one.
-pub(crate) fn rows_of_write(
+pub fn rows_of_write(
     alloc: Global,
     program: &Program,
     reader: Reader,
@@ -91,7 +91,7 @@ pub(crate) fn rows_of_write(
 }
 
 /// The rows of the system of rows about a writer, with those which say that it comes before the reader at a level.
-pub(crate) fn rows_before_reader(
+pub fn rows_before_reader(
     alloc: Global,
     program: &Program,
     reader: Reader,
@@ -123,7 +123,7 @@ pub(crate) fn rows_before_reader(
 }
 
 /// Rows about a writer, and those which say that it comes after the source at a level.
-pub(crate) fn rows_after_source(
+pub fn rows_after_source(
     alloc: Global,
     program: &Program,
     reader: Reader,

@@ -8,7 +8,7 @@ use Rattle.std.proofs.Math.Nat.{add-suc}
 use Rattle.base_laws.proofs.Ring.{zero-mul}
 use Rattle.iolb_model.specs.Form.{AffineForm}
 use Rattle.iolb_model.specs.Polynomial.{Term, int_power}
-use Rattle.power_sums.specs.Polynomial.{value as row_value, power}
+use Rattle.power_sums.specs.Polynomial.{value as row_value}
 use Rattle.claims.specs.Claims.{FirstFails}
 use Rattle.claims.specs.declared.place.Step.{Step}
 use Rattle.claims.specs.declared.refused.No.{No}
@@ -25,7 +25,7 @@ use Rattle.domain_count.proofs.Ones.{one-is}
 use Rattle.domain_count.specs.Coefficients.{coefficient_terms, degree_of}
 use Rattle.domain_count.specs.Summing.{AreAdded, AreSummed, IsMade, IsPart, IsPowerRow, IsPowersSum}
 use Rattle.domain_count.proofs.Ratios.{positive-size, row-difference, product-difference, sum-difference, backward-value}
-use Rattle.domain_count.proofs.Values.{at-set, coefficient_at, coefficient-same, parts_sum, terms-total, row-at, power-same}
+use Rattle.domain_count.proofs.Values.{at-set, coefficient_at, coefficient-same, parts_sum, terms-total, row-at}
 
 -- a sum of parts is legal
 pub added-is-legal : (v : ℕ) (terms : List Term) (d n : ℕ) (q : Quotient) → AreAdded v terms d n q → IsLegal q
@@ -50,7 +50,7 @@ module _ (v : ℕ) (p : List ℤ) (below : v < length p) where
       row-difference (unsigned_abs r.den) row.denominator (numerator_at row p) (numerator_at row less) (row_value r.num (at p v)) (row_value r.num (at p v -ℤ pos 1)) (int_power (at p v) e) size.0
       (r.made.value p ∙ ap (λ (z : ℤ). z *ℤ pos row.denominator) (row-at v r.num p below))
       (r.made.value less ∙ ap (λ (z : ℤ). z *ℤ pos row.denominator) (row-at v r.num less inside ∙ ap (row_value r.num) at-less))
-      (r.sum.difference (at p v) ∙ ap (λ (z : ℤ). z *ℤ power (at p v) e) (sym size.1) ∙ ap (λ (z : ℤ). pos (unsigned_abs r.den) *ℤ z) (power-same (at p v) e)) where
+      (r.sum.difference (at p v) ∙ ap (λ (z : ℤ). z *ℤ int_power (at p v) e) (sym size.1)) where
         inside : v < length less
         inside = omega (arith, below, length-set p v (at p v -ℤ pos 1))
 

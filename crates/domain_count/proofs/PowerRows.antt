@@ -4,7 +4,8 @@ use Rattle.std.specs.Prelude.{max, unsigned_abs}
 use Rattle.std.proofs.Math.IntN.{ℤ, pos, negsuc, ◌-ℤ◌, ◌*ℤ◌}
 use Rattle.std.proofs.lemmas.Int.{ints}
 use Rattle.base_laws.proofs.Ring.{mul_comm, mul_turn, sub-mul, zero-mul}
-use Rattle.power_sums.specs.Polynomial.{coefficient, power, value}
+use Rattle.iolb_model.specs.Polynomial.{int_power}
+use Rattle.power_sums.specs.Polynomial.{coefficient, value}
 use Rattle.power_sums.specs.PowerSum.{IsPowerSum}
 use Rattle.poly_tree.specs.Terms.{terms_size, terms_weight}
 use Rattle.domain_count.specs.Coefficients.{power_terms}
@@ -42,8 +43,8 @@ pub rows-agree : (e : ℕ) (num others : List ℤ) (den other : ℤ) → IsPower
 rows-agree e num others den other h g =
     same-steps (λ x. value num x *ℤ other) (λ x. value others x *ℤ den)
     (ap (λ (z : ℤ). z *ℤ other) h.zero_at_zero ∙ zero-mul other ∙ sym (zero-mul den) ∙ ap (λ (z : ℤ). z *ℤ den) (sym g.zero_at_zero))
-    (λ x. sym (sub-mul (value num x) (value num (x -ℤ pos 1)) other) ∙ ap (λ (z : ℤ). z *ℤ other) (h.difference x) ∙ mul_turn den (power x e) other
-    ∙ ap (λ (z : ℤ). z *ℤ power x e) (mul_comm den other) ∙ mul_turn other den (power x e) ∙ ap (λ (z : ℤ). z *ℤ den) (sym (g.difference x))
+    (λ x. sym (sub-mul (value num x) (value num (x -ℤ pos 1)) other) ∙ ap (λ (z : ℤ). z *ℤ other) (h.difference x) ∙ mul_turn den (int_power x e) other
+    ∙ ap (λ (z : ℤ). z *ℤ int_power x e) (mul_comm den other) ∙ mul_turn other den (int_power x e) ∙ ap (λ (z : ℤ). z *ℤ den) (sym (g.difference x))
     ∙ sub-mul (value others x) (value others (x -ℤ pos 1)) den)
 
 -- ---- small numbers

@@ -6,10 +6,10 @@ use Rattle.std.proofs.lemmas.Int.{ints}
 use Rattle.std.proofs.lemmas.Bool.{cases_order}
 use Rattle.std.proofs.lemmas.Bool.Decides.{eqb_tells}
 use Rattle.std.proofs.lemmas.List.{get_or-set_same, get_or-set_other}
-use Rattle.base_laws.proofs.Ring.{add-mul, mul-add, mul-one, mul-zero, mul_assoc_ℤ, mul_comm, one-mul, zero-mul}
+use Rattle.base_laws.proofs.Ring.{add-mul, mul-add, mul-one, mul-zero, mul_assoc_ℤ, mul_comm, one-mul, zero-mul, mul-swap}
 use Rattle.iolb_model.specs.Polynomial.{Term, int_power, monomial, terms_value}
 use Rattle.poly_tree.specs.Expansion.{at, put}
-use Rattle.power_sums.specs.Polynomial.{power, value as row_value}
+use Rattle.power_sums.specs.Polynomial.{value as row_value}
 use Rattle.domain_count.specs.Coefficients.{coefficient_terms, degree_of, exponent_of, power_terms, without}
 
 -- a point with another value of a variable that it has
@@ -30,16 +30,13 @@ monomial-without (e ∷ es) [] (suc v) z = refl
 monomial-without (e ∷ es) (x ∷ p) zero z = refl
 monomial-without (e ∷ es) (x ∷ p) (suc v) z = ap (λ (m : ℤ). int_power x e *ℤ m) (monomial-without es p v z)
 
-exchanged : (a b c : ℤ) → a *ℤ (b *ℤ c) ≡ b *ℤ (a *ℤ c)
-exchanged a b c = sym (mul_assoc_ℤ a b c) ∙ ap (λ (z : ℤ). z *ℤ c) (mul_comm a b) ∙ mul_assoc_ℤ b a c
-
 -- a variable's power, and the rest
 monomial-split : (es : List ℕ) (p : List ℤ) (v : ℕ) → v < length p → monomial es p ≡ int_power (at p v) (get_or es v 0) *ℤ monomial (slice_set es v 0) p
 monomial-split [] p v below = sym (one-mul (pos 1))
 monomial-split (e ∷ es) [] v below = absurd (omega arith)
 monomial-split (e ∷ es) (x ∷ p) zero below = ap (λ (z : ℤ). int_power x e *ℤ z) (sym (one-mul (monomial es p)))
 monomial-split (e ∷ es) (x ∷ p) (suc v) below =
-    ap (λ (z : ℤ). int_power x e *ℤ z) (monomial-split es p v (omega arith)) ∙ exchanged (int_power x e) (int_power (at p v) (get_or es v 0)) (monomial (slice_set es v 0) p)
+    ap (λ (z : ℤ). int_power x e *ℤ z) (monomial-split es p v (omega arith)) ∙ mul-swap (int_power x e) (int_power (at p v) (get_or es v 0)) (monomial (slice_set es v 0) p)
 
 -- the coefficient of a variable's power at a point
 abbrev pub coefficient_at : ℕ → ℕ → List Term → List ℤ → ℤ
@@ -158,7 +155,3 @@ row-from v e (c ∷ cs) p below =
 -- a row at a point is its polynomial at the variable's value
 pub row-at : (v : ℕ) (cs : List ℤ) (p : List ℤ) → v < length p → terms_value (power_terms v 0 cs) p ≡ row_value cs (at p v)
 row-at v cs p below = row-from v 0 cs p below ∙ one-mul (row_value cs (at p v))
-
-pub power-same : (x : ℤ) (e : ℕ) → power x e ≡ int_power x e
-power-same x zero = refl
-power-same x (suc e) = ap (λ (z : ℤ). x *ℤ z) (power-same x e)

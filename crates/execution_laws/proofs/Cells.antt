@@ -1,32 +1,24 @@
 -- Cells that are the same are equal, and cells that differ have different places in a list.
 use Rattle.std.proofs.Common.{◌≡◌, refl, sym, ◌∙◌, ap, subst, inl, inr, ℕ, suc, ◌+◌, Bool, true, false, cond, not, List, [], ◌∷◌, arith}
-use Rattle.std.specs.Prelude.{◌==◌, ◌&&◌, Some, slice_get}
+use Rattle.std.specs.Prelude.{◌==◌, Some, slice_get}
 use Rattle.std.specs.List.{position_or_len}
 use Rattle.std.specs.Ordering.{int_eq}
 use Rattle.std.specs.Cmp.{signed_Decides}
-use Rattle.std.proofs.lemmas.Bool.{eqb-true, eq-eqb}
+use Rattle.std.proofs.lemmas.Bool.{eqb-true, eq-eqb, and_from, and_parts}
 use Rattle.std.proofs.lemmas.Slice.Eq.{slice_eq-Decides}
 use lib.Pointwise.{pointwise}
 use Rattle.iolb_model.specs.Source.{Cell, same_cell}
 use Rattle.execution_laws.proofs.Members.{Member}
 
-both_true : (a b : Bool) → (a && b) ≡ true → (a ≡ true) × (b ≡ true)
-both_true true b e = (refl, e)
-both_true false b e = cc
-
 pub same_cell-equal : (a b : Cell) → same_cell a b ≡ true → a ≡ b
 same_cell-equal a b e =
-    let parts : ((a.array == b.array) ≡ true) × (pointwise int_eq a.subscripts b.subscripts ≡ true) = both_true (a.array == b.array) (pointwise int_eq a.subscripts b.subscripts) e in
+    let parts : ((a.array == b.array) ≡ true) × (pointwise int_eq a.subscripts b.subscripts ≡ true) = and_parts (a.array == b.array) (pointwise int_eq a.subscripts b.subscripts) e in
     let first : a.array ≡ b.array = eqb-true a.array b.array parts.0 in
     let second : a.subscripts ≡ b.subscripts = (slice_eq-Decides signed_Decides a.subscripts b.subscripts (pointwise int_eq a.subscripts b.subscripts) refl).0 parts.1 in
     λ i. record { array = first i; subscripts = second i }
 
-and_true : (a b : Bool) → a ≡ true → b ≡ true → (a && b) ≡ true
-and_true true b e f = f
-and_true false b e f = cc
-
 pub same_cell_refl : (a : Cell) → same_cell a a ≡ true
-same_cell_refl a = and_true (a.array == a.array) (pointwise int_eq a.subscripts a.subscripts) (eq-eqb a.array a.array refl)
+same_cell_refl a = and_from (a.array == a.array) (pointwise int_eq a.subscripts a.subscripts) (eq-eqb a.array a.array refl)
     ((slice_eq-Decides signed_Decides a.subscripts a.subscripts (pointwise int_eq a.subscripts a.subscripts) refl).1 refl)
 
 place_first : (cell y : Cell) (cells : List Cell) (n : ℕ) → Member cell (y ∷ cells) → (Member cell cells → slice_get cells n ≡ Some cell)

@@ -4,6 +4,7 @@ use Rattle.std.specs.Prelude.{◌⊎◌, ◌==◌, if◌then◌else◌, Option, 
 use Rattle.std.specs.List.{AllByRecursion, range_with_len}
 use Rattle.std.proofs.lemmas.Bool.{eqb-true, eq-eqb}
 use Rattle.std.proofs.Math.IntN.{ℤ}
+use Rattle.std.proofs.Math.Nat.{eq-or-lt_of_le}
 use lib.Signed.{◌≤ℤ◌}
 use Rattle.iolb_model.specs.Form.{AffineForm, form_value}
 use Rattle.iolb_model.specs.Path.{PathStep, rises, first_of, item_path, row_path}
@@ -209,12 +210,7 @@ mutual
 
 pub counted-has : (first count n : ℕ) → first ≤ n → n < first + count → Member n (range_with_len first count)
 counted-has first zero n p q = absurd (omega arith)
-counted-has first (suc count) n p q = elim (le-cases first n p) [ inl e ↦ inl (sym e) | inr less ↦ inr (counted-has (first + 1) count n (omega arith) (omega arith)) ] where
-  le-cases : (m n : ℕ) → m ≤ n → (m ≡ n) ⊎ (m < n)
-  le-cases zero zero p = inl refl
-  le-cases zero (suc n) p = inr (omega arith)
-  le-cases (suc m) zero p = absurd (omega arith)
-  le-cases (suc m) (suc n) p = elim (le-cases m n (omega arith)) [ inl e ↦ inl (ap suc e) | inr l ↦ inr (omega arith) ]
+counted-has first (suc count) n p q = elim (eq-or-lt_of_le {n = first} {m = n} p) [ inl e ↦ inl (sym e) | inr less ↦ inr (counted-has (first + 1) count n (omega arith) (omega arith)) ]
 
 counted-below : (first count n : ℕ) → Member n (range_with_len first count) → n < first + count
 counted-below first zero n m = absurd m

@@ -2,15 +2,15 @@
 use Rattle.std.proofs.Common.{◌≡◌, ◌≢◌, refl, sym, ◌∙◌, ap, subst, ℕ, zero, suc, ◌+◌, ◌<◌, ◌≤◌, Bool, true, false, List, [], ◌∷◌, ◌++◌, length, map, filter, take, replicate, get_or, arith, inl, inr}
 use Rattle.std.specs.Prelude.{◌⊎◌, nat_eq, slice_set, ◌||◌, cond, flat_map, T}
 use Rattle.std.proofs.Math.Dec.{eqb, eqb_refl}
-use Rattle.std.proofs.lemmas.Bool.{eqb-true}
+use Rattle.std.proofs.lemmas.Bool.{eqb-true, or_parts}
 use Rattle.std.proofs.lemmas.Grind.{flat_map-append}
 use Rattle.std.proofs.lemmas.Map.Steps.{length-le_from_distinct_below}
 use Rattle.std.specs.List.{AllByRecursion, IsDistinct, list_any, range_with_len}
 use Rattle.std.proofs.Math.IntN.{ℤ, pos}
 use Rattle.std.proofs.lemmas.List.{append-nil, length-append, length-map, map-append, take_more, take_all, get_or_default}
-use Rattle.std.proofs.lemmas.List.Elements.{filter-append}
-use Rattle.std.proofs.lemmas.List.FromFn.{length-range_with_len, map-range_with_len_more}
+use Rattle.std.proofs.lemmas.List.FromFn.{length-range_with_len}
 use Rattle.base_laws.proofs.Lists.{All-push, All-read}
+use Rattle.base_laws.proofs.Ranges.{filter-few, filter-passed}
 use Rattle.iolb_model.specs.Form.{AffineForm}
 use Rattle.iolb_model.specs.Program.{AffineProgram}
 use Rattle.affine_program.specs.Domain.{depth_of}
@@ -88,15 +88,11 @@ member-push (l ∷ loops) n level h g e = (g.0, member-push loops n level (or-ri
   or-right true b p = absurd cc
   or-right false b p = p
 
-or-both : (a b : Bool) → (a || b) ≡ false → (a ≡ false) × (b ≡ false)
-or-both true b p = absurd cc
-or-both false b p = (refl, p)
-
 distinct-push : (loops : List ℕ) (level : ℕ) → IsDistinct nat_eq loops → list_any (λ (loop : ℕ). nat_eq loop level) loops ≡ false → IsDistinct nat_eq (loops ++ level ∷ [])
 unfolding IsDistinct
 distinct-push [] level h none = (tt, tt)
 distinct-push (l ∷ loops) level h none =
-    let both = or-both (nat_eq l level) (list_any (λ (loop : ℕ). nat_eq loop level) loops) none in
+    let both = or_parts (nat_eq l level) (list_any (λ (loop : ℕ). nat_eq loop level) loops) none in
     (member-push loops l level both.1 h.0 both.0, distinct-push loops level h.1 both.1)
 
 -- the loops before one that is different aren't it
@@ -167,30 +163,14 @@ named-all program reader count loops past h = record {
 
 -- ---- the loops that are named, outermost first
 
-map-same : (xs : List ℕ) → map (λ (x : ℕ). x) xs ≡ xs
-map-same [] = refl
-map-same (x ∷ xs) = ap (λ (ys : List ℕ). x ∷ ys) (map-same xs)
-
-pub range-next : (k : ℕ) → range_with_len 0 (k + 1) ≡ range_with_len 0 k ++ k ∷ []
-range-next k =
-    sym (map-same (range_with_len 0 (k + 1))) ∙ map-range_with_len_more (λ (x : ℕ). x) 0 k k (omega arith) ∙ ap (λ (ns : List ℕ). ns ++ k ∷ []) (map-same (range_with_len 0 k))
-
--- those below a number, and below the next
-pub below-next : (p : ℕ → Bool) (k : ℕ) → filter p (range_with_len 0 (k + 1)) ≡ filter p (range_with_len 0 k) ++ cond (p k) (k ∷ []) []
-below-next p k = ap (filter p) (range-next k) ∙ filter-append p (range_with_len 0 k) (k ∷ [])
-
--- with one that passes, and with one that doesn't
+-- those below a number that pass, and what is made of them, with one more that passes
 pub rows-in : (p : ℕ → Bool) (f : ℕ → List ℤ) (k : ℕ) → p k ≡ true → (length (filter p (range_with_len 0 (k + 1))) ≡ length (filter p (range_with_len 0 k)) + 1)
     × (flat_map f (filter p (range_with_len 0 (k + 1))) ≡ flat_map f (filter p (range_with_len 0 k)) ++ f k)
 rows-in p f k is =
-    let next : filter p (range_with_len 0 (k + 1)) ≡ filter p (range_with_len 0 k) ++ k ∷ [] =
-    below-next p k ∙ ap (λ (b : Bool). filter p (range_with_len 0 k) ++ cond b (k ∷ []) []) is in (
+    let next : filter p (range_with_len 0 (k + 1)) ≡ filter p (range_with_len 0 k) ++ k ∷ [] = filter-passed p k is in (
       ap length next ∙ length-append (filter p (range_with_len 0 k)) (k ∷ []),
       ap (flat_map f) next ∙ flat_map-append f (filter p (range_with_len 0 k)) (k ∷ []) ∙ ap (λ (xs : List ℤ). flat_map f (filter p (range_with_len 0 k)) ++ xs) (append-nil (f k)),
     )
-
-pub rows-out : (p : ℕ → Bool) (k : ℕ) → p k ≡ false → filter p (range_with_len 0 (k + 1)) ≡ filter p (range_with_len 0 k)
-rows-out p k is = below-next p k ∙ ap (λ (b : Bool). filter p (range_with_len 0 k) ++ cond b (k ∷ []) []) is ∙ append-nil (filter p (range_with_len 0 k))
 
 -- a list has what stands first in it
 named-first : (l : ℕ) (loops : List ℕ) → is_named (l ∷ loops) l ≡ true
@@ -226,13 +206,6 @@ pub none-named : (program : AffineProgram) (reader : ReadOf) (loops : List ℕ) 
 none-named program reader [] h e = refl
 none-named program reader (l ∷ loops) h e =
     absurd (some-pass (is_named (l ∷ loops)) 0 (depth_of program reader.statement) l (omega arith) (omega (arith, h.0)) (named-first l loops) e)
-
-pub filter-few : (p : ℕ → Bool) (ns : List ℕ) → length (filter p ns) ≤ length ns
-filter-few p [] = omega arith
-filter-few p (n ∷ ns) = by (p n) (filter-few p ns) where
-  by : (b : Bool) → length (filter p ns) ≤ length ns → length (cond b (n ∷ filter p ns) (filter p ns)) ≤ suc (length ns)
-  by true h = omega arith
-  by false h = omega arith
 
 -- there are no more loops than around the statement
 member-below : (xs : List ℕ) (n q : ℕ) → AllByRecursion (λ (x : ℕ). x < n) xs → list_any (eqb q) xs ≡ true → q < n

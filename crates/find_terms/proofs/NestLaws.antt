@@ -4,15 +4,14 @@ use Rattle.std.specs.Prelude.{if◌then◌else◌, cond, flat_map, nat_eq}
 use Rattle.std.specs.List.{AllByRecursion, range_with_len}
 use Rattle.std.proofs.Math.IntN.{pos}
 use Rattle.std.proofs.lemmas.List.{length-append, length-map}
-use Rattle.base_laws.proofs.Lists.{All-append, All-push, All-replicate, rest_at}
+use Rattle.base_laws.proofs.Lists.{All-append, All-push, rest_at, All-left, All-right}
 use Rattle.iolb_model.specs.Form.{AffineForm}
 use Rattle.iolb_model.specs.Path.{PathStep, rises}
 use Rattle.iolb_model.specs.Program.{AffineProgram}
 use Rattle.iolb_model.specs.declared.limits.TheConstants.{NUMBER_SIZE}
+use Rattle.reuse_paths.proofs.EntryClaims.{all-widened-small}
 use Rattle.affine_form.specs.Form.{variables, IsSmall, IsSmallForm}
 use Rattle.affine_form.specs.Rows.{BoundsFit, IsSmallOver, step_of, variable, widened}
-use Rattle.affine_form.proofs.RowLemmas.{length-widened}
-use Rattle.flow_deps.proofs.AnswerLaws.{All-left, All-right}
 use Rattle.flow_deps.proofs.SmallForms.{variable-small}
 use Rattle.part_fit.specs.Limits.{AreSmall}
 use Rattle.find_terms.specs.Found.{FarFits, IsSmallNest}
@@ -20,21 +19,12 @@ use Rattle.find_terms.specs.Openings.{NestSoFar, at_values, into_loop, is_named,
 
 -- ---- small forms
 
-widened-small : (vars : ℕ) (form : AffineForm) → IsSmallForm NUMBER_SIZE form → IsSmallForm NUMBER_SIZE (widened vars form)
-widened-small vars form h =
-    (All-append (IsSmall NUMBER_SIZE) form.coefficients (replicate (vars - length form.coefficients) (pos 0)) h.0 (All-replicate (IsSmall NUMBER_SIZE) (vars - length form.coefficients) (pos 0) (lit< tt)), h.1)
-
 narrowed-small : (vars : ℕ) (form : AffineForm) → IsSmallForm NUMBER_SIZE (widened vars form) → IsSmallForm NUMBER_SIZE form
 narrowed-small vars form h = (All-left (IsSmall NUMBER_SIZE) form.coefficients (replicate (vars - length form.coefficients) (pos 0)) h.0, h.1)
 
 narrowed-all : (vars : ℕ) (forms : List AffineForm) → AreSmall (map (widened vars) forms) → AreSmall forms
 narrowed-all vars [] h = tt
 narrowed-all vars (f ∷ forms) h = (narrowed-small vars f h.0, narrowed-all vars forms h.1)
-
-widened-all : (n vars : ℕ) (forms : List AffineForm) → n ≤ vars → AllByRecursion (IsSmallOver n) forms → AllByRecursion (IsSmallOver vars) (map (widened vars) forms)
-widened-all n vars [] le h = tt
-widened-all n vars (f ∷ forms) le h =
-    (record { over = length-widened vars f (omega (arith, le, h.0.over)); small = widened-small vars f h.0.small }, widened-all n vars forms le h.1)
 
 -- ---- a step
 
@@ -98,7 +88,7 @@ module _ (program : AffineProgram) where
         many = length-append (map (widened wider) far.values) (variable wider (width program far) ∷ []) ∙ ap (λ (n : ℕ). n + 1) (length-map far.values (widened wider) ∙ h.many);
         bounds = bounds-push (length program.parameters) far.nest (at_values program far lower, at_values program far upper) h.bounds (record { over = over_l; small = small_l }) (record { over = over_u; small = small_u });
         values = subst (λ (n : ℕ). AllByRecursion (IsSmallOver n) next.values) wide
-            (All-push (IsSmallOver wider) (map (widened wider) far.values) (variable wider (width program far)) (widened-all (width program far) wider far.values (omega arith) h.values) (variable-small wider (width program far)));
+            (All-push (IsSmallOver wider) (map (widened wider) far.values) (variable wider (width program far)) (all-widened-small (width program far) wider far.values (omega arith) h.values) (variable-small wider (width program far)));
       }
 
   pub first-fits : (level : ℕ) (far : NestSoFar) (lower : AffineForm) → FarFits program level far → variables (at_values program far lower) ≡ width program far

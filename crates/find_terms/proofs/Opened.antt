@@ -1,8 +1,8 @@
 -- Source trees that stand, with the opening branch: within the limits, and plain where the branch names their reads.
 use Rattle.std.proofs.Common.{Bool, true, false, ◌≡◌, refl, sym, ◌∙◌, ap, subst, inl, inr, ℕ, zero, suc, ◌+◌, ◌<◌, List, [], ◌∷◌, ◌++◌, length, map, arith, Bor}
-use Rattle.std.specs.Prelude.{◌==◌, ◌&&◌, ◌||◌, Option, None, Some, IfNone, option_and_then, slice_get}
+use Rattle.std.specs.Prelude.{◌==◌, ◌&&◌, Option, None, Some, IfNone, option_and_then, slice_get}
 use Rattle.std.specs.List.{AllByRecursion, list_any}
-use Rattle.std.proofs.lemmas.Bool.{eq-eqb}
+use Rattle.std.proofs.lemmas.Bool.{eq-eqb, or_left, or_right}
 use Rattle.iolb_model.specs.Program.{AffineProgram}
 use Rattle.claims.specs.Claims.{FirstFails}
 use Rattle.claims.specs.declared.refused.No.{No as FailedCondition}
@@ -142,19 +142,11 @@ own-read : (cold : Cold) → is_of_read (reader_of cold) (terms.Cold cold) ≡ t
 own-read cold =
     ap (λ (b : Bool). b && cold.read == cold.read) (eq-eqb cold.statement cold.statement refl) ∙ eq-eqb cold.read cold.read refl
 
-or-left : (a b : Bool) → a ≡ true → (a || b) ≡ true
-or-left true b e = refl
-or-left false b e = absurd cc
-
-or-right : (a b : Bool) → b ≡ true → (a || b) ≡ true
-or-right true b e = refl
-or-right false b e = e
-
 names-few : (slice : Bor (List Term)) (all : List Term) → ((reader : ReadOf) → list_any (is_of_read reader) all ≡ true → list_any (is_of_read reader) slice.now ≡ true) → AllByRecursion (NamesTerm (Few slice)) all
 names-few slice [] reach = tt
 names-few slice (terms.Cold cold ∷ all) reach = (
-  reach (reader_of cold) (or-left (is_of_read (reader_of cold) (terms.Cold cold)) (list_any (is_of_read (reader_of cold)) all) (own-read cold)),
-  names-few slice all (λ reader h. reach reader (or-right (is_of_read reader (terms.Cold cold)) (list_any (is_of_read reader) all) h)),
+  reach (reader_of cold) (or_left (is_of_read (reader_of cold) (terms.Cold cold)) (list_any (is_of_read (reader_of cold)) all) (own-read cold)),
+  names-few slice all (λ reader h. reach reader (or_right (is_of_read reader (terms.Cold cold)) (list_any (is_of_read reader) all) h)),
 )
 names-few slice (terms.Partition partition ∷ all) reach = (tt, names-few slice all reach)
 names-few slice (terms.Wavefront front ∷ all) reach = (tt, names-few slice all reach)

@@ -3,7 +3,7 @@ use Rattle.std.proofs.Common.{◌≡◌, refl, sym, ◌∙◌, ap, subst, inl, i
 use Rattle.std.specs.Prelude.{⊤}
 use Rattle.iolb_model.specs.Form.{AffineForm}
 use Rattle.iolb_model.specs.Program.{AffineProgram}
-use Rattle.iolb_model.specs.declared.limits.TheConstants.{TREE_TESTS}
+use Rattle.flow_deps.proofs.FirstShown.{first-stands}
 use Rattle.flow_deps.specs.declared.wanted.Wanted.{Wanted}
 use Rattle.claims.specs.Claims.{AllHold}
 use Rattle.claims.specs.declared.place.Step.TheVariants.{Key}
@@ -16,7 +16,6 @@ use Rattle.flow_deps.specs.declared.candidate.Candidate.TheVariants.{NoWrite, Sa
 use Rattle.flow_deps.specs.Shapes.{Shape, shape_of, no_write, last_write, other, split}
 use Rattle.flow_deps.specs.Candidates.{candidate_shape, candidates}
 use Rattle.flow_deps.specs.Plain.{IsFirstShown, IsPlain}
-use Rattle.flow_deps.specs.Shown.{Stands}
 use Rattle.reuse_paths.specs.OpenLeaves.{OpenLeaf, TestsFit, as_input, form_at, no_at, open_leaves, written}
 use Rattle.reuse_paths.proofs.OpenLeaves.{tests-fit}
 use Rattle.wavefront.specs.declared.cold.Cold.{Cold}
@@ -72,11 +71,6 @@ first-named : (program : AffineProgram) (reader : ReadOf) (all : List Candidate)
 first-named program reader [] t h = absurd h
 first-named program reader (candidate ∷ all) t (inl h) = subst IsNamed (sym h.has_shape) (candidate-named program reader candidate)
 first-named program reader (candidate ∷ all) t (inr h) = first-named program reader all t h.1
-
-first-stands : (program : AffineProgram) (reader : ReadOf) (shapes : List Shape) (t : SelectionTree) → IsFirstShown program reader shapes t → Stands program reader [] TREE_TESTS t
-first-stands program reader [] t h = absurd h
-first-stands program reader (shape ∷ shapes) t (inl h) = h.stands
-first-stands program reader (shape ∷ shapes) t (inr h) = first-stands program reader shapes t h.1
 
 pub plain-tests : (program : AffineProgram) (reader : ReadOf) (t : SelectionTree) → IsPlain program reader t → TestsFit (variables_at program reader) t
 plain-tests program reader t h = tests-fit program reader [] t (first-stands program reader (map (candidate_shape program reader) (candidates program reader)) t h).fits

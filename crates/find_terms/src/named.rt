@@ -1,6 +1,6 @@
 //! The loops that the subscripts of a read name.
 
-ghost use Rattle.std.specs.Prelude.{◌≡◌, ◌↔◌, IfOk, IsTrue};
+ghost use Rattle.std.specs.Prelude.{IfOk};
 ghost use Rattle.affine_program.specs.Parts.{meaning};
 ghost use Rattle.dep_quast.specs.Truth.{ReadFits};
 ghost use Rattle.dep_quast.specs.Views.{read_of};
@@ -10,13 +10,6 @@ use affine_form::{Form, Memory, variable};
 use affine_program::Program;
 use dep_quast::reader::{Reader, depth, reference, variables};
 use std::alloc::Global;
-
-/// Whether two forms are one.
-fn is_same(left: &Form, right: &Form) -> bool
-    ensures { IsTrue result ↔ (left.now ≡ right.now) }
-{
-    left.coef() == right.coef() && left.constant() == right.constant()
-}
 
 /// The loop around a read's statement whose variable a form is.
 fn loop_named(
@@ -31,7 +24,7 @@ fn loop_named(
     let vars = variables(program, reader);
     for level in 0..depth(program, reader.statement) {
         let name = variable(alloc, vars, program.params().len() + level)?;
-        if is_same(form, &name) {
+        if form.is_same(&name) {
             return Ok(Some(level as u8));
         }
     }

@@ -1,14 +1,12 @@
 //! The nest of the loops that a read's subscripts name, and the loop values of the reading instance.
 
-ghost use Rattle.std.specs.Prelude.{◌≡◌, ◌<◌, ◌≤◌, ◌+◌, length, slice_index_or, IfOk};
-ghost use Rattle.std.specs.List.{AllByRecursion};
+ghost use Rattle.std.specs.Prelude.{◌≡◌, ◌<◌, ◌+◌, length, IfOk};
 ghost use Rattle.affine_form.specs.Form.{variables};
 ghost use Rattle.affine_form.specs.Rows.{IsSmallOver, step_of};
-ghost use Rattle.affine_program.specs.Domain.{path_of, depth_of};
+ghost use Rattle.affine_program.specs.Domain.{depth_of};
 ghost use Rattle.affine_program.specs.Parts.{meaning};
 ghost use Rattle.dep_quast.specs.Truth.{ReadFits};
 ghost use Rattle.dep_quast.specs.Views.{read_of};
-ghost use Rattle.iolb_model.specs.Path.{PathStep};
 ghost use Rattle.find_terms.specs.Found.{FarFits, FindsNest, so_far};
 ghost use Rattle.find_terms.specs.Openings.{at_values, into_loop, named_nest, width, with_first, with_variable};
 ghost use Rattle.iolb_model.specs.declared.limits.TheConstants.{LOOPS};
@@ -17,6 +15,7 @@ use affine_form::{Form, Memory, put, variable, variables_from, widened};
 use affine_program::{Program, is_small_form};
 use dep_quast::lists::{all_widened, followed_by};
 use dep_quast::reader::{Reader, depth};
+use flow_deps::points::bounds_at;
 use std::alloc::Global;
 
 /// A nest, and the values of the loops on a way, as far as the way is gone.
@@ -24,20 +23,6 @@ use std::alloc::Global;
 pub(crate) struct SoFar {
     pub nest: Vec<(Form, Form)>,
     pub values: Vec<Form>,
-}
-
-/// The bounds of a loop around a statement.
-fn bounds_at(program: &Program, statement: u16, level: usize) -> &(Form, Form)
-    requires there { statement < length program.now.statements }
-    requires level_in { level < depth_of (meaning program.now) statement }
-    ensures lower { IsSmallOver (length program.now.params + level) result.now.0 }
-    ensures upper { IsSmallOver (length program.now.params + level) result.now.1 }
-    ensures step { (none : PathStep) → slice_index_or (path_of (meaning program.now) statement) level none ≡ step_of result.now }
-{
-    let _params = program.params();
-    &program.statements()[usize::from(statement)]
-        .bounds
-        .as_slice()[level]
 }
 
 /// A bound of the next loop at the values so far.

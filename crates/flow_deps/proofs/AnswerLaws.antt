@@ -2,10 +2,10 @@
 use Rattle.std.proofs.Common.{◌≡◌, refl, sym, ap, subst, ℕ, zero, suc, ◌+◌, ◌<◌, ◌≤◌, List, [], ◌∷◌, ◌++◌, ◌∙◌, length, map, take, get_or, arith}
 use Rattle.std.specs.Prelude.{flat_map, Option, Some, None, IfSome, MatchOption}
 use Rattle.std.specs.List.{AllByRecursion, range_with_len}
-use Rattle.std.proofs.lemmas.List.{map-append, take_more, append-nil, map-id}
+use Rattle.std.proofs.lemmas.List.{map-append, take_more, append-nil}
 use Rattle.std.proofs.lemmas.Grind.{flat_map-append}
 use Rattle.std.proofs.lemmas.List.FromFn.{length-range_with_len, get_or-range_with_len, map-range_with_len_more}
-use Rattle.base_laws.proofs.Lists.{All-append, All-at, All-weaken, All-map}
+use Rattle.base_laws.proofs.Lists.{All-append, All-at, All-weaken, All-map, All-left, All-right}
 use Rattle.iolb_model.specs.Form.{AffineForm}
 use Rattle.iolb_model.specs.declared.limits.TheConstants.{ROWS}
 use Rattle.affine_form.specs.Multipliers.{FarkasMultipliers}
@@ -19,14 +19,6 @@ use Rattle.part_fit.specs.Limits.{NamesRows, NameRows}
 use Rattle.flow_deps.specs.Answers.{Question, IsAnswered, AreAnswered, following, pointless, HasShortAnswer, IsAsShort, Answers, HasNoShort}
 
 -- ---- lists
-
-pub All-left : {X : Type 0} (P : X → Type 0) (xs ys : List X) → AllByRecursion P (xs ++ ys) → AllByRecursion P xs
-All-left P [] ys h = tt
-All-left P (x ∷ xs) ys h = (h.0, All-left P xs ys h.1)
-
-pub All-right : {X : Type 0} (P : X → Type 0) (xs ys : List X) → AllByRecursion P (xs ++ ys) → AllByRecursion P ys
-All-right P [] ys h = h
-All-right P (x ∷ xs) ys h = All-right P xs ys h.1
 
 All-unmap : {X Y : Type 0} (P : Y → Type 0) (f : X → Y) (xs : List X) → AllByRecursion P (map f xs) → AllByRecursion (λ x. P (f x)) xs
 All-unmap P f [] h = tt
@@ -89,15 +81,6 @@ levels-more wanted f k system all more m is h one e =
     let one_more : IsAnswered (pointless (f k)) m × IsAsShort wanted m = subst (λ (s : AffineSystem). IsAnswered (pointless s) m × IsAsShort wanted m) is one in
     systems-more wanted (map f (range_with_len 0 k)) (f k ∷ []) (map f (range_with_len 0 (k + 1))) all (m ∷ []) more h (Answers-one wanted (pointless (f k)) m one_more)
     (map-range_with_len_more f 0 k k (omega arith)) e
-
--- numbers in a row, one more
-pub range-next : (k : ℕ) → range_with_len 0 (k + 1) ≡ range_with_len 0 k ++ k ∷ []
-range-next k =
-    sym (map-id (range_with_len 0 (k + 1))) ∙ map-range_with_len_more (λ (n : ℕ). n) 0 k k (omega arith) ∙ ap (λ (ns : List ℕ). ns ++ k ∷ []) (map-id (range_with_len 0 k))
-
-pub flat-range-more : {X : Type 0} (g : ℕ → List X) (k : ℕ) → flat_map g (range_with_len 0 (k + 1)) ≡ flat_map g (range_with_len 0 k) ++ g k
-flat-range-more g k =
-    ap (flat_map g) (range-next k) ∙ flat_map-append g (range_with_len 0 k) (k ∷ []) ∙ ap (λ xs. flat_map g (range_with_len 0 k) ++ xs) (append-nil (g k))
 
 pub flat-take-more : {X : Type 0} (g : ℕ → List X) (ws : List ℕ) (i w : ℕ) → i < length ws → w ≡ get_or ws i 0 → flat_map g (take (i + 1) ws) ≡ flat_map g (take i ws) ++ g w
 flat-take-more g ws i w below is =

@@ -4,14 +4,13 @@ use Rattle.std.specs.Prelude.{if◌then◌else◌, Option, Some, None, Vec}
 use Rattle.std.specs.Global.{Global}
 use Rattle.std.specs.List.{AllByRecursion}
 use Rattle.std.proofs.lemmas.List.{get_or-map}
-use Rattle.base_laws.proofs.Lists.{there, rest_at}
+use Rattle.base_laws.proofs.Lists.{there, rest_at, All-left, All-right}
 use Rattle.iolb_model.specs.Form.{AffineForm}
 use Rattle.iolb_model.specs.Path.{PathStep, rises}
 use Rattle.iolb_model.specs.Program.{AffineProgram}
 use Rattle.affine_form.specs.Rows.{IsSmallOver, BoundsFit, step_of}
 use Rattle.affine_form.specs.declared.form.Form.{Form}
 use Rattle.dep_quast.specs.Context.{ReadOf, variables_at}
-use Rattle.flow_deps.proofs.AnswerLaws.{All-left, All-right}
 use Rattle.flow_deps.specs.Candidates.{subscript_for, is_name, loop_value, values_along, point_from, FindsPoint}
 
 -- ---- subscripts

@@ -20,18 +20,17 @@ ghost use Rattle.iolb_model.specs.declared.limits.TheConstants.{TREE_TESTS, TREE
 use crate::answers::is_answered;
 use crate::leaves::{has_no_point, source_leaf, sure_leaf, unshown};
 use crate::origins::Origin;
-use crate::rows::{
-    context_rows, precedence_rows, tests_of_no, tests_of_yes, values_of_reader, written_rows,
-};
 use crate::solved::solved_point;
 use crate::wanted::Wanted;
 use affine_form::{Form, Memory, system_of};
 use affine_program::{Program, is_small_form};
 use dep_quast::Quast;
 use dep_quast::claimed::Claimed;
+use dep_quast::context::{context_rows, tests_of_no, tests_of_yes};
 use dep_quast::lists::followed_by;
-use dep_quast::point_rows::domain_rows;
+use dep_quast::point_rows::{domain_rows, precedence_rows, written_rows};
 use dep_quast::reader::{Reader, variables};
+use dep_quast::writes::values_of_reader;
 use iolb_model::limits;
 use std::alloc::Global;
 

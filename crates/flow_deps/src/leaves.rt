@@ -17,15 +17,16 @@ ghost use Rattle.flow_deps.specs.Shown.{FindsTree};
 
 use crate::answers::{goals_answered, system_answered};
 use crate::no_writes::{between_answered, earlier_answered};
-use crate::rows::{context_rows, precedence_rows, values_of_reader, written_rows};
 use crate::wanted::Wanted;
 use affine_form::{Form, Memory, Multipliers, System, system_of};
 use affine_program::Program;
 use dep_quast::Quast;
 use dep_quast::claimed::Claimed;
+use dep_quast::context::context_rows;
 use dep_quast::lists::followed_by;
-use dep_quast::point_rows::domain_rows;
+use dep_quast::point_rows::{domain_rows, precedence_rows, written_rows};
 use dep_quast::reader::{Reader, variables};
+use dep_quast::writes::values_of_reader;
 use iolb_model::limits;
 use std::alloc::Global;
 

@@ -12,12 +12,10 @@ mod no_writes;
 mod origins;
 mod plain_trees;
 mod planted;
-mod points;
-pub mod rows;
+pub mod points;
 mod solved;
 mod source_trees;
 mod wanted;
-pub mod writes;
 
 pub use answers::{goals_answered, is_answered, system_answered, with_answers};
 pub use plain_trees::plain;

@@ -14,14 +14,12 @@ ghost use Rattle.flow_deps.specs.Answers.{HasNoShort, Answers, pointless};
 
 use crate::answers::{system_answered, with_answers};
 use crate::wanted::Wanted;
-use crate::writes::{
-    rows_after_source, rows_before_reader, rows_of_write, variables_beside, writers,
-};
 use affine_form::{Form, Memory, Multipliers};
 use affine_program::Program;
 use dep_quast::claimed::Claimed;
-use dep_quast::levels::level_count;
+use dep_quast::levels::{level_count, writers};
 use dep_quast::reader::{Reader, reference};
+use dep_quast::writes::{rows_after_source, rows_before_reader, rows_of_write, variables_beside};
 use std::alloc::Global;
 
 /// Multipliers which show for each level that a writer doesn't come before the reader there.

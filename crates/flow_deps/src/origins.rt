@@ -9,9 +9,9 @@ ghost use Rattle.dep_quast.specs.Truth.{ReadFits};
 ghost use Rattle.dep_quast.specs.Views.{read_of};
 ghost use Rattle.flow_deps.specs.Origins.{OriginFits};
 
-use crate::writes::writers;
 use affine_form::Memory;
 use affine_program::Program;
+use dep_quast::levels::writers;
 use dep_quast::reader::{Reader, depth, reference};
 use std::alloc::Global;
 

@@ -20,12 +20,12 @@ ghost use Rattle.iolb_model.specs.declared.limits.TheConstants.{TREE_TESTS};
 use crate::candidate::Candidate;
 use crate::leaves::{input_leaf, source_leaf, unshown};
 use crate::points::{bounds_at, point_from};
-use crate::rows::{tests_of_no, tests_of_yes};
 use crate::wanted::Wanted;
 use affine_form::{Form, Memory, difference, variable, variables_from};
 use affine_program::{Program, is_small_form};
 use dep_quast::Quast;
 use dep_quast::claimed::Claimed;
+use dep_quast::context::{tests_of_no, tests_of_yes};
 use dep_quast::reader::{Reader, variables};
 use std::alloc::Global;
 

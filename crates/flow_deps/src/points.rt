@@ -73,7 +73,7 @@ fn subscript_for(
 }
 
 /// The bounds of a loop around a statement.
-pub(crate) fn bounds_at(program: &Program, statement: u16, level: usize) -> &(Form, Form)
+pub fn bounds_at(program: &Program, statement: u16, level: usize) -> &(Form, Form)
     requires there { statement < length program.now.statements }
     requires level_in { level < depth_of (meaning program.now) statement }
     ensures lower { IsSmallOver (length program.now.params + level) result.now.0 }

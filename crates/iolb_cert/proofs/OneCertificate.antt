@@ -1,6 +1,8 @@
 -- A text has one certificate, or one fault.
-use Rattle.std.proofs.Common.{◌≡◌, ℕ, ◌≤◌, List, [], ◌∷◌, Some, Ok, Err, inl, inr, refl, sym, subst, ◌∙◌, ap, arith}
+use Rattle.std.proofs.Common.{◌≡◌, ℕ, ◌≤◌, List, [], ◌∷◌, Ok, Err, inl, inr, refl, sym, subst, ◌∙◌, ap, arith}
 use Rattle.iolb_model.specs.Polynomial.{Polynomial, terms_value}
+use Rattle.cert_parts.proofs.Texts.{same-value}
+use Rattle.cert_parts.specs.Texts.{HasValue}
 use Rattle.claims.specs.declared.place.Step.{Step}
 use Rattle.affine_form.specs.Multipliers.{FarkasMultipliers}
 use Rattle.poly_tree.specs.Poly.{Quotient, SameValues, numerator_at}
@@ -18,15 +20,10 @@ use Rattle.cert_parts.specs.Credits.{WrittenCredit}
 use Rattle.cert_parts.specs.Read.{AreAll, IsPolynomial, ArePolynomials}
 use Rattle.iolb_cert.specs.Certificates.{reads_certificate}
 use Rattle.iolb_cert.specs.OneCertificate.{HasCertificate, TextsHaveOneCertificate, TextsHaveOneAnswer}
-use Rattle.iolb_cert.specs.Texts.{HasValue, IsTextOf, IsTextFault}
+use Rattle.iolb_cert.specs.Texts.{IsTextOf, IsTextFault}
 use Rattle.iolb_cert.specs.Read.{PartitionClaim, WrittenPartition, WrittenTerm, as_cold, as_partition, as_front, WrittenBranch, WrittenCertificate, claim_of_partition, IsCreditTerm, IsPartition, IsTerm, IsBranch, IsCertificate}
 
 -- ---- the same text says the same
-
-same-value : (bytes : List ℕ) (d e : Data) → HasValue bytes d → HasValue bytes e → d ≡ e
-same-value bytes d e p q = one d e (sym p.reads ∙ q.reads) where
-  one : (x y : Data) → Some x ≡ Some y → x ≡ y
-  one x y is = cc
 
 same-outcome : (bytes : List ℕ) (d e : Data) → HasValue bytes d → HasValue bytes e → reads_certificate d ≡ reads_certificate e
 same-outcome bytes d e p q = ap reads_certificate (same-value bytes d e p q)

@@ -1,17 +1,13 @@
 -- Which certificate a text has, or which fault.
-use Rattle.std.specs.Prelude.{◌≡◌, ⊤, ◌⊎◌, ℕ, List, [], Result, Ok, Err, Some, IsUtf8}
+use Rattle.std.specs.Prelude.{◌≡◌, ⊤, ◌⊎◌, ℕ, List, [], Result, Ok, Err}
 use Rattle.serde_json.specs.Data.{Data}
 use Rattle.serde_json.specs.Read.{read}
+use Rattle.cert_parts.specs.Texts.{HasValue}
 use Rattle.cert_parts.specs.declared.error.CertFault.{CertFault}
 use Rattle.cert_parts.specs.declared.error.CertError.{CertError}
 use Rattle.cert_parts.specs.declared.error.CertError.TheVariants.{Fault, Memory}
 use Rattle.iolb_cert.specs.Read.{WrittenCertificate}
 use Rattle.iolb_cert.specs.Certificates.{reads_certificate}
-
--- the bytes are UTF-8, and the JSON of this value (RFC 8259, as serde_json reads it)
-pub record HasValue (bytes : List ℕ) (value : Data) : Type 0 where
-  pub utf8 : IsUtf8 bytes
-  pub reads : read bytes ≡ Some value
 
 -- the text of this certificate
 pub record IsTextOf (bytes : List ℕ) (written : WrittenCertificate) : Type 0 where

@@ -1,5 +1,6 @@
 -- A certificate isn't both accepted and refused, and gives one bound.
 use Rattle.std.proofs.Common.{◌≡◌, sym, ◌∙◌, ap, List, [], ◌∷◌, length, arith}
+use Rattle.base_laws.proofs.Lists.{cons-same}
 use Rattle.iolb_model.specs.Program.{AffineProgram}
 use Rattle.claims.proofs.Laws.{accepted-stand, refused-one}
 use Rattle.domain_count.proofs.Claimed.{right-claims-give-one, sums-same}
@@ -14,9 +15,6 @@ use Rattle.iolb_check.specs.declared.bound.Value.{Value}
 use Rattle.iolb_check.specs.declared.bound.Value.TheVariants as values
 use Rattle.iolb_check.specs.Conditions.{conditions, IsPartitionValue, IsValueOf, AreValuesOf, AreBranchValues}
 use Rattle.iolb_check.specs.Exact.{RefusalsAreOne, ValidCertificatesGiveOne, ValidCertificatesStand}
-
-cons-same : {X : Type 0} {x y : X} {xs ys : List X} → x ≡ y → xs ≡ ys → x ∷ xs ≡ y ∷ ys
-cons-same {X} {x} {y} {xs} {ys} e f = ap (λ z. z ∷ xs) e ∙ ap (λ zs. y ∷ zs) f
 
 -- two bounds of a partition term are one
 bound-same : (program : AffineProgram) (term : PartitionTerm) (one other : PartitionBound) → IsPartitionValue program term one → IsPartitionValue program term other → one ≡ other
@@ -56,13 +54,13 @@ values-same : (program : AffineProgram) (terms : List TermClaim) (one other : Li
 values-same program [] one other h g = h ∙ sym g
 values-same program (t ∷ terms) [] other h g = absurd h
 values-same program (t ∷ terms) (v ∷ one) [] h g = absurd g
-values-same program (t ∷ terms) (v ∷ one) (w ∷ other) h g = cons-same (value-same program t v w h.0 g.0) (values-same program terms one other h.1 g.1)
+values-same program (t ∷ terms) (v ∷ one) (w ∷ other) h g = cons-same _ _ _ _ (value-same program t v w h.0 g.0) (values-same program terms one other h.1 g.1)
 
 branches-same : (program : AffineProgram) (branches : List BranchClaim) (one other : List (List Value)) → AreBranchValues program branches one → AreBranchValues program branches other → one ≡ other
 branches-same program [] one other h g = h ∙ sym g
 branches-same program (b ∷ branches) [] other h g = absurd h
 branches-same program (b ∷ branches) (v ∷ one) [] h g = absurd g
-branches-same program (b ∷ branches) (v ∷ one) (w ∷ other) h g = cons-same (values-same program b.terms v w h.0 g.0) (branches-same program branches one other h.1 g.1)
+branches-same program (b ∷ branches) (v ∷ one) (w ∷ other) h g = cons-same _ _ _ _ (values-same program b.terms v w h.0 g.0) (branches-same program branches one other h.1 g.1)
 
 pub valid-certificates-stand : ValidCertificatesStand
 valid-certificates-stand program certificate values failed is fails = accepted-stand (conditions program certificate) failed is.accepted fails

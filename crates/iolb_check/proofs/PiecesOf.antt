@@ -3,6 +3,7 @@ use Rattle.std.proofs.Common.{Bool, true, ◌≡◌, refl, sym, ◌∙◌, ap, �
 use Rattle.std.specs.Prelude.{Option, Some, None, if◌then◌else◌}
 use Rattle.std.specs.List.{AllByRecursion, cons_option}
 use Rattle.std.proofs.lemmas.Bool.{lt-ltb}
+use Rattle.base_laws.proofs.Lists.{cons-same}
 use Rattle.iolb_model.specs.Form.{AffineForm}
 use Rattle.iolb_model.specs.Program.{AffineProgram, statement_at}
 use Rattle.claims.specs.Claims.{Claim, AllHold, numbered}
@@ -117,9 +118,6 @@ front-told program term None fits =
 front-told program term (Some spot) fits = refl
 
 -- ---- the terms of a branch
-
-cons-same : {X : Type 0} (x y : X) (xs ys : List X) → x ≡ y → xs ≡ ys → x ∷ xs ≡ y ∷ ys
-cons-same x y xs ys p q = cc
 
 module _ (program : ProgramParts) (trees : List (List SelectionTree)) (list : List Step) where
   abbrev pub claims-from : ℕ → List Term → List Claim

@@ -1,11 +1,11 @@
 -- Complete pebblings keep to the red pebbles, and compute each instance once.
-use Rattle.std.proofs.Common.{◌≡◌, refl, sym, ◌∙◌, ap, subst, inl, inr, ℕ, zero, suc, ◌+◌, ◌-◌, ◌*◌, ◌/◌, ◌<◌, ◌≤◌, ◌≢◌, Bool, true, false, cond, List, [], ◌∷◌, length, replicate, set, arith, IsTrue}
+use Rattle.std.proofs.Common.{◌≡◌, refl, sym, ◌∙◌, ap, subst, inl, inr, ℕ, zero, suc, ◌+◌, ◌-◌, ◌*◌, ◌/◌, ◌<◌, ◌≤◌, ◌≢◌, Bool, true, false, cond, List, [], ◌∷◌, length, set, arith, IsTrue}
 use Rattle.std.specs.Prelude.{◌⊎◌, ◌||◌, ◌&&◌, nat_eq, filter}
 use Rattle.std.specs.List.{AllByRecursion, IsDistinct}
 use Rattle.std.specs.Set.{is_member}
 use Rattle.std.specs.Cmp.{nat_eq_equiv}
 use Rattle.std.proofs.Math.Nat.{div-mul-le_self, mul_comm, zero-div}
-use Rattle.std.proofs.lemmas.Bool.{eqb-true, ne_eqb, cases_eq}
+use Rattle.std.proofs.lemmas.Bool.{eqb-true, ne_eqb, cases_eq, or_parts}
 use Rattle.std.proofs.lemmas.List.{get_or-set_other, get_or-set_same, length-set, length-replicate}
 use Rattle.std.proofs.lemmas.List.Sums.{sum_by-cons}
 use Rattle.std.proofs.lemmas.Map.Made.{is_member-filter, length-le_from_is_member}
@@ -17,7 +17,7 @@ use Rattle.iolb_model.specs.Game.{AreAllowed, Board, IsCompletePebbling, board_a
 use Rattle.k_partition.specs.Laws.{AreInstances, PartitionsAreLoadedEach, PartitionsAreLoadedSum, PointsTakeEventsEach, PointsTakeEventsSum}
 use Rattle.k_partition.specs.Reuse.{ReusePartition, words_of}
 use Rattle.k_partition.specs.Runs.{IsRedRun, computed_vertices, events, is_event, points_computed}
-use Rattle.pebble_game.proofs.Marks.{count-put, distinct-filtered, member-stands, unmarked-at}
+use Rattle.pebble_game.proofs.Marks.{count-put, distinct-filtered, member-stands, unmarked-at, none-marked}
 
 -- ---- red pebbles
 
@@ -33,10 +33,6 @@ count-taken : (marks : List Bool) (v : ℕ) → mark_count (set marks v false) �
 count-taken [] v = omega arith
 count-taken (b ∷ marks) zero = omega (arith, count-cons false marks, count-cons b marks)
 count-taken (b ∷ marks) (suc v) = omega (arith, count-cons b (set marks v false), count-cons b marks, count-taken marks v)
-
-none-marked : (n : ℕ) → mark_count (replicate n false) ≡ 0
-none-marked zero = refl
-none-marked (suc n) = omega (arith, count-cons false (replicate n false), none-marked n)
 
 module _ (graph : ComputationGraph) (s : ℕ) where
   red-run : (board : Board) (moves : List Move) → mark_count board.red ≤ s → AreAllowed graph s board moves → IsRedRun graph s board.red moves
@@ -68,10 +64,7 @@ module _ (graph : ComputationGraph) (s : ℕ) where
 
   apart-from-all : (w : ℕ) (xs : List ℕ) → stands_in xs w ≡ false → AllByRecursion (λ (y : ℕ). nat_eq w y ≡ false) xs
   apart-from-all w [] h = tt
-  apart-from-all w (x ∷ xs) h = let both = neither (nat_eq w x) (stands_in xs w) h in (both.0, apart-from-all w xs both.1) where
-    neither : (a b : Bool) → (a || b) ≡ false → (a ≡ false) × (b ≡ false)
-    neither true b e = absurd cc
-    neither false b e = (refl, e)
+  apart-from-all w (x ∷ xs) h = let both = or_parts (nat_eq w x) (stands_in xs w) h in (both.0, apart-from-all w xs both.1)
 
   -- no instance is computed again
   record IsOnce (board : Board) (moves : List Move) : Type 0 where

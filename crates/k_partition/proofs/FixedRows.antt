@@ -2,9 +2,8 @@
 use Rattle.std.proofs.Common.{◌≡◌, refl, sym, ◌∙◌, ap, subst, inl, inr, ℕ, zero, suc, ◌+◌, ◌<◌, ◌≤◌, List, [], ◌∷◌, ◌++◌, length, map, get_or, drop, arith}
 use Rattle.std.specs.List.{AllByRecursion}
 use Rattle.std.proofs.Math.IntN.{ℤ, pos, ◌+ℤ◌, ◌*ℤ◌}
-use Rattle.std.proofs.lemmas.Int.{ints}
 use Rattle.std.proofs.lemmas.List.{get_or-drop, get_or-map, length-drop, length-map, ext_get_or}
-use Rattle.base_laws.proofs.Ring.{mul-cancel}
+use Rattle.base_laws.proofs.Ring.{mul-cancel, sums-cancel}
 use Rattle.iolb_model.specs.Form.{AffineForm, dot, form_value}
 use Rattle.execution_laws.proofs.Members.{Member}
 use Rattle.execution_laws.proofs.Undone.{dot-append}
@@ -45,12 +44,10 @@ module _ (matrix : IntegerMatrix) (scale parameters loops : ℕ) (shape : HasSha
       let past : List ℤ → ℤ = λ xs. dot (drop (length ps) form.coefficients) xs in
       let scaled : (xs : List ℤ) → past xs ≡ pos scale *ℤ dot (row_at row) xs = λ xs.
       ap (λ (n : ℕ). dot (drop n form.coefficients) xs) few ∙ ap (λ (cs : List ℤ). dot cs xs) (scaled-row row form l wide is) ∙ dot-scale (pos scale) (row_at row) xs in
-      let equal : past one ≡ past other = cancel (dot form.coefficients (ps ++ one)) (dot form.coefficients (ps ++ other)) front (past one) (past other) form.constant
+      let equal : past one ≡ past other = sums-cancel (dot form.coefficients (ps ++ one)) (dot form.coefficients (ps ++ other)) front (past one) (past other) form.constant
       (dot-append form.coefficients ps one) (dot-append form.coefficients ps other) same in
       mul-cancel k (dot (row_at row) one) (dot (row_at row) other)
-      (subst (λ (n : ℕ). pos n *ℤ dot (row_at row) one ≡ pos n *ℤ dot (row_at row) other) positive (sym (scaled one) ∙ equal ∙ scaled other)) where
-        cancel : (a b f x y c : ℤ) → a ≡ f +ℤ x → b ≡ f +ℤ y → a +ℤ c ≡ b +ℤ c → x ≡ y
-        cancel a b f x y c p q e = omega (arith, ints)
+      (subst (λ (n : ℕ). pos n *ℤ dot (row_at row) one ≡ pos n *ℤ dot (row_at row) other) positive (sym (scaled one) ∙ equal ∙ scaled other))
 
   label-fixes : (k : ℕ) (place : List Step) (index : ℕ) (set : List ℕ) (label : List AffineForm) (ps one other : List ℤ) → scale ≡ suc k → length ps ≡ parameters
       → AllByRecursion (λ row. row < matrix.rows) set → length label ≡ length set → AllByRecursion (IsSmallOver (parameters + loops)) label

@@ -4,6 +4,7 @@ use Rattle.std.specs.Prelude.{nat_eq, Some, sum_by, slice_index_or}
 use Rattle.std.specs.List.{AllByRecursion, IsDistinct}
 use Rattle.std.proofs.Math.IntN.{ℤ}
 use Rattle.std.proofs.lemmas.List.Sums.{sum_by-cons}
+use Rattle.base_laws.proofs.Lists.{cons-same}
 use Rattle.iolb_model.specs.Form.{dot}
 use Rattle.iolb_model.specs.Program.{AffineProgram, IsWellFormed}
 use Rattle.iolb_model.specs.Bound.{IsAdmitted}
@@ -92,9 +93,7 @@ module _ (program : AffineProgram) (term : PartitionTerm) (parameters : List ℤ
         same-values : (x y : List ℤ) (rows : List (List ℤ)) → ((i : ℕ) → i < length rows → dot (slice_index_or rows i []) x ≡ dot (slice_index_or rows i []) y)
             → map (λ (row : List ℤ). dot row x) rows ≡ map (λ (row : List ℤ). dot row y) rows
         same-values x y [] h = refl
-        same-values x y (row ∷ rows) h = cons_same (dot row x) (dot row y) _ _ (h 0 (omega arith)) (same-values x y rows (λ i below. h (suc i) (omega (arith, below)))) where
-          cons_same : (p q : ℤ) (us vs : List ℤ) → p ≡ q → us ≡ vs → p ∷ us ≡ q ∷ vs
-          cons_same p q us vs e f = cc
+        same-values x y (row ∷ rows) h = cons-same (dot row x) (dot row y) _ _ (h 0 (omega arith)) (same-values x y rows (λ i below. h (suc i) (omega (arith, below))))
 
   fixes : (family : FamilyForms) → FixesRows (length program.parameters) term.matrix family → FixesCoordinates partition (reuse_family program term parameters family)
   fixes family rows u v su sv same i below has =

@@ -1,13 +1,13 @@
 //! Whether source trees are within their limits.
 
-ghost use Rattle.std.specs.Prelude.{◌≡◌, ◌↔◌, IsTrue, min};
+ghost use Rattle.std.specs.Prelude.{◌↔◌, IsTrue};
 ghost use Rattle.std.specs.List.{AllByRecursion};
-ghost use Rattle.dep_quast.specs.Tree.{leaf_count, tree_of};
+ghost use Rattle.dep_quast.specs.Tree.{tree_of};
 ghost use Rattle.part_fit.specs.Limits.{IsNestedTree, IsSmallTree};
 
 use crate::part_limits::{are_small, name_rows, names_rows};
 use affine_program::is_small_form;
-use dep_quast::Quast;
+use dep_quast::{Quast, leaf_count};
 use iolb_model::limits;
 
 /// Whether at most so many tests of a tree are nested, and its forms and leaves are within their limits.
@@ -38,21 +38,11 @@ fn is_nested(quast: &Quast, left: u8) -> bool
     }
 }
 
-/// How many leaves a tree has, or 65 if they are more.
-fn leaves(quast: &Quast) -> u8
-    ensures { result ≡ min (leaf_count (tree_of quast.now)) 65 }
-{
-    match quast {
-        Quast::Test { yes, no, .. } => (leaves(yes) + leaves(no)).min(65),
-        _ => 1,
-    }
-}
-
 /// Whether a tree is within its limits.
 fn is_small_tree(quast: &Quast) -> bool
     ensures { IsTrue result ↔ IsSmallTree (tree_of quast.now) }
 {
-    is_nested(quast, limits::TREE_TESTS) && leaves(quast) <= limits::TREE_LEAVES
+    is_nested(quast, limits::TREE_TESTS) && leaf_count(quast) <= limits::TREE_LEAVES
 }
 
 /// Whether the trees of a statement's reads are within their limits.

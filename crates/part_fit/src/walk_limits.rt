@@ -1,15 +1,15 @@
 //! Whether claims at leaves, walks, and what shows that they arrive, are within their limits.
 
-ghost use Rattle.std.specs.Prelude.{◌≡◌, ◌↔◌, IsTrue, min, map, option_map};
+ghost use Rattle.std.specs.Prelude.{◌↔◌, IsTrue, map, option_map};
 ghost use Rattle.std.specs.List.{AllByRecursion};
 ghost use Rattle.part_fit.specs.Limits.{IsNestedWalk, IsSmallEntry, IsSmallNode, IsSmallReach, IsSmallRegion, IsSmallSpot, IsSmallWalk, IsSmallWay};
 ghost use Rattle.reuse_paths.specs.LeafClaims.{claim_of};
-ghost use Rattle.reuse_paths.specs.Walks.{entry_count, reach_of, region_of, spot_of, tree_of_walk};
+ghost use Rattle.reuse_paths.specs.Walks.{reach_of, region_of, spot_of, tree_of_walk};
 
 use crate::part_limits::{are_small, name_rows, names_rows};
 use affine_program::is_small_form;
 use iolb_model::limits;
-use reuse_paths::{Leaf, Reach, Region, Spot, Walk};
+use reuse_paths::{Leaf, Reach, Region, Spot, Walk, entry_count};
 
 /// Whether the multipliers of a claim at a leaf are those of rows below 128.
 fn is_small_leaf(leaf: &Leaf) -> bool
@@ -49,21 +49,11 @@ fn is_nested(walk: &Walk, left: u8) -> bool
     }
 }
 
-/// How many claims at leaves a walk has, or 65 if they are more.
-fn entries(walk: &Walk) -> usize
-    ensures { result ≡ min (entry_count (tree_of_walk walk.now)) 65 }
-{
-    match walk {
-        Walk::Test { yes, no, .. } => (entries(yes) + entries(no)).min(65),
-        Walk::Take { leaves, .. } => leaves.as_slice().len().min(65),
-    }
-}
-
 /// Whether a walk is within its limits.
 pub(crate) fn is_small_walk(walk: &Walk) -> bool
     ensures { IsTrue result ↔ IsSmallWalk (tree_of_walk walk.now) }
 {
-    is_nested(walk, limits::TREE_TESTS) && entries(walk) <= usize::from(limits::TREE_LEAVES)
+    is_nested(walk, limits::TREE_TESTS) && entry_count(walk) <= usize::from(limits::TREE_LEAVES)
 }
 
 /// Whether a region is within its limits.

@@ -1,10 +1,10 @@
 -- Each input that is read was loaded: between a board without its red pebble and the computing of a reader
 -- stands a load of it.
 use Rattle.std.proofs.Common.{inl, inr, ◌≡◌, refl, sym, ◌∙◌, ap, subst, ℕ, ◌+◌, ◌≤◌, ◌≢◌, Bool, true, false, cond, List, [], ◌∷◌, zero, suc, length, set, replicate, arith, IsTrue}
-use Rattle.std.specs.Prelude.{filter, nat_eq, ◌||◌, ◌&&◌, Contains}
+use Rattle.std.specs.Prelude.{filter, nat_eq, ◌||◌, Contains}
 use Rattle.std.specs.List.{AllByRecursion, IsDistinct}
 use Rattle.std.proofs.lemmas.List.Elements.{All-from_recursion, All-contains}
-use Rattle.std.proofs.lemmas.Bool.{eqb-true, eqb-false, ne_eqb, cases_eq}
+use Rattle.std.proofs.lemmas.Bool.{eqb-true, eqb-false, ne_eqb, cases_eq, and_from}
 use Rattle.std.proofs.lemmas.Map.Made.{length-le_from_is_member, is_member-filter}
 use Rattle.std.specs.Set.{is_member}
 use Rattle.std.specs.Cmp.{nat_eq_equiv}
@@ -14,6 +14,7 @@ use Rattle.iolb_model.specs.declared.game.Move.{Move}
 use Rattle.iolb_model.specs.declared.game.Move.TheVariants.{Load, Store, Compute, Drop, Erase}
 use Rattle.iolb_model.specs.Graph.{ComputationGraph}
 use Rattle.iolb_model.specs.Game.{Board, marked, predecessors_at, AreAllowed, board_after, final_board, IsCompletePebbling, loads_one_of, loads_of, stands_in, first_board}
+use Rattle.pebble_game.proofs.Marks.{unmarked-at}
 use Rattle.pebble_game.specs.Inputs.{IsReadInput, ReadInputIsLoaded, ReadInputsAreLoaded}
 
 -- the vertices that are loaded, in order
@@ -87,16 +88,10 @@ loaded_before_reader graph s v n input read board (Drop w ∷ moves) allowed whi
 loaded_before_reader graph s v n input read board (Erase w ∷ moves) allowed white before after =
     loaded_before_reader graph s v n input read (board_after board (Erase w)) moves allowed.1 white before after
 
--- at first no vertex is red or computed
-unmarked_at_first : (n v : ℕ) → marked (replicate n false) v ≡ false
-unmarked_at_first zero v = refl
-unmarked_at_first (suc n) zero = refl
-unmarked_at_first (suc n) (suc v) = unmarked_at_first n v
-
 pub read_input_loaded : (graph : ComputationGraph) (s : ℕ) (moves : List Move) (v : ℕ) → IsCompletePebbling graph s moves → IsReadInput graph v → is_loaded v moves ≡ true
 read_input_loaded graph s moves v game input =
     loaded_before_reader graph s v input.reader input.input input.read (first_board graph) moves game.allowed
-    (unmarked_at_first (graph.instances + graph.inputs) v) (unmarked_at_first (graph.instances + graph.inputs) input.reader) (game.computed input.reader input.there)
+    (unmarked-at (graph.instances + graph.inputs) v) (unmarked-at (graph.instances + graph.inputs) input.reader) (game.computed input.reader input.there)
 
 by_eqb : {P : Type 0} (a b : ℕ) → (a ≡ b → P) → (nat_eq a b ≡ false → P) → P
 by_eqb a b same apart = elim (cases_eq a b) [ inl e ↦ same e | inr e ↦ apart (ne_eqb a b e) ]
@@ -114,10 +109,7 @@ each_loaded_of : (graph : ComputationGraph) (s : ℕ) (moves : List Move) (input
     → AllByRecursion (IsReadInput graph) inputs → (q : ℕ) → is_member nat_eq inputs q ≡ true → is_member nat_eq (filter (stands_in inputs) (loaded moves)) q ≡ true
 each_loaded_of graph s moves inputs game read q h =
     is_member-filter nat_eq_equiv (stands_in inputs) q (λ x e. ap (stands_in inputs) (eqb-true q x e)) (loaded moves)
-    ∙ both (is_member nat_eq (loaded moves) q) (stands_in inputs q) (each_loaded graph s moves inputs game read q h) h where
-      both : (a b : Bool) → a ≡ true → b ≡ true → (a && b) ≡ true
-      both true b e f = f
-      both false b e f = cc
+    ∙ and_from (is_member nat_eq (loaded moves) q) (stands_in inputs q) (each_loaded graph s moves inputs game read q h) h
 
 pub read_inputs_loaded : ReadInputsAreLoaded
 read_inputs_loaded graph s moves inputs game apart read =

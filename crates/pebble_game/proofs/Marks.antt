@@ -1,8 +1,8 @@
 -- Marks and sets of vertices.
 use Rattle.std.proofs.Common.{◌≡◌, refl, sym, ◌∙◌, ap, subst, inl, inr, ℕ, zero, suc, ◌+◌, ◌≤◌, Bool, true, false, cond, List, [], ◌∷◌, length, set, replicate, arith}
-use Rattle.std.specs.Prelude.{◌⊎◌, ◌||◌, filter, nat_eq, Contains}
+use Rattle.std.specs.Prelude.{◌⊎◌, filter, nat_eq, Contains}
 use Rattle.std.specs.List.{AllByRecursion, IsDistinct}
-use Rattle.std.proofs.lemmas.Bool.{eq-eqb, ne_eqb, cases_eq}
+use Rattle.std.proofs.lemmas.Bool.{eq-eqb, ne_eqb, cases_eq, or_left, or_right}
 use Rattle.std.proofs.lemmas.List.{get_or-set_other}
 use Rattle.std.proofs.lemmas.List.Elements.{All-from_recursion, All-contains}
 use Rattle.std.proofs.lemmas.List.Sums.{sum_by-cons}
@@ -19,14 +19,8 @@ standing-member (x ∷ xs) v h = by (cases_eq v x) (λ apart. standing-member xs
 
 pub member-stands : (xs : List ℕ) (v : ℕ) → Member v xs → stands_in xs v ≡ true
 member-stands [] v m = absurd m
-member-stands (x ∷ xs) v (inl e) = here (nat_eq v x) (stands_in xs v) (eq-eqb v x e) where
-  here : (b c : Bool) → b ≡ true → (b || c) ≡ true
-  here true c p = refl
-  here false c p = cc
-member-stands (x ∷ xs) v (inr m) = there (nat_eq v x) (stands_in xs v) (member-stands xs v m) where
-  there : (b c : Bool) → c ≡ true → (b || c) ≡ true
-  there true c p = refl
-  there false c p = p
+member-stands (x ∷ xs) v (inl e) = or_left (nat_eq v x) (stands_in xs v) (eq-eqb v x e)
+member-stands (x ∷ xs) v (inr m) = or_right (nat_eq v x) (stands_in xs v) (member-stands xs v m)
 
 -- a vertex that is marked after a mark was put was marked before, or is the one
 pub set-marked : (marks : List Bool) (w v : ℕ) → marked (set marks w true) v ≡ true → (v ≡ w) ⊎ (marked marks v ≡ true)
@@ -35,16 +29,16 @@ set-marked marks w v h = by (cases_eq v w) where
   by (inl e) = inl e
   by (inr apart) = inr (sym (get_or-set_other marks w v true false apart) ∙ h)
 
-taken : (marks : List Bool) (w : ℕ) → marked (set marks w false) w ≡ false
-taken [] w = refl
-taken (m ∷ marks) zero = refl
-taken (m ∷ marks) (suc w) = taken marks w
+pub taken-here : (marks : List Bool) (w : ℕ) → marked (set marks w false) w ≡ false
+taken-here [] w = refl
+taken-here (m ∷ marks) zero = refl
+taken-here (m ∷ marks) (suc w) = taken-here marks w
 
 -- a vertex that is marked after a mark was taken off was marked before
 pub dropped-marked : (marks : List Bool) (w v : ℕ) → marked (set marks w false) v ≡ true → marked marks v ≡ true
 dropped-marked marks w v h = by (cases_eq v w) where
   by : (v ≡ w) ⊎ (v ≡ w → ⊥) → marked marks v ≡ true
-  by (inl e) = let off : marked (set marks w false) v ≡ false = ap (λ (u : ℕ). marked (set marks w false) u) e ∙ taken marks w in absurd cc
+  by (inl e) = let off : marked (set marks w false) v ≡ false = ap (λ (u : ℕ). marked (set marks w false) u) e ∙ taken-here marks w in absurd cc
   by (inr apart) = sym (get_or-set_other marks w v false false apart) ∙ h
 
 -- the marked vertices, from one on
@@ -89,6 +83,10 @@ pub unmarked-at : (n v : ℕ) → marked (replicate n false) v ≡ false
 unmarked-at zero v = refl
 unmarked-at (suc n) zero = refl
 unmarked-at (suc n) (suc v) = unmarked-at n v
+
+pub none-marked : (n : ℕ) → mark_count (replicate n false) ≡ 0
+none-marked zero = refl
+none-marked (suc n) = omega (arith, sum_by-cons (λ (mark : Bool). cond mark 1 0) false (replicate n false), none-marked n)
 
 -- a mark more
 pub count-put : (marks : List Bool) (v : ℕ) → mark_count (set marks v true) ≤ mark_count marks + 1

@@ -4,7 +4,7 @@ use Rattle.std.specs.Prelude.{◌⊎◌, ◌&&◌, ◌||◌, nat_eq, slice_index
 use Rattle.std.specs.Borrow.{Bor}
 use Rattle.std.specs.List.{list_any, AllByRecursion}
 use Rattle.std.specs.BTreeMap.{is_at}
-use Rattle.std.proofs.lemmas.Bool.{cases_eq, cases_Bool, and_parts, and_from, or_from, eq-eqb, ne_eqb, eqb-true}
+use Rattle.std.proofs.lemmas.Bool.{cases_eq, cases_Bool, and_parts, and_from, or_from, eq-eqb, ne_eqb, eqb-true, or_left}
 use Rattle.std.proofs.lemmas.Map.Keys.{IsDistinct-head, IsDistinct-tail}
 use Rattle.std.proofs.lemmas.List.{length-set, get_or-set_same, get_or-set_other}
 use Rattle.iolb_model.specs.Graph.{ComputationGraph}
@@ -42,16 +42,10 @@ hold-step graph v later u left hand new h board uses switched = record {
   apart = apart-stands u left (IsDistinct-head nat_eq u left h.once)
 
   now : slice_index_or hand.uses u [] ≡ uses_of graph (v ∷ later) u
-  now = h.uses u h.there.0 ∙ ap (λ (b : Bool). cond b (uses_of graph (v ∷ later) u) (uses_of graph later u)) (first (nat_eq u u) (stands_in left u) (eq-eqb u u refl)) where
-    first : (b c : Bool) → b ≡ true → (b || c) ≡ true
-    first true c e = refl
-    first false c e = cc
+  now = h.uses u h.there.0 ∙ ap (λ (b : Bool). cond b (uses_of graph (v ∷ later) u) (uses_of graph later u)) (or_left (nat_eq u u) (stands_in left u) (eq-eqb u u refl))
 
   key : first_or_zero (slice_index_or hand.uses u []) ≡ left_from graph (v ∷ later) u
-  key = ap first_or_zero (h.uses u h.there.0 ∙ ap (λ (b : Bool). cond b (uses_of graph (v ∷ later) u) (uses_of graph later u)) (first (nat_eq u u) (stands_in left u) (eq-eqb u u refl))) ∙ sym (left-first graph (v ∷ later) u) where
-    first : (b c : Bool) → b ≡ true → (b || c) ≡ true
-    first true c e = refl
-    first false c e = cc
+  key = ap first_or_zero (h.uses u h.there.0 ∙ ap (λ (b : Bool). cond b (uses_of graph (v ∷ later) u) (uses_of graph later u)) (or_left (nat_eq u u) (stands_in left u) (eq-eqb u u refl))) ∙ sym (left-first graph (v ∷ later) u)
 
   gone : (m s r : Bool) → s ≡ false → r ≡ true → (m && (s || not r)) ≡ false
   gone m true r e f = absurd cc

@@ -5,7 +5,7 @@ use Rattle.std.specs.List.{AllByRecursion, IsDistinct}
 use Rattle.std.specs.Cmp.{nat_eq_equiv}
 use Rattle.std.proofs.lemmas.Bool.{cases_eq, cases_Bool, ne_eqb, or_cases, or_from, eqb-true}
 use Rattle.std.proofs.lemmas.List.{get_or-set_other, get_or-set_same, length-replicate}
-use Rattle.std.proofs.lemmas.List.Sums.{sum_by-cons, sum_by-set}
+use Rattle.std.proofs.lemmas.List.Sums.{sum_by-set}
 use Rattle.std.proofs.lemmas.Map.Made.{length-le_from_is_member}
 use Rattle.std.proofs.Math.Seq.{get_or-append_right}
 use Rattle.iolb_model.specs.Game.{marked, mark_count, stands_in}
@@ -30,12 +30,6 @@ put-stays marks v w h = by (cases_eq w v) where
 pub put-other : (marks : List Bool) (v w : ℕ) → (w ≡ v → ⊥) → marked (set marks v true) w ≡ marked marks w
 put-other marks v w apart = get_or-set_other marks v w true false apart
 
--- no mark is where one was taken off
-pub taken-here : (marks : List Bool) (v : ℕ) → marked (set marks v false) v ≡ false
-taken-here [] v = refl
-taken-here (m ∷ marks) zero = refl
-taken-here (m ∷ marks) (suc v) = taken-here marks v
-
 -- a mark stays where another is taken off
 pub taken-other : (marks : List Bool) (v w : ℕ) → (w ≡ v → ⊥) → marked (set marks v false) w ≡ marked marks w
 taken-other marks v w apart = get_or-set_other marks v w false false apart
@@ -49,10 +43,6 @@ pub count-taken : (marks : List Bool) (v : ℕ) → marked marks v ≡ true → 
 count-taken marks v h =
     less-by-one (marked marks v) (mark_count (set marks v false)) (mark_count marks)
     (sum_by-set (λ (mark : Bool). cond mark 1 0) marks v false false (marked-below marks v h)) h
-
-pub none-counted : (n : ℕ) → mark_count (replicate n false) ≡ 0
-none-counted zero = refl
-none-counted (suc n) = omega (arith, sum_by-cons (λ (mark : Bool). cond mark 1 0) false (replicate n false), none-counted n)
 
 all-marked : (n v : ℕ) → v < n → marked (replicate n true) v ≡ true
 all-marked zero v h = absurd (omega (arith, h))

@@ -1,7 +1,7 @@
 -- Moves one after the other, and what holds between them while an order is played.
 use Rattle.std.proofs.Common.{◌≡◌, refl, sym, ◌∙◌, subst, inl, inr, ℕ, ◌<◌, ◌≤◌, Bool, true, false, List, [], ◌∷◌, ◌++◌, length, set, arith}
 use Rattle.std.specs.Prelude.{◌⊎◌, ◌||◌, nat_eq}
-use Rattle.std.proofs.lemmas.Bool.{cases_eq, or_cases, or_right, eq-eqb, eqb-true}
+use Rattle.std.proofs.lemmas.Bool.{cases_eq, or_cases, or_right, eq-eqb, eqb-true, or_parts}
 use Rattle.std.proofs.lemmas.List.{length-set}
 use Rattle.std.proofs.lemmas.List.Sums.{fold-append}
 use Rattle.iolb_model.specs.declared.game.Move.{Move}
@@ -31,6 +31,11 @@ pub record IsReady (graph : ComputationGraph) (s : ℕ) (done rest : List ℕ) (
   pub kept : (u : ℕ) → stands_in done u ≡ true → is_used graph rest u ≡ true → (marked board.red u ≡ true) ⊎ (marked board.blue u ≡ true)
   pub stored : (u : ℕ) → stands_in done u ≡ true → marked graph.last_writers u ≡ true → marked board.blue u ≡ true
 
+-- where one of two holds, and not the first
+pub second-holds : (b c : Bool) → b ≡ false → (b || c) ≡ true → c ≡ true
+second-holds true c e h = absurd cc
+second-holds false c e h = h
+
 -- a word that is no predecessor of the next instance goes, and is in the slow memory where it is used later
 pub gone-ready : (graph : ComputationGraph) (s : ℕ) (done : List ℕ) (v : ℕ) (later : List ℕ) (board : Board) (blue : List Bool) (x : ℕ)
     → IsReady graph s done (v ∷ later) board → reads graph x v ≡ false → length blue ≡ length board.blue
@@ -45,10 +50,6 @@ gone-ready graph s done v later board blue x ready unread long grows saved red =
   kept = λ u in_done used. still u in_done used (cases_eq u x);
   stored = λ u in_done last. grows u (ready.stored u in_done last);
 } where
-  used_later : (b c : Bool) → b ≡ false → (b || c) ≡ true → c ≡ true
-  used_later true c e h = absurd cc
-  used_later false c e h = h
-
   other : (u : ℕ) → (u ≡ x → ⊥) → (marked board.red u ≡ true) ⊎ (marked board.blue u ≡ true) → (marked (set board.red x false) u ≡ true) ⊎ (marked blue u ≡ true)
   other u apart (inl h) = inl (taken-other board.red x u apart ∙ h)
   other u apart (inr h) = inr (grows u h)
@@ -56,7 +57,7 @@ gone-ready graph s done v later board blue x ready unread long grows saved red =
   still : (u : ℕ) → stands_in done u ≡ true → is_used graph (v ∷ later) u ≡ true → (u ≡ x) ⊎ (u ≡ x → ⊥)
       → (marked (set board.red x false) u ≡ true) ⊎ (marked blue u ≡ true)
   still u in_done used (inl e) =
-      inr (subst (λ (w : ℕ). marked blue w ≡ true) (sym e) (saved (used_later (reads graph x v) (is_used graph later x) unread (subst (λ (w : ℕ). is_used graph (v ∷ later) w ≡ true) e used))))
+      inr (subst (λ (w : ℕ). marked blue w ≡ true) (sym e) (saved (second-holds (reads graph x v) (is_used graph later x) unread (subst (λ (w : ℕ). is_used graph (v ∷ later) w ≡ true) e used))))
   still u in_done used (inr apart) = other u apart (ready.kept u in_done used)
 
 -- a word is loaded
@@ -89,14 +90,6 @@ computed-ready graph s done v later board blue ready there space long grows save
   kept = λ w h used. kept_at w (cases_eq w v) h used;
   stored = λ w h last. stored_at w (cases_eq w v) h last;
 } where
-  fresh : (b c : Bool) → (b || c) ≡ false → (b ≡ false) × (c ≡ false)
-  fresh true c h = absurd cc
-  fresh false c h = (refl, h)
-
-  second : (b c : Bool) → b ≡ false → (b || c) ≡ true → c ≡ true
-  second true c e h = absurd cc
-  second false c e h = h
-
   done_before : (w : ℕ) → (w ≡ v → ⊥) → stands_in (v ∷ done) w ≡ true → stands_in done w ≡ true
   done_before w apart h = by (or_cases (nat_eq w v) (stands_in done w) h) where
     by : (nat_eq w v ≡ true) ⊎ (stands_in done w ≡ true) → stands_in done w ≡ true
@@ -104,8 +97,8 @@ computed-ready graph s done v later board blue ready there space long grows save
     by (inr h) = h
 
   undone_at : (w : ℕ) → (w ≡ v) ⊎ (w ≡ v → ⊥) → stands_in (v ∷ done) w ≡ false → marked (set board.computed v true) w ≡ false
-  undone_at w (inl e) h = let yes : nat_eq w v ≡ true = eq-eqb w v e in let no : nat_eq w v ≡ false = (fresh (nat_eq w v) (stands_in done w) h).0 in absurd cc
-  undone_at w (inr apart) h = put-other board.computed v w apart ∙ ready.undone w (fresh (nat_eq w v) (stands_in done w) h).1
+  undone_at w (inl e) h = let yes : nat_eq w v ≡ true = eq-eqb w v e in let no : nat_eq w v ≡ false = (or_parts (nat_eq w v) (stands_in done w) h).0 in absurd cc
+  undone_at w (inr apart) h = put-other board.computed v w apart ∙ ready.undone w (or_parts (nat_eq w v) (stands_in done w) h).1
 
   computed_at : (w : ℕ) → (w ≡ v) ⊎ (w ≡ v → ⊥) → stands_in (v ∷ done) w ≡ true → marked (set board.computed v true) w ≡ true
   computed_at w (inl e) h = subst (λ (u : ℕ). marked (set board.computed v true) u ≡ true) (sym e) (put-here board.computed v (omega (arith, ready.fits.computed, there)))

@@ -10,13 +10,13 @@ use Rattle.iolb_model.specs.Graph.{ComputationGraph}
 use Rattle.iolb_model.specs.Game.{Board, vertices, predecessors_at, stands_in, first_board, AreAllowed, final_board}
 use Rattle.execution_laws.proofs.Ordered.{All-member}
 use Rattle.pebble_game.specs.Graphs.{IsWellFormedGraph}
-use Rattle.pebble_game.proofs.Marks.{unmarked-at, standing-member}
+use Rattle.pebble_game.proofs.Marks.{unmarked-at, standing-member, none-marked}
 use Rattle.pebble_replay.specs.declared.fault.ReplayFault.{ReplayFault}
 use Rattle.pebble_replay.specs.Order.{HoldsEachOnce, late_source, late_or, order_fault, need, too_small, first_of, replay_fault}
 use Rattle.pebble_replay.specs.Played.{reads, instance_moves, moves_of_first}
 use Rattle.pebble_replay.specs.Complete.{PlayedIsComplete}
-use Rattle.pebble_replay.proofs.Marks.{none-counted, first-blue}
-use Rattle.pebble_replay.proofs.Moves.{final-append, allowed-append, IsReady}
+use Rattle.pebble_replay.proofs.Marks.{first-blue}
+use Rattle.pebble_replay.proofs.Moves.{final-append, allowed-append, IsReady, second-holds}
 use Rattle.pebble_replay.proofs.Victim.{find-none_at}
 use Rattle.pebble_replay.proofs.Turns.{Computes, turn}
 
@@ -37,10 +37,6 @@ small_none : (b : Bool) (v : ℕ) (rest : Option ℕ) → cond b (Some v) rest �
 small_none true v rest e = absurd cc
 small_none false v rest e = (refl, e)
 
-second : (b c : Bool) → b ≡ false → (b || c) ≡ true → c ≡ true
-second true c e h = absurd cc
-second false c e h = h
-
 -- a member of the rest isn't the head
 apart_from : (v : ℕ) (later : List ℕ) (w : ℕ) → AllByRecursion (λ (y : ℕ). nat_eq v y ≡ false) later → stands_in later w ≡ true → w ≡ v → ⊥
 apart_from v later w apart m e =
@@ -60,7 +56,7 @@ module _ (graph : ComputationGraph) (s : ℕ) (well : IsWellFormedGraph graph) w
 
     by : (stands_in done u ≡ true) ⊎ (stands_in (v ∷ later) u ≡ true) → stands_in done u ≡ true
     by (inl h) = h
-    by (inr h) = let now : stands_in later u ≡ true = second (nat_eq u v) (stands_in later u) (ne_eqb u v (λ e. omega (arith, e, before))) h in let never : stands_in later u ≡ false = not_later in absurd cc
+    by (inr h) = let now : stands_in later u ≡ true = second-holds (nat_eq u v) (stands_in later u) (ne_eqb u v (λ e. omega (arith, e, before))) h in let never : stands_in later u ≡ false = not_later in absurd cc
 
   -- after an instance the rest can still be played
   pub next-playable : (done : List ℕ) (v : ℕ) (later : List ℕ) → IsPlayable graph s done (v ∷ later) → IsPlayable graph s (v ∷ done) later
@@ -134,7 +130,7 @@ module _ (graph : ComputationGraph) (s : ℕ) (well : IsWellFormedGraph graph) w
           ∙ omega (arith, length-replicate graph.instances false, length-replicate graph.inputs true);
       computed = length-replicate (vertices graph) false;
     };
-    room = omega (arith, none-counted (vertices graph));
+    room = omega (arith, none-marked (vertices graph));
     undone = λ v h. unmarked-at (vertices graph) v;
     computed = λ v h. absurd cc;
     inputs = λ u past below. first-blue graph.instances graph.inputs u past below;

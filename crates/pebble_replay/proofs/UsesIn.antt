@@ -2,7 +2,7 @@
 use Rattle.std.proofs.Common.{◌≡◌, refl, sym, ◌∙◌, ap, inl, inr, ℕ, zero, suc, ◌<◌, ◌≤◌, Bool, true, false, cond, List, [], ◌∷◌, length, drop, set, get_or, arith}
 use Rattle.std.specs.Prelude.{◌⊎◌, ◌||◌, nat_eq, slice_index_or}
 use Rattle.std.specs.List.{AllByRecursion, IsDistinct}
-use Rattle.std.proofs.lemmas.Bool.{cases_eq, eq-eqb, ne_eqb}
+use Rattle.std.proofs.lemmas.Bool.{cases_eq, eq-eqb, ne_eqb, or_left}
 use Rattle.std.proofs.lemmas.Map.Keys.{IsDistinct-head, IsDistinct-tail}
 use Rattle.std.proofs.lemmas.List.{length-set, get_or-set_same, get_or-set_other}
 use Rattle.iolb_model.specs.Graph.{ComputationGraph}
@@ -44,15 +44,11 @@ pushed-step next us old mid u left h = record {
   there = h.there.1;
   once = IsDistinct-tail nat_eq u left h.once;
 } where
-  first : (b c : Bool) → b ≡ true → (b || c) ≡ true
-  first true c e = refl
-  first false c e = cc
-
   by : (w : ℕ) → (w ≡ u) ⊎ (w ≡ u → ⊥) → slice_index_or (set mid u (next ∷ slice_index_or mid u [])) w []
       ≡ cond (stands_in left w) (slice_index_or old w []) (cond (stands_in us w) (next ∷ slice_index_or old w []) (slice_index_or old w []))
   by w (inl e) =
       let now : slice_index_or mid u [] ≡ slice_index_or old u [] =
-      h.each u ∙ ap (λ (b : Bool). cond b (slice_index_or old u []) (cond (stands_in us u) (next ∷ slice_index_or old u []) (slice_index_or old u []))) (first (nat_eq u u) (stands_in left u) (eq-eqb u u refl)) in
+      h.each u ∙ ap (λ (b : Bool). cond b (slice_index_or old u []) (cond (stands_in us u) (next ∷ slice_index_or old u []) (slice_index_or old u []))) (or_left (nat_eq u u) (stands_in left u) (eq-eqb u u refl)) in
       ap (λ (x : ℕ). slice_index_or (set mid u (next ∷ slice_index_or mid u [])) x []) e
       ∙ get_or-set_same mid u (next ∷ slice_index_or mid u []) [] (omega (arith, h.lists, h.there.0))
       ∙ ap (λ (l : List ℕ). next ∷ l) now

@@ -11,7 +11,7 @@ use Rattle.std.specs.declared.cmp.Ordering.{Ordering}
 use Rattle.std.specs.declared.cmp.Ordering.TheVariants.{Less, Equal, Greater}
 use Rattle.std.specs.declared.cmp.Reverse.{Reverse}
 use Rattle.std.specs.Cmp.{nat_cmp_is}
-use Rattle.std.proofs.lemmas.Bool.{cases_eq, cases_order, and_parts, and_from, and_right, eq-eqb, ne_eqb, eqb-true, false_from_ne_true}
+use Rattle.std.proofs.lemmas.Bool.{cases_eq, cases_order, and_parts, and_from, and_right, eq-eqb, ne_eqb, eqb-true, false_from_ne_true, or_left, or_right}
 use Rattle.std.proofs.lemmas.List.{get_or-set_same, get_or-set_other}
 use Rattle.std.proofs.lemmas.List.Folds.{list_any_more}
 use Rattle.std.proofs.lemmas.List.Sorted.{list_any-IsPermutation}
@@ -153,14 +153,6 @@ or-false : (b c : Bool) → (b || c) ≡ true → b ≡ false → c ≡ true
 or-false true c h e = absurd cc
 or-false false c h e = h
 
-or-first : (b c : Bool) → b ≡ true → (b || c) ≡ true
-or-first true c h = refl
-or-first false c h = absurd cc
-
-or-second : (b c : Bool) → c ≡ true → (b || c) ≡ true
-or-second true c h = refl
-or-second false c h = h
-
 -- it does where a key is put into it and its vertex is marked
 pub covered-more : (marks : List (Option ℕ)) (l u : ℕ) (heap new : List (Reverse (ℕ × ℕ))) (entry : Reverse (ℕ × ℕ)) → u < length marks → entry.0 ≡ (l, u) → IsCovered marks heap
     → IsPermutation (entry ∷ heap) new → IsHeap earlier new → IsCovered (set marks u (Some l)) new
@@ -171,11 +163,11 @@ covered-more marks l u heap new entry below is h moved ordered = record {
   by : (q : ℕ × ℕ) (b : Bool) → nat_eq u q.1 ≡ b → cond (nat_eq u q.1) (nat_eq l q.0) (waits_with marks q) ≡ true → (is_key q entry || list_any (is_key q) heap) ≡ true
   by q true e on =
       let key : nat_eq l q.0 ≡ true = sym (ap (λ (b : Bool). cond b (nat_eq l q.0) (waits_with marks q)) e) ∙ on in
-      or-first (is_key q entry) (list_any (is_key q) heap)
+      or_left (is_key q entry) (list_any (is_key q) heap)
       (ap (λ (k : ℕ × ℕ). nat_eq q.0 k.0 && nat_eq q.1 k.1) is
       ∙ and_from (nat_eq q.0 l) (nat_eq q.1 u) (eq-eqb q.0 l (sym (eqb-true l q.0 key))) (eq-eqb q.1 u (sym (eqb-true u q.1 e))))
   by q false e on =
-      or-second (is_key q entry) (list_any (is_key q) heap) (h.covers q (sym (ap (λ (b : Bool). cond b (nat_eq l q.0) (waits_with marks q)) e) ∙ on))
+      or_right (is_key q entry) (list_any (is_key q) heap) (h.covers q (sym (ap (λ (b : Bool). cond b (nat_eq l q.0) (waits_with marks q)) e) ∙ on))
 
 -- and where a key of no vertex that waits is taken out of it
 pub covered-past : (marks : List (Option ℕ)) (heap new : List (Reverse (ℕ × ℕ))) (entry : Reverse (ℕ × ℕ)) → waits_with marks entry.0 ≡ false → IsCovered marks heap
@@ -234,7 +226,7 @@ no-keys marks h = by (keys_of marks) (λ q. keys-test marks q.0 q.1 ∙ h q) whe
   by [] g = refl
   by (k ∷ keys) g = absurd (
       let here : is_at (pair_cmp k) k ≡ true = at-pair k k ∙ and_from (nat_eq k.0 k.0) (nat_eq k.1 k.1) (eq-eqb k.0 k.0 refl) (eq-eqb k.1 k.1 refl) in
-      let there : list_any (is_at (pair_cmp k)) (k ∷ keys) ≡ true = or-first (is_at (pair_cmp k) k) (list_any (is_at (pair_cmp k)) keys) here in
+      let there : list_any (is_at (pair_cmp k)) (k ∷ keys) ≡ true = or_left (is_at (pair_cmp k) k) (list_any (is_at (pair_cmp k)) keys) here in
       let off : list_any (is_at (pair_cmp k)) (k ∷ keys) ≡ false = g k in cc)
 
 -- ---- a heap of the keys that vertices wait with
@@ -253,8 +245,8 @@ kept-one marks entries i entry d kept new below is h moved q on m =
     sym (list_any-IsPermutation (is_key q) (entry ∷ kept) new moved)
     ∙ by (is_key q entry) refl (sym (list_any_more (is_key q) entries i d below ∙ ap (λ (e : Reverse (ℕ × ℕ)). list_any (is_key q) (take i entries) || is_key q e) (sym is)) ∙ m) where
       by : (b : Bool) → is_key q entry ≡ b → (list_any (is_key q) (take i entries) || is_key q entry) ≡ true → (is_key q entry || list_any (is_key q) kept) ≡ true
-      by true e some = or-first (is_key q entry) (list_any (is_key q) kept) e
-      by false e some = or-second (is_key q entry) (list_any (is_key q) kept) (h q on (or-left (list_any (is_key q) (take i entries)) (is_key q entry) some e))
+      by true e some = or_left (is_key q entry) (list_any (is_key q) kept) e
+      by false e some = or_right (is_key q entry) (list_any (is_key q) kept) (h q on (or-left (list_any (is_key q) (take i entries)) (is_key q entry) some e))
 
 pub kept-none : (marks : List (Option ℕ)) (entries : List (Reverse (ℕ × ℕ))) (i : ℕ) (entry d : Reverse (ℕ × ℕ)) (kept : List (Reverse (ℕ × ℕ))) → i < length entries → entry ≡ get_or entries i d
     → AreKept marks (take i entries) kept → waits_with marks entry.0 ≡ false → AreKept marks (take (i + 1) entries) kept

@@ -94,7 +94,7 @@ affine-push xs i x d constant t u below read h e =
 
 -- a whole polynomial of low degree is legal
 mutual
-  degrees-more : (d e : ℕ) (t : Expansion) → d ≤ e → DegreesAtMost d t → DegreesAtMost e t
+  pub degrees-more : (d e : ℕ) (t : Expansion) → d ≤ e → DegreesAtMost d t → DegreesAtMost e t
   degrees-more d e (number n) le h = tt
   degrees-more d e (over v ps) le h = (omega (arith, h.0), degrees-more_parts d e ps le h.1)
 

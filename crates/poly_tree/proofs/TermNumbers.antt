@@ -6,6 +6,7 @@ use Rattle.std.specs.List.{AllByRecursion}
 use Rattle.std.proofs.lemmas.Int.{ints, unsigned_abs-mul}
 use Rattle.std.proofs.lemmas.List.{take_more, take_all, length-take-le, get_or_past}
 use Rattle.base_laws.proofs.Ring.{mul-zero, one-mul, mul-one, mul-add, mul_assoc_ℤ, mul_comm}
+use Rattle.base_laws.proofs.Lists.{All-append}
 use Rattle.iolb_model.specs.Polynomial.{Term, int_power, monomial, terms_value}
 use Rattle.affine_form.specs.Form.{IsSmall}
 use Rattle.poly_tree.specs.Expansion.{Expansion, Parts, number, over, none, part, at, value, parts_value, weight, coefficients, parts_coefficients, powers_from, put, scaled, parts_scaled, IsCanonical, AreCanonical}
@@ -211,10 +212,6 @@ covers-none limit some (number n) (t ∷ []) c a h e =
     (subst (IsSmall limit) (sym (e (λ (u : ℕ). pos 0) ∙ plus (t.coefficient *ℤ pos 1) ∙ mul-one t.coefficient)) h.0, tt)
 covers-none limit some (number n) (t ∷ u ∷ ts) c a h e = absurd (a.0.0 (λ v r. absurd (omega (arith, r))))
 
-pub all-append : (P : ℤ → Type 0) (xs ys : List ℤ) → AllByRecursion P xs → AllByRecursion P ys → AllByRecursion P (xs ++ ys)
-all-append P [] ys h k = k
-all-append P (x ∷ xs) ys h k = (h.0, all-append P xs ys h.1 k)
-
 covers-parts : (limit w k : ℕ) (ps : Parts) (ts : List Term) → Covers limit w → AreCanonical w ps → Apart (suc w) ts → AllByRecursion (IsSmallTerm limit) ts
     → ((x : ℕ) (point : ℕ → ℤ) → parts_value ps (pos (suc x)) point ≡ sum_past w k ts (pos (suc x)) point) → AllByRecursion (IsSmall limit) (parts_coefficients ps)
 unfolding Covers
@@ -225,7 +222,7 @@ covers-parts limit w k (part t ps) ts lower c a h e =
     = λ x point. e x point ∙ split w k ts (pos (suc x)) point in
     let same : (point : ℕ → ℤ) → value t point ≡ sum_below w these point
     = λ point. let n = unsigned_abs (value t point -ℤ sum_below w these point) in roots (value t point) (sum_below w these point) (parts_value ps (pos (suc n)) point) (sum_past w (suc k) ts (pos (suc n)) point) (at_all n point) in
-    all-append (IsSmall limit) (coefficients t) (parts_coefficients ps)
+    All-append (IsSmall limit) (coefficients t) (parts_coefficients ps)
     (lower t these c.0 (apart-chosen w k ts a) (all-chosen (IsSmallTerm limit) w k ts h) same)
     (covers-parts limit w (suc k) ps ts lower c.1 a h
     (λ x point. tails x (value t point) (sum_below w these point) (parts_value ps (pos (suc x)) point) (sum_past w (suc k) ts (pos (suc x)) point) (same point) (at_all x point)))
@@ -307,7 +304,7 @@ mutual
   small-parts limit k none some h = tt
   small-parts limit k (part t ps) some h =
       let both = halves (coefficients (scaled (pos k) t)) (parts_coefficients (parts_scaled (pos k) ps)) h in
-      all-append (IsSmall limit) (coefficients t) (parts_coefficients ps) (small-part limit k t some both.0) (small-parts limit k ps some both.1) where
+      All-append (IsSmall limit) (coefficients t) (parts_coefficients ps) (small-part limit k t some both.0) (small-parts limit k ps some both.1) where
         halves : (xs ys : List ℤ) → AllByRecursion (IsSmall limit) (xs ++ ys) → AllByRecursion (IsSmall limit) xs × AllByRecursion (IsSmall limit) ys
         halves [] ys a = (tt, a)
         halves (x ∷ xs) ys a = let rest = halves xs ys a.1 in ((a.0, rest.0), rest.1)

@@ -1,6 +1,6 @@
 //! Values of trees.
 
-ghost use Rattle.std.specs.Prelude.{◌≡◌, ◌+◌, ◌*◌, ◌<◌, ◌^◌, ◌+ℤ◌, ◌*ℤ◌, length, min, unsigned_abs};
+ghost use Rattle.std.specs.Prelude.{◌≡◌, ◌+◌, ◌<◌, ◌^◌, length, min, unsigned_abs};
 ghost use Rattle.poly_tree.specs.Expansion.{IsCanonical, at, size_at, value};
 ghost use Rattle.poly_tree.specs.Tree.{expansion};
 ghost use Rattle.iolb_model.specs.declared.limits.TheConstants.{MEASURE};
@@ -8,6 +8,7 @@ ghost use Rattle.iolb_model.specs.declared.limits.TheConstants.{MEASURE};
 use crate::size::capped_product;
 use crate::top::{Top, look};
 use crate::tree::Tree;
+use affine_form::add_product;
 use iolb_model::limits;
 
 /// The sum over a tree's terms of the coefficient's size times the powers of the sizes of the variables' values, each
@@ -43,18 +44,9 @@ pub(crate) fn value_at(tree: &Tree, point: &[i128]) -> i128
             let mut total = 0;
             for done in 0..parts.len() {
                 let part = value_at(&parts[parts.len() - 1 - done], point);
-                total = horner_step(part, x, total);
+                total = add_product(part, x, total);
             }
             total
         }
     }
-}
-
-/// A step of Horner's rule.
-fn horner_step(part: i128, x: i128, total: i128) -> i128
-    requires { unsigned_abs part + unsigned_abs x * unsigned_abs total < 2 ^ 127 }
-    ensures { result ≡ part +ℤ (x *ℤ total) }
-{
-    let product = x * total;
-    part + product
 }

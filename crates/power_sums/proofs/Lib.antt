@@ -1,3 +1,3 @@
-pub mod IntLaws
+pub mod Powers
 pub mod Polynomials
 pub mod Table

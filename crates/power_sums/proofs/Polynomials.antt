@@ -6,9 +6,9 @@ use Rattle.std.specs.Ordering.{int_eq}
 use Rattle.std.proofs.lemmas.Bool.{and_parts}
 use Rattle.std.proofs.lemmas.Bool.Decides.{Decides-int_eq}
 use Rattle.std.proofs.lemmas.Int.{ints}
-use Rattle.base_laws.proofs.Ring.{mul-sub, sub-mul}
-use Rattle.power_sums.specs.Polynomial.{value, coefficient, power}
-use Rattle.power_sums.proofs.IntLaws.{mul_left_comm}
+use Rattle.base_laws.proofs.Ring.{mul-sub, sub-mul, mul-swap}
+use Rattle.iolb_model.specs.Polynomial.{int_power}
+use Rattle.power_sums.specs.Polynomial.{value, coefficient}
 
 abbrev pub difference : List ℤ → List ℤ → List ℤ
 difference [] [] = []
@@ -70,10 +70,10 @@ value-shift (c ∷ cs) n =
     ∙ shift_step c n (value (shift cs) n)
     ∙ ap (λ t. c +ℤ ((n -ℤ pos 1) *ℤ t)) (value-shift cs n)
 
-pub value-monomial : (d : ℕ) (c n : ℤ) → value (monomial d c) n ≡ c *ℤ power n d
+pub value-monomial : (d : ℕ) (c n : ℤ) → value (monomial d c) n ≡ c *ℤ int_power n d
 value-monomial zero c n = omega (arith, ints)
 value-monomial (suc d) c n =
-    ap (λ t. pos 0 +ℤ (n *ℤ t)) (value-monomial d c n) ∙ plain (n *ℤ (c *ℤ power n d)) ∙ mul_left_comm n c (power n d)
+    ap (λ t. pos 0 +ℤ (n *ℤ t)) (value-monomial d c n) ∙ plain (n *ℤ (c *ℤ int_power n d)) ∙ mul-swap n c (int_power n d)
   where
     plain : (a : ℤ) → pos 0 +ℤ a ≡ a
     plain a = omega (arith, ints)

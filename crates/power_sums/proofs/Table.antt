@@ -11,11 +11,12 @@ use Rattle.std.proofs.lemmas.List.{get_or-drop}
 use Rattle.std.proofs.lemmas.Nat.Gcd.{dvd_antisymm}
 use Rattle.std.proofs.Math.Nat.{one-dvd}
 use Rattle.base_laws.proofs.Ring.{mul-add}
-use Rattle.power_sums.specs.Polynomial.{value, coefficient, power}
+use Rattle.iolb_model.specs.Polynomial.{int_power}
+use Rattle.power_sums.specs.Polynomial.{value, coefficient}
 use Rattle.power_sums.specs.PowerSum.{IsPowerSum, total_of_powers}
 use Rattle.power_sums.specs.declared.row.Row.{Row}
 use Rattle.power_sums.specs.declared.row.TheConstants.{ROWS}
-use Rattle.power_sums.proofs.IntLaws.{power_pos}
+use Rattle.power_sums.proofs.Powers.{power_pos}
 use Rattle.power_sums.proofs.Polynomials.{difference, shift, monomial, all_zero, value-difference, value-shift, value-monomial, value-all_zero, coefficient-all_zero, value_at_zero}
 
 -- the difference from the shift is den n^d, coefficient by coefficient
@@ -39,20 +40,20 @@ passes d num den =
     && list_any (λ c. unsigned_abs c == 1) num))))))
 
 module _ (d : ℕ) (num : List ℤ) (den : ℤ) where
-  difference_from : meets_rule d num den ≡ true → (n : ℤ) → value num n -ℤ value num (n -ℤ pos 1) ≡ den *ℤ power n d
+  difference_from : meets_rule d num den ≡ true → (n : ℤ) → value num n -ℤ value num (n -ℤ pos 1) ≡ den *ℤ int_power n d
   difference_from h n =
       let none : value (difference (difference num (shift num)) (monomial d den)) n ≡ pos 0 =
       value-all_zero (difference (difference num (shift num)) (monomial d den)) n h in
-      let split : value (difference (difference num (shift num)) (monomial d den)) n ≡ (value num n -ℤ value num (n -ℤ pos 1)) -ℤ (den *ℤ power n d) =
+      let split : value (difference (difference num (shift num)) (monomial d den)) n ≡ (value num n -ℤ value num (n -ℤ pos 1)) -ℤ (den *ℤ int_power n d) =
       value-difference (difference num (shift num)) (monomial d den) n
       ∙ ap (λ z. z -ℤ value (monomial d den) n) (value-difference num (shift num) n ∙ ap (λ z. value num n -ℤ z) (value-shift num n))
       ∙ ap (λ z. (value num n -ℤ value num (n -ℤ pos 1)) -ℤ z) (value-monomial d den n) in
-      apart (value num n -ℤ value num (n -ℤ pos 1)) (den *ℤ power n d) (sym split ∙ none)
+      apart (value num n -ℤ value num (n -ℤ pos 1)) (den *ℤ int_power n d) (sym split ∙ none)
     where
       apart : (a b : ℤ) → a -ℤ b ≡ pos 0 → a ≡ b
       apart a b e = omega (arith, ints)
 
-  total_from : value num (pos 0) ≡ pos 0 → ((n : ℤ) → value num n -ℤ value num (n -ℤ pos 1) ≡ den *ℤ power n d) → (n : ℕ) → value num (pos n) ≡ den *ℤ pos (total_of_powers d n)
+  total_from : value num (pos 0) ≡ pos 0 → ((n : ℤ) → value num n -ℤ value num (n -ℤ pos 1) ≡ den *ℤ int_power n d) → (n : ℕ) → value num (pos n) ≡ den *ℤ pos (total_of_powers d n)
   total_from start rule zero = start ∙ sym (nothing den)
     where
       nothing : (a : ℤ) → a *ℤ pos 0 ≡ pos 0
@@ -115,7 +116,7 @@ row_from d num den h =
     let g = and_parts (is_small den) _ f.1 in
     let i = and_parts (list_all is_small num) _ g.1 in
     let start : value num (pos 0) ≡ pos 0 = value_at_zero num ∙ (Decides-int_eq (coefficient num 0) (pos 0)).0 a.0 in
-    let rule : (n : ℤ) → value num n -ℤ value num (n -ℤ pos 1) ≡ den *ℤ power n d = difference_from d num den b.0 in
+    let rule : (n : ℤ) → value num n -ℤ value num (n -ℤ pos 1) ≡ den *ℤ int_power n d = difference_from d num den b.0 in
     let unit : (k : ℕ) × (unsigned_abs (coefficient num k) ≡ 1) = unit_from num i.1 in
     record {
       zero_at_zero = start;

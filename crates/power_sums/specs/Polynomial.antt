@@ -1,5 +1,5 @@
 -- Polynomials with integer coefficients at the integers. A polynomial is the list of its coefficients, that of n^0 first.
-use Rattle.std.specs.Prelude.{ℕ, zero, suc, ℤ, pos, ◌+ℤ◌, ◌*ℤ◌, List, [], ◌∷◌, slice_index_or}
+use Rattle.std.specs.Prelude.{ℕ, ℤ, pos, ◌+ℤ◌, ◌*ℤ◌, List, [], ◌∷◌, slice_index_or}
 
 -- the value at n, by Horner's rule
 abbrev pub value : List ℤ → ℤ → ℤ
@@ -9,8 +9,3 @@ value (c ∷ cs) n = c +ℤ (n *ℤ value cs n)
 -- the coefficient of n^e
 abbrev pub coefficient : List ℤ → ℕ → ℤ
 coefficient cs e = slice_index_or cs e (pos 0)
-
--- n^e, where 0^0 is 1
-abbrev pub power : ℤ → ℕ → ℤ
-power n zero = pos 1
-power n (suc e) = n *ℤ power n e

@@ -1,7 +1,8 @@
 -- Sums of powers of whole numbers (Faulhaber, Academia Algebrae, 1631).
 use Rattle.std.specs.Prelude.{◌≡◌, ◌≢◌, ℕ, zero, suc, ◌+◌, ◌^◌, ◌<◌, ℤ, pos, ◌-ℤ◌, ◌*ℤ◌, ◌≤ℤ◌, List, unsigned_abs}
 use Rattle.std.specs.Int.{◌∣◌}
-use Rattle.power_sums.specs.Polynomial.{value, coefficient, power}
+use Rattle.iolb_model.specs.Polynomial.{int_power}
+use Rattle.power_sums.specs.Polynomial.{value, coefficient}
 
 -- 1^d + 2^d + .. + n^d
 abbrev pub total_of_powers : ℕ → ℕ → ℕ
@@ -12,7 +13,7 @@ total_of_powers d (suc n) = total_of_powers d n + suc n ^ d
 pub record IsPowerSum (d : ℕ) (num : List ℤ) (den : ℤ) : Type 0 where
   -- it is 0 at 0, and its difference from its shift by one is n^d, at integers of either sign
   pub zero_at_zero : value num (pos 0) ≡ pos 0
-  pub difference : (n : ℤ) → value num n -ℤ value num (n -ℤ pos 1) ≡ den *ℤ power n d
+  pub difference : (n : ℤ) → value num n -ℤ value num (n -ℤ pos 1) ≡ den *ℤ int_power n d
   -- so its value at n is the sum of i^d for i from 1 to n
   pub total : (n : ℕ) → value num (pos n) ≡ den *ℤ pos (total_of_powers d n)
   -- its degree is d + 1

@@ -2,7 +2,7 @@
 use Rattle.std.proofs.Common.{◌≡◌, refl, sym, ◌∙◌, ap, ℕ, zero, suc, ◌+◌, ◌<◌, List, [], ◌∷◌, ◌++◌, length, get_or, replicate, arith}
 use Rattle.std.specs.Prelude.{slice_set}
 use Rattle.std.proofs.Math.IntN.{ℤ, pos, ◌*ℤ◌}
-use Rattle.base_laws.proofs.Ring.{mul_assoc_ℤ, mul_comm, one-mul}
+use Rattle.base_laws.proofs.Ring.{mul_assoc_ℤ, one-mul, mul-swap}
 use Rattle.iolb_model.specs.Polynomial.{int_power}
 use Rattle.poly_tree.specs.Expansion.{powers_from}
 use Rattle.projective.specs.Products.{product_of}
@@ -24,16 +24,11 @@ powers-more (e ∷ es) zero v f h =
       here : (n : ℕ) → n ≡ n + 0
       here n = omega arith
 powers-more (e ∷ es) (suc p) v f h =
-    ap (λ (z : ℤ). int_power (f v) e *ℤ z) (powers-more es p (suc v) f (omega arith)) ∙ turn (int_power (f v) e) (f (suc v + p)) (powers_from es (suc v) f)
+    ap (λ (z : ℤ). int_power (f v) e *ℤ z) (powers-more es p (suc v) f (omega arith)) ∙ mul-swap (int_power (f v) e) (f (suc v + p)) (powers_from es (suc v) f)
     ∙ ap (λ (n : ℕ). f n *ℤ (int_power (f v) e *ℤ powers_from es (suc v) f)) (moved v p) where
-      turn : (a b c : ℤ) → a *ℤ (b *ℤ c) ≡ b *ℤ (a *ℤ c)
-      turn a b c = sym (mul_assoc_ℤ a b c) ∙ ap (λ (z : ℤ). z *ℤ c) (mul_comm a b) ∙ mul_assoc_ℤ b a c
-
       moved : (m n : ℕ) → suc m + n ≡ m + suc n
       moved m n = omega arith
 
 pub product-push : (vs : List ℕ) (w : ℕ) (f : ℕ → ℤ) → product_of (vs ++ w ∷ []) f ≡ f w *ℤ product_of vs f
 product-push [] w f = refl
-product-push (v ∷ vs) w f = ap (λ (z : ℤ). f v *ℤ z) (product-push vs w f) ∙ turn (f v) (f w) (product_of vs f) where
-  turn : (a b c : ℤ) → a *ℤ (b *ℤ c) ≡ b *ℤ (a *ℤ c)
-  turn a b c = sym (mul_assoc_ℤ a b c) ∙ ap (λ (z : ℤ). z *ℤ c) (mul_comm a b) ∙ mul_assoc_ℤ b a c
+product-push (v ∷ vs) w f = ap (λ (z : ℤ). f v *ℤ z) (product-push vs w f) ∙ mul-swap (f v) (f w) (product_of vs f)

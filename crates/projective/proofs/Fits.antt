@@ -1,6 +1,6 @@
 -- The rows of a projective program's systems are over their variables, and few.
 use Rattle.std.proofs.Common.{◌≡◌, sym, ◌∙◌, ap, subst, ℕ, zero, suc, ◌+◌, ◌-◌, ◌*◌, ◌<◌, ◌≤◌, Bool, true, false, List, [], ◌∷◌, ◌++◌, length, map, get_or, replicate, arith, lit<}
-use Rattle.std.specs.Prelude.{nat_lt, ◌==◌, ◌||◌, if◌then◌else◌, IsSomeAnd, slice_get}
+use Rattle.std.specs.Prelude.{nat_lt, ◌==◌, ◌||◌, if◌then◌else◌, IsSomeAnd}
 use Rattle.std.specs.List.{AllByRecursion}
 use Rattle.std.proofs.Math.IntN.{pos, negsuc}
 use Rattle.std.proofs.lemmas.List.{length-append, length-map}
@@ -8,26 +8,25 @@ use Rattle.base_laws.proofs.Lists.{All-append, All-replicate, All-weaken, there}
 use Rattle.iolb_model.specs.Form.{AffineForm}
 use Rattle.iolb_model.specs.Order.{Direction, upward, common_loops}
 use Rattle.iolb_model.specs.Path.{PathStep}
-use Rattle.iolb_model.specs.Program.{Array, AffineProgram, statement_at}
-use Rattle.iolb_model.specs.declared.limits.TheConstants.{NUMBER_SIZE, SUBSCRIPTS}
+use Rattle.iolb_model.specs.Program.{AffineProgram, statement_at}
+use Rattle.iolb_model.specs.declared.limits.TheConstants.{NUMBER_SIZE}
+use Rattle.reuse_paths.proofs.FamilyLabels.{ranks-few}
+use Rattle.flow_deps.proofs.SmallForms.{variable-small}
 use Rattle.affine_form.specs.Form.{variables, IsSmall}
 use Rattle.affine_form.specs.System.{AllOver}
 use Rattle.affine_form.specs.Rows.{IsSmallOver, IsSmallWithin, BoundsFit, widened, variable, variables_from, within_rows, equality_rows, put_in, order_rows, step_of}
 use Rattle.affine_form.proofs.RowLemmas.{length-widened, length-variables, variables-over, within_rows-many, within_rows-over, equality_rows-over, put_in-within, order_rows-over}
 use Rattle.affine_program.specs.Domain.{path_of, depth_of, domain_of}
 use Rattle.affine_program.specs.declared.statement.Statement.{Statement}
-use Rattle.affine_program.specs.Parts.{ProgramParts, IsProgram, meaning, array_of}
+use Rattle.affine_program.specs.Parts.{ProgramParts, IsProgram, meaning}
 use Rattle.affine_program.proofs.Bounds.{path-is, bounds-fit}
 use Rattle.dep_quast.specs.Context.{ReadOf, reference_of, context, parameter_point, reader_point, reader_values, writer_values, write_rows}
-use Rattle.dep_quast.proofs.Fits.{all-there, depth-few, written-over, widened-over, fits-at, cells-many}
+use Rattle.dep_quast.proofs.Fits.{all-there, depth-few, written-over, widened-over, fits-at, cells-many, within-more}
 use Rattle.projective.specs.Projective.{shifted_variable}
 use Rattle.projective.specs.Turns.{width, is_kept, turn_value, turn_values, turn_before}
 
-pub variable-fits : (vars place : ℕ) → IsSmallOver vars (variable vars place)
-variable-fits vars place = (variables-over vars place 1).0
-
 pub shifted-fits : (vars place : ℕ) → IsSmallOver vars (shifted_variable vars place (negsuc 0))
-shifted-fits vars place = record { over = (variable-fits vars place).over; small = ((variable-fits vars place).small.0, lit< tt) }
+shifted-fits vars place = record { over = (variable-small vars place).over; small = ((variable-small vars place).small.0, lit< tt) }
 
 pub widened-fits : (many vars : ℕ) (form : AffineForm) → many ≤ vars → IsSmallOver many form → IsSmallOver vars (widened vars form)
 widened-fits many vars form more h = record {
@@ -41,9 +40,6 @@ widened-fits many vars form more h = record {
 
 within-of : (vars : ℕ) (forms : List AffineForm) → AllByRecursion (IsSmallOver vars) forms → AllByRecursion (IsSmallWithin vars) forms
 within-of vars forms h = All-weaken (IsSmallOver vars) (IsSmallWithin vars) forms (λ form f. record { within = omega (arith, f.over); small = f.small }) h
-
-wider-of : (many vars : ℕ) (forms : List AffineForm) → many ≤ vars → AllByRecursion (IsSmallOver many) forms → AllByRecursion (IsSmallWithin vars) forms
-wider-of many vars forms more h = All-weaken (IsSmallOver many) (IsSmallWithin vars) forms (λ form f. record { within = omega (arith, f.over, more); small = f.small }) h
 
 module _ (parts : ProgramParts) (is : IsProgram parts) (some : 0 < length parts.statements) where
   abbrev program : AffineProgram
@@ -104,7 +100,7 @@ module _ (parts : ProgramParts) (is : IsProgram parts) (some : 0 < length parts.
     by : (a b : Bool) → IsSmallOver (width program) (if a then shifted_variable (width program) (length program.parameters + place) (negsuc 0)
         else (if b then variable (width program) (length program.parameters + place) else widened (width program) upper))
     by true b = shifted-fits (width program) (length program.parameters + place)
-    by false true = variable-fits (width program) (length program.parameters + place)
+    by false true = variable-small (width program) (length program.parameters + place)
     by false false = widened-fits many (width program) upper more h
 
   values-fit : (loop place : ℕ) (many : ℕ) (steps : List (AffineForm × AffineForm)) → many + length steps ≤ vars → BoundsFit many steps → AllByRecursion (IsSmallOver vars) (turn_values program loop place (map step_of steps))
@@ -145,15 +141,9 @@ module _ (parts : ProgramParts) (is : IsProgram parts) (some : 0 < length parts.
         few,
       )
 
-  -- the subscripts are few
-  pub rank-few : (arrays : List (List ℕ × ℕ)) (k many : ℕ) → AllByRecursion (λ (array : List ℕ × ℕ). array.1 ≤ SUBSCRIPTS) arrays → IsSomeAnd (slice_get (map array_of arrays) k) (λ (array : Array). many ≡ array.rank) → many ≤ SUBSCRIPTS
-  rank-few [] k many h e = absurd e
-  rank-few (a ∷ arrays) zero many h e = omega (arith, h.0, e)
-  rank-few (a ∷ arrays) (suc k) many h e = rank-few arrays k many h.1 e
-
   subscripts-few : length (statement_at program 0).writes.subscripts ≤ 4
   subscripts-few =
-      rank-few parts.arrays (statement_at program 0).writes.array (length (statement_at program 0).writes.subscripts) is.limits.ranks
+      ranks-few parts.arrays (statement_at program 0).writes.array (length (statement_at program 0).writes.subscripts) is.limits.ranks
       (fits-at program 0 is.well_formed (all-there parts is 0 some)).writes.rank
 
   -- ---- the rows of writes of the cell
@@ -228,7 +218,7 @@ module _ (parts : ProgramParts) (is : IsProgram parts) (some : 0 < length parts.
 
       since-all : (loop after : ℕ) → AllOver wide (since loop after)
       since-all loop after =
-          order_rows-over wide (common_loops program 0 0) after (turn_before program loop) (writer_values program reader 0 wide) (wider-of vars wide (turn_before program loop) (omega arith) (turn-fits loop))
+          order_rows-over wide (common_loops program 0 0) after (turn_before program loop) (writer_values program reader 0 wide) (within-more vars wide (turn_before program loop) (omega arith) (turn-fits loop))
           (within-of wide (writer_values program reader 0 wide) writers-over)
 
       written-many : length written ≤ 70

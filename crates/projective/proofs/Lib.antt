@@ -16,5 +16,5 @@ pub mod Summed
 pub mod Units
 pub mod Ranges
 pub mod Exponents
-pub mod Filters
+pub mod Below
 pub mod Nests

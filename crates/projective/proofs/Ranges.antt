@@ -12,7 +12,7 @@ use Rattle.affine_form.specs.Multipliers.{FarkasMultipliers}
 use Rattle.affine_form.specs.Rows.{variable, widened, within_rows, variables_from, step_of}
 use Rattle.affine_form.specs.Shown.{row_at}
 use Rattle.affine_form.proofs.Combination.{coefficient_of-constant, get_or-add_lists, get_or-scale, length-add_lists}
-use Rattle.affine_form.proofs.RowLemmas.{coefficient_of-difference, length-difference, length-widened}
+use Rattle.affine_form.proofs.RowLemmas.{coefficient_of-difference, length-difference, length-widened, get_or-zeros}
 use Rattle.domain_count.specs.Count.{AreShownBelow, ShowsRange, bounds_at, multipliers_at, range_goal, rows_before}
 use Rattle.projective.specs.Projective.{RunsBelow}
 use Rattle.projective.specs.Products.{AreTaken, RunBelow, TakesRow}
@@ -23,12 +23,6 @@ pub same-form : (n : ℕ) (f g : AffineForm) → variables f ≡ n → variables
 same-form n f g p q each constant =
     let coefficients : f.coefficients ≡ g.coefficients = ext_get_or (pos 0) f.coefficients g.coefficients (p ∙ sym q) (λ k below. each k) in
     λ i. record { coefficients = coefficients i; constant = constant i }
-
--- zeros at the end change no coefficient
-pub zeros-end : (cs : List ℤ) (n k : ℕ) → get_or (cs ++ replicate n (pos 0)) k (pos 0) ≡ get_or cs k (pos 0)
-zeros-end [] n k = coefficient_of-constant k n
-zeros-end (c ∷ cs) n zero = refl
-zeros-end (c ∷ cs) n (suc k) = zeros-end cs n k
 
 module _ (program : AffineProgram) (before : List (AffineForm × AffineForm)) (bounds : AffineForm × AffineForm) (p : ℕ)
     (run : RunsBelow program (length program.parameters + length before) bounds p) where
@@ -100,7 +94,7 @@ module _ (program : AffineProgram) (before : List (AffineForm × AffineForm)) (b
     sum-at k =
         get_or-add_lists (scaled (widened vars row)).coefficients rest.coefficients k
         ∙ total (coefficient_of k (scaled (widened vars row))) (coefficient_of k rest)
-        (scaled-at (widened vars row) k ∙ zeros-end row.coefficients (vars - length row.coefficients) k ∙ row-at-each k) (coefficient_of-constant k vars) where
+        (scaled-at (widened vars row) k ∙ get_or-zeros row.coefficients (vars - length row.coefficients) k ∙ row-at-each k) (coefficient_of-constant k vars) where
           total : (a b : ℤ) → a ≡ unit p k → b ≡ pos 0 → a +ℤ b ≡ unit p k
           total a b e f = omega (arith, ints)
 

@@ -12,6 +12,8 @@ use Rattle.base_laws.proofs.Ring.{mul-add, mul-zero, mul-one, mul_comm}
 use Rattle.base_laws.proofs.Lists.{All-weaken}
 use Rattle.iolb_model.specs.Form.{AffineForm, dot, form_value}
 use Rattle.iolb_model.specs.Program.{AffineProgram}
+use Rattle.affine_form.specs.Combination.{constant_form}
+use Rattle.poly_tree.proofs.AffineLemmas.{degrees-more}
 use Rattle.affine_form.specs.Rows.{variable}
 use Rattle.affine_form.proofs.Meaning.{form_value-variable}
 use Rattle.affine_form.proofs.Combination.{form_value-constant}
@@ -21,9 +23,9 @@ use Rattle.poly_tree.proofs.SameLemmas.{same-polynomial}
 use Rattle.poly_tree.proofs.Unique.{agree, put-same, put-below}
 use Rattle.domain_count.specs.Antidifference.{IsAntidifference, IsBetween, IsShifted, IsSubstituted, IsSubtracted, IsSummed, less_one}
 use Rattle.domain_count.specs.Count.{IsSumFrom}
-use Rattle.projective.specs.Projective.{number_form, shifted_variable}
+use Rattle.projective.specs.Projective.{shifted_variable}
 use Rattle.projective.specs.Products.{AreRepeated, IsProduct, IsRepeated, RunBelow, product_of}
-use Rattle.projective.proofs.Times.{degrees-within, product_tree, product-canonical, product-degrees, product-nonzero, product-value, product-weight}
+use Rattle.projective.proofs.Times.{product_tree, product-canonical, product-degrees, product-nonzero, product-value, product-weight}
 use Rattle.iolb_model.specs.declared.limits.TheConstants.{MEASURE, SUM_MEASURE}
 
 -- ---- numbers
@@ -70,7 +72,7 @@ module _ (v : ℕ) (ps : List ℕ) (inside : v < 2 ^ 16) (below : AllByRecursion
   canonical = product-canonical v ps below
 
   degrees : DegreesAtMost 8 tree
-  degrees = degrees-within (length ps) 8 tree few (product-degrees ps)
+  degrees = degrees-more (length ps) 8 tree few (product-degrees ps)
 
   pub sum-legal : IsLegal (whole (sum_tree v tree))
   sum-legal = whole-legal (sum_tree v tree) (inside, (canonical, (canonical, tt)), product-nonzero ps) (omega arith, (degrees, (degrees, tt)))
@@ -153,7 +155,7 @@ module _ (v : ℕ) (ps : List ℕ) (inside : v < 2 ^ 16) (below : AllByRecursion
     product-legal =
         whole-legal (product_tree (p ∷ ps))
         (product-canonical (2 ^ 16) (p ∷ ps) (omega arith, All-weaken (λ (q : ℕ). q < v) (λ (q : ℕ). q < 2 ^ 16) ps (λ q h. omega (arith, h)) below))
-        (degrees-within (suc (length ps)) 8 (product_tree (p ∷ ps)) few_more (product-degrees (p ∷ ps)))
+        (degrees-more (suc (length ps)) 8 (product_tree (p ∷ ps)) few_more (product-degrees (p ∷ ps)))
 
     upper-value : (point : List ℤ) → length (shifted_variable v p (negsuc 0)).coefficients ≤ length point → form_value (shifted_variable v p (negsuc 0)) point +ℤ pos 1 ≡ at point p
     upper-value point long =
@@ -174,7 +176,7 @@ module _ (v : ℕ) (ps : List ℕ) (inside : v < 2 ^ 16) (below : AllByRecursion
     upper-light : form_size (shifted_variable v p (negsuc 0)) ≡ 2
     upper-light = ap (λ (n : ℕ). max 1 (n + 1)) (sizes-one v p lesser)
 
-    lower-light : form_size (less_one (number_form v (pos 0))) ≡ 1
+    lower-light : form_size (less_one (constant_form v (pos 0))) ≡ 1
     lower-light = ap (λ (n : ℕ). max 1 (n + 1)) (sizes-zero v)
 
     at-upper : IsSubstituted v (shifted_variable v p (negsuc 0)) (whole (sum_tree v tree)) (whole (product_tree (p ∷ ps)))
@@ -186,18 +188,18 @@ module _ (v : ℕ) (ps : List ℕ) (inside : v < 2 ^ 16) (below : AllByRecursion
           ∙ ap (λ (z : ℤ). value tree (at point) *ℤ z) (sym (upper-value point long)) ∙ sym (put-value (at point) (form_value (shifted_variable v p (negsuc 0)) point)));
     }
 
-    at-lower : IsSubstituted v (less_one (number_form v (pos 0))) (whole (sum_tree v tree)) (whole zero_expansion)
+    at-lower : IsSubstituted v (less_one (constant_form v (pos 0))) (whole (sum_tree v tree)) (whole zero_expansion)
     at-lower = record {
       narrow = subst (λ (heavy : ℕ). put_size (whole (sum_tree v tree)) v heavy < MEASURE) (sym lower-light) (narrow 1 MEASURE (lit< tt));
       legal = whole-legal zero_expansion tt tt;
-      value = λ point long. times-one (pos 0) (value (sum_tree v tree) (put (at point) v (form_value (less_one (number_form v (pos 0))) point)))
-          (sym (mul-zero (value tree (at point))) ∙ ap (λ (z : ℤ). value tree (at point) *ℤ z) (sym (none (form_value (less_one (number_form v (pos 0))) point) (form_value-constant v (negsuc 0) point)))
-          ∙ sym (put-value (at point) (form_value (less_one (number_form v (pos 0))) point)));
+      value = λ point long. times-one (pos 0) (value (sum_tree v tree) (put (at point) v (form_value (less_one (constant_form v (pos 0))) point)))
+          (sym (mul-zero (value tree (at point))) ∙ ap (λ (z : ℤ). value tree (at point) *ℤ z) (sym (none (form_value (less_one (constant_form v (pos 0))) point) (form_value-constant v (negsuc 0) point)))
+          ∙ sym (put-value (at point) (form_value (less_one (constant_form v (pos 0))) point)));
     } where
       none : (z : ℤ) → z ≡ negsuc 0 → z +ℤ pos 1 ≡ pos 0
       none z e = omega (arith, ints)
 
-    between : IsBetween v (number_form v (pos 0), shifted_variable v p (negsuc 0)) (whole (sum_tree v tree)) (whole (product_tree (p ∷ ps)))
+    between : IsBetween v (constant_form v (pos 0), shifted_variable v p (negsuc 0)) (whole (sum_tree v tree)) (whole (product_tree (p ∷ ps)))
     between = record {
       upper = whole (product_tree (p ∷ ps));
       lower = whole zero_expansion;
@@ -252,12 +254,12 @@ summed program vars (b ∷ nest) (p ∷ ps) (s ∷ sums) run are le inside few =
     let room : vars < 2 ^ 16 = omega arith in
     let less : length ps ≤ 8 = omega arith in
     let is : s ≡ whole (sum_tree vars (product_tree ps)) = repeated-is vars ps s room below less are.0 in
-    let bounds : b ≡ (number_form vars (pos 0), shifted_variable vars p (negsuc 0)) = λ i. (run.0.lower i, run.0.upper i) in (
+    let bounds : b ≡ (constant_form vars (pos 0), shifted_variable vars p (negsuc 0)) = λ i. (run.0.lower i, run.0.upper i) in (
       whole (product_tree ps),
       (
         summed program (suc vars) nest ps sums run.1 are.1 (omega arith) (omega arith) less,
         subst (λ (c : AffineForm × AffineForm). IsSummed vars c (whole (product_tree ps)) s (whole (product_tree (p ∷ ps)))) (sym bounds)
-            (subst (λ (q : Quotient). IsSummed vars (number_form vars (pos 0), shifted_variable vars p (negsuc 0)) (whole (product_tree ps)) q (whole (product_tree (p ∷ ps)))) (sym is)
+            (subst (λ (q : Quotient). IsSummed vars (constant_form vars (pos 0), shifted_variable vars p (negsuc 0)) (whole (product_tree ps)) q (whole (product_tree (p ∷ ps)))) (sym is)
             (record {
               legal = sum-legal vars ps room below less;
               antidifference = sums-up vars ps room below less;
@@ -271,7 +273,7 @@ pub product-is : (program : AffineProgram) (vars : ℕ) (nest : List (AffineForm
     → IsProduct ps (whole (product_tree ps))
 product-is program vars nest ps run le few = record {
   legal = whole-legal (product_tree ps) (product-canonical (2 ^ 16) ps (All-weaken (λ (p : ℕ). p < 24) (λ (p : ℕ). p < 2 ^ 16) ps (λ p h. omega (arith, h)) (parameters-below program vars 24 nest ps run le)))
-      (degrees-within (length ps) 8 (product_tree ps) few (product-degrees ps));
+      (degrees-more (length ps) 8 (product_tree ps) few (product-degrees ps));
   whole = refl;
   value = λ point. product-value ps (at point);
 }

@@ -6,7 +6,7 @@ use Rattle.std.proofs.Math.IntN.{ℤ, pos, negsuc, ◌+ℤ◌, ◌*ℤ◌}
 use Rattle.std.proofs.lemmas.Int.{ints}
 use Rattle.std.proofs.lemmas.Bool.{eqb-true}
 use Rattle.std.proofs.lemmas.Bool.Decides.{nat_tests}
-use Rattle.base_laws.proofs.Ring.{mul-add, mul-zero, mul_comm, mul_assoc_ℤ}
+use Rattle.base_laws.proofs.Ring.{mul-add, mul-zero, mul-swap}
 use Rattle.poly_tree.specs.Expansion.{Expansion, Parts, number, over, none, part, zero_expansion, value, parts_value, weight, parts_weight, IsCanonical, AreCanonical, HasTop, LastNonzero, DegreesAtMost, PartsDegreesAtMost, parts_count}
 use Rattle.projective.specs.Products.{product_of}
 
@@ -64,10 +64,8 @@ mutual
   parts-times-value v (part t ps) x f =
       ap (λ (z : ℤ). z +ℤ (x *ℤ parts_value (parts_times v ps) x f)) (times-value v t f)
       ∙ ap (λ (z : ℤ). (f v *ℤ value t f) +ℤ (x *ℤ z)) (parts-times-value v ps x f)
-      ∙ ap (λ (z : ℤ). (f v *ℤ value t f) +ℤ z) (turn x (f v) (parts_value ps x f))
-      ∙ sym (mul-add (f v) (value t f) (x *ℤ parts_value ps x f)) where
-        turn : (a b c : ℤ) → a *ℤ (b *ℤ c) ≡ b *ℤ (a *ℤ c)
-        turn a b c = sym (mul_assoc_ℤ a b c) ∙ ap (λ (z : ℤ). z *ℤ c) (mul_comm a b) ∙ mul_assoc_ℤ b a c
+      ∙ ap (λ (z : ℤ). (f v *ℤ value t f) +ℤ z) (mul-swap x (f v) (parts_value ps x f))
+      ∙ sym (mul-add (f v) (value t f) (x *ℤ parts_value ps x f))
 
 pub product-value : (vs : List ℕ) (f : ℕ → ℤ) → value (product_tree vs) f ≡ product_of vs f
 product-value [] f = refl
@@ -163,12 +161,6 @@ mutual
 pub product-degrees : (vs : List ℕ) → DegreesAtMost (length vs) (product_tree vs)
 product-degrees [] = tt
 product-degrees (v ∷ vs) = times-degrees (length vs) v (product_tree vs) (product-degrees vs)
-
-pub degrees-within : (d e : ℕ) (t : Expansion) → d ≤ e → DegreesAtMost d t → DegreesAtMost e t
-degrees-within d e t le h = raise d (e - d) (t) h (omega arith) where
-  raise : (c n : ℕ) (u : Expansion) → DegreesAtMost c u → c + n ≡ e → DegreesAtMost e u
-  raise c zero u g same = subst (λ (k : ℕ). DegreesAtMost k u) (omega arith) g
-  raise c (suc n) u g same = raise (suc c) n u (degrees-more c u g) (omega arith)
 
 -- ---- weights
 

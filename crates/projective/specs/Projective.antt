@@ -1,11 +1,12 @@
 -- Projective programs: one statement in a nest of loops that run from 0 to below parameters, where each reference is a
 -- coordinate projection of the loops. (The projective loop nests of Dinh and Demmel 2020.)
-use Rattle.std.specs.Prelude.{◌≡◌, ◌≢◌, ◌⊎◌, ⊤, ℕ, suc, ◌+◌, ◌<◌, ◌≤◌, ℤ, pos, negsuc, ◌≤ℤ◌, Bool, true, not, ◌==◌, List, [], ◌∷◌, length, map, replicate, Option, Some, None, slice_index_or}
+use Rattle.std.specs.Prelude.{◌≡◌, ◌≢◌, ◌⊎◌, ⊤, ℕ, suc, ◌+◌, ◌<◌, ◌≤◌, ℤ, pos, negsuc, ◌≤ℤ◌, Bool, true, not, ◌==◌, List, [], ◌∷◌, length, map, Option, Some, None, slice_index_or}
 use Rattle.std.specs.List.{AllByRecursion, filter, find, list_any, range_with_len}
 use Rattle.std.specs.Ordering.{int_eq}
 use Rattle.iolb_model.specs.Form.{AffineForm}
 use Rattle.iolb_model.specs.Path.{PathStep, rises}
 use Rattle.iolb_model.specs.Program.{Access, Statement, Item, assign, loop, Row, done, next, AffineProgram, statement_at}
+use Rattle.affine_form.specs.Combination.{constant_form}
 use Rattle.affine_form.specs.Rows.{variable}
 use Rattle.affine_program.specs.Domain.{depth_of, path_of}
 use Rattle.projective.specs.declared.recognising.TheConstants.{MOST_ARRAYS}
@@ -28,10 +29,6 @@ abbrev mutual
   IsNestRow (next item done) = IsNestItem item
   IsNestRow (next item (next other row)) = ⊥
 
--- the form over so many variables that is a number
-abbrev pub number_form : ℕ → ℤ → AffineForm
-number_form vars number = record { coefficients = replicate vars (pos 0); constant = number }
-
 -- the form over so many variables that is one of them, and a number
 abbrev pub shifted_variable : ℕ → ℕ → ℤ → AffineForm
 shifted_variable vars place number = record { coefficients = (variable vars place).coefficients; constant = number }
@@ -44,7 +41,7 @@ Assumes parameters parameter row = (row.coefficients ≡ (variable parameters pa
 -- parameter is at least 1.
 pub record RunsBelow (program : AffineProgram) (vars : ℕ) (bounds : AffineForm × AffineForm) (parameter : ℕ) : Type 0 where
   pub there : parameter < length program.parameters
-  pub lower : bounds.0 ≡ number_form vars (pos 0)
+  pub lower : bounds.0 ≡ constant_form vars (pos 0)
   pub upper : bounds.1 ≡ shifted_variable vars parameter (negsuc 0)
   pub assumed : HoldsOfOne (Assumes (length program.parameters) parameter) program.assumptions
 

@@ -8,7 +8,7 @@ ghost use Rattle.affine_program.specs.Parts.{meaning};
 ghost use Rattle.affine_program.specs.Tree.{item_of, row_of};
 ghost use Rattle.projective.specs.Projective.{AllRun, HoldsOfOne, IsNestItem, IsNestRow, RunsBelow};
 
-use crate::forms::{is_same, one_less, zero};
+use crate::forms::{one_less, zero};
 use affine_form::{Form, Memory, variable};
 use affine_program::{Item, Program};
 use std::alloc::Global;
@@ -68,10 +68,10 @@ fn runs_below(
     let low = zero(alloc, vars)?;
     let high = one_less(alloc, vars, parameter)?;
     let alone = variable(alloc, program.params().len(), parameter)?;
-    if !is_same(&bounds.0, &low) {
+    if !bounds.0.is_same(&low) {
         return Ok(false);
     }
-    if !is_same(&bounds.1, &high) {
+    if !bounds.1.is_same(&high) {
         return Ok(false);
     }
     Ok(is_any_below(program.assumed().rows(), alone.coef()))

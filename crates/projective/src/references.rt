@@ -7,7 +7,6 @@ ghost use Rattle.iolb_model.specs.declared.limits.TheConstants.{VARIABLES};
 ghost use Rattle.affine_program.specs.Parts.{access_of};
 ghost use Rattle.projective.specs.Projective.{AreDifferent, HoldsOfOne, IsLoop, IsProjection, reference_to};
 
-use crate::forms::is_same;
 use affine_form::{Form, Memory, variable};
 use affine_program::Reference;
 use std::alloc::Global;
@@ -18,7 +17,7 @@ fn are_same(a: &[Form], b: &[Form]) -> bool
 {
     match (a.split_first(), b.split_first()) {
         (Some((first, others)), Some((second, rest))) => {
-            is_same(first, second) && are_same(others, rest)
+            first.is_same(second) && are_same(others, rest)
         }
         (None, None) => true,
         _ => false,
@@ -84,7 +83,7 @@ fn is_loop(alloc: Global, params: usize, depth: usize, form: &Form) -> Result<bo
 {
     for place in 0..depth {
         let named = variable(alloc, params + depth, params + place)?;
-        if is_same(form, &named) {
+        if form.is_same(&named) {
             return Ok(true);
         }
     }
@@ -112,7 +111,7 @@ fn is_no_other(form: &Form, others: &[Form]) -> bool
     ensures { IsTrue result ↔ AllByRecursion (λ other. other ≢ form.now) others.now }
 {
     match others.split_first() {
-        Some((first, rest)) => !is_same(first, form) && is_no_other(form, rest),
+        Some((first, rest)) => !first.is_same(form) && is_no_other(form, rest),
         None => true,
     }
 }

@@ -15,22 +15,12 @@ use affine_program::Reference;
 use cover_lp::CoordSet;
 use std::alloc::Global;
 
-/// The coefficient of a variable in a form, and 0 for one that it doesn't have.
-fn coefficient(form: &Form, place: usize) -> i128
-    ensures { result ≡ slice_index_or form.now.coefficients place (pos 0) }
-{
-    match form.coef().get(place) {
-        Some(number) => *number,
-        None => 0,
-    }
-}
-
 /// Whether one of some forms has a coefficient for a variable.
 fn is_in_any(place: usize, forms: &[Form]) -> bool
     ensures { result ≡ list_any (λ (form : AffineForm). not (int_eq (slice_index_or form.coefficients place (pos 0)) (pos 0))) forms.now }
 {
     match forms.split_first() {
-        Some((first, rest)) => coefficient(first, place) != 0 || is_in_any(place, rest),
+        Some((first, rest)) => first.coefficient(place) != 0 || is_in_any(place, rest),
         None => false,
     }
 }

@@ -19,8 +19,8 @@ use crate::turns::{is_kept, later_turn};
 use affine_form::{Form, Memory};
 use affine_program::Program;
 use dep_quast::Quast;
+use dep_quast::context::{tests_of_no, tests_of_yes};
 use dep_quast::reader::{Reader, depth, reference, written};
-use flow_deps::rows::{tests_of_no, tests_of_yes};
 use reuse_paths::Quasts;
 use std::alloc::Global;
 

@@ -6,6 +6,7 @@ use Rattle.std.proofs.lemmas.Bool.{eqb-true}
 use Rattle.base_laws.proofs.Lists.{All-every, All-map}
 use Rattle.iolb_model.specs.Form.{AffineForm}
 use Rattle.iolb_model.specs.Program.{Access, AffineProgram, statement_at}
+use Rattle.part_fit.proofs.FormsFit.{bounds-hold}
 use Rattle.affine_form.specs.Rows.{BoundsFit, step_of}
 use Rattle.affine_program.specs.Domain.{depth_of, path_of}
 use Rattle.affine_program.specs.Parts.{ProgramParts, meaning}
@@ -29,7 +30,7 @@ use Rattle.projective.specs.Projective.{coordinates, projection_sets, reference_
 use Rattle.projective.specs.Products.{IsProductCount}
 use Rattle.projective_bounds.specs.WholeLaws.{CanBeShown, WholeTermsAreAsAsked}
 use Rattle.projective_bounds.specs.Whole.{identity_matrix}
-use Rattle.projective_bounds.proofs.AskedFamilies.{IsRising, bounds-hold, families-asked, filtered-rises}
+use Rattle.projective_bounds.proofs.AskedFamilies.{IsRising, families-asked, filtered-rises}
 use Rattle.projective_bounds.proofs.Held.{depth, is-nest, term-fits, walked, whole, whole-is}
 use Rattle.projective_bounds.proofs.Pieces.{none-pairwise}
 use Rattle.projective_bounds.proofs.Sums.{polynomials-hold, shown-many}

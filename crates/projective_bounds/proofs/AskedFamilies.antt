@@ -7,8 +7,8 @@ use Rattle.std.proofs.lemmas.List.{length-map, length-replicate}
 use Rattle.base_laws.proofs.Lists.{All-append}
 use Rattle.iolb_model.specs.Form.{AffineForm}
 use Rattle.iolb_model.specs.Program.{Array, AffineProgram, statement_at}
+use Rattle.part_fit.proofs.FormsFit.{forms-hold}
 use Rattle.affine_form.specs.Matrix.{IntegerMatrix}
-use Rattle.affine_form.specs.Rows.{BoundsFit, IsSmallOver}
 use Rattle.affine_program.specs.Domain.{depth_of}
 use Rattle.claims.specs.Claims.{Claim, AllHold, numbered}
 use Rattle.claims.specs.declared.place.Step.{Step}
@@ -26,26 +26,12 @@ use Rattle.reuse_paths.specs.WalkSettings.{WalkSetting, region_at}
 use Rattle.part_fit.specs.EntryFit.{EntryAim, aimed_at, aimed_entries_fit, aimed_fit, leaf_names, names_in}
 use Rattle.part_fit.specs.FamilyFit.{family_at, family_fit, input_fit, inputs_fit, label_fit, node_fit, nodes_fit, set_fit, start_fit, subscripts_of}
 use Rattle.part_fit.specs.FitClaims.{names}
-use Rattle.part_fit.specs.PartFit.{bounds_at, form_at}
 use Rattle.part_fit.specs.WalkFit.{entry_aim, row_count, rows_called, walk_fit}
 use Rattle.part_fit.proofs.ReadTrees.{names-of, open-many}
 use Rattle.projective_bounds.specs.Families.{array_families, array_family, array_node, array_read, array_walk, entries_of, loops_label, loop_form}
 use Rattle.projective_bounds.specs.Multipliers.{labels_agree, none_taken}
 use Rattle.projective_bounds.proofs.Family.{AreWalked, IsNest, IsWalked, family-fits, tree-is}
 use Rattle.projective_bounds.proofs.Leaves as at
-
--- ---- forms
-
-pub forms-hold : (vars : ℕ) (place : List Step) (index : ℕ) (forms : List AffineForm) → AllByRecursion (IsSmallOver vars) forms → AllHold (numbered (form_at vars place) index forms)
-forms-hold vars place index [] small = tt
-forms-hold vars place index (form ∷ forms) small = (small.0.over, forms-hold vars place (suc index) forms small.1)
-
-pub bounds-hold : (vars index : ℕ) (place : List Step) (nest : List (AffineForm × AffineForm)) → BoundsFit (vars + index) nest → AllHold (numbered (bounds_at vars place) index nest)
-bounds-hold vars index place [] fit = tt
-bounds-hold vars index place (bounds ∷ nest) fit =
-    (fit.0.0.over, (fit.0.1.over, bounds-hold vars (suc index) place nest (subst (λ (n : ℕ). BoundsFit n nest) moved fit.1))) where
-      moved : suc (vars + index) ≡ vars + suc index
-      moved = omega arith
 
 -- ---- labels
 

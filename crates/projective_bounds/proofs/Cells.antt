@@ -1,11 +1,12 @@
 -- The subscripts of a read are the variables of its cold term's nest, and the identity undoes them.
-use Rattle.std.proofs.Common.{◌≡◌, sym, ◌∙◌, ap, ℕ, zero, suc, ◌+◌, ◌-◌, ◌<◌, List, [], ◌∷◌, ◌++◌, length, drop, replicate, get_or, arith}
+use Rattle.std.proofs.Common.{◌≡◌, sym, ◌∙◌, ap, ℕ, zero, suc, ◌+◌, ◌<◌, List, [], ◌∷◌, ◌++◌, length, drop, get_or, arith}
 use Rattle.std.specs.List.{AllByRecursion}
 use Rattle.std.proofs.Math.IntN.{ℤ, pos}
-use Rattle.std.proofs.lemmas.List.{append-nil, get_or-drop, get_or-map, length-append, length-map}
+use Rattle.std.proofs.lemmas.List.{get_or-drop, get_or-map, length-append, length-map}
 use Rattle.std.proofs.lemmas.List.FromFn.{get_or-map-range_with_len}
 use Rattle.base_laws.proofs.Lists.{All-append, All-at, All-weaken}
 use Rattle.iolb_model.specs.Form.{AffineForm}
+use Rattle.reuse_paths.proofs.PiecesFit.{as-wide}
 use Rattle.affine_form.specs.Form.{variables}
 use Rattle.affine_form.specs.Rows.{IsSmallOver, put_in, variable, variables_from, widened}
 use Rattle.affine_form.specs.Substitution.{substitution, width}
@@ -25,13 +26,6 @@ use Rattle.projective_bounds.proofs.ReaderLabels.{at-behind, none}
 use Rattle.projective_bounds.specs.Outline.{value_among}
 use Rattle.projective_bounds.proofs.Outlines.{ColdRead, as-many, d, different, loops-few, nest, outline, p, program, size, values, values-many, values-small, vars}
 use Rattle.projective_bounds.proofs.LoopValues.{value-at}
-
--- a form that has all variables is the same over them
-widened-same : (vars : ℕ) (f : AffineForm) → variables f ≡ vars → widened vars f ≡ f
-widened-same vars f e =
-    ap (λ (cs : List ℤ). record { coefficients = cs; constant = f.constant }) (ap (λ (n : ℕ). f.coefficients ++ replicate n (pos 0)) (nothing (length f.coefficients) e) ∙ append-nil f.coefficients) where
-      nothing : (n : ℕ) → n ≡ vars → vars - n ≡ 0
-      nothing n e = omega arith
 
 -- places that are moved together
 unit-moved : (m a b : ℕ) → unit (m + a) (m + b) ≡ unit a b
@@ -69,7 +63,7 @@ module _ (r : ColdRead) where
       let many : length point ≡ variables form = point-many ∙ sym (variables-of (p r + d r) (p r + loop)) in
       let wide : variables (substitution form point) ≡ vars r =
       length-substitution form point many (AllOver-width (vars r) point point-small) ∙ width-of point (omega (arith, point-many, there)) point-over in
-      sym (widened-same (vars r) (substitution form point) wide)
+      sym (as-wide (vars r) (substitution form point) wide)
       ∙ put-variable (vars r) (p r + d r) (p r + loop) point none point-many (omega (arith, there)) point-over
       ∙ at-behind (variables_from (vars r) 0 (p r)) (values r) (p r) loop none (length-variables (vars r) 0 (p r))
       ∙ get_or-map-range_with_len (value_among (vars r) (p r) r.loops) 0 (d r) loop loop none there (omega arith)

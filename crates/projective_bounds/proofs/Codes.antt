@@ -5,6 +5,7 @@ use Rattle.std.specs.List.{AllByRecursion, range_with_len}
 use Rattle.std.proofs.lemmas.Bool.{eqb-true, lt-ltb, ltb-true}
 use Rattle.std.proofs.lemmas.List.{append-nil, length-map, map-append, take_more}
 use Rattle.std.proofs.lemmas.List.FromFn.{filter_of_map_range_with_len_more, length-range_with_len}
+use Rattle.base_laws.proofs.Ranges.{filter-few}
 use Rattle.base_laws.proofs.Lists.{All-at, All-push, All-weaken}
 use Rattle.iolb_model.specs.Form.{AffineForm}
 use Rattle.iolb_model.specs.Program.{Access, AffineProgram, no_statement, read_at, statement_at}
@@ -20,7 +21,6 @@ use Rattle.projective.specs.Projective.{Assumes, HoldsOfOne, IsLoop, IsProjectio
 use Rattle.reuse_paths.specs.Quasts.{tree_at, tree_or_blank}
 use Rattle.wavefront.specs.declared.cold.Cold.{Cold}
 use Rattle.projective_bounds.specs.Families.{array_read, first_to, loop_form, loops_label}
-use Rattle.projective_bounds.proofs.Readings.{filter-few}
 use Rattle.projective_bounds.specs.Colds.{AreColdsOf, IsArrayCold, IsReadCold, is_read}
 use Rattle.projective_bounds.specs.Loops.{RunLoops}
 
@@ -60,7 +60,7 @@ assumed-below program ps h =
 
 -- ---- arrays that are read
 
-first-array : (array : ℕ) (accesses : List Access) (d : Access) → first_to array accesses < length accesses → (get_or accesses (first_to array accesses) d).array ≡ array
+pub first-array : (array : ℕ) (accesses : List Access) (d : Access) → first_to array accesses < length accesses → (get_or accesses (first_to array accesses) d).array ≡ array
 first-array array [] d below = absurd (omega arith)
 first-array array (a ∷ accesses) d below = by (a.array == array) refl below (first-array array accesses d) where
   by : (b : Bool) → b ≡ (a.array == array) → (if b then 0 else suc (first_to array accesses)) < suc (length accesses)

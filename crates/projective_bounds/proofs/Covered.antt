@@ -3,7 +3,7 @@ use Rattle.std.proofs.Common.{◌≡◌, refl, sym, ◌∙◌, ap, subst, ℕ, z
 use Rattle.std.specs.Prelude.{Option, Some, None, IsSomeAnd, ◌||◌, nat_eq, slice_get}
 use Rattle.std.specs.List.{AllByRecursion, range_with_len}
 use Rattle.std.proofs.Math.Nat.{eq-or-lt_of_le}
-use Rattle.std.proofs.lemmas.Bool.{eq-eqb}
+use Rattle.std.proofs.lemmas.Bool.{eq-eqb, or_right}
 use Rattle.std.proofs.lemmas.Option.{slice_get_within}
 use Rattle.base_laws.proofs.Lists.{All-at}
 use Rattle.iolb_model.specs.Program.{Access, AffineProgram, IsWellFormed, no_statement, statement_at}
@@ -31,13 +31,9 @@ passed-held passes number first (suc count) from below pass = elim (eq-or-lt_of_
   here true is e = ap (λ (b : Bool). b || holds (filter passes (range_with_len (first + 1) count)) number) (eq-eqb number first (sym e))
   here false is e = absurd cc
 
-  either : (b c : Bool) → c ≡ true → (b || c) ≡ true
-  either true c e = refl
-  either false c e = e
-
   later : (b : Bool) → holds (filter passes (range_with_len (first + 1) count)) number ≡ true
       → holds (cond b (first ∷ filter passes (range_with_len (first + 1) count)) (filter passes (range_with_len (first + 1) count))) number ≡ true
-  later true h = either (nat_eq number first) (holds (filter passes (range_with_len (first + 1) count)) number) h
+  later true h = or_right (nat_eq number first) (holds (filter passes (range_with_len (first + 1) count)) number) h
   later false h = h
 
 -- what holds of the sets of a range holds of that of each of its numbers

@@ -8,6 +8,7 @@ use Rattle.std.proofs.lemmas.List.{length-append, length-map}
 use Rattle.base_laws.proofs.Ring.{one-mul}
 use Rattle.iolb_model.specs.Form.{AffineForm}
 use Rattle.iolb_model.specs.Program.{Array, AffineProgram, statement_at}
+use Rattle.projective.specs.Turns.{width}
 use Rattle.claims.specs.Claims.{AllHold, numbered}
 use Rattle.claims.specs.declared.place.Step.{Step}
 use Rattle.claims.specs.declared.place.Step.TheVariants.{Key, Index}
@@ -33,7 +34,7 @@ use Rattle.reuse_paths.specs.WalkClaims.{leaves_claims, walk_claims}
 use Rattle.reuse_paths.specs.WalkFits.{AreCellLabels, EntriesFit, IsLabel, IsLabelIf, WalkFits}
 use Rattle.reuse_paths.specs.WalkSettings.{region_context, region_values}
 use Rattle.projective.proofs.Units.{unit, unit-at, unit-other, unit-same}
-use Rattle.projective_bounds.specs.Families.{array_family, array_node, array_read, array_subscripts, array_walk, cell_form, cell_label, entries_of, label_if, loop_form, loops_label, place_among, width}
+use Rattle.projective_bounds.specs.Families.{array_family, array_node, array_read, array_subscripts, array_walk, cell_form, cell_label, entries_of, label_if, loop_form, loops_label, place_among}
 use Rattle.projective_bounds.specs.Trees.{KeepsLoops}
 use Rattle.projective_bounds.proofs.ReaderLabels.{none}
 use Rattle.projective_bounds.proofs.Leaves as at

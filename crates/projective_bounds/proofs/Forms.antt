@@ -16,11 +16,11 @@ use Rattle.affine_form.specs.Shown.{row_at}
 use Rattle.affine_form.specs.Substitution.{substitution, width}
 use Rattle.affine_form.specs.System.{AffineSystem, AllOver}
 use Rattle.affine_form.proofs.Combination.{coefficient_of-combination, coefficient_of-constant, get_or-add_lists, length-add_lists}
-use Rattle.affine_form.proofs.RowLemmas.{coefficient_of-difference, length-difference, length-widened}
+use Rattle.affine_form.proofs.RowLemmas.{coefficient_of-difference, length-difference, length-widened, get_or-zeros}
 use Rattle.affine_form.proofs.SubstitutionLemmas.{length-substitution}
 use Rattle.dep_quast.specs.Claims.{Follows, follow_claims}
 use Rattle.reuse_paths.specs.OpenLeaves.{form_at}
-use Rattle.projective.proofs.Ranges.{same-form, zeros-end}
+use Rattle.projective.proofs.Ranges.{same-form}
 use Rattle.projective_bounds.specs.Multipliers.{none_taken, one_taken, rows_taken}
 
 -- ---- forms that are 0
@@ -160,5 +160,5 @@ put-variable vars n place point d many below over =
     let here : place < length point = omega arith in
     let count : length point ≡ variables (variable n place) = many ∙ sym (length-set (replicate n (pos 0)) place (pos 1) ∙ length-replicate n (pos 0)) in
     same-form vars (form_at vars point (variable n place)) (get_or point place d) (put-over vars (variable n place) point count over) (All-at (λ (f : AffineForm). variables f ≡ vars) point place d over here)
-    (λ k. zeros-end (substitution (variable n place) point).coefficients (vars - length (substitution (variable n place) point).coefficients) k ∙ unit-coefficient n place point d k below here)
+    (λ k. get_or-zeros (substitution (variable n place) point).coefficients (vars - length (substitution (variable n place) point).coefficients) k ∙ unit-coefficient n place point d k below here)
     (unit-constant n place point d below here)

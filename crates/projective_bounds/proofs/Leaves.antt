@@ -7,6 +7,7 @@ use Rattle.std.proofs.lemmas.List.{length-append, length-map, length-replicate, 
 use Rattle.std.proofs.lemmas.List.FromFn.{get_or-map-range_with_len}
 use Rattle.iolb_model.specs.Form.{AffineForm}
 use Rattle.iolb_model.specs.Program.{AffineProgram, statement_at}
+use Rattle.projective.specs.Turns.{width}
 use Rattle.claims.specs.Claims.{AllHold}
 use Rattle.claims.specs.declared.place.Step.{Step}
 use Rattle.claims.specs.declared.place.Step.TheVariants.{Key, Index}
@@ -28,7 +29,7 @@ use Rattle.reuse_paths.specs.WalkClaims.{leaves_claims}
 use Rattle.reuse_paths.specs.WalkFits.{EntriesFit}
 use Rattle.reuse_paths.specs.WalkSettings.{KeptLabels, WalkSetting, entering_rows, forms_behind, reading_point, region_at, region_variables}
 use Rattle.reuse_paths.specs.Walks.{WalkRegion}
-use Rattle.projective_bounds.specs.Families.{array_family, array_node, array_subscripts, array_walk, cell_label, entries_of, label_if, loop_form, loops_label, place_among, width}
+use Rattle.projective_bounds.specs.Families.{array_family, array_node, array_subscripts, array_walk, cell_label, entries_of, label_if, loop_form, loops_label, place_among}
 use Rattle.projective_bounds.specs.Multipliers.{labels_agree, none_taken}
 use Rattle.projective_bounds.specs.Trees.{KeepsLoops}
 use Rattle.projective_bounds.proofs.Forms.{agree-hold}

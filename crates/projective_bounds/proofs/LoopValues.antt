@@ -8,11 +8,12 @@ use Rattle.std.proofs.lemmas.List.{length-map, length-replicate, get_or-map}
 use Rattle.base_laws.proofs.Lists.{All-at, All-replicate}
 use Rattle.iolb_model.specs.Form.{AffineForm, form_value}
 use Rattle.iolb_model.specs.Program.{AffineProgram}
+use Rattle.affine_form.specs.Combination.{constant_form}
+use Rattle.flow_deps.proofs.SmallForms.{variable-small}
 use Rattle.affine_form.specs.Form.{IsSmall}
 use Rattle.affine_form.specs.Rows.{IsSmallOver, variable}
-use Rattle.projective.specs.Projective.{AreDifferent, number_form}
+use Rattle.projective.specs.Projective.{AreDifferent}
 use Rattle.projective_bounds.proofs.Unequal.{differs}
-use Rattle.projective.proofs.Fits.{variable-fits}
 use Rattle.projective.proofs.NestRows.{AreWorth, worth-same}
 use Rattle.projective.proofs.ProjectiveFacts.{same-place}
 use Rattle.projective_bounds.specs.Families.{loop_form, loops_label}
@@ -41,7 +42,7 @@ value-at program vars place (l ∷ loops) (suc k) apart below =
       moved m n = omega arith
 
 -- another loop has 0
-pub value-other : (vars place : ℕ) (loops : List ℕ) (level : ℕ) → AllByRecursion (λ (l : ℕ). l ≢ level) loops → value_among vars place loops level ≡ number_form vars (pos 0)
+pub value-other : (vars place : ℕ) (loops : List ℕ) (level : ℕ) → AllByRecursion (λ (l : ℕ). l ≢ level) loops → value_among vars place loops level ≡ constant_form vars (pos 0)
 value-other vars place [] level h = refl
 value-other vars place (l ∷ loops) level h =
     ap (λ (b : Bool). if b then variable vars place else value_among vars (suc place) loops level) (differs l level h.0) ∙ value-other vars (suc place) loops level h.1
@@ -62,14 +63,14 @@ among level (l ∷ loops) = elim (same-place l level) [
 
 -- ---- all loops
 
-zero-fits : (vars : ℕ) → IsSmallOver vars (number_form vars (pos 0))
+zero-fits : (vars : ℕ) → IsSmallOver vars (constant_form vars (pos 0))
 zero-fits vars = record { over = length-replicate vars (pos 0); small = (All-replicate (IsSmall NUMBER_SIZE) vars (pos 0) (lit< tt), lit< tt) }
 
 value-fits : (vars place : ℕ) (loops : List ℕ) (level : ℕ) → IsSmallOver vars (value_among vars place loops level)
 value-fits vars place [] level = zero-fits vars
 value-fits vars place (l ∷ loops) level = by (l == level) (value-fits vars (suc place) loops level) where
   by : (b : Bool) → IsSmallOver vars (value_among vars (suc place) loops level) → IsSmallOver vars (if b then variable vars place else value_among vars (suc place) loops level)
-  by true rest = variable-fits vars place
+  by true rest = variable-small vars place
   by false rest = rest
 
 pub values-fit : (vars place : ℕ) (loops levels : List ℕ) → AllByRecursion (IsSmallOver vars) (map (value_among vars place loops) levels)

@@ -6,6 +6,7 @@ use Rattle.std.proofs.lemmas.List.Sums.{sum_by-cons}
 use Rattle.std.proofs.lemmas.List.{length-set}
 use Rattle.std.proofs.lemmas.List.FromFn.{length-range_with_len}
 use Rattle.base_laws.proofs.Lists.{All-weaken}
+use Rattle.base_laws.proofs.Ranges.{filter-few}
 use Rattle.iolb_model.specs.Form.{AffineForm}
 use Rattle.iolb_model.specs.Program.{Access, AffineProgram, no_statement, statement_at}
 use Rattle.affine_program.specs.Domain.{depth_of}
@@ -120,13 +121,6 @@ filter-both passes Q (x ∷ xs) h = by (passes x) refl (filter-both passes Q xs 
   by : (b : Bool) → b ≡ passes x → AllByRecursion (λ (y : ℕ). Q y × (passes y ≡ true)) (filter passes xs) → AllByRecursion (λ (y : ℕ). Q y × (passes y ≡ true)) (cond b (x ∷ filter passes xs) (filter passes xs))
   by true e rest = ((h.0, sym e), rest)
   by false e rest = rest
-
-pub filter-few : (passes : ℕ → Bool) (xs : List ℕ) → length (filter passes xs) ≤ length xs
-filter-few passes [] = omega arith
-filter-few passes (x ∷ xs) = by (passes x) (filter-few passes xs) where
-  by : (b : Bool) → length (filter passes xs) ≤ length xs → length (cond b (x ∷ filter passes xs) (filter passes xs)) ≤ suc (length xs)
-  by true h = omega arith
-  by false h = omega arith
 
 pub range-below : (first count end : ℕ) → first + count ≤ end → AllByRecursion (λ (x : ℕ). x < end) (range_with_len first count)
 range-below first zero end le = tt

@@ -9,9 +9,11 @@ use Rattle.std.proofs.lemmas.List.Sums.{sum_by-cons}
 use Rattle.base_laws.proofs.Lists.{All-append, All-every, All-map, All-replicate, All-weaken}
 use Rattle.iolb_model.specs.Form.{AffineForm}
 use Rattle.iolb_model.specs.Program.{AffineProgram, statement_at}
+use Rattle.part_fit.proofs.FormsFit.{bounds-small}
+use Rattle.projective.specs.Turns.{width}
 use Rattle.affine_form.specs.Form.{IsSmall, IsSmallForm}
 use Rattle.affine_form.specs.Multipliers.{FarkasMultipliers}
-use Rattle.affine_form.specs.Rows.{BoundsFit, variable}
+use Rattle.affine_form.specs.Rows.{variable}
 use Rattle.affine_form.proofs.RowLemmas.{variables-over}
 use Rattle.affine_program.specs.Domain.{depth_of}
 use Rattle.affine_program.specs.Parts.{ProgramParts, meaning}
@@ -22,13 +24,13 @@ use Rattle.poly_tree.specs.Poly.{Quotient}
 use Rattle.poly_tree.proofs.Expansions.{IsCanonical-more}
 use Rattle.reuse_paths.specs.Families.{FamilyForms, family_of}
 use Rattle.reuse_paths.specs.Walks.{take}
-use Rattle.part_fit.specs.Limits.{AreSmall, AreSmallBounds, IsSmallEntry, IsSmallFamily, IsSmallFamilyNode, IsSmallLabel, IsSmallPolynomial, IsSmallWalk, NameRows, NamesRows}
+use Rattle.part_fit.specs.Limits.{AreSmall, IsSmallEntry, IsSmallFamily, IsSmallFamilyNode, IsSmallLabel, IsSmallPolynomial, IsSmallWalk, NameRows, NamesRows}
 use Rattle.k_partition.specs.declared.term.Partition.{Partition}
 use Rattle.k_partition.specs.View.{credit_term_of, partition_of}
 use Rattle.iolb_check.specs.Limits.{IsSmallCredit, IsSmallPartition}
 use Rattle.projective.specs.Projective.{coordinates, projection_sets, reference_to}
 use Rattle.projective.specs.Products.{AreRepeated, AreTaken}
-use Rattle.projective_bounds.specs.Families.{array_families, array_family, array_node, array_read, array_subscripts, array_walk, cell_form, cell_label, entries_of, label_if, loop_form, loops_label, place_among, width}
+use Rattle.projective_bounds.specs.Families.{array_families, array_family, array_node, array_read, array_subscripts, array_walk, cell_form, cell_label, entries_of, label_if, loop_form, loops_label, place_among}
 use Rattle.projective_bounds.specs.WholeLaws.{CanBeShown, WholeTermsAreSmall}
 use Rattle.projective_bounds.specs.Multipliers.{labels_agree, none_taken, rows_taken}
 use Rattle.projective_bounds.specs.Whole.{IsWholeTerm, stretch_for}
@@ -195,10 +197,6 @@ module _ (program : AffineProgram) (trees : List (List SelectionTree)) where
         )
 
 -- ---- the term
-
-bounds-small : (vars : ℕ) (nest : List (AffineForm × AffineForm)) → BoundsFit vars nest → AreSmallBounds nest
-bounds-small vars [] h = tt
-bounds-small vars (b ∷ nest) h = ((h.0.0.small, h.0.1.small), bounds-small (suc vars) nest h.1)
 
 nothing : {X : Type 0} (xs : List X) → length xs ≡ 0 → xs ≡ []
 nothing [] e = refl

@@ -9,6 +9,8 @@ use Rattle.std.proofs.lemmas.List.{length-replicate, length-set}
 use Rattle.base_laws.proofs.Lists.{All-at, All-weaken}
 use Rattle.iolb_model.specs.Form.{AffineForm}
 use Rattle.iolb_model.specs.Program.{Access, Array, AffineProgram, IsWellFormed, no_statement, statement_at}
+use Rattle.projective.specs.Turns.{width}
+use Rattle.projective_bounds.proofs.Codes.{first-array}
 use Rattle.affine_form.specs.Form.{variables}
 use Rattle.affine_form.specs.Rows.{variable}
 use Rattle.affine_program.specs.Domain.{depth_of}
@@ -19,20 +21,11 @@ use Rattle.reuse_paths.specs.Trees.{read_of}
 use Rattle.reuse_paths.proofs.FamilyLabels.{read-rank}
 use Rattle.projective.specs.Projective.{IsLoop, IsProjection, IsProjective, coordinates, reference_to}
 use Rattle.projective.proofs.Units.{unit-at, unit-other}
-use Rattle.projective_bounds.specs.Families.{array_read, first_to, has_variable, loop_form, place_among, width}
+use Rattle.projective_bounds.specs.Families.{array_read, first_to, has_variable, loop_form, place_among}
 use Rattle.projective_bounds.specs.Readable.{AreReadable, IsReadable}
 use Rattle.projective_bounds.specs.Trees.{HaveKeepingTrees, KeepsLoops}
 use Rattle.projective_bounds.proofs.Family.{AreWalked, IsWalked}
 use Rattle.projective_bounds.proofs.ReaderLabels.{none}
-
--- the first reference to an array is to it
-first-is : (array : ℕ) (accesses : List Access) (d : Access) → first_to array accesses < length accesses → (get_or accesses (first_to array accesses) d).array ≡ array
-first-is array [] d h = absurd (omega arith)
-first-is array (a ∷ accesses) d h = by (a.array == array) refl h (first-is array accesses d) where
-  by : (b : Bool) → b ≡ (a.array == array) → (if b then 0 else suc (first_to array accesses)) < suc (length accesses) → (first_to array accesses < length accesses → (get_or accesses (first_to array accesses) d).array ≡ array)
-      → (get_or (a ∷ accesses) (if b then 0 else suc (first_to array accesses)) d).array ≡ array
-  by true e below rest = eqb-true a.array array (sym e)
-  by false e below rest = rest (omega arith)
 
 -- a variable stands in the form at its place
 place-has : (forms : List AffineForm) (v : ℕ) (d : AffineForm) → place_among forms v < length forms → has_variable v (get_or forms (place_among forms v) d) ≡ true
@@ -69,7 +62,7 @@ module _ (program : AffineProgram) (trees : List (List SelectionTree)) (well : I
     access = reference_of program (read_of 0 (array_read program array))
 
     to-array : access.array ≡ array
-    to-array = first-is array reads no_statement.writes h.read
+    to-array = first-array array reads no_statement.writes h.read
 
     fits : ReadFits program (read_of 0 (array_read program array))
     fits = record { statement = omega (arith, projective.one); read = h.read }

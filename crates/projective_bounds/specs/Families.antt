@@ -6,8 +6,8 @@ use Rattle.std.specs.List.{range_with_len}
 use Rattle.std.specs.Ordering.{int_eq}
 use Rattle.iolb_model.specs.Form.{AffineForm}
 use Rattle.iolb_model.specs.Program.{Access, AffineProgram, read_at, statement_at}
+use Rattle.projective.specs.Turns.{width}
 use Rattle.affine_form.specs.Rows.{variable}
-use Rattle.affine_program.specs.Domain.{depth_of}
 use Rattle.dep_quast.specs.Tree.{SelectionTree, leaf, test, source, input, empty, blank}
 use Rattle.reuse_paths.specs.Families.{FamilyForms, NodeForms}
 use Rattle.reuse_paths.specs.LeafClaims.{LeafClaim, goes_on, stops}
@@ -17,10 +17,6 @@ use Rattle.reuse_paths.specs.Walks.{WalkTree, take}
 use Rattle.projective_bounds.specs.Multipliers.{labels_agree}
 
 -- ---- labels
-
--- how many variables the statement has: the parameters and the loop values
-abbrev pub width : AffineProgram → ℕ
-width program = length program.parameters + depth_of program 0
 
 -- the variable of a loop
 abbrev pub loop_form : AffineProgram → ℕ → AffineForm

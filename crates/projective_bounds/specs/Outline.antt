@@ -4,10 +4,11 @@ use Rattle.std.specs.Prelude.{◌≡◌, ℕ, suc, ◌+◌, ◌==◌, if◌then�
 use Rattle.std.specs.List.{range_with_len}
 use Rattle.iolb_model.specs.Form.{AffineForm}
 use Rattle.iolb_model.specs.Program.{AffineProgram}
+use Rattle.affine_form.specs.Combination.{constant_form}
 use Rattle.affine_form.specs.Rows.{variable}
 use Rattle.affine_program.specs.Domain.{depth_of}
 use Rattle.cold_terms.specs.Outline.{ColdOutline}
-use Rattle.projective.specs.Projective.{number_form, shifted_variable}
+use Rattle.projective.specs.Projective.{shifted_variable}
 use Rattle.projective.specs.SourceTrees.{read_number}
 use Rattle.projective_bounds.specs.Whole.{identity_matrix}
 use Rattle.projective_bounds.specs.Loops.{AreLoopsOf, RunLoops, parameters_of}
@@ -15,12 +16,12 @@ use Rattle.projective_bounds.specs.Loops.{AreLoopsOf, RunLoops, parameters_of}
 -- the bounds of a nest's variables, with so many variables around the first, which run from 0 to below these parameters
 abbrev pub nest_below : ℕ → List ℕ → List (AffineForm × AffineForm)
 nest_below vars [] = []
-nest_below vars (parameter ∷ parameters) = (number_form vars (pos 0), shifted_variable vars parameter (negsuc 0)) ∷ nest_below (suc vars) parameters
+nest_below vars (parameter ∷ parameters) = (constant_form vars (pos 0), shifted_variable vars parameter (negsuc 0)) ∷ nest_below (suc vars) parameters
 
 -- The value of a loop: where it is one of these, its variable, of which the first has this place; else 0, its value in its
 -- first turn.
 abbrev pub value_among : ℕ → ℕ → List ℕ → ℕ → AffineForm
-value_among vars place [] level = number_form vars (pos 0)
+value_among vars place [] level = constant_form vars (pos 0)
 value_among vars place (first ∷ others) level = if first == level then variable vars place else value_among vars (suc place) others level
 
 -- the values of all loops, over so many variables

@@ -2,12 +2,13 @@
 use Rattle.std.specs.Prelude.{◌≡◌, ℕ, zero, suc, ◌<◌, ◌≤◌, ⊤, true, Bool, ◌==◌, List, [], length, slice_index_or, pos, Some}
 use Rattle.std.specs.List.{AllByRecursion}
 use Rattle.iolb_model.specs.Program.{AffineProgram, read_at, statement_at}
+use Rattle.projective.specs.Turns.{width}
 use Rattle.affine_form.specs.Form.{variables}
 use Rattle.affine_program.specs.Domain.{depth_of}
 use Rattle.dep_quast.specs.Tree.{SelectionTree, leaf, test, leaf_count, source, input, empty, blank}
 use Rattle.reuse_paths.specs.Quasts.{tree_at}
 use Rattle.projective.specs.Projective.{coordinates}
-use Rattle.projective_bounds.specs.Families.{loop_form, width}
+use Rattle.projective_bounds.specs.Families.{loop_form}
 use Rattle.iolb_model.specs.declared.limits.TheConstants.{TREE_LEAVES, TREE_TESTS}
 
 -- Each leaf of a tree is an input, or, where the array is written, a source in the program's one statement which has the

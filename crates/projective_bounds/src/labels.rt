@@ -1,6 +1,6 @@
 //! Labels of instances and of cells.
 
-ghost use Rattle.std.specs.Prelude.{◌≡◌, ◌≤◌, ◌<◌, ◌+◌, IfOk, length, map, pos, slice_index_or};
+ghost use Rattle.std.specs.Prelude.{◌≡◌, ◌≤◌, ◌<◌, ◌+◌, IfOk, length, map};
 ghost use Rattle.std.specs.List.{AllByRecursion};
 ghost use Rattle.affine_form.specs.Rows.{variable};
 ghost use Rattle.projective_bounds.specs.Families.{place_among};
@@ -27,16 +27,6 @@ pub(crate) fn loops_label(
     Ok(label)
 }
 
-/// The coefficient of a variable in a form, and 0 for one that it doesn't have.
-fn coefficient(form: &Form, place: usize) -> i128
-    ensures { result ≡ slice_index_or form.now.coefficients place (pos 0) }
-{
-    match form.coef().get(place) {
-        Some(number) => *number,
-        None => 0,
-    }
-}
-
 /// The place of the first form in which a variable has a coefficient, and how many forms there are where it has none.
 fn place_among(forms: &[Form], place: usize) -> usize
     ensures place { result ≡ place_among forms.now place }
@@ -45,7 +35,7 @@ fn place_among(forms: &[Form], place: usize) -> usize
     let Some((first, others)) = forms.split_first() else {
         return 0;
     };
-    if coefficient(first, place) != 0 {
+    if first.coefficient(place) != 0 {
         return 0;
     }
     place_among(others, place) + 1

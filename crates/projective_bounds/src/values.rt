@@ -5,8 +5,8 @@ ghost use Rattle.std.specs.List.{range_with_len};
 ghost use Rattle.iolb_model.specs.declared.limits.TheConstants.{VARIABLES};
 ghost use Rattle.projective_bounds.specs.Outline.{value_among};
 
-use crate::nest::zero;
 use affine_form::{Form, Memory, variable};
+use projective::forms::zero;
 use std::alloc::Global;
 
 /// The value of a loop: where it is one of these, its variable, of which the first has this place; else 0.

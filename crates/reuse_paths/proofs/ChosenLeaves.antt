@@ -4,7 +4,7 @@ use Rattle.std.specs.Prelude.{◌<ℤ◌}
 use Rattle.std.proofs.Math.IntN.{ℤ, pos, negsuc, ◌+ℤ◌, ◌-ℤ◌}
 use lib.Signed.{◌≤ℤ◌}
 use Rattle.std.proofs.lemmas.Int.{ints}
-use Rattle.base_laws.proofs.Lists.{All-append}
+use Rattle.base_laws.proofs.Lists.{All-append, cons-same}
 use Rattle.iolb_model.specs.Form.{AffineForm, form_value}
 use Rattle.iolb_model.specs.Printed.{is_below_zero}
 use Rattle.execution_laws.proofs.Members.{Member, Member-append_left, Member-append_right}
@@ -25,9 +25,7 @@ pub forms_at-values : (vars : ℕ) (forms : List AffineForm) (these : List Affin
     → values_at (map (form_at vars forms) these) at ≡ values_at these there
 forms_at-values vars forms [] at there e = refl
 forms_at-values vars forms (form ∷ these) at there e =
-    cons_same _ _ _ _ (form_at-value vars forms form at there e) (forms_at-values vars forms these at there e) where
-      cons_same : (a b : ℤ) (us vs : List ℤ) → a ≡ b → us ≡ vs → a ∷ us ≡ b ∷ vs
-      cons_same a b us vs p q = cc
+    cons-same _ _ _ _ (form_at-value vars forms form at there e) (forms_at-values vars forms these at there e)
 
 -- rows at an instance are met where the rows are met there
 pub forms_at-met : (vars : ℕ) (forms : List AffineForm) (rows : List AffineForm) (at there : List ℤ) → values_at forms at ≡ there → IsMet (map (form_at vars forms) rows) at → IsMet rows there

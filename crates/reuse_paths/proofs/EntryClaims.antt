@@ -29,14 +29,14 @@ use Rattle.reuse_paths.specs.Walks.{WalkRegion, SpotForms}
 use Rattle.iolb_model.specs.declared.limits.TheConstants.{NUMBER_SIZE}
 
 -- small forms read over more variables
-pub widened-small : (many vars : ℕ) (forms : List AffineForm) → many ≤ vars → AllByRecursion (IsSmallOver many) forms → AllByRecursion (IsSmallOver vars) (map (widened vars) forms)
-widened-small many vars [] more h = tt
-widened-small many vars (form ∷ forms) more h = (
+pub all-widened-small : (many vars : ℕ) (forms : List AffineForm) → many ≤ vars → AllByRecursion (IsSmallOver many) forms → AllByRecursion (IsSmallOver vars) (map (widened vars) forms)
+all-widened-small many vars [] more h = tt
+all-widened-small many vars (form ∷ forms) more h = (
   record {
     over = length-widened vars form (omega (arith, more, h.0.over));
     small = (All-append (IsSmall NUMBER_SIZE) form.coefficients _ h.0.small.0 (All-replicate (IsSmall NUMBER_SIZE) _ (pos 0) (lit< tt)), h.0.small.1);
   },
-  widened-small many vars forms more h.1,
+  all-widened-small many vars forms more h.1,
 )
 
 -- a walk goes on into a region

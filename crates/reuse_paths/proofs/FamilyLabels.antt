@@ -60,7 +60,7 @@ read-rank program reader well fits =
     (All-at (AccessFits program (length program.parameters + depth_of program reader.statement)) (statement_at program reader.statement).reads reader.read no_statement.writes
     (fits-at program reader.statement well fits.statement).reads fits.read).rank
 
-ranks-few : (ranked : List (List ℕ × ℕ)) (number many : ℕ) → AllByRecursion (λ (array : List ℕ × ℕ). array.1 ≤ SUBSCRIPTS) ranked
+pub ranks-few : (ranked : List (List ℕ × ℕ)) (number many : ℕ) → AllByRecursion (λ (array : List ℕ × ℕ). array.1 ≤ SUBSCRIPTS) ranked
     → IsSomeAnd (slice_get (map array_of ranked) number) (λ (array : Array). many ≡ array.rank) → many ≤ SUBSCRIPTS
 ranks-few [] number many few is = absurd is
 ranks-few (array ∷ ranked) zero many few is = omega (arith, few.0, is)

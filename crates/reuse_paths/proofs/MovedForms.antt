@@ -1,23 +1,13 @@
 -- Forms with variables more: how many they have, and how large their numbers are.
-use Rattle.std.proofs.Common.{◌≡◌, sym, ◌∙◌, ap, ℕ, zero, suc, ◌+◌, ◌<◌, ◌≤◌, List, [], ◌∷◌, ◌++◌, length, map, replicate, take, drop, get_or, append-nil, arith}
+use Rattle.std.proofs.Common.{◌≡◌, sym, ◌∙◌, ap, ℕ, ◌+◌, ◌<◌, ◌≤◌, List, [], ◌∷◌, ◌++◌, length, map, replicate, take, drop, get_or, append-nil, arith}
 use Rattle.std.specs.List.{AllByRecursion}
 use Rattle.std.proofs.Math.IntN.{ℤ, pos}
 use Rattle.std.proofs.lemmas.List.{append_assoc, drop_all, length-append, length-drop, length-take, length-replicate}
-use Rattle.base_laws.proofs.Lists.{All-append, All-replicate, rest_at}
+use Rattle.base_laws.proofs.Lists.{All-append, All-replicate, rest_at, All-drop, All-take}
 use Rattle.iolb_model.specs.Form.{AffineForm}
 use Rattle.affine_form.specs.Form.{variables, IsSmall, IsSmallForm}
 use Rattle.affine_form.specs.System.{AllOver}
 use Rattle.reuse_paths.specs.DisjointClaims.{moved}
-
-pub All-drop : {X : Type 0} (P : X → Type 0) (n : ℕ) (xs : List X) → AllByRecursion P xs → AllByRecursion P (drop n xs)
-All-drop P zero xs h = h
-All-drop P (suc n) [] h = tt
-All-drop P (suc n) (x ∷ xs) h = All-drop P n xs h.1
-
-All-take : {X : Type 0} (P : X → Type 0) (n : ℕ) (xs : List X) → AllByRecursion P xs → AllByRecursion P (take n xs)
-All-take P zero xs h = tt
-All-take P (suc n) [] h = tt
-All-take P (suc n) (x ∷ xs) h = (h.0, All-take P n xs h.1)
 
 -- the variables of a form that was moved
 pub length-moved : (place more : ℕ) (form : AffineForm) → place ≤ variables form → variables (moved place more form) ≡ variables form + more

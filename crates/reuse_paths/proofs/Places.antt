@@ -1,10 +1,10 @@
 -- An instance that is executed stands at its place, and at no other.
 use Rattle.std.proofs.Common.{◌≡◌, refl, sym, ap, subst, inl, inr, ℕ, suc, ◌+◌, Bool, true, false, cond, not, List, ◌∷◌, [], arith}
-use Rattle.std.specs.Prelude.{◌==◌, ◌&&◌, ℤ, Some, slice_get}
+use Rattle.std.specs.Prelude.{◌==◌, ℤ, Some, slice_get}
 use Rattle.std.specs.List.{position_or_len}
 use Rattle.std.specs.Ordering.{int_eq}
 use Rattle.std.specs.Cmp.{signed_Decides}
-use Rattle.std.proofs.lemmas.Bool.{eqb-true, eq-eqb}
+use Rattle.std.proofs.lemmas.Bool.{eqb-true, eq-eqb, and_from, and_parts}
 use Rattle.std.proofs.lemmas.Slice.Eq.{slice_eq-Decides}
 use lib.Pointwise.{pointwise}
 use Rattle.iolb_model.specs.Domain.{IsAt}
@@ -16,21 +16,15 @@ use Rattle.reuse_paths.specs.Places.{same_instance, place_of, IsExecuted}
 
 same_instance-equal : (a b : Instance) → same_instance a b ≡ true → a ≡ b
 same_instance-equal a b e =
-    let parts : ((a.statement == b.statement) ≡ true) × (pointwise int_eq a.values b.values ≡ true) = both_true (a.statement == b.statement) (pointwise int_eq a.values b.values) e in
+    let parts : ((a.statement == b.statement) ≡ true) × (pointwise int_eq a.values b.values ≡ true) = and_parts (a.statement == b.statement) (pointwise int_eq a.values b.values) e in
     let first : a.statement ≡ b.statement = eqb-true a.statement b.statement parts.0 in
     let second : a.values ≡ b.values = (slice_eq-Decides signed_Decides a.values b.values (pointwise int_eq a.values b.values) refl).0 parts.1 in
-    λ i. record { statement = first i; values = second i } where
-      both_true : (p q : Bool) → (p && q) ≡ true → (p ≡ true) × (q ≡ true)
-      both_true true q h = (refl, h)
-      both_true false q h = cc
+    λ i. record { statement = first i; values = second i }
 
 same_instance_refl : (a : Instance) → same_instance a a ≡ true
 same_instance_refl a =
-    and_true (a.statement == a.statement) (pointwise int_eq a.values a.values) (eq-eqb a.statement a.statement refl)
-    ((slice_eq-Decides signed_Decides a.values a.values (pointwise int_eq a.values a.values) refl).1 refl) where
-      and_true : (p q : Bool) → p ≡ true → q ≡ true → (p && q) ≡ true
-      and_true true q e f = f
-      and_true false q e f = cc
+    and_from (a.statement == a.statement) (pointwise int_eq a.values a.values) (eq-eqb a.statement a.statement refl)
+    ((slice_eq-Decides signed_Decides a.values a.values (pointwise int_eq a.values a.values) refl).1 refl)
 
 place_first : (a y : Instance) (runs : List Instance) (n : ℕ) → Member a (y ∷ runs) → (Member a runs → slice_get runs n ≡ Some a)
     → (b : Bool) → b ≡ same_instance a y → slice_get (y ∷ runs) (cond (not b) (1 + n) 0) ≡ Some a

@@ -7,7 +7,7 @@ use lib.Signed.{◌≤ℤ◌}
 use Rattle.std.proofs.lemmas.Int.{ints}
 use Rattle.std.proofs.lemmas.List.{length-append}
 use Rattle.std.proofs.lemmas.Option.{slice_get_within}
-use Rattle.base_laws.proofs.Lists.{All-append}
+use Rattle.base_laws.proofs.Lists.{All-append, All-drop}
 use Rattle.base_laws.proofs.Ring.{zero-mul}
 use Rattle.iolb_model.specs.Form.{AffineForm, dot, form_value}
 use Rattle.iolb_model.specs.Program.{AffineProgram}
@@ -24,7 +24,6 @@ use Rattle.affine_form.specs.Substitution.{values_at}
 use Rattle.affine_form.specs.System.{AffineSystem, AllOver, IsMet}
 use Rattle.affine_form.proofs.Meaning.{form_value-front, widened-stay, equality_rows-met}
 use Rattle.dep_quast.proofs.Shown.{none-met}
-use Rattle.reuse_paths.proofs.MovedForms.{All-drop}
 use Rattle.reuse_paths.specs.declared.piece.Target.{Target}
 use Rattle.reuse_paths.specs.declared.piece.Target.TheVariants.{Cell, Instance as InstanceOf}
 use Rattle.reuse_paths.specs.Pieces.{FootprintPiece, IsVertexOf, IsInPiece, IsInPieces, AreApartPieces, ArePairwiseApart, PieceFits}

@@ -37,5 +37,5 @@ pub use quasts::Quasts;
 pub use reach::{Reach, Spot};
 pub use reach_shown::check_reach;
 pub use target_pairs::has_pairs;
-pub use walk::{Region, Walk};
+pub use walk::{Region, Walk, entry_count};
 pub use walking::{Aim, Kept, Walking, region_at};

@@ -1,5 +1,8 @@
 //! Walks back along the sources of reads.
 
+ghost use Rattle.std.specs.Prelude.{◌≡◌, min};
+ghost use Rattle.reuse_paths.specs.Walks.{entry_count, tree_of_walk};
+
 use crate::leaf::Leaf;
 use affine_form::Form;
 
@@ -18,6 +21,16 @@ pub enum Walk {
         read: u16,
         leaves: Vec<Leaf>,
     },
+}
+
+/// How many claims at leaves a walk has, or 65 if they are more.
+pub fn entry_count(walk: &Walk) -> usize
+    ensures { result ≡ min (entry_count (tree_of_walk walk.now)) 65 }
+{
+    match walk {
+        Walk::Test { yes, no, .. } => (entry_count(yes) + entry_count(no)).min(65),
+        Walk::Take { leaves, .. } => leaves.as_slice().len().min(65),
+    }
 }
 
 /// The instances of a statement from which a walk goes on, as rows that are at least 0 there, and how it does.

@@ -10,6 +10,7 @@ use Rattle.std.specs.declared.cmp.Ordering.TheVariants.{Greater}
 use Rattle.std.proofs.lemmas.Bool.{eqb-true}
 use Rattle.std.proofs.lemmas.List.FromFn.{get_or-range_with_len, length-range_with_len}
 use Rattle.std.proofs.lemmas.List.Sorted.{IsPermutation-refl}
+use Rattle.base_laws.proofs.Ranges.{range-push}
 use Rattle.iolb_model.specs.Execution.{Instance}
 use Rattle.tile_sched.specs.Order.{compare, said_by, said_of, IsOrder}
 use Rattle.tile_sched.specs.Ranks.{SaysNothing}
@@ -47,18 +48,11 @@ as_written schedule parameters instances h =
       ascends = counted_ascend all (length all) (nothing_said schedule parameters instances h);
     }
 
--- one number more
-one_more : (first count : ℕ) → range_with_len first count ++ (first + count) ∷ [] ≡ range_with_len first (suc count)
-one_more first zero = let none : first + zero ≡ first = omega arith in ap (λ (n : ℕ). n ∷ []) none
-one_more first (suc count) =
-    let same : first + suc count ≡ (first + 1) + count = omega arith in
-    ap (λ (l : List ℕ). first ∷ l) (ap (λ (n : ℕ). range_with_len (first + 1) count ++ n ∷ []) same ∙ one_more (first + 1) count)
-
 pub counted_more : (count : ℕ) → range_with_len 0 count ++ count ∷ [] ≡ range_with_len 0 (count + 1)
 counted_more count =
     let own : count ≡ 0 + count = omega arith in
     let more : suc count ≡ count + 1 = omega arith in
-    ap (λ (n : ℕ). range_with_len 0 count ++ n ∷ []) own ∙ one_more 0 count ∙ ap (range_with_len 0) more
+    ap (λ (n : ℕ). range_with_len 0 count ++ n ∷ []) own ∙ range-push 0 count ∙ ap (range_with_len 0) more
 
 -- ---- the keys of statements, one after the other
 

@@ -7,21 +7,9 @@ use Rattle.std.proofs.lemmas.Bool.{eqb-true, eq-eqb}
 use Rattle.std.proofs.lemmas.List.Sorted.{All-permutation, list_any-IsPermutation}
 use Rattle.std.proofs.lemmas.Map.Keys.{IsDistinct-IsPermutation}
 use Rattle.base_laws.proofs.Lists.{All-at}
+use Rattle.base_laws.proofs.Ranges.{range-distinct}
 use Rattle.iolb_model.specs.Graph.{ComputationGraph}
 use Rattle.pebble_replay.specs.Order.{HoldsEachOnce}
-
-differ : (a b : ℕ) (t : Bool) → nat_eq a b ≡ t → (a ≡ b → ⊥) → t ≡ false
-differ a b true e h = absurd (h (eqb-true a b e))
-differ a b false e h = refl
-
-others_differ : (a first count : ℕ) → a < first → AllByRecursion (λ y. nat_eq a y ≡ false) (range_with_len first count)
-others_differ a first zero below = tt
-others_differ a first (suc count) below = (differ a first (nat_eq a first) refl (λ e. omega (arith, e, below)), others_differ a (first + 1) count (omega arith))
-
-distinct_range : (first count : ℕ) → IsDistinct nat_eq (range_with_len first count)
-unfolding IsDistinct
-distinct_range first zero = tt
-distinct_range first (suc count) = (others_differ first (first + 1) count (omega arith), distinct_range (first + 1) count)
 
 below_range : (first count : ℕ) → AllByRecursion (λ v. v < first + count) (range_with_len first count)
 below_range first zero = tt
@@ -49,7 +37,7 @@ flips x y = by (nat_eq x y) (nat_eq y x) refl refl where
   by false false e f = refl
 
 pub order_distinct : (count : ℕ) (order : List ℕ) → IsPermutation (range_with_len 0 count) order → IsDistinct nat_eq order
-order_distinct count order moved = IsDistinct-IsPermutation nat_eq flips (range_with_len 0 count) order moved (distinct_range 0 count)
+order_distinct count order moved = IsDistinct-IsPermutation nat_eq flips (range_with_len 0 count) order moved (range-distinct 0 count)
 
 pub holds_each_once : (graph : ComputationGraph) (count : ℕ) (order : List ℕ) → count ≡ graph.instances → IsPermutation (range_with_len 0 count) order → HoldsEachOnce graph order
 holds_each_once graph count order many moved =

@@ -1,6 +1,8 @@
 -- A text has one schedule of a program, or one fault.
-use Rattle.std.proofs.Common.{◌≡◌, ℕ, List, Some, Ok, Err, inl, inr, sym, ◌∙◌, ap}
+use Rattle.std.proofs.Common.{◌≡◌, ℕ, List, Ok, Err, inl, inr, sym, ◌∙◌, ap}
 use Rattle.iolb_model.specs.Program.{AffineProgram}
+use Rattle.cert_parts.proofs.Texts.{same-value}
+use Rattle.cert_parts.specs.Texts.{HasValue}
 use Rattle.claims.specs.declared.place.Step.{Step}
 use Rattle.serde_json.specs.Data.{Data}
 use Rattle.cert_parts.specs.declared.error.CertFault.{CertFault}
@@ -9,15 +11,10 @@ use Rattle.tile_sched.specs.declared.error.SchedFault.{SchedFault}
 use Rattle.tile_sched.specs.declared.schedule.Key.{Key}
 use Rattle.tile_sched.specs.OneSchedule.{IsTextFault, TextsHaveOneSchedule}
 use Rattle.tile_sched.specs.Reading.{reads_schedule}
-use Rattle.tile_sched.specs.Texts.{HasValue, IsTextOf, read_fault}
-
-same_value : (bytes : List ℕ) (d e : Data) → HasValue bytes d → HasValue bytes e → d ≡ e
-same_value bytes d e p q = one d e (sym p.reads ∙ q.reads) where
-  one : (x y : Data) → Some x ≡ Some y → x ≡ y
-  one x y is = cc
+use Rattle.tile_sched.specs.Texts.{IsTextOf, read_fault}
 
 same_outcome : (program : AffineProgram) (bytes : List ℕ) (d e : Data) → HasValue bytes d → HasValue bytes e → reads_schedule program d ≡ reads_schedule program e
-same_outcome program bytes d e p q = ap (reads_schedule program) (same_value bytes d e p q)
+same_outcome program bytes d e p q = ap (reads_schedule program) (same-value bytes d e p q)
 
 schedule_one : (program : AffineProgram) (bytes : List ℕ) (one other : List (List Key)) → IsTextOf program bytes one → IsTextOf program bytes other → one ≡ other
 schedule_one program bytes one other p q = same (reads_schedule program p.value) (reads_schedule program q.value) p.says q.says (same_outcome program bytes p.value q.value p.has q.has) where

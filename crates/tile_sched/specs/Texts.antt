@@ -1,8 +1,8 @@
 -- Which schedule a text has, or which fault.
-use Rattle.std.specs.Prelude.{◌≡◌, ⊤, ◌⊎◌, ℕ, List, [], Result, Ok, Err, Some, IsUtf8}
+use Rattle.std.specs.Prelude.{◌≡◌, ⊤, ◌⊎◌, ℕ, List, [], Result, Ok, Err}
 use Rattle.iolb_model.specs.Program.{AffineProgram}
 use Rattle.serde_json.specs.Data.{Data}
-use Rattle.serde_json.specs.Read.{read}
+use Rattle.cert_parts.specs.Texts.{HasValue}
 use Rattle.cert_parts.specs.declared.error.CertFault.{CertFault}
 use Rattle.cert_parts.specs.declared.error.CertError.{CertError}
 use Rattle.cert_parts.specs.declared.error.CertError.TheVariants.{Fault as CertFaulty, Memory as CertMemory}
@@ -22,11 +22,6 @@ IsAs (CertFaulty f) (Fault g) = f ≡ read_fault g
 IsAs (CertFaulty f) Memory = ⊥
 IsAs CertMemory (Fault g) = ⊥
 IsAs CertMemory Memory = ⊤
-
--- the bytes are UTF-8, and the JSON of this value (RFC 8259, as serde_json reads it)
-pub record HasValue (bytes : List ℕ) (value : Data) : Type 0 where
-  pub utf8 : IsUtf8 bytes
-  pub reads : read bytes ≡ Some value
 
 -- the text of this schedule
 pub record IsTextOf (program : AffineProgram) (bytes : List ℕ) (schedule : List (List Key)) : Type 0 where

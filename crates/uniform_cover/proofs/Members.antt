@@ -1,6 +1,6 @@
 -- Membership of a list by recursion, and where it leads to and from.
 use Rattle.std.proofs.Common.{◌≡◌, ℕ, zero, suc, ◌<◌, Bool, true, false, not, cond, ◌||◌, List, [], ◌∷◌, length, get_or, arith, sym, refl, inl, inr, ◌⊎◌, ap, ◌∙◌}
-use Rattle.std.proofs.lemmas.Bool.{false≢true}
+use Rattle.std.proofs.lemmas.Bool.{false≢true, or_left, or_right}
 use Rattle.std.specs.List.{Contains, filter, list_any}
 
 -- x is an element of the list
@@ -66,18 +66,10 @@ module _ {X : Type 0} (p : X → Bool) where
   IsIn-from_list_any [] h = absurd (false≢true h)
   IsIn-from_list_any (y ∷ ys) h = any_cases y ys (p y) refl h (IsIn-from_list_any ys)
 
-  any_head : (t s : Bool) → t ≡ true → (t || s) ≡ true
-  any_head true s is = refl
-  any_head false s is = absurd (false≢true is)
-
-  any_tail : (t s : Bool) → s ≡ true → (t || s) ≡ true
-  any_tail true s is = refl
-  any_tail false s is = is
-
   pub list_any-from_IsIn : (x : X) (xs : List X) → IsIn x xs → p x ≡ true → list_any p xs ≡ true
   list_any-from_IsIn x [] h passes = absurd h
   list_any-from_IsIn x (y ∷ ys) h passes =
       elim h [
-        | inl same ↦ any_head (p y) (list_any p ys) (ap p (sym same) ∙ passes)
-        | inr more ↦ any_tail (p y) (list_any p ys) (list_any-from_IsIn x ys more passes)
+        | inl same ↦ or_left (p y) (list_any p ys) (ap p (sym same) ∙ passes)
+        | inr more ↦ or_right (p y) (list_any p ys) (list_any-from_IsIn x ys more passes)
       ]

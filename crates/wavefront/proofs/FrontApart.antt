@@ -6,6 +6,7 @@ use Rattle.std.proofs.Math.IntN.{ℤ, pos, ◌+ℤ◌, ◌*ℤ◌}
 use Rattle.std.proofs.lemmas.Int.{ints}
 use Rattle.std.proofs.lemmas.List.{append_assoc, map-append}
 use Rattle.base_laws.proofs.Ring.{zero-mul}
+use Rattle.base_laws.proofs.Lists.{cons-same}
 use Rattle.iolb_model.specs.Form.{AffineForm, dot, form_value}
 use Rattle.iolb_model.specs.Program.{AffineProgram}
 use Rattle.iolb_model.specs.Domain.{IsAt}
@@ -47,9 +48,7 @@ without-value form front one other h =
 
 without-values : (forms : List AffineForm) (front one other : List ℤ) → AllByRecursion (IsWithoutPast (length front)) forms → values_at forms (front ++ one) ≡ values_at forms (front ++ other)
 without-values [] front one other h = refl
-without-values (form ∷ forms) front one other h = cons_same _ _ _ _ (without-value form front one other h.0) (without-values forms front one other h.1) where
-  cons_same : (a b : ℤ) (us vs : List ℤ) → a ≡ b → us ≡ vs → a ∷ us ≡ b ∷ vs
-  cons_same a b us vs p q = cc
+without-values (form ∷ forms) front one other h = cons-same _ _ _ _ (without-value form front one other h.0) (without-values forms front one other h.1)
 
 all-without : (variables : ℕ) (place : List Step) (index : ℕ) (forms : List AffineForm) → AllHold (numbered (outer_claim variables place) index forms) → AllByRecursion (IsWithoutPast variables) forms
 all-without variables place index [] h = tt

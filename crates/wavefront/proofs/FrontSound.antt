@@ -5,6 +5,7 @@ use Rattle.std.specs.List.{AllByRecursion}
 use Rattle.std.proofs.Math.IntN.{ℤ, pos}
 use lib.Signed.{◌≤ℤ◌}
 use Rattle.std.proofs.lemmas.List.{length-append, length-take-le}
+use Rattle.base_laws.proofs.Lists.{All-left, All-right}
 use Rattle.iolb_model.specs.Form.{AffineForm, form_value}
 use Rattle.iolb_model.specs.Path.{PathStep, row_path}
 use Rattle.iolb_model.specs.Program.{AffineProgram, IsWellFormed}
@@ -50,7 +51,6 @@ use Rattle.wavefront.specs.Inverse.{AreUndone}
 use Rattle.wavefront.proofs.FrontApart.{one-instance, user-at, told}
 use Rattle.wavefront.proofs.FrontEdges.{IsSaid, IsLong, said}
 use Rattle.wavefront.proofs.InverseClaims.{hold-undone}
-use Rattle.wavefront.proofs.Lists.{first-part, second-part}
 use Rattle.reuse_paths.proofs.Places.{executed-there, stands-alone}
 use Rattle.wavefront.proofs.Undone.{undone-same}
 
@@ -143,13 +143,13 @@ module _ (program : AffineProgram) (place : List Step) (trees : List (List Selec
 
         vertex-there : IsExecuted program parameters vertex
         vertex-there = spot-executed term.vertex u fits.parts.vertex
-            (second-part is-met (spot_goals program term term.user) (spot_goals program term term.vertex)
-            (first-part is-met (spot_goals program term term.user ++ spot_goals program term term.vertex) (source_goals program term term.source) goals))
+            (All-right is-met (spot_goals program term term.user) (spot_goals program term term.vertex)
+            (All-left is-met (spot_goals program term term.user ++ spot_goals program term term.vertex) (source_goals program term term.source) goals))
 
         user-there : IsExecuted program parameters user
         user-there = spot-executed term.user u fits.parts.user
-            (first-part is-met (spot_goals program term term.user) (spot_goals program term term.vertex)
-            (first-part is-met (spot_goals program term term.user ++ spot_goals program term term.vertex) (source_goals program term term.source) goals))
+            (All-left is-met (spot_goals program term term.user) (spot_goals program term term.vertex)
+            (All-left is-met (spot_goals program term term.user ++ spot_goals program term term.vertex) (source_goals program term term.source) goals))
 
         -- where a walk from an instance arrives at a spot's, this is reached from it
         arrived : (spot : SpotForms) (n : ℕ) → (end : ℕ) × (IsAt program parameters end (instance_of spot parameters u) × IsReached (computation_graph program parameters) n end)

@@ -2,6 +2,8 @@
 use Rattle.std.proofs.Common.{◌≡◌, refl, subst, ℕ, zero, suc, ◌≤◌, List, [], ◌∷◌, ◌++◌, length, map, drop, arith}
 use Rattle.std.proofs.Math.IntN.{ℤ, ◌+ℤ◌}
 use Rattle.std.proofs.lemmas.Int.{ints}
+use Rattle.base_laws.proofs.Ring.{sums-cancel}
+use Rattle.base_laws.proofs.Lists.{cons-same}
 use Rattle.iolb_model.specs.Form.{AffineForm, dot, form_value}
 use Rattle.affine_form.specs.Matrix.{IntegerMatrix}
 use Rattle.reuse_paths.specs.MatrixRows.{matrix_rows}
@@ -18,18 +20,13 @@ nest_parts values xs ys (form ∷ forms) e =
     let first : form_value form (values ++ xs) ≡ form_value form (values ++ ys) = cc in
     let rest : values_at forms (values ++ xs) ≡ values_at forms (values ++ ys) = cc in
     let same : dot (drop (length values) form.coefficients) xs ≡ dot (drop (length values) form.coefficients) ys =
-    cancelled (dot form.coefficients (values ++ xs)) (dot form.coefficients (values ++ ys)) (dot form.coefficients values)
+    sums-cancel (dot form.coefficients (values ++ xs)) (dot form.coefficients (values ++ ys)) (dot form.coefficients values)
     (dot (drop (length values) form.coefficients) xs) (dot (drop (length values) form.coefficients) ys) form.constant
     (dot-append form.coefficients values xs) (dot-append form.coefficients values ys) first in
-    cons_same (dot (drop (length values) form.coefficients) xs) (dot (drop (length values) form.coefficients) ys)
+    cons-same (dot (drop (length values) form.coefficients) xs) (dot (drop (length values) form.coefficients) ys)
     (map (λ (row : List ℤ). dot row xs) (coefficients_past (length values) forms))
     (map (λ (row : List ℤ). dot row ys) (coefficients_past (length values) forms))
-    same (nest_parts values xs ys forms rest) where
-      cancelled : (a b p x y c : ℤ) → a ≡ p +ℤ x → b ≡ p +ℤ y → a +ℤ c ≡ b +ℤ c → x ≡ y
-      cancelled a b p x y c e f g = omega (arith, ints)
-
-      cons_same : (a b : ℤ) (us vs : List ℤ) → a ≡ b → us ≡ vs → a ∷ us ≡ b ∷ vs
-      cons_same a b us vs e f = cc
+    same (nest_parts values xs ys forms rest)
 
 pub undone-same : (matrix : IntegerMatrix) (scale parameters size : ℕ) (forms : List AffineForm) (values xs ys : List ℤ) → length values ≡ parameters → 1 ≤ scale
     → AreUndone matrix scale parameters size forms → length xs ≡ size → length ys ≡ size → values_at forms (values ++ xs) ≡ values_at forms (values ++ ys) → xs ≡ ys

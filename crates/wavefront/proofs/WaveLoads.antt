@@ -1,10 +1,10 @@
 -- Words of waves are loaded, but for those that are red when a wave's vertex is computed.
 use Rattle.std.proofs.Common.{◌≡◌, ◌≢◌, refl, sym, ◌∙◌, ap, subst, inl, inr, ℕ, zero, suc, ◌+◌, ◌*◌, ◌<◌, ◌≤◌, Bool, true, false, cond, not, List, [], ◌∷◌, ◌++◌, length, map, set, arith, IsTrue, zero-add}
-use Rattle.std.specs.Prelude.{◌⊎◌, ◌&&◌, nat_eq, filter, Contains}
+use Rattle.std.specs.Prelude.{◌⊎◌, nat_eq, filter, Contains}
 use Rattle.std.specs.List.{AllByRecursion, IsDistinct}
 use Rattle.std.specs.Set.{is_member}
 use Rattle.std.specs.Cmp.{nat_eq_equiv}
-use Rattle.std.proofs.lemmas.Bool.{eqb-true, eqb-false, cases_eq, cases_Bool}
+use Rattle.std.proofs.lemmas.Bool.{eqb-true, eqb-false, cases_eq, cases_Bool, and_from}
 use Rattle.std.proofs.lemmas.List.{get_or-set_other, get_or-set_same, length-append}
 use Rattle.std.proofs.lemmas.List.Elements.{filter-append}
 use Rattle.std.proofs.lemmas.List.Filters.{length-filter_both}
@@ -245,10 +245,7 @@ module _ (graph : ComputationGraph) (s : ℕ) (moves : List Move) (game : IsComp
       (length-le_from_is_member nat_eq_equiv (filter (λ v. is_loaded v moves) words) (filter (stands_in words) (loaded moves)) (distinct-filtered (λ v. is_loaded v moves) words distinct)
       (λ v h. let m = filtered-member (λ u. is_loaded u moves) words v (standing-member (filter (λ u. is_loaded u moves) words) v h) in
       is_member-filter nat_eq_equiv (stands_in words) v (λ x e. ap (stands_in words) (eqb-true v x e)) (loaded moves)
-      ∙ both (is_member nat_eq (loaded moves) v) (stands_in words v) m.1 (member-stands words v m.0))) where
-        both : (a b : Bool) → a ≡ true → b ≡ true → (a && b) ≡ true
-        both true b e f = f
-        both false b e f = cc
+      ∙ and_from (is_member nat_eq (loaded moves) v) (stands_in words v) m.1 (member-stands words v m.0)))
 
 pub waves-loaded : WavesAreLoaded
 unfolding is_left

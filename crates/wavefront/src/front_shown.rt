@@ -16,9 +16,8 @@ ghost use Rattle.wavefront.specs.View.{front_of};
 ghost use Rattle.iolb_model.specs.declared.limits.TheConstants.{PARAMETERS, NEST_VARIABLES, PUT_SIZE};
 
 use crate::front::Wavefront;
-use crate::instance::put_all;
 use crate::inverse_shown::inverse_shown;
-use affine_form::{Form, Memory, variables_from};
+use affine_form::{Form, Memory, put_all, variables_from};
 use affine_program::Program;
 use claims::key::{INSIDE, POINT, VERTEX};
 use claims::{No, Place, Step, refusal};

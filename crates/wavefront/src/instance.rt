@@ -3,16 +3,16 @@
 ghost use Rattle.std.specs.Prelude.{◌≡◌, ◌≤◌, length, IfOk, ◌+◌};
 ghost use Rattle.std.specs.List.{AllByRecursion};
 ghost use Rattle.affine_form.specs.Form.{variables, IsSmallForm};
-ghost use Rattle.affine_form.specs.Rows.{IsSmallOver, put_in};
+ghost use Rattle.affine_form.specs.Rows.{IsSmallOver};
 ghost use Rattle.affine_program.specs.Parts.{meaning, IsProgram};
 ghost use Rattle.dep_quast.specs.Context.{variables_at};
 ghost use Rattle.wavefront.specs.Term.{instance_point, cell_forms, nest_variables};
 ghost use Rattle.wavefront.specs.Loads.{TermFits};
 ghost use Rattle.wavefront.specs.View.{term_of};
-ghost use Rattle.iolb_model.specs.declared.limits.TheConstants.{VARIABLES, PARAMETERS, NEST_VARIABLES, PUT_SIZE};
+ghost use Rattle.iolb_model.specs.declared.limits.TheConstants.{PARAMETERS, NEST_VARIABLES, PUT_SIZE};
 
 use crate::cold::Cold;
-use affine_form::{Form, Memory, put, variables_from};
+use affine_form::{Form, Memory, put_all, variables_from};
 use affine_program::Program;
 use dep_quast::lists::followed_by;
 use dep_quast::reader::{Reader, reference};
@@ -59,26 +59,4 @@ pub(crate) fn cell_of(alloc: Global, program: &Program, term: &Cold) -> Result<V
     };
     let subscripts = reference(program, reader).subs.as_slice();
     put_all(alloc, vars, subscripts, point.as_slice())
-}
-
-/// Forms with forms put in for their variables.
-pub(crate) fn put_all(
-    alloc: Global,
-    vars: usize,
-    forms: &[Form],
-    point: &[Form],
-) -> Result<Vec<Form>, Memory>
-    requires few { vars ≤ VARIABLES }
-    requires few_forms { length point.now ≤ VARIABLES }
-    requires over { AllByRecursion (IsSmallOver (length point.now)) forms.now }
-    requires point_over { AllByRecursion (IsSmallOver vars) point.now }
-    ensures all { IfOk result (λ all. all.items ≡ put_in point.now forms.now) }
-    ensures within { IfOk result (λ all. AllByRecursion (λ form. variables form ≤ vars) all.items) }
-    ensures small { IfOk result (λ all. AllByRecursion (IsSmallForm PUT_SIZE) all.items) }
-{
-    let mut all = Vec::new(alloc);
-    for form in forms {
-        all.push(put(alloc, vars, form, point)?)?;
-    }
-    Ok(all)
 }

@@ -1,6 +1,6 @@
 //! Whether a matrix undoes the order of subscripts.
 
-ghost use Rattle.std.specs.Prelude.{◌≡◌, ◌≢◌, ◌+◌, ◌*◌, ◌<◌, ◌≤◌, unsigned_abs, length, pos, take, drop, slice_index_or, IfSome, IfNone};
+ghost use Rattle.std.specs.Prelude.{◌≡◌, ◌≢◌, ◌+◌, ◌*◌, ◌<◌, ◌≤◌, length, take, drop, IfSome, IfNone};
 ghost use Rattle.std.specs.List.{AllByRecursion};
 ghost use Rattle.iolb_model.specs.Form.{dot};
 ghost use Rattle.execution_laws.specs.Inverse.{scaled_entry, IsScaledInverse, IsFirstDifference};
@@ -8,7 +8,7 @@ ghost use Rattle.affine_form.specs.Form.{IsSmall};
 ghost use Rattle.wavefront.specs.Inverse.{coefficients_past};
 ghost use Rattle.reuse_paths.specs.MatrixRows.{matrix_rows};
 ghost use Rattle.wavefront.specs.Columns.{coefficients_at, AgreesBelow};
-ghost use Rattle.iolb_model.specs.declared.limits.TheConstants.{NUMBER_SIZE, COEFFICIENT_SIZE, VARIABLES, NEST_VARIABLES};
+ghost use Rattle.iolb_model.specs.declared.limits.TheConstants.{NUMBER_SIZE, VARIABLES, NEST_VARIABLES};
 
 use affine_form::{Form, Matrix, add_entry};
 
@@ -86,16 +86,7 @@ fn combination(row: &[i32], forms: &[Form], place: usize) -> i128
 {
     let mut sum = 0;
     for (i, entry) in row.iter().enumerate() {
-        sum = add_entry(sum, *entry, coefficient(&forms[i], place));
+        sum = add_entry(sum, *entry, forms[i].coefficient(place));
     }
     sum
-}
-
-/// The coefficient of a variable in a form, 0 past its variables.
-fn coefficient(form: &Form, place: usize) -> i128
-    ensures value { result ≡ slice_index_or form.now.coefficients place (pos 0) }
-    ensures small { unsigned_abs result < COEFFICIENT_SIZE }
-{
-    let coef = form.coef();
-    if place < coef.len() { coef[place] } else { 0 }
 }

@@ -2,13 +2,14 @@ use Rattle.std.proofs.Common.{◌≡◌, sym, ◌∙◌, ap, subst, ℕ, ◌+◌
 use Rattle.std.specs.Prelude.{flat_map, ℤ}
 use Rattle.std.specs.List.{AllByRecursion, range_with_len}
 use Rattle.std.proofs.lemmas.List.FromFn.{length-range_with_len}
+use Rattle.base_laws.proofs.Ranges.{filter-few, filter-failed}
 use Rattle.affine_form.specs.Form.{IsSmall}
 use Rattle.affine_program.specs.Parts.{meaning}
 use Rattle.affine_program.specs.Domain.{depth_of}
 use Rattle.dep_quast.specs.Views.{read_of}
 use Rattle.iolb_model.specs.declared.limits.TheConstants.{NUMBER_SIZE}
 use Rattle.find_terms.specs.Openings.{is_named, named_loops, same_loop}
-use Rattle.find_terms.proofs.NameLaws.{filter-few, loops-few, none-named, rows-in, rows-out}
+use Rattle.find_terms.proofs.NameLaws.{loops-few, none-named, rows-in}
 use Rattle.find_terms.proofs.NestLaws.{rows-many, rows-small}
 use Rattle.find_terms.proofs.outlines.undoing.Goals as goal
 use Rattle.find_terms.proofs.outlines.undoing.Goals.{then-contains+in_ok-cells, else-contains}
@@ -38,7 +39,7 @@ loop-level-preserved c =
             is = ap (λ v. v.items) w.cells-is ∙ w.in_ok-cells.ensures ∙ ap (λ (xs : List ℤ). xs ++ row level) c.loop-level.invariant.is ∙ sym more.1;
           }
       | else-contains w ↦
-          let same = rows-out (is_named loops) level (sym c.contains.ensures.value ∙ w.if-contains.false) in
+          let same = filter-failed (is_named loops) level (sym c.contains.ensures.value ∙ w.if-contains.false) in
           record {
             many = w.rows-is ∙ c.loop-level.invariant.many ∙ ap length (sym same);
             is = ap (λ v. v.items) w.cells-is ∙ c.loop-level.invariant.is ∙ ap (flat_map row) (sym same);

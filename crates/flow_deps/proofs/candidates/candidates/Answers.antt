@@ -2,6 +2,7 @@ use Rattle.std.proofs.Common.{◌∙◌, ◌++◌, ◌∷◌, ap, sym, subst, �
 use Rattle.std.specs.Prelude.{flat_map}
 use Rattle.std.specs.List.{AllByRecursion, range_with_len}
 use Rattle.std.proofs.lemmas.List.{append_assoc}
+use Rattle.base_laws.proofs.Ranges.{flat-range-more}
 use Rattle.iolb_model.specs.Program.{Access}
 use Rattle.affine_program.specs.Parts.{meaning}
 use Rattle.dep_quast.specs.Levels.{IsWriter}
@@ -9,7 +10,6 @@ use Rattle.dep_quast.specs.Views.{read_of}
 use Rattle.flow_deps.specs.declared.candidate.Candidate.{Candidate}
 use Rattle.flow_deps.specs.declared.candidate.Candidate.TheVariants.{NoWrite}
 use Rattle.flow_deps.specs.Candidates.{same_turn, turn_of, CandidateFits}
-use Rattle.flow_deps.proofs.AnswerLaws.{flat-range-more}
 use Rattle.flow_deps.proofs.CandidateLaws.{candidates-fit}
 use Rattle.flow_deps.proofs.candidates.candidates.Goals as goal
 

@@ -1,6 +1,7 @@
 use Rattle.std.proofs.Common.{◌∙◌, subst, ℕ, List, map, ◌+◌, arith}
 use Rattle.std.specs.Prelude.{flat_map}
 use Rattle.std.specs.List.{range_with_len}
+use Rattle.base_laws.proofs.Ranges.{flat-range-more}
 use Rattle.iolb_model.specs.Form.{AffineForm}
 use Rattle.affine_form.specs.System.{AffineSystem}
 use Rattle.affine_program.specs.Parts.{meaning}
@@ -8,7 +9,7 @@ use Rattle.dep_quast.specs.Context.{before_reader, after_source}
 use Rattle.dep_quast.specs.Levels.{levels, level_count}
 use Rattle.dep_quast.specs.Views.{read_of, claim_of}
 use Rattle.flow_deps.specs.Answers.{Answers, HasNoShort, pointless}
-use Rattle.flow_deps.proofs.AnswerLaws.{found-none, found-some, systems-more, none-after, flat-range-more}
+use Rattle.flow_deps.proofs.AnswerLaws.{found-none, found-some, systems-more, none-after}
 use Rattle.flow_deps.proofs.no_writes.levels_between_answered.Goals as goal
 
 pub returns-in_default : goal.returns-in_default

@@ -19,8 +19,8 @@ value_at-part-requires t c =
     let back = size_at-back tree c.in-Over.v parts c.loop-done.done u (at c.args.point.now) c.in-Over.ensures c.loop-done-test.true c.index-parts-parts.is in
     (d, (canonical-read (length c.args.point.now) tree c.in-Over.v parts k u c.in-Over.ensures within c.index-parts-parts.is c.requires.canonical, omega (arith, back, c.requires.small)))
 
-pub horner_step-total-requires : goal.horner_step-total-requires
-horner_step-total-requires t c =
+pub add_product-total-requires : goal.add_product-total-requires
+add_product-total-requires t c =
     let tree = expansion c.args.tree.now in
     let v = c.in-Over.v in
     let parts = c.in-Over.parts.now in
@@ -43,7 +43,7 @@ loop-done-preserved t c =
     let u = c.index-parts-parts.result in
     let a = c.value_at-part.result in
     let x = get_or point c.from.result (pos 0) in
-    let z = c.horner_step-total.result in
+    let z = c.add_product-total.result in
     let sum = to_z w128 c.loop-done.total-bits in
     let fits_a : FitsSigned w128 a = search rules in
     let fits_x : FitsSigned w128 x = search rules in
@@ -51,7 +51,7 @@ loop-done-preserved t c =
     let read : x ≡ at point v = at-read point v c.from.result c.from.ensures (variable-below (length point) tree v (parts_of parts) c.in-Over.ensures c.requires.canonical) in
     let rest = parts_of (drop (length parts - c.loop-done.done) parts) in
     let same : parts_of (drop (length parts - (c.loop-done.done + 1)) parts) ≡ part (expansion u) rest = parts_of-back parts c.loop-done.done u c.loop-done-test.true c.index-parts-parts.is in
-    let is : z ≡ a +ℤ (x *ℤ sum) = simp (to_z-of_z w128 a fits_a, to_z-of_z w128 x fits_x) at c.horner_step-total.ensures in
+    let is : z ≡ a +ℤ (x *ℤ sum) = simp (to_z-of_z w128 a fits_a, to_z-of_z w128 x fits_x) at c.add_product-total.ensures in
     to_z-of_z w128 z fits_z ∙ is
     ∙ ap (λ (y : ℤ). y +ℤ (x *ℤ sum)) c.value_at-part.ensures
     ∙ ap (λ (y : ℤ). value (expansion u) (at point) +ℤ (y *ℤ sum)) read

@@ -2,6 +2,7 @@ use Rattle.std.proofs.Common.{◌≡◌, ℕ, suc, ◌+◌, ◌<◌, List, [], �
 use Rattle.std.specs.Prelude.{ℤ}
 use Rattle.std.specs.List.{AllByRecursion}
 use Rattle.std.proofs.Math.Seq.{drop-cons}
+use Rattle.base_laws.proofs.Lists.{All-append}
 use Rattle.affine_form.specs.Form.{IsSmall}
 use Rattle.poly_tree.specs.declared.tree.Tree.{Tree}
 use Rattle.poly_tree.specs.Expansion.{coefficients, parts_coefficients}
@@ -23,10 +24,6 @@ all_second : (P : ℤ → Type 0) (xs ys : List ℤ) → AllByRecursion P (xs ++
 all_second P [] ys h = h
 all_second P (x ∷ xs) ys h = all_second P xs ys h.1
 
-all_both : (P : ℤ → Type 0) (xs ys : List ℤ) → AllByRecursion P xs → AllByRecursion P ys → AllByRecursion P (xs ++ ys)
-all_both P [] ys first second = second
-all_both P (x ∷ xs) ys first second = (first.0, all_both P xs ys first.1 second)
-
 pub returns-then-not-numbers_below : goal.returns-then-not-numbers_below
 returns-then-not-numbers_below t c =
     let parts = c.deref-part-items.result.now in
@@ -44,6 +41,6 @@ loop-part-preserved t c =
     let here = coefficients (expansion c.part-item.result) in
     let rest = parts_coefficients (parts_of (drop (k + 1) parts)) in
     let is = next parts k c.part-item.result c.loop-part-test.true c.part-item.is in (
-      λ h. c.loop-part.invariant.0 (subst (AllByRecursion small) (sym is) (all_both small here rest (c.numbers_below.ensures.0 c.if-not-numbers_below.false) h)),
+      λ h. c.loop-part.invariant.0 (subst (AllByRecursion small) (sym is) (All-append small here rest (c.numbers_below.ensures.0 c.if-not-numbers_below.false) h)),
       λ h. all_second small here rest (subst (AllByRecursion small) is (c.loop-part.invariant.1 h)),
     )

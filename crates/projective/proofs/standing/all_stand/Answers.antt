@@ -3,7 +3,7 @@ use Rattle.std.specs.Prelude.{IsTrue}
 use Rattle.iolb_model.specs.Program.{Access}
 use Rattle.affine_program.specs.Parts.{access_of}
 use Rattle.projective.specs.Projective.{HoldsOfOne, stands_in}
-use Rattle.projective.proofs.Filters.{one-more}
+use Rattle.projective.proofs.Below.{one-more}
 use Rattle.projective.proofs.standing.all_stand.Goals as goal
 
 pub loop-place-preserved : goal.loop-place-preserved

@@ -1,9 +1,9 @@
 use Rattle.std.proofs.Common.{◌≡◌, ◌∙◌, ◌+◌, ◌∷◌, ◌++◌, [], ap, sym, Bool, ℕ, List}
 use Rattle.std.specs.declared.vec.Vec.{Vec}
 use Rattle.std.specs.Global.{Global}
+use Rattle.base_laws.proofs.Ranges.{filter-failed, filter-passed}
 use Rattle.affine_program.specs.Parts.{access_of}
 use Rattle.projective.specs.Projective.{stands_in}
-use Rattle.projective.proofs.Filters.{filter-failed, filter-passed}
 use Rattle.projective.proofs.standing.loops_in.Goals as goal
 use Rattle.projective.proofs.standing.loops_in.Goals.{then-is_in+in_ok-push, else-is_in}
 

@@ -1,10 +1,10 @@
 use Rattle.std.proofs.Common.{◌≡◌, ◌∙◌, sym, ap, subst, ℕ, List, ◌++◌, arith, lit<, Bool, true, false}
 use Rattle.std.specs.Prelude.{ℤ, pos, flat_map, ◌==◌, if◌then◌else◌}
 use Rattle.std.specs.List.{AllByRecursion, range_with_len}
+use Rattle.base_laws.proofs.Ranges.{flat-range-more}
 use Rattle.base_laws.proofs.Lists.{All-every, All-flat_map, All-map}
 use Rattle.affine_form.specs.Form.{IsSmall}
 use Rattle.affine_form.specs.Matrix.{HasShape}
-use Rattle.flow_deps.proofs.AnswerLaws.{flat-range-more}
 use Rattle.execution_laws.specs.Inverse.{scaled_entry}
 use Rattle.projective_bounds.specs.Whole.{identity_row}
 use Rattle.projective_bounds.proofs.Identities.{identity-shape}

@@ -7,7 +7,7 @@ use Rattle.dep_quast.proofs.Fits.{length-equality_rows}
 use Rattle.reuse_paths.specs.OpenLeaves.{form_at}
 use Rattle.reuse_paths.specs.WalkSettings.{WalkSetting, reading_point, region_variables, spot_variables}
 use Rattle.reuse_paths.specs.WalkViews.{walk_of}
-use Rattle.reuse_paths.proofs.EntryClaims.{widened-small}
+use Rattle.reuse_paths.proofs.EntryClaims.{all-widened-small}
 use Rattle.reuse_paths.proofs.entry_shown.target_shown.Goals as goal
 
 pub equality_rows-requires-clause-right_over : goal.equality_rows-requires-clause-right_over
@@ -16,7 +16,7 @@ equality_rows-requires-clause-right_over c =
     let is : c.as_slice-3.result.now ≡ map (widened c.region_variables-vars.result) c.args.target.now.point.items =
     c.as_slice-3.ensures.value ∙ c.in_ok-there.ensures ∙ ap (map (widened c.region_variables-vars.result)) c.as_slice.ensures.value in
     subst (AllByRecursion (IsSmallOver c.region_variables-vars.result)) (sym is)
-    (widened-small (spot_variables walk) c.region_variables-vars.result c.args.target.now.point.items (omega (arith, c.region_variables-vars.ensures.variables)) c.requires.target_fits.forms)
+    (all-widened-small (spot_variables walk) c.region_variables-vars.result c.args.target.now.point.items (omega (arith, c.region_variables-vars.ensures.variables)) c.requires.target_fits.forms)
 
 pub goals_shown-requires : goal.goals_shown-requires
 goals_shown-requires c =

@@ -1,11 +1,12 @@
 use Rattle.std.proofs.Common.{◌≡◌, sym, ◌∙◌, ap, subst, ℕ, ◌+◌, List, length, map, drop}
 use Rattle.std.specs.Prelude.{IfOk}
+use Rattle.base_laws.proofs.Lists.{All-drop}
 use Rattle.iolb_model.specs.Form.{AffineForm}
 use Rattle.affine_form.specs.Form.{variables}
 use Rattle.affine_form.specs.System.{AffineSystem, AllOver}
 use Rattle.claims.proofs.Found.{IfOk-then}
 use Rattle.reuse_paths.specs.DisjointClaims.{moved}
-use Rattle.reuse_paths.proofs.MovedForms.{All-drop, moved-over}
+use Rattle.reuse_paths.proofs.MovedForms.{moved-over}
 use Rattle.reuse_paths.proofs.shared.rows_behind.Goals as goal
 
 is : (c : goal.After-all_moved) → IfOk c.all_moved.result (λ all. all.items ≡ map (moved (length c.args.program.now.params) c.args.more) (drop (length c.args.program.now.assumed.rows) c.args.piece.now.rows.rows))

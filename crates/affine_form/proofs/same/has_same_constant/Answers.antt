@@ -2,7 +2,7 @@ use Rattle.std.proofs.Common.{◌∙◌, ap, sym, rules, FitsSigned, of_z}
 use Rattle.std.proofs.lemmas.Bool.{eqb-true, eq-eqb}
 use mir.Syntax.{w128}
 use Rattle.affine_form.proofs.Sizes.{same-bits}
-use Rattle.projective.proofs.forms.has_same_constant.Goals as goal
+use Rattle.affine_form.proofs.same.has_same_constant.Goals as goal
 
 pub returns : goal.returns
 returns c =
