@@ -43,8 +43,8 @@ pub record IsStatementIn (r : Reading) (depth : ℕ) (statement : Statement) : T
   pub few : length statement.reads ≤ READS
   pub reads : AllByRecursion (IsAccessIn r depth) statement.reads
 
--- Lines inside so many loops, up to the end: each loop that begins has a name that is there, at most three loops
--- around it, and ends; no other loop ends.
+-- Lines inside so many loops, up to the end: each loop that begins has a name that is there, fewer loops around it than may
+-- be nested, and ends; no other loop ends.
 abbrev pub AreLinesIn : Reading → ℕ → List Line → Type 0
 AreLinesIn r depth [] = depth ≡ 0
 AreLinesIn r depth (Begin l ∷ lines) =

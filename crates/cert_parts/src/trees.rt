@@ -14,6 +14,7 @@ use crate::json::{has_keys, list};
 use crate::parts::{all_shown_part, form_part, forms_part, natural_part, shown_part};
 use claims::{Step, key};
 use dep_quast::{Quast, leaf_count};
+use iolb_model::limits;
 use serde_json::Value;
 use std::alloc::Global;
 
@@ -135,8 +136,8 @@ fn nested(alloc: Global, value: &Value, left: u8) -> Result<Quast, CertError>
 fn tree(alloc: Global, value: &Value) -> Result<Quast, CertError>
     ensures { Gives tree_of result (reads_tree (view value.now)) }
 {
-    let tree = nested(alloc, value, 16)?;
-    if leaf_count(&tree) <= 64 {
+    let tree = nested(alloc, value, limits::TREE_TESTS)?;
+    if leaf_count(&tree) <= limits::TREE_LEAVES {
         Ok(tree)
     } else {
         Err(fault(alloc, 3))

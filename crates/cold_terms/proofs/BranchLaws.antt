@@ -1,7 +1,7 @@
 -- Branches of cold terms of different arrays meet all conditions.
 use Rattle.std.proofs.Common.{◌≡◌, refl, sym, ◌∙◌, ap, subst, ℕ, zero, suc, ◌+◌, ◌<◌, ◌≤◌, Bool, true, false, List, [], ◌∷◌, ◌++◌, length, map, arith}
-use Rattle.std.specs.Prelude.{⊤, ◌==◌, if◌then◌else◌, cond, filter}
-use Rattle.std.specs.List.{AllByRecursion}
+use Rattle.std.specs.Prelude.{⊤, nat_eq, ◌==◌, if◌then◌else◌, cond, filter}
+use Rattle.std.specs.List.{AllByRecursion, IsDistinct}
 use Rattle.std.proofs.lemmas.Bool.{eqb-true, eq-eqb, both_ways}
 use Rattle.std.proofs.Math.Nat.{add-zero}
 use Rattle.iolb_model.specs.Form.{AffineForm}
@@ -40,7 +40,7 @@ use Rattle.iolb_check.specs.Fit.{ColdTermFits, HasPieces, TermFits}
 use Rattle.iolb_check.specs.PairFit.{term_targets}
 use Rattle.iolb_check.specs.TermFit.{branch_fit, cold_back_fit, cold_fit, cold_front_fit, point_fit, term_at}
 use Rattle.iolb_check.proofs.PiecesOf.{pieces-told}
-use Rattle.cold_terms.specs.Held.{IsPlaced, AreRising, array_read, reader_of}
+use Rattle.cold_terms.specs.Held.{IsPlaced, array_read, reader_of}
 use Rattle.cold_terms.specs.Entries.{AreEntries}
 use Rattle.cold_terms.proofs.ColdParts.{parts-of}
 
@@ -172,43 +172,38 @@ module _ (program : ProgramParts) (trees : List (List SelectionTree)) where
   all-cells [] = tt
   all-cells (cold ∷ colds) = (stops-are-cells (term_of cold) (leaves_of P (tree_of_cold cold) (term_of cold)) (term_of cold).leaves, all-cells colds)
 
-  other-cell : (a b : ℕ) → a < b → same_target (Cell a) (Cell b) ≡ false
-  other-cell a b h = by (a == b) refl where
-    by : (x : Bool) → (a == b) ≡ x → (a == b) ≡ false
-    by true e = absurd (omega (arith, eqb-true a b e, h))
-    by false e = e
-
-  none-same : (a b : ℕ) (t : Target) (us : List Target) → a < b → t ≡ Cell a → AllByRecursion (λ (u : Target). u ≡ Cell b) us → filter (same_target t) us ≡ []
-  none-same a b t [] less is h = refl
-  none-same a b t (u ∷ us) less is h =
+  none-same : (a b : ℕ) (t : Target) (us : List Target) → nat_eq a b ≡ false → t ≡ Cell a → AllByRecursion (λ (u : Target). u ≡ Cell b) us → filter (same_target t) us ≡ []
+  none-same a b t [] other is h = refl
+  none-same a b t (u ∷ us) other is h =
       ap (λ (x : Bool). cond x (u ∷ filter (same_target t) us) (filter (same_target t) us))
-      (ap (λ (x : Target). same_target x u) is ∙ ap (same_target (Cell a)) h.0 ∙ other-cell a b less) ∙ none-same a b t us less is h.1
+      (ap (λ (x : Target). same_target x u) is ∙ ap (same_target (Cell a)) h.0 ∙ other) ∙ none-same a b t us other is h.1
 
-  no-pair : (a b : ℕ) (ts us : List Target) → a < b → AllByRecursion (λ (t : Target). t ≡ Cell a) ts → AllByRecursion (λ (u : Target). u ≡ Cell b) us → same_targets ts us ≡ []
-  no-pair a b [] us less h g = refl
-  no-pair a b (t ∷ ts) us less h g =
-      ap (λ (xs : List Target). xs ++ same_targets ts us) (none-same a b t us less h.0 g) ∙ no-pair a b ts us less h.1 g
+  no-pair : (a b : ℕ) (ts us : List Target) → nat_eq a b ≡ false → AllByRecursion (λ (t : Target). t ≡ Cell a) ts → AllByRecursion (λ (u : Target). u ≡ Cell b) us → same_targets ts us ≡ []
+  no-pair a b [] us other h g = refl
+  no-pair a b (t ∷ ts) us other h g =
+      ap (λ (xs : List Target). xs ++ same_targets ts us) (none-same a b t us other h.0 g) ∙ no-pair a b ts us other h.1 g
 
-  no-pairs : (a : ℕ) (ts : List Target) (arrays : List ℕ) (lists : List (List Target)) → AllByRecursion (λ (later : ℕ). a < later) arrays → AllByRecursion (λ (t : Target). t ≡ Cell a) ts
+  no-pairs : (a : ℕ) (ts : List Target) (arrays : List ℕ) (lists : List (List Target)) → AllByRecursion (λ (later : ℕ). nat_eq a later ≡ false) arrays → AllByRecursion (λ (t : Target). t ≡ Cell a) ts
       → AreCells arrays lists → same_in_lists ts lists ≡ []
-  no-pairs a ts [] [] less h g = refl
-  no-pairs a ts [] (us ∷ lists) less h g = absurd g
-  no-pairs a ts (b ∷ arrays) [] less h g = absurd g
-  no-pairs a ts (b ∷ arrays) (us ∷ lists) less h g =
-      ap (λ (xs : List Target). xs ++ same_in_lists ts lists) (no-pair a b ts us less.0 h g.0) ∙ no-pairs a ts arrays lists less.1 h g.1
+  no-pairs a ts [] [] others h g = refl
+  no-pairs a ts [] (us ∷ lists) others h g = absurd g
+  no-pairs a ts (b ∷ arrays) [] others h g = absurd g
+  no-pairs a ts (b ∷ arrays) (us ∷ lists) others h g =
+      ap (λ (xs : List Target). xs ++ same_in_lists ts lists) (no-pair a b ts us others.0 h g.0) ∙ no-pairs a ts arrays lists others.1 h g.1
 
-  none-paired : (arrays : List ℕ) (lists : List (List Target)) → AreRising arrays → AreCells arrays lists → pairwise_targets lists ≡ []
-  none-paired [] [] rising h = refl
-  none-paired [] (ts ∷ lists) rising h = absurd h
-  none-paired (a ∷ arrays) [] rising h = absurd h
-  none-paired (a ∷ arrays) (ts ∷ lists) rising h =
-      ap (λ (xs : List Target). xs ++ pairwise_targets lists) (no-pairs a ts arrays lists rising.0 h.0 h.1) ∙ none-paired arrays lists rising.1 h.1
+  none-paired : (arrays : List ℕ) (lists : List (List Target)) → IsDistinct nat_eq arrays → AreCells arrays lists → pairwise_targets lists ≡ []
+  unfolding IsDistinct
+  none-paired [] [] different h = refl
+  none-paired [] (ts ∷ lists) different h = absurd h
+  none-paired (a ∷ arrays) [] different h = absurd h
+  none-paired (a ∷ arrays) (ts ∷ lists) different h =
+      ap (λ (xs : List Target). xs ++ pairwise_targets lists) (no-pairs a ts arrays lists different.0 h.0 h.1) ∙ none-paired arrays lists different.1 h.1
 
-  no-targets : (list : List Step) (colds : List Cold) → AreRising (map (array_read P) colds) → AllByRecursion (IsPlaced P trees) colds
+  no-targets : (list : List Step) (colds : List Cold) → IsDistinct nat_eq (map (array_read P) colds) → AllByRecursion (IsPlaced P trees) colds
       → pairwise_targets (map (term_targets P trees) (claims_of colds)) ≡ []
-  no-targets list colds rising h =
+  no-targets list colds different h =
       ap pairwise_targets (sym (pieces-told program trees list 0 (map terms.Cold colds) (all-terms-fit colds h) (all-pieces colds h) (all-hold list 0 colds h)))
-      ∙ none-paired (map (array_read P) colds) (map targets_of (branch_pieces P trees (claims_of colds))) rising (all-cells colds)
+      ∙ none-paired (map (array_read P) colds) (map targets_of (branch_pieces P trees (claims_of colds))) different (all-cells colds)
 
   -- ---- the branch
 
@@ -219,8 +214,8 @@ module _ (program : ProgramParts) (trees : List (List SelectionTree)) where
   abbrev pub made : List Cold → BranchClaim
   made colds = record { terms = claims_of colds; disjoint = [] }
 
-  pub branch-fits : (place : List Step) (colds : List Cold) → AreRising (map (array_read P) colds) → AllByRecursion (IsPlaced P trees) colds → AllHold (branch_fit P trees place (made colds))
-  branch-fits place colds rising h = (ap length (sym (no-targets (place ++ Key TERMS ∷ []) colds rising h)), all-fit (place ++ Key TERMS ∷ []) 0 colds h)
+  pub branch-fits : (place : List Step) (colds : List Cold) → IsDistinct nat_eq (map (array_read P) colds) → AllByRecursion (IsPlaced P trees) colds → AllHold (branch_fit P trees place (made colds))
+  branch-fits place colds different h = (ap length (sym (no-targets (place ++ Key TERMS ∷ []) colds different h)), all-fit (place ++ Key TERMS ∷ []) 0 colds h)
 
   pub branch-holds : (number : ℕ) (colds : List Cold) → AllByRecursion (IsPlaced P trees) colds → AllHold (branch_claims P trees number (made colds))
   branch-holds number colds h =

@@ -1,5 +1,5 @@
 -- Cold terms that hold over a source tree.
-use Rattle.std.specs.Prelude.{◌≡◌, ℕ, ◌<◌, ⊤, List, [], ◌∷◌, length, map, Some}
+use Rattle.std.specs.Prelude.{◌≡◌, ℕ, List, length, map, Some}
 use Rattle.std.specs.List.{AllByRecursion}
 use Rattle.iolb_model.specs.Form.{AffineForm}
 use Rattle.iolb_model.specs.Program.{AffineProgram}
@@ -26,11 +26,6 @@ reader_of cold = record { statement = cold.statement; read = cold.read }
 
 abbrev pub array_read : AffineProgram → Cold → ℕ
 array_read program cold = (reference_of program (reader_of cold)).array
-
--- each number is less than those after it
-abbrev pub AreRising : List ℕ → Type 0
-AreRising [] = ⊤
-AreRising (n ∷ ns) = AllByRecursion (λ (later : ℕ). n < later) ns × AreRising ns
 
 -- a nest's polynomials are within the limits of certificates, and each uses the parameters and the variables up to its own
 pub record ArePolynomials (params : ℕ) (nest : List (AffineForm × AffineForm)) (sums : List Quotient) : Type 0 where

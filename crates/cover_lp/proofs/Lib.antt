@@ -1,3 +1,4 @@
 pub mod Duality
 pub mod Search
 pub mod Pairs
+pub mod Reach

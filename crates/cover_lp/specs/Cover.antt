@@ -56,3 +56,15 @@ pub record IsUncovered (sets : List (List ℕ)) (d coordinate : ℕ) : Type 0 wh
 pub record IsTooFine (sets : List (List ℕ)) (d : ℕ) : Type 0 where
   pub held : (coordinate : ℕ) → coordinate < d → IsBare sets coordinate → ⊥
   pub none : (q : ℕ) (weights packing : List ℕ) → 1 ≤ q → q ≤ 12 → sum weights ≤ 24 → IsPair sets d q weights packing → ⊥
+
+-- a pair with a denominator from 1 to 12 and a total of at most 24
+pub record IsPairInReach (sets : List (List ℕ)) (d q : ℕ) (weights packing : List ℕ) : Type 0 where
+  pub positive : 1 ≤ q
+  pub few : q ≤ 12
+  pub light : sum weights ≤ 24
+  pub is_pair : IsPair sets d q weights packing
+
+-- A law: where some pair is in reach, so is one over the least denominator that has a pair.
+abbrev pub PairsInReachHaveLeast : Type 0
+PairsInReachHaveLeast = (sets : List (List ℕ)) (d q : ℕ) (weights packing : List ℕ) → IsPairInReach sets d q weights packing
+    → (least : ℕ) × (least_weights : List ℕ) × (least_packing : List ℕ) × IsLeastPair sets d least least_weights least_packing × IsPairInReach sets d least least_weights least_packing

@@ -3,6 +3,7 @@
 #![tactic(auto)]
 
 mod cover;
+pub mod law;
 mod least;
 mod packings;
 mod weights;

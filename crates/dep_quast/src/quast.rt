@@ -1,9 +1,11 @@
 //! Source trees.
 
-ghost use Rattle.std.specs.Prelude.{◌≡◌, min};
+ghost use Rattle.std.specs.Prelude.{◌≡◌, ◌+◌, min};
 ghost use Rattle.dep_quast.specs.Tree.{leaf_count, tree_of};
+ghost use Rattle.iolb_model.specs.declared.limits.TheConstants.{TREE_LEAVES};
 
 use affine_form::{Form, Multipliers};
+use iolb_model::limits;
 
 /// A source tree of a read (a quasi-affine selection tree, Feautrier 1991). Its forms are over the parameters and the
 /// loop values of the reading statement.
@@ -39,12 +41,14 @@ pub enum Quast {
     Blank,
 }
 
-/// How many leaves a tree has, or 65 if they are more.
+/// How many leaves a tree has, or one more than it may have if they are more.
 pub fn leaf_count(quast: &Quast) -> u8
-    ensures { result ≡ min (leaf_count (tree_of quast.now)) 65 }
+    ensures { result ≡ min (leaf_count (tree_of quast.now)) (TREE_LEAVES + 1) }
 {
     match quast {
-        Quast::Test { yes, no, .. } => (leaf_count(yes) + leaf_count(no)).min(65),
+        Quast::Test { yes, no, .. } => (leaf_count(yes) + leaf_count(no)).min(
+            limits::TREE_LEAVES + 1,
+        ),
         _ => 1,
     }
 }

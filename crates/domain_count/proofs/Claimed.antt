@@ -103,7 +103,7 @@ module _ (params : ℕ) (nest : List (AffineForm × AffineForm)) (sums : List Qu
       )
   sum-fails k summand Memory below behind legal not fails = absurd (not refl)
 
-sums-give : (params : ℕ) (nest : List (AffineForm × AffineForm)) (sums : List Quotient) (place : List Step) (key : ℕ)
+pub sums-give : (params : ℕ) (nest : List (AffineForm × AffineForm)) (sums : List Quotient) (place : List Step) (key : ℕ)
     → AllHold (sums_down params nest sums place key (length nest)) → (total : Quotient) × IsSumFrom params nest sums total
 sums-give params [] sums place key h = (one, refl)
 sums-give params (bounds ∷ nest) sums place key h = first-total params (bounds ∷ nest) sums place key (length nest) h

@@ -1,8 +1,10 @@
 -- Certificates with the opening branch meet all conditions.
-use Rattle.std.proofs.Common.{◌≡◌, refl, sym, ◌∙◌, ap, subst, ℕ, List, [], ◌∷◌, ◌++◌, length, map, arith}
-use Rattle.std.specs.Prelude.{Option, Some, None}
-use Rattle.std.specs.List.{AllByRecursion}
+use Rattle.std.proofs.Common.{◌≡◌, refl, sym, ◌∙◌, ap, subst, ℕ, ◌<◌, false, List, [], ◌∷◌, ◌++◌, length, map, arith}
+use Rattle.std.specs.Prelude.{Option, Some, None, nat_eq}
+use Rattle.std.specs.List.{AllByRecursion, IsDistinct}
+use Rattle.std.proofs.lemmas.Bool.{ne_eqb}
 use Rattle.std.proofs.lemmas.List.{length-map}
+use Rattle.base_laws.proofs.Lists.{All-weaken}
 use Rattle.iolb_model.specs.Program.{AffineProgram}
 use Rattle.affine_program.specs.Parts.{ProgramParts, meaning}
 use Rattle.flow_deps.specs.declared.wanted.Wanted.TheVariants.{Short}
@@ -21,16 +23,25 @@ use Rattle.wavefront.specs.View.{term_of}
 use Rattle.iolb_check.specs.declared.term.Term.TheVariants as terms
 use Rattle.iolb_check.specs.Claims.{BranchClaim, claim_of_branch, claim_of_term}
 use Rattle.iolb_check.specs.Conditions.{branch_claims, conditions}
-use Rattle.iolb_check.specs.Limits.{IsSmallTerm}
+use Rattle.iolb_check.specs.declared.term.Branch.{Branch}
+use Rattle.iolb_check.specs.Limits.{IsSmallBranch, IsSmallTerm}
 use Rattle.iolb_check.specs.TermFit.{branch_fit}
 use Rattle.find_terms.specs.Accepted.{HasPlainTree, OpeningsAreWithinLimits, OpeningsMeetConditions}
-use Rattle.find_terms.specs.Openings.{AreNamed, IsFirstOpening, IsOpeningTerm, opening_outline}
-use Rattle.cold_terms.specs.Held.{AreRising, IsHeldCold, IsPlaced, array_read, reader_of}
+use Rattle.find_terms.specs.Openings.{AreNamed, AreRising, FindsOpening, IsFirstOpening, IsOpeningBranch, IsOpeningTerm, opening_outline}
+use Rattle.find_terms.specs.Proposed.{IsSmallOpening}
+use Rattle.cold_terms.specs.Held.{IsHeldCold, IsPlaced, array_read, reader_of}
 use Rattle.cold_terms.specs.Outline.{ColdOutline, outline_in}
 use Rattle.find_terms.specs.Shown.{IsShownCold}
 use Rattle.find_terms.proofs.NameLaws.{none-named}
 use Rattle.find_terms.proofs.PlainLaws.{blank-not, shown-over}
 use Rattle.cold_terms.proofs.BranchLaws.{made, branch-fits, branch-holds}
+
+-- numbers that rise are different
+rising-distinct : (ns : List ℕ) → AreRising ns → IsDistinct nat_eq ns
+unfolding IsDistinct
+rising-distinct [] rising = tt
+rising-distinct (n ∷ ns) rising =
+    (All-weaken (λ (later : ℕ). n < later) (λ (later : ℕ). nat_eq n later ≡ false) ns (λ later less. ne_eqb n later (λ same. omega (arith, same, less))) rising.0, rising-distinct ns rising.1)
 
 -- ---- a term over the trees
 
@@ -66,12 +77,12 @@ module _ (program : ProgramParts) (trees : List (List SelectionTree)) where
   all-placed [] first plain = tt
   all-placed (cold ∷ colds) first plain = (placed cold first.0 plain.0, all-placed colds first.1 plain.1)
 
-  made-holds : (colds : List Cold) → AreRising (map (array_read P) colds) → AllByRecursion (IsPlaced P trees) colds → AllHold (trees_fit P trees) → AllHold (rows_claims P 0 trees)
+  made-holds : (colds : List Cold) → IsDistinct nat_eq (map (array_read P) colds) → AllByRecursion (IsPlaced P trees) colds → AllHold (trees_fit P trees) → AllHold (rows_claims P 0 trees)
       → AllHold (conditions P (record { trees = trees; branches = made program trees colds ∷ [] }))
-  made-holds colds rising h fit valid =
+  made-holds colds different h fit valid =
       let fit_claims : List Claim = branch_fit P trees (Key BRANCHES ∷ Index 0 ∷ []) (made program trees colds) in
       let claims : List Claim = branch_claims P trees 0 (made program trees colds) in
-      let fits : AllHold fit_claims = branch-fits program trees (Key BRANCHES ∷ Index 0 ∷ []) colds rising h in
+      let fits : AllHold fit_claims = branch-fits program trees (Key BRANCHES ∷ Index 0 ∷ []) colds different h in
       let holds : AllHold claims = branch-holds program trees 0 colds h in
       let whole_fit : List Claim = (fit_claims ++ []) ++ trees_fit P trees in
       AllHold-append (whole_fit ++ rows_claims P 0 trees) (claims ++ [])
@@ -83,7 +94,7 @@ openings-meet program trees branch is (colds, openings, same, none) fit valid pl
     let P : AffineProgram = meaning program in
     let here : claim_of_branch branch ≡ made program trees colds = λ i. record { terms = map claim_of_term (same i); disjoint = none i } in
     subst (λ (b : BranchClaim). AllHold (conditions P (record { trees = trees; branches = b ∷ [] }))) (sym here)
-    (made-holds program trees colds openings.order
+    (made-holds program trees colds (rising-distinct (map (array_read P) colds) openings.order)
     (all-placed program trees colds openings.each (subst (AllByRecursion (HasPlainTree P trees)) same plain)) fit valid)
 
 -- ---- limits
@@ -92,16 +103,17 @@ all-small : (program : AffineProgram) (colds : List Cold) → AllByRecursion (Is
 all-small program [] h = tt
 all-small program (cold ∷ colds) h = (h.0.opens.shown.small, all-small program colds h.1)
 
-pub openings-small : OpeningsAreWithinLimits
-openings-small program quasts branch (colds, openings, same, none) small = record {
-  trees = small;
-  few = omega arith;
-  branches = (
-    record {
-      few = omega (arith, ap length same, length-map colds terms.Cold, openings.few);
-      terms = subst (AllByRecursion IsSmallTerm) (sym same) (all-small program colds openings.each);
-      disjoint = subst (AllByRecursion _) (sym none) tt;
-    },
-    tt,
-  );
+-- the opening branch is within the limits of branches
+pub opening-branch-small : (program : AffineProgram) (branch : Branch) → IsOpeningBranch program branch → IsSmallBranch branch
+opening-branch-small program branch (colds, openings, same, none) = record {
+  few = omega (arith, ap length same, length-map colds terms.Cold, openings.few);
+  terms = subst (AllByRecursion IsSmallTerm) (sym same) (all-small program colds openings.each);
+  disjoint = subst (AllByRecursion _) (sym none) tt;
 }
+
+pub found-small : (program : AffineProgram) (opening : Option Branch) → FindsOpening program opening → IsSmallOpening opening
+found-small program None finds = tt
+found-small program (Some branch) finds = opening-branch-small program branch finds.0
+
+pub openings-small : OpeningsAreWithinLimits
+openings-small program quasts branch is small = record { trees = small; few = omega arith; branches = (opening-branch-small program branch is, tt) }

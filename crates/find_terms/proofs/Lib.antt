@@ -10,3 +10,4 @@ pub mod Standing
 pub mod Opened
 pub mod Rows
 pub mod OfProjective
+pub mod Shortened

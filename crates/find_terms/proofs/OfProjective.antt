@@ -23,7 +23,7 @@ certain-accepted law program certificate found is none h = let fails : IsRefused
 
 -- a program for which the least cover is too fine has no cover in reach
 pub none-reached : (program : AffineProgram) → IsTooFine (projection_sets program) (depth_of program 0) → ¬ HasCoverInReach program
-none-reached program fine has = fine.none has.q has.weights has.packing has.cover.least.positive has.cover.few has.cover.light has.cover.least.is_pair
+none-reached program fine has = fine.none has.q has.weights has.packing has.pair.positive has.pair.few has.pair.light has.pair.is_pair
 
 -- ---- what is made
 

@@ -1,6 +1,6 @@
 -- Source trees that stand, with the opening branch: within the limits, and plain where the branch names their reads.
 use Rattle.std.proofs.Common.{Bool, true, false, ◌≡◌, refl, sym, ◌∙◌, ap, subst, inl, inr, ℕ, zero, suc, ◌+◌, ◌<◌, List, [], ◌∷◌, ◌++◌, length, map, arith, Bor}
-use Rattle.std.specs.Prelude.{◌==◌, ◌&&◌, Option, None, Some, IfNone, option_and_then, slice_get}
+use Rattle.std.specs.Prelude.{◌==◌, ◌&&◌, Option, None, Some, IfNone, IfSome, option_and_then, slice_get}
 use Rattle.std.specs.List.{AllByRecursion, list_any}
 use Rattle.std.proofs.lemmas.Bool.{eq-eqb, or_left, or_right}
 use Rattle.iolb_model.specs.Program.{AffineProgram}
@@ -24,7 +24,7 @@ use Rattle.iolb_check.specs.Limits.{CertificateParts, IsWithinLimits}
 use Rattle.find_terms.specs.Accepted.{HasPlainTree, OpeningsAreWithinLimits, OpeningsMeetConditions, alone}
 use Rattle.find_terms.specs.Openings.{FindsOpening, IsFirstOpening, IsOpeningBranch}
 use Rattle.cold_terms.specs.Held.{reader_of}
-use Rattle.find_terms.specs.AcceptedCertificates.{IsRefused}
+use Rattle.find_terms.specs.AcceptedCertificates.{IsAccepted, IsRefused}
 use Rattle.find_terms.specs.declared.accepted.Accepted.{Accepted}
 use Rattle.find_terms.specs.Opened.{BeginsWithOpening, HasTreesFor, NamesBranch, NamesTerm}
 use Rattle.find_terms.specs.Trees.{HasRow, HasTrees, IsSourceTree, RowStands, RowsStand, is_of_read}
@@ -60,7 +60,7 @@ module _ (program : AffineProgram) (scope : Scope) where
       let later = tree-in statement (suc first) k row (omega arith) stand.1 in
       (later.0, later.1, subst (λ (n : ℕ). IsSourceTree program scope (read_of statement n) later.0) (shift first k) later.2)
 
-  tree-stands : (reader : ReadOf) (trees : List (List SelectionTree)) → ReadFits program reader → HasTrees program scope trees → IsSourceTree program scope reader (tree_for trees reader)
+  pub tree-stands : (reader : ReadOf) (trees : List (List SelectionTree)) → ReadFits program reader → HasTrees program scope trees → IsSourceTree program scope reader (tree_for trees reader)
   tree-stands reader trees fits has =
       let row = row-at 0 reader.statement trees (omega (arith, fits.statement, has.many)) has.stand in
       let stand : HasRow program scope reader.statement row.0 = subst (λ (n : ℕ). HasRow program scope n row.0) (from-none reader.statement) row.2 in
@@ -105,6 +105,12 @@ bare-small program quasts branches (scope, has) none =
 
 pub refused : (program : ProgramParts) (certificate : CertificateParts) (found : Option Accepted) → found ≡ None → IfNone found (IsRefused program certificate) → IsRefused program certificate
 refused program certificate found none h = subst (λ (o : Option Accepted). IfNone o (IsRefused program certificate)) none h
+
+-- the parts of a certificate that was accepted
+pub parts-of : (program : ProgramParts) (found : Option Accepted) (accepted : Accepted) (certificate parts : CertificateParts) → found ≡ Some accepted
+    → IfSome found (λ (a : Accepted). IsAccepted program a × (a.certificate ≡ certificate)) → certificate ≡ parts → accepted.certificate ≡ parts
+parts-of program found accepted certificate parts some h is =
+    (subst (λ (o : Option Accepted). IfSome o (λ (a : Accepted). IsAccepted program a × (a.certificate ≡ certificate))) some h).1 ∙ is
 
 pub bare-accepted : (program : ProgramParts) (certificate : CertificateParts) (quasts : Quasts) (branches : List Branch) (found : Option Accepted) → IsProgram program
     → ((scope : Scope) × HasTrees (meaning program) scope (trees_of quasts)) → certificate ≡ record { quasts = quasts; branches = branches } → branches ≡ [] → found ≡ None

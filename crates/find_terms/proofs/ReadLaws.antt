@@ -11,8 +11,8 @@ use Rattle.dep_quast.proofs.Fits.{fits-at}
 use Rattle.affine_program.specs.Domain.{depth_of}
 use Rattle.wavefront.specs.declared.cold.Cold.{Cold}
 use Rattle.find_terms.specs.Found.{FindsFirst, HasNoEarlier}
-use Rattle.find_terms.specs.Openings.{AreOpenings, HasPlainRead, IsEarlierRead, IsFirstOpening, IsPlainRead}
-use Rattle.cold_terms.specs.Held.{AreRising, array_read}
+use Rattle.find_terms.specs.Openings.{AreRising, AreOpenings, HasPlainRead, IsEarlierRead, IsFirstOpening, IsPlainRead}
+use Rattle.cold_terms.specs.Held.{array_read}
 use Rattle.iolb_model.specs.declared.limits.TheConstants.{TERMS}
 
 -- ---- the order of reads

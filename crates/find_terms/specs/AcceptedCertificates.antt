@@ -8,6 +8,7 @@ use Rattle.iolb_check.specs.Bounds.{BoundParts, bound_of}
 use Rattle.iolb_check.specs.Claims.{claim_of_certificate}
 use Rattle.iolb_check.specs.Conditions.{MeetsConditions, conditions}
 use Rattle.iolb_check.specs.Limits.{CertificateParts}
+use Rattle.iolb_cert.specs.CertificateText.{certificate_text}
 use Rattle.iolb_cert.specs.OneCertificate.{HasCertificate}
 use Rattle.find_terms.specs.declared.accepted.Accepted.{Accepted}
 use Rattle.find_terms.specs.declared.growing.Verdict.{Verdict}
@@ -23,9 +24,10 @@ pub record Gives (program : ProgramParts) (certificate : CertificateParts) (boun
 abbrev pub IsRefused : ProgramParts → CertificateParts → Type 0
 IsRefused program certificate = (failed : No) × FirstFails (conditions (meaning program) (claim_of_certificate certificate)) failed
 
--- a bound that a certificate gives, and its text
+-- a bound that a certificate gives, and the certificate's text, which has the certificate
 pub record IsGiven (program : ProgramParts) (certificate : CertificateParts) (bound : BoundParts) (text : List ℕ) : Type 0 where
   pub gives : Gives program certificate bound
+  pub text_is : text ≡ certificate_text certificate
   pub written : HasCertificate text (claim_of_certificate certificate)
 
 -- What is made for a program: a certificate that gives the bound, and its text.

@@ -7,3 +7,5 @@ pub mod Trees
 pub mod AcceptedCertificates
 pub mod Opened
 pub mod Made
+pub mod Shortened
+pub mod Proposed

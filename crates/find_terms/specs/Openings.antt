@@ -1,5 +1,5 @@
 -- Opening terms: what a program is sure to load of an array, as a read of it says whose subscripts are loops' names.
-use Rattle.std.specs.Prelude.{◌≡◌, ◌⊎◌, ℕ, ◌+◌, ◌<◌, ◌≤◌, nat_eq, Bool, if◌then◌else◌, ℤ, pos, List, [], ◌∷◌, ◌++◌, length, map, filter, flat_map, Option, Some, None, Contains}
+use Rattle.std.specs.Prelude.{◌≡◌, ◌⊎◌, ⊤, ℕ, ◌+◌, ◌<◌, ◌≤◌, nat_eq, Bool, if◌then◌else◌, ℤ, pos, List, [], ◌∷◌, ◌++◌, length, map, filter, flat_map, Option, Some, None, Contains}
 use Rattle.std.specs.List.{AllByRecursion, IsDistinct, list_any, range_with_len}
 use Rattle.iolb_model.specs.Form.{AffineForm}
 use Rattle.iolb_model.specs.Path.{PathStep, rises}
@@ -18,7 +18,7 @@ use Rattle.wavefront.specs.declared.cold.Cold.{Cold}
 use Rattle.wavefront.specs.View.{term_of}
 use Rattle.iolb_check.specs.declared.term.Term.TheVariants as terms
 use Rattle.iolb_check.specs.declared.term.Branch.{Branch}
-use Rattle.cold_terms.specs.Held.{AreRising, array_read, reader_of}
+use Rattle.cold_terms.specs.Held.{array_read, reader_of}
 use Rattle.cold_terms.specs.Outline.{ColdOutline, outline_in}
 use Rattle.find_terms.specs.Shown.{IsShownCold}
 use Rattle.iolb_model.specs.declared.limits.TheConstants.{TERMS}
@@ -139,6 +139,11 @@ IsEarlierRead one other = (one.statement < other.statement) ⊎ ((one.statement 
 pub record IsFirstOpening (program : AffineProgram) (cold : Cold) : Type 0 where
   pub opens : IsOpeningTerm program (reader_of cold) cold
   pub first : (reader : ReadOf) → IsEarlierRead reader (reader_of cold) → (reference_of program reader).array ≡ array_read program cold → ¬ IsPlainRead program reader
+
+-- each number is less than those after it
+abbrev pub AreRising : List ℕ → Type 0
+AreRising [] = ⊤
+AreRising (n ∷ ns) = AllByRecursion (λ (later : ℕ). n < later) ns × AreRising ns
 
 -- The opening terms of a program: each is that of its array's first plain read, in the order of the arrays, 16 at most; and an
 -- array that has a plain read has a term, or comes after those of 16 terms.

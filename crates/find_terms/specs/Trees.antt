@@ -1,9 +1,9 @@
 -- Source trees of all reads of a program.
-use Rattle.std.specs.Prelude.{◌≡◌, ◌==◌, ◌&&◌, ℕ, suc, ⊤, Bool, true, false, List, [], ◌∷◌, length}
+use Rattle.std.specs.Prelude.{◌≡◌, ◌==◌, ◌&&◌, ◌||◌, not, ℕ, suc, ⊤, Bool, true, false, List, [], ◌∷◌, length}
 use Rattle.std.specs.List.{list_any}
-use Rattle.iolb_model.specs.Program.{AffineProgram, statement_at}
-use Rattle.dep_quast.specs.Context.{ReadOf}
-use Rattle.dep_quast.specs.Tree.{SelectionTree}
+use Rattle.iolb_model.specs.Program.{AffineProgram, Statement, statement_at}
+use Rattle.dep_quast.specs.Context.{ReadOf, reference_of}
+use Rattle.dep_quast.specs.Tree.{SelectionTree, leaf, blank}
 use Rattle.flow_deps.specs.Plain.{IsPlain}
 use Rattle.flow_deps.specs.Standing.{IsStanding}
 use Rattle.reuse_paths.specs.Trees.{read_of}
@@ -23,10 +23,20 @@ abbrev pub is_named : Scope → ReadOf → Bool
 is_named All reader = true
 is_named (Few terms) reader = list_any (is_of_read reader) terms.now
 
--- A source tree of a read stands, and it is plain where the read is named and has a plain tree.
+-- whether a statement writes an array
+abbrev pub is_written : AffineProgram → ℕ → Bool
+is_written program array = list_any (λ (statement : Statement). statement.writes.array == array) program.statements
+
+-- whether the tree of a read is looked for: it is named, or no statement writes its array
+abbrev pub is_sought : AffineProgram → Scope → ReadOf → Bool
+is_sought program All reader = true
+is_sought program (Few terms) reader = list_any (is_of_read reader) terms.now || not (is_written program (reference_of program reader).array)
+
+-- A source tree of a read stands; it is plain where the read is named and has a plain tree, and blank where none is looked for.
 pub record IsSourceTree (program : AffineProgram) (scope : Scope) (reader : ReadOf) (tree : SelectionTree) : Type 0 where
   pub standing : IsStanding program reader tree
   pub plain : is_named scope reader ≡ true → (other : SelectionTree) → IsPlain program reader other → IsPlain program reader tree
+  pub unsought : is_sought program scope reader ≡ false → tree ≡ leaf blank
 
 -- source trees of the reads of a statement, from a read on
 abbrev pub RowStands : AffineProgram → Scope → ℕ → ℕ → List SelectionTree → Type 0

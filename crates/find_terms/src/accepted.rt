@@ -4,6 +4,7 @@ ghost use Rattle.std.specs.Prelude.{◌≡◌, [], ◌∷◌, ◌++◌, IfOk, If
 ghost use Rattle.affine_program.specs.Parts.{meaning};
 ghost use Rattle.find_terms.specs.AcceptedCertificates.{Gives, IsAccepted, IsRefused};
 ghost use Rattle.find_terms.specs.Opened.{BeginsWithOpening, HasTreesFor};
+ghost use Rattle.find_terms.specs.Shortened.{opened_parts};
 ghost use Rattle.find_terms.specs.Trees.{HasTrees};
 ghost use Rattle.find_terms.specs.declared.trees.Scope.{Scope};
 ghost use Rattle.find_terms.specs.Openings.{FindsOpening, IsOpeningBranch};
@@ -108,7 +109,8 @@ pub(crate) fn certain(
 /// The certificate of source trees without branches. It is accepted whatever the trees are, as long as they stand.
 fn bare(alloc: Global, program: &Program, quasts: Quasts) -> Result<Accepted, Memory>
     requires { (scope : Scope) × HasTrees (meaning program.now) scope (trees_of quasts) }
-    ensures { IfOk result (IsAccepted program.now) }
+    ensures accepted { IfOk result (IsAccepted program.now) }
+    ensures parts { IfOk result (λ accepted. accepted.certificate ≡ record { quasts = quasts; branches = [] }) }
 {
     let _params = program.params();
     let certificate = certificate_of(quasts, Vec::new(alloc));
@@ -129,7 +131,7 @@ fn with_opening(
     requires trees { HasTreesFor (meaning program.now) (Some branch) (trees_of quasts) }
     requires opening { IsOpeningBranch (meaning program.now) branch }
     ensures accepted { IfOk result (IsAccepted program.now) }
-    ensures branches { IfOk result (λ accepted. accepted.certificate.branches ≡ branch ∷ []) }
+    ensures parts { IfOk result (λ accepted. accepted.certificate ≡ record { quasts = quasts; branches = branch ∷ [] }) }
 {
     openings_are_accepted();
     let _params = program.params();
@@ -153,6 +155,7 @@ pub(crate) fn opened(
     requires opening { FindsOpening (meaning program.now) opening }
     ensures accepted { IfOk result (IsAccepted program.now) }
     ensures opening { IfOk result (λ accepted. BeginsWithOpening (meaning program.now) accepted.certificate.branches) }
+    ensures parts { IfOk result (λ accepted. accepted.certificate ≡ opened_parts quasts opening) }
 {
     match opening {
         Some(branch) => with_opening(alloc, program, quasts, branch),

@@ -1,9 +1,11 @@
 //! An accepted certificate that takes branches, one after another.
 
-ghost use Rattle.std.specs.Prelude.{◌≡◌, [], ◌∷◌, ◌++◌, ◌<◌, length, IfOk, IfSome};
+ghost use Rattle.std.specs.Prelude.{◌≡◌, [], ◌∷◌, ◌++◌, ◌<◌, length, IfOk};
+ghost use Rattle.std.specs.List.{AllByRecursion};
 ghost use Rattle.affine_program.specs.Parts.{meaning};
 ghost use Rattle.find_terms.specs.AcceptedCertificates.{IsAccepted, IsTaken};
 ghost use Rattle.find_terms.specs.Opened.{BeginsWithOpening};
+ghost use Rattle.find_terms.specs.Proposed.{IsProposal};
 ghost use Rattle.iolb_check.specs.Limits.{IsSmallBranch};
 ghost use Rattle.iolb_model.specs.declared.limits.TheConstants.{BRANCHES};
 
@@ -13,7 +15,6 @@ use affine_program::Program;
 use iolb_cert::certificate_text;
 use iolb_check::{Bound, Branch, Certificate};
 use iolb_model::limits;
-use reuse_paths::Quasts;
 use std::alloc::Global;
 
 /// An accepted certificate, and whether it takes no more branches.
@@ -30,24 +31,6 @@ pub(crate) enum Verdict {
     Taken(Bound, Vec<u8>),
     /// It is left as it was: the larger one is refused, or, where it takes no more, its text is too long.
     Left { full: bool },
-}
-
-/// A branch that has a term and is within the limits of certificates, or nothing.
-fn within_limits(alloc: Global, branch: Branch) -> Result<Option<Branch>, Memory>
-    ensures { IfOk result (λ found. IfSome found IsSmallBranch) }
-{
-    if branch.terms.is_empty() {
-        return Ok(None);
-    }
-    let mut branches = Vec::new(alloc);
-    branches.push(branch)?;
-    let none = Quasts::new(Vec::new(alloc));
-    let Some(certificate) = Certificate::new(none, branches) else {
-        return Ok(None);
-    };
-    let _branches = certificate.branches();
-    let (_none, mut branches) = certificate.parts();
-    Ok(branches.pop())
 }
 
 /// A certificate with a branch more.
@@ -137,16 +120,14 @@ fn offered(
 ) -> Result<Growing, Memory>
     requires accepted { IsAccepted program.now growing.accepted }
     requires opening { BeginsWithOpening (meaning program.now) growing.accepted.certificate.branches }
+    requires small { IsSmallBranch branch }
     ensures accepted { IfOk result (λ growing. IsAccepted program.now growing.accepted) }
     ensures opening { IfOk result (λ growing. BeginsWithOpening (meaning program.now) growing.accepted.certificate.branches) }
 {
     if growing.full {
         return Ok(growing);
     }
-    match within_limits(alloc, branch)? {
-        Some(branch) => grown(alloc, program, growing.accepted, branch, most),
-        None => Ok(growing),
-    }
+    grown(alloc, program, growing.accepted, branch, most)
 }
 
 /// A certificate with those of the proposed branches, in order, with which the checker accepts it, as many as it may have,
@@ -160,6 +141,7 @@ pub(crate) fn with_branches(
 ) -> Result<Accepted, Memory>
     requires accepted { IsAccepted program.now accepted }
     requires opening { BeginsWithOpening (meaning program.now) accepted.certificate.branches }
+    requires proposals { AllByRecursion IsProposal proposals.items }
     ensures accepted { IfOk result (IsAccepted program.now) }
     ensures opening { IfOk result (λ accepted. BeginsWithOpening (meaning program.now) accepted.certificate.branches) }
 {

@@ -6,6 +6,8 @@ ghost use Rattle.find_terms.specs.AcceptedCertificates.{IsAccepted};
 ghost use Rattle.reuse_paths.specs.Quasts.{trees_of};
 ghost use Rattle.find_terms.specs.Made.{IsMadeFor};
 ghost use Rattle.find_terms.specs.Opened.{BeginsWithOpening, HasTreesFor};
+ghost use Rattle.find_terms.specs.Shortened.{AreShortParts, AreShortTrees, IsShort, opening_terms};
+ghost use Rattle.iolb_model.specs.declared.limits.TheConstants.{CERTIFICATE_BYTES};
 ghost use Rattle.projective_bounds.specs.Certified.{HasCoverInReach, IsCertified, IsOfLeastExponent};
 ghost use Rattle.k_partition.specs.View.{partition_of};
 
@@ -17,14 +19,12 @@ use crate::trees::{Scope, source_trees};
 use affine_form::Memory;
 use affine_program::Program;
 use iolb_check::Branch;
+use iolb_model::limits;
 use projective::as_projective;
 use projective_bounds::law::certified_have_least_exponents;
 use projective_bounds::{CertifyFault, certify};
 use reuse_paths::Quasts;
 use std::alloc::Global;
-
-/// The most bytes that the text of a certificate is to have: those of a certificate's file.
-const TEXT_MOST: usize = 64 << 20;
 
 /// A certificate for a program, which the checker accepts. For a projective program with a cover in reach it is that of
 /// `certify`. For every other program it has the source trees that are found, the opening branch where there is one, and of the
@@ -38,14 +38,16 @@ const TEXT_MOST: usize = 64 << 20;
 pub fn made(alloc: Global, program: &Program) -> Result<Accepted, Memory>
     ensures accepted { IfOk result (IsAccepted program.now) }
     ensures made { IfOk result (λ accepted. IsMadeFor (meaning program.now) accepted.certificate) }
+    ensures short { IfOk result (λ accepted. ¬ HasCoverInReach (meaning program.now) → IsShort (meaning program.now) CERTIFICATE_BYTES accepted) }
 {
-    made_within(alloc, program, TEXT_MOST)
+    made_within(alloc, program, limits::CERTIFICATE_BYTES)
 }
 
 /// The same with another number of bytes than 64 MiB.
 pub fn made_within(alloc: Global, program: &Program, most: usize) -> Result<Accepted, Memory>
     ensures accepted { IfOk result (IsAccepted program.now) }
     ensures made { IfOk result (λ accepted. IsMadeFor (meaning program.now) accepted.certificate) }
+    ensures short { IfOk result (λ accepted. ¬ HasCoverInReach (meaning program.now) → IsShort (meaning program.now) most accepted) }
 {
     match of_projective(alloc, program)? {
         Some(accepted) => Ok(accepted),
@@ -75,6 +77,7 @@ fn of_projective(alloc: Global, program: &Program) -> Result<Option<Accepted>, M
 fn proposed(alloc: Global, program: &Program, most: usize) -> Result<Accepted, Memory>
     ensures accepted { IfOk result (IsAccepted program.now) }
     ensures opening { IfOk result (λ accepted. BeginsWithOpening (meaning program.now) accepted.certificate.branches) }
+    ensures short { IfOk result (IsShort (meaning program.now) most) }
 {
     let quasts = source_trees(alloc, program, Scope::All)?;
     let ProposedBranches { opening, proposals } = candidates(alloc, program, &quasts)?;
@@ -88,7 +91,8 @@ fn proposed(alloc: Global, program: &Program, most: usize) -> Result<Accepted, M
 
 /// Source trees, those of written arrays blank but for the ones that the opening branch names.
 fn short_trees(alloc: Global, program: &Program, opening: &Option<Branch>) -> Result<Quasts, Memory>
-    ensures { IfOk result (λ quasts. HasTreesFor (meaning program.now) opening.now (trees_of quasts)) }
+    ensures trees { IfOk result (λ quasts. HasTreesFor (meaning program.now) opening.now (trees_of quasts)) }
+    ensures short { IfOk result (λ quasts. AreShortTrees (meaning program.now) (opening_terms opening.now) (trees_of quasts)) }
 {
     match opening {
         Some(branch) => source_trees(alloc, program, Scope::Few(branch.terms.as_slice())),
@@ -100,6 +104,7 @@ fn short_trees(alloc: Global, program: &Program, opening: &Option<Branch>) -> Re
 fn shortened(alloc: Global, program: &Program) -> Result<Accepted, Memory>
     ensures accepted { IfOk result (IsAccepted program.now) }
     ensures opening { IfOk result (λ accepted. BeginsWithOpening (meaning program.now) accepted.certificate.branches) }
+    ensures short { IfOk result (λ accepted. AreShortParts (meaning program.now) accepted.certificate.branches (trees_of accepted.certificate.quasts)) }
 {
     let first = opening(alloc, program)?;
     let quasts = short_trees(alloc, program, &first)?;

@@ -1,13 +1,18 @@
 //! Branches that are proposed.
 
-ghost use Rattle.std.specs.Prelude.{IfOk};
+ghost use Rattle.std.specs.Prelude.{◌≡◌, IfOk, IfSome, IsTrue};
+ghost use Rattle.std.specs.List.{AllByRecursion};
 ghost use Rattle.affine_program.specs.Parts.{meaning};
+ghost use Rattle.iolb_check.specs.Limits.{IsSmallBranch, IsSmallPartition, IsSmallTerm};
 ghost use Rattle.find_terms.specs.Openings.{FindsOpening};
+ghost use Rattle.find_terms.specs.Proposed.{HasBestStretches, IsAsProposed, IsProposal, IsSmallOpening};
 
 use crate::openings::opening;
 use affine_form::Memory;
 use affine_program::Program;
-use iolb_check::{Branch, Term};
+use iolb_check::{Branch, Certificate, Term};
+use k_partition::{Partition, weight_of};
+use projective_bounds::stretch_for;
 use proposals::{Proposal, ProposedTerm, proposals};
 use reuse_paths::Quasts;
 use std::alloc::Global;
@@ -22,7 +27,9 @@ pub struct ProposedBranches {
 }
 
 /// Branches that may stand in a certificate over these source trees: the opening branch first, as `opening` answers it, and
-/// then proposals, of which nothing is promised.
+/// then proposals. Each is within the limits of branches; a partition term that is proposed has no events beside those for
+/// its red words, and as many for each of these as make its bound strongest for its exponent. Nothing else is promised of
+/// proposals.
 ///
 /// # Errors
 ///
@@ -32,7 +39,9 @@ pub fn candidates(
     program: &Program,
     quasts: &Quasts,
 ) -> Result<ProposedBranches, Memory>
-    ensures { IfOk result (λ candidates. FindsOpening (meaning program.now) candidates.opening) }
+    ensures opening { IfOk result (λ candidates. FindsOpening (meaning program.now) candidates.opening) }
+    ensures small { IfOk result (λ candidates. IsSmallOpening candidates.opening) }
+    ensures proposals { IfOk result (λ candidates. AllByRecursion IsProposal candidates.proposals.items) }
 {
     let opening = opening(alloc, program)?;
     let proposals = proposed_branches(alloc, program, quasts, &opening)?;
@@ -45,15 +54,78 @@ fn proposed_branches(
     program: &Program,
     quasts: &Quasts,
     opening: &Option<Branch>,
-) -> Result<Vec<Branch>, Memory> {
+) -> Result<Vec<Branch>, Memory>
+    ensures { IfOk result (λ branches. AllByRecursion IsProposal branches.items) }
+{
     let mut branches = Vec::new(alloc);
     for proposal in proposals(alloc, program, quasts)? {
-        let branch = branch_of(alloc, proposal)?;
-        if !is_no_more(&branch, opening) {
+        if let Some(branch) = proposed_branch(alloc, proposal, opening)? {
             branches.push(branch)?;
         }
     }
     Ok(branches)
+}
+
+/// A proposal as a branch, where it is one that is answered.
+fn proposed_branch(
+    alloc: Global,
+    proposal: Proposal,
+    opening: &Option<Branch>,
+) -> Result<Option<Branch>, Memory>
+    ensures { IfOk result (λ found. IfSome found IsProposal) }
+{
+    let branch = branch_of(alloc, proposal)?;
+    if branch.terms.is_empty() || is_no_more(&branch, opening) {
+        return Ok(None);
+    }
+    let Some(small) = within_limits(alloc, branch)? else {
+        return Ok(None);
+    };
+    if are_as_proposed(small.terms.as_slice()) {
+        Ok(Some(small))
+    } else {
+        Ok(None)
+    }
+}
+
+/// A branch that is within the limits of branches, or nothing.
+fn within_limits(alloc: Global, branch: Branch) -> Result<Option<Branch>, Memory>
+    ensures { IfOk result (λ found. IfSome found (λ small. (small ≡ branch) × IsSmallBranch small)) }
+{
+    let mut branches = Vec::new(alloc);
+    branches.push(branch)?;
+    let none = Quasts::new(Vec::new(alloc));
+    let Some(certificate) = Certificate::new(none, branches) else {
+        return Ok(None);
+    };
+    let _branches = certificate.branches();
+    let (_none, mut branches) = certificate.parts();
+    Ok(branches.pop())
+}
+
+/// Whether a partition term has no events beside those for its red words, and as many for each of these as make its bound
+/// strongest for its exponent.
+fn has_best_stretches(term: &Partition) -> bool
+    requires { IsSmallPartition term.now }
+    ensures { IsTrue result → HasBestStretches term.now }
+{
+    let total = weight_of(term.families.as_slice());
+    term.q <= total && term.a == stretch_for(term.q, total) && term.b == 0
+}
+
+/// Whether the partition terms among these are such.
+fn are_as_proposed(terms: &[Term]) -> bool
+    requires { AllByRecursion IsSmallTerm terms.now }
+    ensures { IsTrue result → AllByRecursion IsAsProposed terms.now }
+{
+    for term in terms {
+        if let Term::Partition(partition) = term {
+            if !has_best_stretches(partition) {
+                return false;
+            }
+        }
+    }
+    true
 }
 
 /// A proposal as a branch.

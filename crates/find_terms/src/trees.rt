@@ -1,9 +1,9 @@
 //! Source trees of all reads of a program.
 
-ghost use Rattle.std.specs.Prelude.{◌≡◌, ◌==◌, ◌<◌, length, map, true, IfOk};
+ghost use Rattle.std.specs.Prelude.{◌≡◌, ◌==◌, ◌<◌, length, map, IfOk};
 ghost use Rattle.std.specs.List.{list_any};
 ghost use Rattle.affine_program.specs.Parts.{meaning};
-ghost use Rattle.find_terms.specs.Trees.{HasRow, HasTrees, IsSourceTree, is_named as is_named_in, is_of_read};
+ghost use Rattle.find_terms.specs.Trees.{HasRow, HasTrees, IsSourceTree, is_of_read, is_sought, is_written};
 ghost use Rattle.dep_quast.specs.Tree.{tree_of};
 ghost use Rattle.dep_quast.specs.Truth.{ReadFits};
 ghost use Rattle.dep_quast.specs.Views.{read_of};
@@ -28,7 +28,9 @@ pub(crate) enum Scope<'a> {
 }
 
 /// Whether a statement writes an array.
-fn is_written(program: &Program, array: u16) -> bool {
+fn is_written(program: &Program, array: u16) -> bool
+    ensures { result ≡ is_written (meaning program.now) array }
+{
     for statement in program.statements() {
         if statement.writes.array == array {
             return true;
@@ -60,9 +62,9 @@ fn are_of(terms: &[Term], reader: Reader) -> bool
 }
 
 /// Whether the source tree of a read is looked for.
-fn is_within(program: &Program, reader: Reader, scope: Scope<'_>) -> bool
+fn is_sought(program: &Program, reader: Reader, scope: Scope<'_>) -> bool
     requires { ReadFits (meaning program.now) (read_of reader) }
-    ensures { is_named_in scope.entry (read_of reader) ≡ true → result ≡ true }
+    ensures { result ≡ is_sought (meaning program.now) scope.entry (read_of reader) }
 {
     match scope {
         Scope::All => true,
@@ -78,7 +80,7 @@ fn tree(alloc: Global, program: &Program, reader: Reader, scope: Scope<'_>) -> R
     ensures { IfOk result (λ quast. IsSourceTree (meaning program.now) scope.entry (read_of reader) (tree_of quast)) }
 {
     let _params = program.params();
-    if is_within(program, reader, scope) {
+    if is_sought(program, reader, scope) {
         quast(alloc, program, reader.statement, reader.read)
     } else {
         Ok(Quast::Blank)

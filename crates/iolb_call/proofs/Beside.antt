@@ -10,7 +10,7 @@ use Rattle.tile_sched.specs.ReplayLaws.{PlaysAreComplete}
 use Rattle.tile_sched.proofs.Refusals.{same_some}
 use Rattle.iolb_call.specs.Headline.{IsDoneAsAsked, IsLowerBoundPrinted, IsPlayPrinted, IsPrinted}
 use Rattle.iolb_call.specs.Laws.{BoundsAreBelowPlays}
-use Rattle.iolb_call.specs.Stop.{Call, HoldsProgram}
+use Rattle.iolb_call.specs.Stop.{Call}
 use Rattle.iolb_call.specs.Task.{bound_with}
 use Rattle.iolb_call.specs.Use.{CallUse, Gains}
 use Rattle.iolb_call.specs.declared.status.Status.TheVariants.{Done}
@@ -25,18 +25,20 @@ printed_at call left request work done asked works =
     (subst (λ (r : Request). IsPrinted call left r r.work) (same_some done.request request (sym done.asked ∙ asked)) done.printed)
 
 pub bounds_below : PlaysAreComplete → AreExact → BoundsAreBelowPlays
-bounds_below complete exact map words other evaluation replay s named named_other bounded played asks also beside outcome ended =
+bounds_below complete exact map map_other words other evaluation replay held s named named_other bounded played asks also beside holds holds_other outcome ended =
     let here : Call = record { words = words; files = Some map } in
-    let there : Call = record { words = other; files = Some map } in
+    let there : Call = record { words = other; files = Some map_other } in
     let bound : IsLowerBoundPrinted here bounded evaluation (evaluates s named) =
     printed_at here bounded evaluation (judges (evaluates s named)) (headline complete here bounded Done outcome refl) asks beside.evaluates_it in
     let play : IsPlayPrinted there played replay s named_other =
     printed_at there played replay (replays s named_other) (headline complete there played Done ended refl) also beside.replays_it in
-    let program : bound.program ≡ play.program =
-    same_program exact map replay.program bound.program play.program (subst (λ (name : List ℕ). HoldsProgram (Some map) name bound.program) beside.program bound.holds_program) play.holds_program in
+    let here_is : bound.program ≡ held = same_program exact map evaluation.program bound.program held bound.holds_program holds in
+    let there_is : play.program ≡ held = same_program exact map_other replay.program play.program held play.holds_program holds_other in
+    let program : bound.program ≡ play.program = here_is ∙ sym there_is in
     let sizes : bound.answer.sizes ≡ play.sizes =
     same_some bound.answer.sizes play.sizes
-    (sym bound.answer.given ∙ beside.sizes bound.program.parameters ∙ ap (λ (p : AffineProgram). values_for p.parameters named_other) program ∙ play.given) in
+    (sym bound.answer.given ∙ ap (λ (p : AffineProgram). values_for p.parameters named) here_is ∙ beside.sizes
+    ∙ ap (λ (p : AffineProgram). values_for p.parameters named_other) (sym there_is) ∙ play.given) in
     let complete_here : IsCompletePebbling (computation_graph bound.program bound.answer.sizes) s play.moves =
     subst (λ (z : List ℤ). IsCompletePebbling (computation_graph bound.program z) s play.moves) (sym sizes)
     (subst (λ (p : AffineProgram). IsCompletePebbling (computation_graph p play.sizes) s play.moves) (sym program) play.complete) in (

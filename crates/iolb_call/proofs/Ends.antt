@@ -17,7 +17,7 @@ use Rattle.command_words.specs.Sizes.{values_for}
 use Rattle.iolb_check.specs.declared.bound.Value.{Value}
 use Rattle.affine_program.specs.Assumptions.{IsFirstUnmet}
 use Rattle.iolb_check.specs.Bounds.{HasWideBranch}
-use Rattle.iolb_check.specs.Exact.{RefusalsAreOne, ValidCertificatesGiveOne, ValidCertificatesStand}
+use Rattle.iolb_check.specs.Exact.{RefusalsAreOne, ValidCertificatesGiveOne, ValidCertificatesHaveValues, ValidCertificatesStand}
 use Rattle.iolb_host.specs.declared.files.FileFault.{FileFault}
 use Rattle.iolb_host.specs.declared.files.FileFault.TheVariants.{Missing, TooLong, Failed, Memory as NoMemoryForFile}
 use Rattle.iolb_host.specs.Files.{FileMap, content_of}
@@ -26,6 +26,7 @@ use Rattle.iolb_call.specs.declared.status.Status.TheVariants.{Done, Words as Wo
 use Rattle.iolb_call.specs.declared.stop.Stop.{Stop}
 use Rattle.iolb_call.specs.declared.stop.Stop.TheVariants.{Words, ProgramFile, ProgramText, SecondFile, CertificateText, Condition, Assumption, Wide, ScheduleText, Unplayed}
 use Rattle.iolb_call.specs.Lines.{usage}
+use Rattle.iolb_call.specs.Reading.{IsAbsent}
 use Rattle.iolb_call.specs.Replays.{moves_at}
 use Rattle.iolb_call.specs.Stop.{program_most, second_most, stop_line, stop_status}
 use Rattle.iolb_call.specs.Task.{bound_with}
@@ -51,6 +52,7 @@ pub record AreExact : Type 0 where
   pub one_certificate : TextsHaveOneCertificate
   pub one_answer : TextsHaveOneAnswer
   pub stand : ValidCertificatesStand
+  pub have_values : ValidCertificatesHaveValues
   pub one_values : ValidCertificatesGiveOne
   pub one_refusal : RefusalsAreOne
   pub schedules : TextsHaveOneSchedule
@@ -121,13 +123,6 @@ TextEnds (judges task) request program bytes = CertificateEnds task request prog
 TextEnds (replays s named) request program bytes = ScheduleEnds s named request program bytes
 TextEnds bounds request program bytes = λ end. ⊥
 
--- a file is missing or too long
-abbrev pub IsAbsent : Option (List ℕ) → ℕ → FileFault → Type 0
-IsAbsent content most Missing = content ≡ None
-IsAbsent content most TooLong = IsSomeAnd content (λ bytes. most < length bytes)
-IsAbsent content most Failed = ⊥
-IsAbsent content most NoMemoryForFile = ⊥
-
 -- a file of at most so many bytes
 abbrev pub FileEnds : Option (List ℕ) → ℕ → (FileFault → CallEnd) → (List ℕ → CallEnd → Type 0) → CallEnd → Type 0
 FileEnds content most ends Onward = Phase (IsAbsent content most) ends
@@ -183,7 +178,7 @@ same_refusal : AreExact → (program : AffineProgram) (claim : CertificateClaim)
 same_refusal exact program claim f g one other = exact.one_refusal program claim f g one other
 
 valid_or_not : AreExact → (program : AffineProgram) (claim : CertificateClaim) (values : List (List Value)) (failed : FailedCondition) → MeetsConditions program claim values → FirstFails (conditions program claim) failed → ⊥
-valid_or_not exact program claim values failed valid invalid = exact.stand program claim values failed valid invalid
+valid_or_not exact program claim values failed valid invalid = exact.stand program claim failed valid.accepted invalid
 
 same_values : AreExact → (program : AffineProgram) (claim : CertificateClaim) (v w : List (List Value)) → MeetsConditions program claim v → MeetsConditions program claim w → v ≡ w
 same_values exact program claim v w one other = exact.one_values program claim v w one other

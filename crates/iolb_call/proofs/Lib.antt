@@ -14,3 +14,6 @@ pub mod Reached
 pub mod One
 pub mod Replayed
 pub mod Beside
+pub mod Causes
+pub mod Calm
+pub mod Counts

@@ -11,7 +11,7 @@ use Rattle.iolb_check.specs.Conditions.{MeetsConditions}
 use Rattle.iolb_call.specs.Bounded.{IsBounded, IsOfMaker}
 
 pub bounded_so : (program : ProgramParts) (certificate : CertificateClaim) (bound : BoundParts) (text note : List ℕ) → HasCertificate text certificate → bound.assumed ≡ program.assumed
-    → MeetsConditions (meaning program) certificate bound.branches → BoundHolds (meaning program) (bound_of bound) → note ≡ bound_text program.params (bound_of bound) → IsOfMaker (meaning program) certificate → IsBounded (meaning program) text note
+    → MeetsConditions (meaning program) certificate bound.branches → BoundHolds (meaning program) (bound_of bound) → note ≡ bound_text program.params (bound_of bound) → IsOfMaker (meaning program) certificate text → IsBounded (meaning program) text note
 bounded_so program certificate bound text note written assumed meets holds noted made = record {
   certificate = certificate;
   written = written;

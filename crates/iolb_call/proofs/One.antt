@@ -32,17 +32,17 @@ use Rattle.iolb_call.proofs.Reached.{answer_ends, answer_sizes, answered_ends, p
 -- ---- what a call comes to
 
 -- what such an end leaves
-abbrev Leaves : FileMap → List (List ℕ) → CallEnd → CallUse → Type 0
+abbrev pub Leaves : FileMap → List (List ℕ) → CallEnd → CallUse → Type 0
 Leaves map words (wrote status output error) left = Gains left.output output × Gains left.error error
 Leaves map words (bounded program) left = (request : Request) × (request_of words ≡ Some request) × (request.work ≡ bounds)
     × HoldsProgram (Some map) request.program program × PrintsBound program left
 
 -- A call left the sinks so with this status, and that is how it ends.
-record EndsSo (map : FileMap) (words : List (List ℕ)) (status : Status) (left : CallUse) : Type 0 where
-  end : CallEnd
-  ends : CallEnds map words end
-  status_is : end_status end ≡ status
-  leaves : Leaves map words end left
+pub record EndsSo (map : FileMap) (words : List (List ℕ)) (status : Status) (left : CallUse) : Type 0 where
+  pub end : CallEnd
+  pub ends : CallEnds map words end
+  pub status_is : end_status end ≡ status
+  pub leaves : Leaves map words end left
 
 work_done : (work : Work) (program : AffineProgram) (text : List ℕ) → end_status (work_end work program text) ≡ Done
 work_done (judges task) program text = refl
@@ -86,7 +86,7 @@ stopped_so map words status left stop line (inr (inr stops)) is stays gains calm
 stopped : (map : FileMap) (words : List (List ℕ)) (status : Status) (left : CallUse) → IsStopped status (record { words = words; files = Some map }) left → IsUndisturbed left → status ≢ NoMemory → EndsSo map words status left
 stopped map words status left is calm differs = stopped_so map words status left is.stop is.line is.stops is.status_is is.output_stays is.error_gains calm differs
 
-ends_so : (map : FileMap) (words : List (List ℕ)) (status : Status) (left : CallUse) → Outcome status (record { words = words; files = Some map }) left → IsUndisturbed left → status ≢ NoMemory → EndsSo map words status left
+pub ends_so : (map : FileMap) (words : List (List ℕ)) (status : Status) (left : CallUse) → Outcome status (record { words = words; files = Some map }) left → IsUndisturbed left → status ≢ NoMemory → EndsSo map words status left
 ends_so map words Done left outcome calm differs = done_so map words left outcome
 ends_so map words Refused left outcome calm differs = stopped map words Refused left outcome calm differs
 ends_so map words WordsRefused left outcome calm differs = stopped map words WordsRefused left outcome calm differs
@@ -101,7 +101,7 @@ ends_so map words WriteFault left (inr (inr (inr (text, note, done, gains, fails
 ends_so map words WideValue left outcome calm differs = stopped map words WideValue left outcome calm differs
 ends_so map words NoMemory left outcome calm differs = absurd (differs refl)
 
-told : (call : Call) (map : FileMap) (status : Status) (left : CallUse) → call.files ≡ Some map → Outcome status call left → Outcome status (record { words = call.words; files = Some map }) left
+pub told : (call : Call) (map : FileMap) (status : Status) (left : CallUse) → call.files ≡ Some map → Outcome status call left → Outcome status (record { words = call.words; files = Some map }) left
 told call map status left e outcome = subst (λ (files : Option FileMap). Outcome status (record { words = call.words; files = files }) left) e outcome
 
 -- ---- the laws
@@ -132,7 +132,7 @@ outcomes_one exact call map one other status another tells outcome also calm qui
       alike call map status one other first.end tells first.status_is first.leaves (subst (λ (e : CallEnd). Leaves map call.words e other) same second.leaves),
     )
 
-memory_or : (status : Status) → (status ≡ NoMemory) ⊎ (status ≢ NoMemory)
+pub memory_or : (status : Status) → (status ≡ NoMemory) ⊎ (status ≢ NoMemory)
 memory_or Done = inr (λ e. absurd cc)
 memory_or Refused = inr (λ e. absurd cc)
 memory_or WordsRefused = inr (λ e. absurd cc)
@@ -173,8 +173,11 @@ passes exact call map request work program end left status done is_told asked wo
           sym so.status_is ∙ ap end_status (calls_one exact map call.words so.end end so.ends passed) ∙ done
 
 pub valid_pass : AreExact → ValidCertificatesPass
-valid_pass exact call request task program claim values left status reads valid has outcome calm =
-    let answer = has_text task program values (subst HasPebbles reads.judges_it (pebbles call.words request reads.asked)) has in
+valid_pass exact call request task program claim left status reads hold has outcome calm =
+    let given = exact.have_values program claim hold in
+    let values : List (List Value) = given.0 in
+    let valid : MeetsConditions program claim values = given.1 in
+    let answer = has_text task program values (subst HasPebbles reads.judges_it (pebbles call.words request reads.asked)) (has values valid) in
     let end : CallEnd = done_end answer.0 in
     passes exact call reads.map request (judges task) program end left status refl reads.told reads.asked reads.judges_it reads.holds_program
     (answer_sizes task program values answer.0 answer.1)

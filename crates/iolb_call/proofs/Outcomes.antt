@@ -13,7 +13,7 @@ use Rattle.iolb_call.specs.declared.stop.Stop.TheVariants.{Words, ProgramFile, P
 use Rattle.iolb_call.specs.Lines.{out_of_memory}
 use Rattle.iolb_call.specs.Stop.{stop_line, stop_status, Call, Stops}
 use Rattle.iolb_call.specs.Outcome.{IsBegun, IsBrokenOff, IsDone, IsStopped, Outcome}
-use Rattle.iolb_call.specs.Called.{Finishes}
+use Rattle.iolb_call.specs.Called.{Finishes, with_faults}
 use Rattle.iolb_call.specs.Use.{CallUse, FilesUse, SinkUse, FailsWithin, Gains, Stays}
 use Rattle.iolb_call.specs.Written.{HasBegun, HasNote, IsOfWork, LacksNote, LineWritten, OutputWritten, WantSaid, answer_note, answer_text}
 use Rattle.iolb_call.specs.declared.answered.Answer.{Answer}
@@ -136,25 +136,17 @@ done_outcome call left answer status done of (inr (inr (inr (begins, want)))) = 
 
 -- a call whose last output was handed on, or not
 pub finished_outcome : (call : Call) (left : CallUse) (status ended : Status) (faults : ℕ) → Outcome status call left → Finishes status left.output.faults_after faults ended
-    → (after : CallUse) × Outcome ended call after
-finished_outcome call left status ended faults outcome (inl (same, calm)) = (left, subst (λ (s : Status). Outcome s call left) (sym same) outcome)
+    → Outcome ended call (with_faults left faults)
+finished_outcome call left status ended faults outcome (inl (same, calm)) =
+    subst (λ (s : Status). Outcome s call (with_faults left faults)) (sym same) (subst (λ (n : ℕ). Outcome status call (with_faults left n)) (sym calm) outcome)
 finished_outcome call left status ended faults outcome (inr (done, fails, rose)) = cut (subst (λ (s : Status). Outcome s call left) done outcome) where
-  after : CallUse
-  after = record {
-    files = left.files;
-    output = record { before = left.output.before; after = left.output.after; faults = left.output.faults; faults_after = faults };
-    error = left.error;
-  }
-
-  cut : Outcome Done call left → (after : CallUse) × Outcome ended call after
-  cut (text, note, is_done, gains, noted) = (
-    after,
-    subst (λ (s : Status). Outcome s call after) (sym fails)
-        (inl (
-          text,
-          note,
-          is_done,
-          (subst (λ (n : ℕ). Rose n faults) gains.1 rose, (length text, gains.0 ∙ ap (append_known left.output.before) (sym (take-length text)))),
-          inr noted,
-        )),
-  )
+  cut : Outcome Done call left → Outcome ended call (with_faults left faults)
+  cut (text, note, is_done, gains, noted) =
+      subst (λ (s : Status). Outcome s call (with_faults left faults)) (sym fails)
+      (inl (
+        text,
+        note,
+        is_done,
+        (subst (λ (n : ℕ). Rose n faults) gains.1 rose, (length text, gains.0 ∙ ap (append_known left.output.before) (sym (take-length text)))),
+        inr noted,
+      ))

@@ -1,6 +1,6 @@
 -- Stops that are no failure of a read and no want of memory.
 use Rattle.std.proofs.Common.{◌≡◌, ◌≢◌, refl, ◌∙◌, ap, ℕ, ◌+◌, Bool, true, cond, List, [], ◌∷◌, ◌++◌, arith}
-use Rattle.std.specs.Prelude.{⊤, count_by}
+use Rattle.std.specs.Prelude.{count_by}
 use Rattle.std.proofs.lemmas.List.Sums.{sum_by-append}
 use Rattle.command_words.specs.Requests.{Request}
 use Rattle.iolb_host.specs.declared.files.FileFault.{FileFault}
@@ -9,28 +9,7 @@ use Rattle.iolb_host.specs.Faults.{NamedFault, after_fault, failure_count, is_fa
 use Rattle.iolb_call.specs.declared.status.Status.TheVariants.{NoMemory}
 use Rattle.iolb_call.specs.declared.stop.Stop.{Stop}
 use Rattle.iolb_call.specs.declared.stop.Stop.TheVariants.{Words, ProgramFile, ProgramText, SecondFile, CertificateText, Condition, Assumption, Wide, ScheduleText, Unplayed, Memory}
-use Rattle.iolb_call.specs.Stop.{faults_at, stop_status}
-
--- ---- stops that are no failure of a read and no want of memory
-
-abbrev pub IsPlainFault : FileFault → Type 0
-IsPlainFault Missing = ⊤
-IsPlainFault TooLong = ⊤
-IsPlainFault Failed = ⊥
-IsPlainFault NoMemoryForFile = ⊥
-
-abbrev pub IsPlain : Stop → Type 0
-IsPlain Words = ⊤
-IsPlain (ProgramFile fault) = IsPlainFault fault
-IsPlain (ProgramText fault) = ⊤
-IsPlain (SecondFile fault) = IsPlainFault fault
-IsPlain (CertificateText fault) = ⊤
-IsPlain (Condition failed) = ⊤
-IsPlain (Assumption number) = ⊤
-IsPlain Wide = ⊤
-IsPlain (ScheduleText fault) = ⊤
-IsPlain (Unplayed unplayed) = ⊤
-IsPlain Memory = ⊥
+use Rattle.iolb_call.specs.Stop.{IsPlain, IsPlainFault, faults_at, stop_status}
 
 one_more : {X : Type 0} (test : X → Bool) (xs : List X) (x : X) → test x ≡ true → count_by test (xs ++ x ∷ []) ≡ count_by test xs + 1
 one_more test xs x is = sum_by-append (λ y. cond (test y) 1 0) xs (x ∷ []) ∙ ap (λ n. count_by test xs + n) (rw is refl)

@@ -13,11 +13,10 @@ use Rattle.iolb_call.specs.declared.stop.Stop.{Stop}
 use Rattle.iolb_call.specs.declared.stop.Stop.TheVariants.{Words, ProgramFile, ProgramText, SecondFile, CertificateText, Condition, Assumption, Wide, ScheduleText, Unplayed, Memory}
 use Rattle.iolb_call.specs.Reading.{FaultCause, IsContent}
 use Rattle.iolb_call.specs.Replays.{IsReplayed}
-use Rattle.iolb_call.specs.Stop.{HoldsProgram, HoldsCertificate, HoldsValid, IsAnswered, IsWorkDone, RequestStop, TextStop, second_most}
+use Rattle.iolb_call.specs.Stop.{HoldsProgram, HoldsCertificate, HoldsValid, IsAnswered, IsPlain, IsPlainFault, IsWorkDone, RequestStop, TextStop, second_most}
 use Rattle.iolb_call.specs.Task.{IsAnswer, IsOutside, IsBeyond}
 use Rattle.iolb_call.specs.Works.{HasSecond, HasSizes}
 use Rattle.iolb_call.proofs.Ends.{CallEnd, bounded, ConditionEnds, NameEnds, RequestEnds, SecondEnds, TaskEnds, TextEnds, WorkEnds, done_end, stop_end}
-use Rattle.iolb_call.proofs.PlainStops.{IsPlain, IsPlainFault}
 
 -- ---- what a request comes to, from what it is stopped or answered by
 

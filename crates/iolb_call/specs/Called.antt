@@ -1,4 +1,4 @@
--- The call that the system makes.
+-- The call that the system makes, and its end.
 use Rattle.std.specs.Prelude.{◌≡◌, ℕ, ◌⊎◌, List, [], drop, Result, Ok, Err, String}
 use Rattle.std.specs.Global.{Global}
 use Rattle.std.specs.Vec.Iter.{into_iter_items}
@@ -7,9 +7,6 @@ use Rattle.std.specs.declared.io.Error.{Error}
 use Rattle.iolb_host.specs.Count.{Rose}
 use Rattle.iolb_call.specs.declared.status.Status.{Status}
 use Rattle.iolb_call.specs.declared.status.Status.TheVariants.{Done, WriteFault}
-use Rattle.iolb_call.specs.declared.system.Ended.{Ended}
-use Rattle.iolb_call.specs.Outcome.{Outcome}
-use Rattle.iolb_call.specs.Stop.{Call}
 use Rattle.iolb_call.specs.Use.{CallUse}
 
 -- the words of a call: those behind the program's name, and none where one is no text
@@ -17,15 +14,15 @@ abbrev pub words_behind : Result (IntoIter (String Global) Global) Error → Lis
 words_behind (Ok words) = drop 1 (into_iter_items words)
 words_behind (Err error) = []
 
--- the status with which the program ended
-abbrev pub status_of : Ended → Status
-status_of ended = ended.status
-
 -- What becomes of a status where a call hands the last of its output on, and the count of failed writes with it: a call that
 -- is done fails where that fails, and every other status stays.
 abbrev pub Finishes : Status → ℕ → ℕ → Status → Type 0
 Finishes status faults faults_after ended = ((ended ≡ status) × (faults_after ≡ faults)) ⊎ ((status ≡ Done) × (ended ≡ WriteFault) × Rose faults faults_after)
 
--- The program ended as a call of it did.
-abbrev pub IsEnded : Ended → Type 0
-IsEnded ended = (call : Call) × (left : CallUse) × Outcome (status_of ended) call left
+-- the same left, but for another count of writes to the output that failed
+abbrev pub with_faults : CallUse → ℕ → CallUse
+with_faults left faults = record {
+  files = left.files;
+  output = record { before = left.output.before; after = left.output.after; faults = left.output.faults; faults_after = faults };
+  error = left.error;
+}

@@ -69,7 +69,8 @@ pub record IsPlayPrinted (call : Call) (left : CallUse) (request : Request) (s :
 -- certificate, which meets the conditions for the program, and the standard error exactly the text of its bound, which has the
 -- program's assumptions and for each term the value that the conditions give. The bound holds. For a projective
 -- program with a cover in reach the certificate is that of the cover, with the least exponent of all rational covers; for every other
--- one the first branch is the opening one, or no read is plain.
+-- one the first branch is the opening one, or no read is plain. The text is the one that the certificate is written as: compact JSON,
+-- the keys of each object in byte order, and a newline at the end.
 pub record IsCertificatePrinted (call : Call) (left : CallUse) (request : Request) : Type 0 where
   pub program : AffineProgram
   pub holds_program : HoldsProgram call.files request.program program
@@ -81,7 +82,7 @@ pub record IsCertificatePrinted (call : Call) (left : CallUse) (request : Reques
   pub holds : BoundHolds program (bound_with program values)
   pub printed : Gains left.output text
   pub noted : Gains left.error (bound_text program.parameters (bound_with program values))
-  pub made : IsOfMaker program certificate
+  pub made : IsOfMaker program certificate text
 
 -- what was asked for
 abbrev pub IsPrinted : Call → CallUse → Request → Work → Type 0

@@ -1,5 +1,5 @@
 -- A call has one outcome.
-use Rattle.std.specs.Prelude.{◌≡◌, ◌≢◌, ◌⊎◌, ⊤, ℕ, ◌≤◌, ℤ, List, Some}
+use Rattle.std.specs.Prelude.{◌≡◌, ◌≢◌, ◌⊎◌, ⊤, ℕ, ◌≤◌, ℤ, List, Some, None}
 use Rattle.iolb_model.specs.declared.game.Move.{Move}
 use Rattle.iolb_model.specs.Bound.{Bound, IsAdmitted, bound_value}
 use Rattle.iolb_model.specs.Game.{loads}
@@ -9,20 +9,29 @@ use Rattle.command_words.specs.Requests.{Request, Task, checks, evaluates, judge
 use Rattle.command_words.specs.Sizes.{NamedSize, values_for}
 use Rattle.iolb_check.specs.declared.bound.Value.{Value}
 use Rattle.iolb_check.specs.Bounds.{HasWideBranch}
-use Rattle.iolb_host.specs.Faults.{failure_count}
-use Rattle.iolb_host.specs.Files.{FileMap}
+use Rattle.iolb_host.specs.declared.files.FileFault.{FileFault}
+use Rattle.iolb_host.specs.Faults.{absences, failure_count}
+use Rattle.iolb_host.specs.Files.{FileMap, content_of}
+use Rattle.iolb_host.specs.MemFiles.{SureStore}
+use Rattle.iolb_host.specs.MemSink.{SureBytes}
 use Rattle.iolb_call.specs.declared.status.Status.{Status}
-use Rattle.iolb_call.specs.declared.status.Status.TheVariants.{Done, NoMemory}
+use Rattle.iolb_call.specs.declared.status.Status.TheVariants.{Done, Refused, Words as WordsRefused, FileAbsent, ReadFault, WriteFault, NoMemory}
+use Rattle.iolb_call.specs.declared.stop.Stop.{Stop}
 use Rattle.tile_sched.specs.declared.schedule.Key.{Key}
 use Rattle.tile_sched.specs.Lines.{play_text}
 use Rattle.tile_sched.specs.Plays.{CanBePlayed}
 use Rattle.iolb_call.specs.Bounded.{IsBounded}
 use Rattle.iolb_call.specs.Outcome.{Outcome}
 use Rattle.iolb_call.specs.Replays.{HoldsSchedule}
-use Rattle.iolb_call.specs.Stop.{Call, HoldsCertificate, HoldsProgram}
-use Rattle.iolb_call.specs.Use.{CallUse, SinkUse, Fails, Gains}
+use Rattle.iolb_call.specs.Lines.{condition_line, file_line, usage}
+use Rattle.iolb_call.specs.Reading.{IsAbsent}
+use Rattle.iolb_call.specs.Stop.{Call, HoldsCertificate, HoldsProgram, IsPlain, RequestStop, program_most, second_most, stop_line, stop_status}
+use Rattle.iolb_call.specs.Use.{CallUse, SinkUse, Fails, Gains, Stays, files_use, sink_use}
+use Rattle.iolb_call.specs.Works.{HasSecond, HasSizes}
 use Rattle.iolb_call.specs.Values.{values_text}
-use Rattle.iolb_check.specs.Conditions.{MeetsConditions}
+use Rattle.iolb_check.specs.Conditions.{MeetsConditions, conditions}
+use Rattle.claims.specs.Claims.{AllHold, FirstFails}
+use Rattle.claims.specs.declared.refused.No.{No}
 
 -- No read failed in a call, and no write: no count of faults rose.
 pub record IsUndisturbed (left : CallUse) : Type 0 where
@@ -85,11 +94,12 @@ HasAnswer checks program values = ⊤
 HasAnswer (evaluates s named) program values = (sizes : List ℤ) × (values_for program.parameters named ≡ Some sizes)
     × IsAdmitted program sizes × (¬ HasWideBranch sizes s values)
 
--- A call about a certificate that meets the conditions, and that can be answered, ends with 0 or for want of memory, where
--- it wasn't disturbed.
+-- A call about a certificate of which all conditions hold, and that can be answered with the values that the conditions give, ends
+-- with 0 or for want of memory, where it wasn't disturbed. For `check` there is no more to be answered.
 abbrev pub ValidCertificatesPass : Type 0
-ValidCertificatesPass = (call : Call) (request : Request) (task : Task) (program : AffineProgram) (certificate : CertificateClaim) (values : List (List Value)) (left : CallUse) (status : Status)
-    → Reads call request task program certificate → MeetsConditions program certificate values → HasAnswer task program values
+ValidCertificatesPass = (call : Call) (request : Request) (task : Task) (program : AffineProgram) (certificate : CertificateClaim) (left : CallUse) (status : Status)
+    → Reads call request task program certificate → AllHold (conditions program certificate)
+    → ((values : List (List Value)) → MeetsConditions program certificate values → HasAnswer task program values)
     → Outcome status call left → IsUndisturbed left → (status ≡ Done) ⊎ (status ≡ NoMemory)
 
 -- A call about a certificate that doesn't meet the conditions never ends with 0.
@@ -124,20 +134,79 @@ ReadableProgramsHaveCertificates = (call : Call) (map : FileMap) (request : Requ
     → call.files ≡ Some map → request_of call.words ≡ Some request → request.work ≡ bounds → HoldsProgram call.files request.program program
     → Outcome status call left → IsUndisturbed left → (status ≡ Done) ⊎ (status ≡ NoMemory)
 
+-- ---- causes
+
+-- A call ends with this status, has written this line to the standard error, and nothing to the output; or it ends for want of
+-- memory.
+abbrev pub EndsWith : Status → CallUse → Status → List ℕ → Type 0
+EndsWith status left wanted line = ((status ≡ wanted) × Stays left.output × Gains left.error line) ⊎ (status ≡ NoMemory)
+
+-- A call with words that ask for nothing that the program does ends with 2 and the usage text, or for want of memory, where it
+-- wasn't disturbed.
+abbrev pub OtherWordsAreRefused : Type 0
+OtherWordsAreRefused = (call : Call) (map : FileMap) (left : CallUse) (status : Status) → call.files ≡ Some map → request_of call.words ≡ None
+    → Outcome status call left → IsUndisturbed left → EndsWith status left WordsRefused usage
+
+-- A call about a request with a cause to stop, other than a failed read and want of memory, ends with the status of that cause and
+-- its line, or for want of memory, where it wasn't disturbed.
+abbrev pub CausesAreAnswered : Type 0
+CausesAreAnswered = (call : Call) (map : FileMap) (request : Request) (stop : Stop) (left : CallUse) (status : Status)
+    → call.files ≡ Some map → request_of call.words ≡ Some request → RequestStop (Some map) request stop → IsPlain stop
+    → Outcome status call left → IsUndisturbed left → EndsWith status left (stop_status stop) (stop_line request.program request.second stop)
+
+-- Where the program's file isn't there, or is longer than a program's may be, the call ends with 5 and its name, or for want of
+-- memory, where it wasn't disturbed.
+abbrev pub AbsentProgramsAreNamed : Type 0
+AbsentProgramsAreNamed = (call : Call) (map : FileMap) (request : Request) (fault : FileFault) (left : CallUse) (status : Status)
+    → call.files ≡ Some map → request_of call.words ≡ Some request → IsAbsent (content_of map request.program) program_most fault
+    → Outcome status call left → IsUndisturbed left → EndsWith status left FileAbsent (file_line request.program fault)
+
+-- The same of the second file, where there is one, the program is readable, and its parameters are named.
+abbrev pub AbsentSecondFilesAreNamed : Type 0
+AbsentSecondFilesAreNamed = (call : Call) (map : FileMap) (request : Request) (program : AffineProgram) (fault : FileFault) (left : CallUse) (status : Status)
+    → call.files ≡ Some map → request_of call.words ≡ Some request → HoldsProgram call.files request.program program
+    → HasSecond request.work → HasSizes request.work program.parameters → IsAbsent (content_of map request.second) (second_most request.work) fault
+    → Outcome status call left → IsUndisturbed left → EndsWith status left FileAbsent (file_line request.second fault)
+
+-- A call about a certificate of which a condition fails ends with 1 and the first that does, or for want of memory, where it wasn't
+-- disturbed. (An evaluation names the program's parameters.)
+abbrev pub FailingCertificatesAreRefused : Type 0
+FailingCertificatesAreRefused = (call : Call) (request : Request) (task : Task) (program : AffineProgram) (certificate : CertificateClaim) (failed : No) (left : CallUse) (status : Status)
+    → Reads call request task program certificate → HasSizes (judges task) program.parameters → FirstFails (conditions program certificate) failed
+    → Outcome status call left → IsUndisturbed left → EndsWith status left Refused (condition_line failed.condition failed.place)
+
+-- ---- calls that nothing disturbs
+
+-- A call in which no read and no write failed doesn't end with 6 or 7.
+abbrev pub UndisturbedCallsHaveNoFault : Type 0
+UndisturbedCallsHaveNoFault = (call : Call) (left : CallUse) (status : Status) → Outcome status call left → IsUndisturbed left → (status ≢ ReadFault) × (status ≢ WriteFault)
+
+-- the use of a sink in memory of which every write succeeds
+abbrev pub sure_sink : SureBytes → SureBytes → SinkUse
+sure_sink old new = sink_use (λ (sink : SureBytes). Some sink.written) (λ _. 0) old new
+
+-- Over files and sinks in memory of which every read and every write succeeds no call is disturbed.
+abbrev pub SureCallsAreUndisturbed : Type 0
+SureCallsAreUndisturbed = (files files_after : SureStore) (output output_after error error_after : SureBytes) → IsUndisturbed (record {
+  files = files_use (λ (store : SureStore). absences store.faults) files files_after;
+  output = sure_sink output output_after;
+  error = sure_sink error error_after;
+})
+
 -- ---- bounds and plays
 
--- Two requests about one program with the same S and the same sizes: an evaluation and a replay.
-pub record AreBeside (evaluation replay : Request) (s : ℕ) (named other : List NamedSize) : Type 0 where
-  pub program : evaluation.program ≡ replay.program
+-- Two requests with the same S and the same sizes of a program's parameters: an evaluation and a replay.
+pub record AreBeside (evaluation replay : Request) (program : AffineProgram) (s : ℕ) (named other : List NamedSize) : Type 0 where
   pub evaluates_it : evaluation.work ≡ judges (evaluates s named)
   pub replays_it : replay.work ≡ replays s other
-  pub sizes : (names : List (List ℕ)) → values_for names named ≡ values_for names other
+  pub sizes : values_for program.parameters named ≡ values_for program.parameters other
 
--- Where both end with 0 over the same files, which tell what they hold, the value that the evaluation prints is at most the
--- loads that the replay prints.
+-- Where one program stands in the first file of both, in whatever files and under whatever names, and both end with 0, the value
+-- that the evaluation prints is at most the loads that the replay prints.
 abbrev pub BoundsAreBelowPlays : Type 0
-BoundsAreBelowPlays = (map : FileMap) (words other : List (List ℕ)) (evaluation replay : Request) (s : ℕ) (named named_other : List NamedSize) (bounded played : CallUse)
-    → request_of words ≡ Some evaluation → request_of other ≡ Some replay → AreBeside evaluation replay s named named_other
-    → Outcome Done (record { words = words; files = Some map }) bounded → Outcome Done (record { words = other; files = Some map }) played
+BoundsAreBelowPlays = (map map_other : FileMap) (words other : List (List ℕ)) (evaluation replay : Request) (program : AffineProgram) (s : ℕ) (named named_other : List NamedSize)
+    (bounded played : CallUse) → request_of words ≡ Some evaluation → request_of other ≡ Some replay → AreBeside evaluation replay program s named named_other
+    → HoldsProgram (Some map) evaluation.program program → HoldsProgram (Some map_other) replay.program program
+    → Outcome Done (record { words = words; files = Some map }) bounded → Outcome Done (record { words = other; files = Some map_other }) played
     → (bound : Bound) × (sizes : List ℤ) × (moves : List Move)
     × Gains bounded.output (values_text bound sizes s) × Gains played.output (play_text moves) × (bound_value bound sizes s ≤ loads moves)

@@ -7,6 +7,7 @@ use Rattle.iolb_host.specs.Files.{FileMap}
 use Rattle.command_words.specs.Sizes.{NamedSize, values_for}
 use Rattle.pebble_replay.specs.Played.{played}
 use Rattle.tile_sched.specs.declared.schedule.Key.{Key}
+use Rattle.iolb_model.specs.declared.limits.TheConstants.{SCHEDULE_BYTES}
 use Rattle.tile_sched.specs.Texts.{IsTextOf}
 use Rattle.tile_sched.specs.Lines.{play_text}
 use Rattle.tile_sched.specs.Plays.{CanBePlayed}
@@ -14,7 +15,7 @@ use Rattle.iolb_call.specs.Reading.{IsContent}
 
 -- a schedule file has at most 1 MiB
 abbrev pub schedule_most : ℕ
-schedule_most = 1048576
+schedule_most = SCHEDULE_BYTES
 
 -- the file of this name holds, or may hold, the text of this schedule of a program
 pub record HoldsSchedule (files : Option FileMap) (name : List ℕ) (program : AffineProgram) (schedule : List (List Key)) : Type 0 where

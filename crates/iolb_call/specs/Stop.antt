@@ -27,6 +27,7 @@ use Rattle.iolb_call.specs.Task.{IsAnswer, IsOutside, IsBeyond, bound_with}
 use Rattle.iolb_call.specs.Use.{FilesUse, FilesStay}
 use Rattle.iolb_call.specs.Works.{HasSecond, HasSizes, LacksSizes}
 use Rattle.iolb_check.specs.Conditions.{MeetsConditions, conditions}
+use Rattle.iolb_model.specs.declared.limits.TheConstants.{CERTIFICATE_BYTES, PROGRAM_BYTES}
 use Rattle.claims.specs.Claims.{FirstFails}
 use Rattle.tile_sched.specs.declared.schedule.Key.{Key}
 use Rattle.tile_sched.specs.OneSchedule.{IsTextFault as IsScheduleFault}
@@ -35,10 +36,10 @@ use Rattle.tile_sched.specs.Plays.{IsUnplayed}
 
 -- a program file has at most 4 MiB, and a certificate file at most 64 MiB
 abbrev pub program_most : ℕ
-program_most = 4194304
+program_most = PROGRAM_BYTES
 
 abbrev pub certificate_most : ℕ
-certificate_most = 67108864
+certificate_most = CERTIFICATE_BYTES
 
 -- the file of this name holds a text that means this program; where the files don't tell their content, it may
 pub record HoldsProgram (files : Option FileMap) (name : List ℕ) (program : AffineProgram) : Type 0 where
@@ -163,6 +164,27 @@ RequestStop files request Wide = StopAfterProgram files request Wide
 RequestStop files request (ScheduleText fault) = StopAfterProgram files request (ScheduleText fault)
 RequestStop files request (Unplayed unplayed) = StopAfterProgram files request (Unplayed unplayed)
 RequestStop files request Memory = ⊤
+
+-- a file that is missing or too long
+abbrev pub IsPlainFault : FileFault → Type 0
+IsPlainFault Missing = ⊤
+IsPlainFault TooLong = ⊤
+IsPlainFault Failed = ⊥
+IsPlainFault NoMemoryForFile = ⊥
+
+-- a reason that is no failure of a read and no want of memory
+abbrev pub IsPlain : Stop → Type 0
+IsPlain Words = ⊤
+IsPlain (ProgramFile fault) = IsPlainFault fault
+IsPlain (ProgramText fault) = ⊤
+IsPlain (SecondFile fault) = IsPlainFault fault
+IsPlain (CertificateText fault) = ⊤
+IsPlain (Condition failed) = ⊤
+IsPlain (Assumption number) = ⊤
+IsPlain Wide = ⊤
+IsPlain (ScheduleText fault) = ⊤
+IsPlain (Unplayed unplayed) = ⊤
+IsPlain Memory = ⊥
 
 -- the line that says why
 abbrev pub stop_line : List ℕ → List ℕ → Stop → List ℕ

@@ -63,6 +63,15 @@ abbrev pub LineWritten : SinkUse → List ℕ → Status → Status → Type 0
 LineWritten error line wanted status = ((status ≡ wanted) × Gains error line)
     ⊎ ((status ≡ WriteFault) × FailsWithin error line) ⊎ WantSaid error status
 
+-- How a call ends whose memory ran out: so, or by a failed write.
+abbrev pub EndsForWant : Status → Type 0
+EndsForWant status = (status ≡ NoMemory) ⊎ (status ≡ WriteFault)
+
+-- Where a sink answered that memory was wanted, the call ends so, or by a failed write: at every other status the count of such
+-- answers is as before. So nothing that was to be written is put once more.
+abbrev pub WantsEnd : Status → ℕ → ℕ → Type 0
+WantsEnd status wants wants_after = (wants_after ≡ wants) ⊎ EndsForWant status
+
 -- The answer was written to the output, and what it has for the standard error; or the first write failed, or the second;
 -- or there was no memory and the standard error says so.
 abbrev pub OutputWritten : SinkUse → SinkUse → Answer → Status → Type 0

@@ -2,7 +2,7 @@
 
 ghost use Rattle.std.specs.Prelude.{◌≡◌, ◌≤◌};
 ghost use Rattle.iolb_call.specs.Stop.{call_of, stop_status, stop_line as line_of_stop};
-ghost use Rattle.iolb_call.specs.Written.{LineWritten};
+ghost use Rattle.iolb_call.specs.Written.{LineWritten, WantsEnd};
 ghost use Rattle.iolb_call.specs.Outcome.{Outcome};
 ghost use Rattle.iolb_call.specs.Headline.{IsDoneAsAsked};
 ghost use Rattle.iolb_call.specs.Use.{HasOneFaultAtMost, files_use, sink_use};
@@ -19,7 +19,8 @@ use tile_sched::replays_are_one;
 
 /// Writes why a request about these two files stops.
 fn stopped<E: Sink>(alloc: Global, program: &str, second: &str, stop: &Stop, err: &mut E) -> Status
-    ensures { LineWritten (sink_use E.written E.faults err.old err.new) (line_of_stop program.now second.now stop.now) (stop_status stop.now) result }
+    ensures written { LineWritten (sink_use E.written E.faults err.old err.new) (line_of_stop program.now second.now stop.now) (stop_status stop.now) result }
+    ensures wants { WantsEnd result (E.wants err.old) (E.wants err.new) }
 {
     match stop_line(alloc, program, second, stop) {
         Ok(line) => write_line(err, line.as_slice(), stop.status()),
@@ -54,6 +55,10 @@ pub fn run<F: Files, O: Sink, E: Sink>(
     ensures reads { HasOneFaultAtMost (files_use F.faults files.old files.new) }
     ensures output_counts { O.faults out.old ≤ O.faults out.new }
     ensures error_counts { E.faults err.old ≤ E.faults err.new }
+
+    // Where a sink answers that memory is wanted, the status is 9, or 7.
+    ensures output_wants { WantsEnd result (O.wants out.old) (O.wants out.new) }
+    ensures error_wants { WantsEnd result (E.wants err.old) (E.wants err.new) }
 {
     replays_are_one();
     let command = match command_of(alloc, words.as_slice()) {

@@ -18,6 +18,7 @@ mod system;
 mod writing;
 
 pub use call::run;
-pub use law::outcomes_are_one;
+pub use law::{causes_are_answered, outcomes_are_one, sure_calls_have_no_fault};
 pub use status::Status;
-pub use system::{Ended, program};
+pub use system::{called, finished};
+pub use writing::no_memory;

@@ -23,24 +23,16 @@ use affine_form::{Memory, Name};
 use affine_program::Program;
 use command_words::{Command, Job, Work, values_for};
 use iolb_host::Files;
+use iolb_model::limits;
 use std::alloc::Global;
-
-/// The most bytes of a program's file.
-const PROGRAM_MOST: u64 = 4 << 20;
-
-/// The most bytes of a certificate's file.
-const CERTIFICATE_MOST: u64 = 64 << 20;
-
-/// The most bytes of a schedule's file.
-const SCHEDULE_MOST: u64 = 1 << 20;
 
 /// The most bytes of the second file; none where there is no such file.
 fn second_most(work: &Work) -> u64
     ensures { result ≡ most_of_second (work_of work.now) }
 {
     match work {
-        Work::Judge(_) => CERTIFICATE_MOST,
-        Work::Replay { .. } => SCHEDULE_MOST,
+        Work::Judge(_) => limits::CERTIFICATE_BYTES as u64,
+        Work::Replay { .. } => limits::SCHEDULE_BYTES as u64,
         Work::Bound => 0,
     }
 }
@@ -161,7 +153,7 @@ pub(crate) fn run_command<F: Files>(
     ensures stop { IfErr result (λ stop. RequestStop (F.told files.old) (asked command.now) stop) }
     ensures kind { IfOk result (λ answer. IsOfWork (work_of command.now.work) answer) }
 {
-    let bytes = match files.read(command.program, PROGRAM_MOST) {
+    let bytes = match files.read(command.program, limits::PROGRAM_BYTES as u64) {
         Ok(bytes) => bytes,
         Err(fault) => return Err(Stop::ProgramFile(fault)),
     };

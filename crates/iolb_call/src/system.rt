@@ -1,26 +1,27 @@
-//! The call that the system makes.
+//! The call that the system makes, and its end.
 
-ghost use Rattle.std.specs.Prelude.{◌≡◌, ◌≢◌, ◌⊎◌, drop, IfOk, IfErr};
+ghost use Rattle.std.specs.Prelude.{◌≡◌, ◌≢◌, ◌≤◌, [], drop, IfOk, IfErr};
+ghost use Rattle.std.specs.Io.Buffered.{writer_buffer};
+ghost use Rattle.std.specs.Io.KnownBytes.{Keeps};
 ghost use Rattle.std.specs.IoError.{error_kind};
-ghost use Rattle.std.specs.Process.{exit_status};
 ghost use Rattle.std.specs.Vec.Iter.{into_iter_items};
-ghost use Rattle.iolb_host.specs.StdSink.{fault_count};
-ghost use Rattle.iolb_call.specs.Called.{Finishes, IsEnded, words_behind};
+ghost use Rattle.iolb_host.specs.StdSink.{fault_count, stream_of};
+ghost use Rattle.iolb_call.specs.Called.{Finishes, with_faults, words_behind};
+ghost use Rattle.iolb_call.specs.Headline.{IsDoneAsAsked};
 ghost use Rattle.iolb_call.specs.Outcome.{Outcome};
-ghost use Rattle.iolb_call.specs.Stop.{call_of};
-ghost use Rattle.iolb_call.specs.Use.{files_use, sink_use};
+ghost use Rattle.iolb_call.specs.Stop.{Call, call_of};
+ghost use Rattle.iolb_call.specs.Use.{CallUse, HasOneFaultAtMost, files_use, sink_use};
+ghost use Rattle.iolb_call.specs.Written.{EndsForWant, WantsEnd};
 
 use crate::call::run;
 use crate::status::Status;
 use crate::writing::no_memory;
 use affine_form::Memory;
-use iolb_host::{Files, Sink, StdFiles, StdSink};
+use iolb_host::{Files, Sink, StdSink};
 use std::alloc::Global;
 use std::env::Args;
-use std::io::{BufWriter, ErrorKind};
-use std::process::{ExitCode, Termination};
-use std::rt::Stdout;
-use std::{env, io};
+use std::io;
+use std::io::{BufWriter, ErrorKind, Write};
 
 /// The words behind the program's name, of all the words of a call.
 fn behind_name(alloc: Global, mut words: Args) -> Result<Vec<String>, Memory>
@@ -36,8 +37,9 @@ fn behind_name(alloc: Global, mut words: Args) -> Result<Vec<String>, Memory>
     Ok(behind)
 }
 
-/// Calls the program with the words that the system gave. A word that is no text is refused as no words are.
-fn called<F: Files, O: Sink, E: Sink>(
+/// Calls the program with the words that the system gave, of which the first is its name. A word that is no text is refused as
+/// no words are.
+pub fn called<F: Files, O: Sink, E: Sink>(
     alloc: Global,
     words: io::Result<Args>,
     files: &mut F,
@@ -49,7 +51,20 @@ fn called<F: Files, O: Sink, E: Sink>(
       output = sink_use O.written O.faults out.old out.new;
       error = sink_use E.written E.faults err.old err.new;
     }) }
-    ensures want { IfErr words (λ error. error_kind error ≢ ErrorKind.InvalidData → (result ≡ Status.NoMemory) ⊎ (result ≡ Status.WriteFault)) }
+    ensures headline { result ≡ Status.Done → IsDoneAsAsked (call_of (words_behind words) (F.told files.old)) (record {
+      files = files_use F.faults files.old files.new;
+      output = sink_use O.written O.faults out.old out.new;
+      error = sink_use E.written E.faults err.old err.new;
+    }) }
+    ensures told_stays { F.told files.new ≡ F.told files.old }
+    ensures reads { HasOneFaultAtMost (files_use F.faults files.old files.new) }
+    ensures output_counts { O.faults out.old ≤ O.faults out.new }
+    ensures error_counts { E.faults err.old ≤ E.faults err.new }
+    ensures output_wants { WantsEnd result (O.wants out.old) (O.wants out.new) }
+    ensures error_wants { WantsEnd result (E.wants err.old) (E.wants err.new) }
+
+    // Where the system gives no words for another reason, that is told as want of memory.
+    ensures want { IfErr words (λ error. error_kind error ≢ ErrorKind.InvalidData → EndsForWant result) }
 {
     match words {
         Ok(words) => match behind_name(alloc, words) {
@@ -64,27 +79,20 @@ fn called<F: Files, O: Sink, E: Sink>(
     }
 }
 
-/// How the program ended, with the status of its call. `program` alone makes one, so a `main` that returns it ends with
-/// that status's number.
-#[derive(Drop)]
-pub struct Ended {
-    status: Status,
-}
+/// Hands what a call wrote to the output to the system, where the call is done, and answers the status with which the program
+/// ends: where that fails, it is that of a failed write.
+pub fn finished<W: Write + Drop>(status: Status, out: &mut StdSink<BufWriter<W>>) -> Status
+    ensures ends { Finishes status (fault_count out.old) (fault_count out.new) result }
 
-impl Termination for Ended {
-    ghost use Rattle.iolb_call.specs.Called.{status_of};
-    ghost use Rattle.iolb_call.specs.Status.{status_number};
+    // At status 0 nothing is held any more. Whatever the status is, no byte is lost or put twice, and at every other one that
+    // a call ends with nothing is handed on.
+    ensures empty { result ≡ Status.Done → writer_buffer (stream_of out.new) ≡ [] }
+    ensures keeps { Keeps (⟦<BufWriter<W> as Write>⟧.contents (stream_of out.old)) (⟦<BufWriter<W> as Write>⟧.contents (stream_of out.new)) }
+    ensures others { status ≢ Status.Done → out.new ≡ out.old }
 
-    fn report<R: Eprint>(self, _rt: &R) -> ExitCode
-        ensures { exit_status result ≡ status_number (status_of self) }
-    {
-        ExitCode::from(self.status.number())
-    }
-}
-
-/// Hands what a call wrote to the output to the system, where the call is done.
-fn finished(status: Status, out: &mut StdSink<BufWriter<Stdout>>) -> Status
-    ensures { Finishes status (fault_count out.old) (fault_count out.new) result }
+    // What the status of a call says, the status with which it ends says too.
+    ensures outcome { (call : Call) (left : CallUse) → left.output.faults_after ≡ fault_count out.old
+        → Outcome status call left → Outcome result call (with_faults left (fault_count out.new)) }
 {
     if status != Status::Done {
         return status;
@@ -92,23 +100,5 @@ fn finished(status: Status, out: &mut StdSink<BufWriter<Stdout>>) -> Status
     match out.finish() {
         Ok(()) => Status::Done,
         Err(_) => Status::WriteFault,
-    }
-}
-
-/// Calls the program over the system's files and streams. The last of the output is handed to the system at the end; where
-/// that fails, the status is that of a failed write.
-pub fn program(rt: &HostRuntime) -> Ended
-    ensures { IsEnded result }
-{
-    let mut err = StdSink::error(rt);
-    let Ok(mut out) = StdSink::output(rt.alloc(), rt) else {
-        return Ended {
-            status: no_memory(&mut err),
-        };
-    };
-    let mut files = StdFiles::new(rt);
-    let status = called(rt.alloc(), env::args(rt), &mut files, &mut out, &mut err);
-    Ended {
-        status: finished(status, &mut out),
     }
 }

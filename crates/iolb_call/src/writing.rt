@@ -1,7 +1,7 @@
 //! The ends of a call: what it writes.
 
 ghost use Rattle.iolb_call.specs.Use.{sink_use};
-ghost use Rattle.iolb_call.specs.Written.{LineWritten, OutputWritten, WantSaid};
+ghost use Rattle.iolb_call.specs.Written.{EndsForWant, LineWritten, OutputWritten, WantSaid, WantsEnd};
 
 use crate::answered::Answer;
 use crate::lines::OUT_OF_MEMORY;
@@ -11,8 +11,9 @@ use std::alloc::Global;
 use tile_sched::Play;
 
 /// Says on the standard error that there was no memory.
-pub(crate) fn no_memory<E: Sink>(err: &mut E) -> Status
-    ensures { WantSaid (sink_use E.written E.faults err.old err.new) result }
+pub fn no_memory<E: Sink>(err: &mut E) -> Status
+    ensures said { WantSaid (sink_use E.written E.faults err.old err.new) result }
+    ensures ends { EndsForWant result }
 {
     match err.put(OUT_OF_MEMORY) {
         Ok(()) => Status::NoMemory,
@@ -23,7 +24,8 @@ pub(crate) fn no_memory<E: Sink>(err: &mut E) -> Status
 
 /// Writes a line, or lines, to the standard error, and ends with the status.
 pub(crate) fn write_line<E: Sink>(err: &mut E, line: &[u8], status: Status) -> Status
-    ensures { LineWritten (sink_use E.written E.faults err.old err.new) line.now status result }
+    ensures written { LineWritten (sink_use E.written E.faults err.old err.new) line.now status result }
+    ensures wants { WantsEnd result (E.wants err.old) (E.wants err.new) }
 {
     match err.put(line) {
         Ok(()) => status,
@@ -34,7 +36,9 @@ pub(crate) fn write_line<E: Sink>(err: &mut E, line: &[u8], status: Status) -> S
 
 /// Writes a text to the output.
 fn write_text<O: Sink, E: Sink>(out: &mut O, err: &mut E, text: &Vec<u8>) -> Status
-    ensures { OutputWritten (sink_use O.written O.faults out.old out.new) (sink_use E.written E.faults err.old err.new) (Answer.Text text.now) result }
+    ensures written { OutputWritten (sink_use O.written O.faults out.old out.new) (sink_use E.written E.faults err.old err.new) (Answer.Text text.now) result }
+    ensures output_wants { WantsEnd result (O.wants out.old) (O.wants out.new) }
+    ensures error_wants { WantsEnd result (E.wants err.old) (E.wants err.new) }
 {
     match out.put(text.as_slice()) {
         Ok(()) => Status::Done,
@@ -45,7 +49,9 @@ fn write_text<O: Sink, E: Sink>(out: &mut O, err: &mut E, text: &Vec<u8>) -> Sta
 
 /// Writes the lines of a play to the output.
 fn write_play<O: Sink, E: Sink>(alloc: Global, play: Play, out: &mut O, err: &mut E) -> Status
-    ensures { OutputWritten (sink_use O.written O.faults out.old out.new) (sink_use E.written E.faults err.old err.new) (Answer.Lines play) result }
+    ensures written { OutputWritten (sink_use O.written O.faults out.old out.new) (sink_use E.written E.faults err.old err.new) (Answer.Lines play) result }
+    ensures output_wants { WantsEnd result (O.wants out.old) (O.wants out.new) }
+    ensures error_wants { WantsEnd result (E.wants err.old) (E.wants err.new) }
 {
     match play.put(alloc, out) {
         Ok(()) => Status::Done,
@@ -61,7 +67,9 @@ fn write_bound<O: Sink, E: Sink>(
     certificate: Vec<u8>,
     bound: Vec<u8>,
 ) -> Status
-    ensures { OutputWritten (sink_use O.written O.faults out.old out.new) (sink_use E.written E.faults err.old err.new) (Answer.Bound certificate bound) result }
+    ensures written { OutputWritten (sink_use O.written O.faults out.old out.new) (sink_use E.written E.faults err.old err.new) (Answer.Bound certificate bound) result }
+    ensures output_wants { WantsEnd result (O.wants out.old) (O.wants out.new) }
+    ensures error_wants { WantsEnd result (E.wants err.old) (E.wants err.new) }
 {
     match out.put(certificate.as_slice()) {
         Ok(()) => write_line(err, bound.as_slice(), Status::Done),
@@ -77,7 +85,9 @@ pub(crate) fn write_answer<O: Sink, E: Sink>(
     out: &mut O,
     err: &mut E,
 ) -> Status
-    ensures { OutputWritten (sink_use O.written O.faults out.old out.new) (sink_use E.written E.faults err.old err.new) answer result }
+    ensures written { OutputWritten (sink_use O.written O.faults out.old out.new) (sink_use E.written E.faults err.old err.new) answer result }
+    ensures output_wants { WantsEnd result (O.wants out.old) (O.wants out.new) }
+    ensures error_wants { WantsEnd result (E.wants err.old) (E.wants err.new) }
 {
     match answer {
         Answer::Text(text) => write_text(out, err, &text),

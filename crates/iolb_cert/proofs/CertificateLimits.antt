@@ -25,7 +25,7 @@ use Rattle.iolb_cert.specs.Read.{WrittenTerm, as_cold, as_partition, as_front, W
 use Rattle.cert_written.proofs.Given.{given_then, given_behind, given_if, given_part, given_short_list, given_keys}
 use Rattle.cert_written.proofs.PartLimits.{all_multipliers_small}
 use Rattle.cert_written.proofs.TreeLimits.{all_trees_small, quasts_small}
-use Rattle.iolb_model.specs.declared.limits.TheConstants.{TERMS as MOST}
+use Rattle.iolb_model.specs.declared.limits.TheConstants.{BRANCHES as MOST_BRANCHES, TERMS as MOST}
 use Rattle.iolb_cert.proofs.ColdLimits.{IsSmallWrittenCold, cold_small, read_cold_small}
 use Rattle.iolb_cert.proofs.FrontLimits.{IsSmallWrittenFront, front_small, read_front_small}
 use Rattle.iolb_cert.proofs.PartitionLimits.{IsSmallWrittenPartition, partition_small, read_partition_small}
@@ -80,11 +80,11 @@ branch_small d =
     (λ terms small_terms. record { terms = small_terms; disjoint = small_disjoint })))
 
 abbrev AreSmallBranches : List WrittenBranch → Type 0
-AreSmallBranches branches = AllByRecursion IsSmallWrittenBranch branches × (length branches ≤ 8)
+AreSmallBranches branches = AllByRecursion IsSmallWrittenBranch branches × (length branches ≤ MOST_BRANCHES)
 
 branches_small : (d : Data) → IfOk (reads_branches d) AreSmallBranches
 unfolding reads_branches
-branches_small d = given_short_list reads_branch IsSmallWrittenBranch branch_small 8 d
+branches_small d = given_short_list reads_branch IsSmallWrittenBranch branch_small MOST_BRANCHES d
 
 record IsSmallWritten (written : WrittenCertificate) : Type 0 where
   branches : AreSmallBranches written.branches

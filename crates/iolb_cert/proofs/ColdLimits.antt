@@ -20,22 +20,22 @@ use Rattle.cert_written.proofs.EntryLimits.{leaves_small, IsSmallNest, nest_smal
 use Rattle.cert_written.proofs.Given.{given_then, given_behind, given_part, given_keys}
 use Rattle.cert_written.proofs.PartLimits.{natural_small, forms_small, all_multipliers_small}
 use Rattle.cert_written.proofs.PolynomialLimits.{IsSmallWritten, polynomials_small, all_read_small}
-use Rattle.iolb_model.specs.declared.limits.TheConstants.{NUMBER_SIZE}
+use Rattle.iolb_model.specs.declared.limits.TheConstants.{SCALE as MOST}
 
 -- ---- matrices with their scales
 
 abbrev pub HasScale : IntegerMatrix × ℕ → Type 0
-HasScale inverse = (1 ≤ inverse.1) × (inverse.1 ≤ NUMBER_SIZE)
+HasScale inverse = (1 ≤ inverse.1) × (inverse.1 ≤ MOST)
 
 abbrev pub IsScale : ℕ → Type 0
-IsScale scale = (1 ≤ scale) × (scale ≤ NUMBER_SIZE)
+IsScale scale = (1 ≤ scale) × (scale ≤ MOST)
 
 pub inverse_small : (d : Data) → IfOk (reads_inverse d) HasScale
 unfolding reads_inverse
 inverse_small d =
     given_keys (codes "matrix" ∷ codes "scale" ∷ []) d _ HasScale (given_behind (part (codes "matrix") MATRIX reads_matrix d) _ HasScale
-    (λ matrix. given_then (part (codes "scale") SCALE (reads_natural 1 NUMBER_SIZE) d) _ IsScale HasScale
-    (given_part (codes "scale") SCALE (reads_natural 1 NUMBER_SIZE) IsScale d (natural_small 1 NUMBER_SIZE)) (λ scale small. small)))
+    (λ matrix. given_then (part (codes "scale") SCALE (reads_natural 1 MOST) d) _ IsScale HasScale
+    (given_part (codes "scale") SCALE (reads_natural 1 MOST) IsScale d (natural_small 1 MOST)) (λ scale small. small)))
 
 -- ---- cold terms
 

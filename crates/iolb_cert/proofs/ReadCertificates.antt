@@ -20,7 +20,7 @@ use Rattle.iolb_cert.specs.Written.{written_term, written_branch}
 use Rattle.cert_written.proofs.ReadLists.{short_list-read, each-read}
 use Rattle.cert_written.proofs.ReadParts.{all_multipliers-read}
 use Rattle.cert_written.proofs.ReadTrees.{all_trees-read}
-use Rattle.iolb_model.specs.declared.limits.TheConstants.{TERMS}
+use Rattle.iolb_model.specs.declared.limits.TheConstants.{BRANCHES, TERMS}
 
 -- each is what is written of it
 all-related : {A B X : Type 0} (R : A → X → Type 0) (P : B → Type 0) (f : B → A) (g : B → X) → ((b : B) → P b → R (f b) (g b)) → (bs : List B) → AllByRecursion P bs → AreAll R (map f bs) (map g bs)
@@ -48,12 +48,12 @@ branch-read branch small h k = record {
   is = (all-related IsTerm TermIsRead written_term claim_of_term (λ term here. here.is) branch.terms.items k, refl);
 }
 
-branches-read : (branches : List Branch) → length branches ≤ 8 → AllByRecursion BranchIsRead branches → reads_branches (branches_data (map written_branch branches)) ≡ Ok (map written_branch branches)
+branches-read : (branches : List Branch) → length branches ≤ BRANCHES → AllByRecursion BranchIsRead branches → reads_branches (branches_data (map written_branch branches)) ≡ Ok (map written_branch branches)
 unfolding reads_branches
 branches-read branches few h =
     let written : List WrittenBranch = map written_branch branches in
-    let count : length (map branch_data written) ≤ 8 = omega (arith, few, length-map written branch_data, length-map branches written_branch) in
-    rw (short_list-read 8 (map branch_data written) count)
+    let count : length (map branch_data written) ≤ BRANCHES = omega (arith, few, length-map written branch_data, length-map branches written_branch) in
+    rw (short_list-read BRANCHES (map branch_data written) count)
     (each-read reads_branch branch_data 0 written (All-map BranchIsReadBack written_branch branches (All-weaken BranchIsRead (λ branch. BranchIsReadBack (written_branch branch)) branches (λ branch k. k.says) h)))
 
 pub certificate-read : (parts : CertificateParts) → IsWithinLimits parts → AllByRecursion BranchIsRead parts.branches → AllByRecursion TreesAreRead parts.quasts.rows.items

@@ -19,11 +19,11 @@ use Rattle.cert_written.proofs.ReadLists.{natural-read}
 use Rattle.cert_written.proofs.ReadParts.{forms-read, all_multipliers-read, nest-read}
 use Rattle.cert_written.proofs.ReadPolynomials.{are-polynomials, polynomials-read}
 use Rattle.cert_written.proofs.ReadLeaves.{leaves-read}
-use Rattle.iolb_model.specs.declared.limits.TheConstants.{NUMBER_SIZE}
+use Rattle.iolb_model.specs.declared.limits.TheConstants.{SCALE as MOST}
 
-inverse-read : (matrix : IntegerMatrix) (scale : ℕ) → 1 ≤ scale → scale ≤ NUMBER_SIZE → MatrixIsRead matrix → reads_inverse (inverse_data matrix scale) ≡ Ok (matrix, scale)
+inverse-read : (matrix : IntegerMatrix) (scale : ℕ) → 1 ≤ scale → scale ≤ MOST → MatrixIsRead matrix → reads_inverse (inverse_data matrix scale) ≡ Ok (matrix, scale)
 unfolding reads_inverse with_keys has_keys
-inverse-read matrix scale some few h = rw (h, natural-read 1 NUMBER_SIZE scale some few) refl
+inverse-read matrix scale some few h = rw (h, natural-read 1 MOST scale some few) refl
 
 -- the members of a cold term are read
 pub record AreMembersRead (cold : Cold) : Type 0 where

@@ -8,6 +8,7 @@ use Rattle.cert_parts.specs.Parts.{reads_all_multipliers}
 use Rattle.cert_parts.specs.Trees.{reads_all_trees}
 use Rattle.iolb_cert.specs.Read.{WrittenBranch, WrittenCertificate}
 use Rattle.iolb_cert.specs.Terms.{reads_terms}
+use Rattle.iolb_model.specs.declared.limits.TheConstants.{BRANCHES as MOST}
 
 unfoldable pub reads_branch : Data → Outcome WrittenBranch
 reads_branch d = do
@@ -16,9 +17,9 @@ reads_branch d = do
   terms ← part (codes "terms") TERMS reads_terms object
   Ok (record { terms = terms; disjoint = disjoint })
 
--- At most eight branches.
+-- At most as many branches as a certificate may have.
 unfoldable pub reads_branches : Data → Outcome (List WrittenBranch)
-reads_branches d = reads_short_list 8 d >>= each reads_branch 0
+reads_branches d = reads_short_list MOST d >>= each reads_branch 0
 
 abbrev pub is_one : Option ℤ → Bool
 is_one None = false

@@ -14,14 +14,14 @@ use Rattle.cert_parts.specs.Parts.{reads_forms, reads_all_multipliers, reads_mat
 use Rattle.cert_parts.specs.Polynomials.{reads_polynomials}
 use Rattle.iolb_check.specs.Claims.{ColdClaim}
 use Rattle.iolb_cert.specs.Read.{WrittenCold}
-use Rattle.iolb_model.specs.declared.limits.TheConstants.{NUMBER_SIZE}
+use Rattle.iolb_model.specs.declared.limits.TheConstants.{SCALE as MOST}
 
--- A matrix and its scale, from 1 to 2^20.
+-- A matrix and its scale, at least 1 and at most what a scale may be.
 unfoldable pub reads_inverse : Data → Outcome (IntegerMatrix × ℕ)
 reads_inverse d = do
   object ← with_keys (codes "matrix" ∷ codes "scale" ∷ []) d
   matrix ← part (codes "matrix") MATRIX reads_matrix object
-  scale ← part (codes "scale") SCALE (reads_natural 1 NUMBER_SIZE) object
+  scale ← part (codes "scale") SCALE (reads_natural 1 MOST) object
   Ok (matrix, scale)
 
 abbrev pub cold_keys : List (List ℕ)

@@ -11,3 +11,4 @@ pub mod WrittenCertificates
 pub mod ReadBackLaw
 pub mod ReadBack
 pub mod Written
+pub mod CertificateText

@@ -33,7 +33,7 @@ shape_of (Some name) = if bytes_eq name (codes "each") then Ok Each else (if byt
 unfoldable pub reads_shape : Data → Outcome Shape
 reads_shape d = shape_of (as_str d)
 
--- the members of a partition term before its credits: a is from 0 to 64, b from 0 to 2^20
+-- the members of a partition term before its credits: a and b are at most what they may be
 pub record PartitionHead : Type 0 where
   pub a : ℕ
   pub apart : List FarkasMultipliers
@@ -63,7 +63,7 @@ reads_partition_walks d = do
   nest ← part (codes "nest") NEST reads_nest d
   Ok (record { families = families; inside = inside; inverse = inverse; matrix = matrix; nest = nest })
 
--- the members between its nest and its polynomials: q is from 1 to 12
+-- the members between its nest and its polynomials: q is at least 1 and at most what it may be
 pub record PartitionCover : Type 0 where
   pub q : ℕ
   pub shape : Shape

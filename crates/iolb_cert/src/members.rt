@@ -18,6 +18,7 @@ use cert_parts::{
     spot, under, way,
 };
 use claims::{Step, key};
+use iolb_model::limits;
 use k_partition::Shape;
 use reuse_paths::{Credit, Family, Reach, Spot};
 use serde_json::Value;
@@ -33,7 +34,8 @@ fn inverse(alloc: Global, value: &Value) -> Result<Inverse, CertError>
         return Err(fault(alloc, 2));
     }
     let matrix = matrix_part(alloc, value, "matrix", key::MATRIX)?;
-    let scale = natural_part(alloc, value, "scale", key::SCALE, 1, 1 << 20)? as u32;
+    let most = u64::from(limits::SCALE);
+    let scale = natural_part(alloc, value, "scale", key::SCALE, 1, most)? as u32;
     Ok(Inverse { matrix, scale })
 }
 

@@ -15,6 +15,7 @@ use crate::terms::term_list;
 use cert_parts::{CertError, all_shown_part, fault, has_keys, short_list, under};
 use claims::{Step, key};
 use iolb_check::{Branch, Term};
+use iolb_model::limits;
 use serde_json::Value;
 use std::alloc::Global;
 
@@ -49,7 +50,7 @@ fn one_branch(alloc: Global, value: &Value) -> Result<Branch, CertError>
 pub(crate) fn branch_list(alloc: Global, value: &Value) -> Result<Vec<Branch>, CertError>
     ensures { GivesBy (λ said found. AreAll IsBranch said (map claim_of_branch found.items)) result (reads_branches (view value.now)) }
 {
-    let values = short_list(alloc, value, 8)?;
+    let values = short_list(alloc, value, limits::BRANCHES)?;
     let mut found = Vec::new(alloc);
     for (i, value) in values.iter().enumerate() {
         match one_branch(alloc, value) {

@@ -95,7 +95,7 @@ fn read_parts(alloc: Global, bytes: &[u8]) -> Result<(Quasts, Vec<Branch>), Cert
 ///
 /// The first fault of the text: 1, at the whole, where it is no JSON; else the first in one walk over the value, an
 /// object's keys before its values, these by the byte order of the keys: 2 where a value has another shape, 3 where a
-/// limit is passed, 4 where a form of term isn't built yet. Want of memory, at any time.
+/// limit is passed. Want of memory, at any time.
 pub fn read_certificate(alloc: Global, bytes: &[u8]) -> Result<Certificate, CertError>
     ensures { ReadsText (λ said certificate. IsCertificate said (claim_of_certificate certificate)) bytes.now result }
 {

@@ -3,10 +3,7 @@
 ghost use Rattle.std.specs.Prelude.{◌≡◌, ◌++◌, codes, IfOk};
 ghost use Rattle.iolb_check.specs.Claims.{claim_of_certificate};
 ghost use Rattle.iolb_cert.specs.OneCertificate.{HasCertificate};
-ghost use Rattle.serde_json.specs.View.{view};
-ghost use Rattle.serde_json.specs.Written.{compact_text};
-ghost use Rattle.iolb_cert.specs.WrittenCertificates.{certificate_data};
-ghost use Rattle.iolb_cert.specs.Written.{written_of};
+ghost use Rattle.iolb_cert.specs.CertificateText.{certificate_text as text_of_certificate};
 
 use crate::written_branches::certificate as certificate_value;
 use affine_form::Memory;
@@ -17,7 +14,7 @@ use std::alloc::Global;
 /// Polynomials stand by their terms in the order in which they are printed, each with an exponent for each variable up
 /// to the greatest that the polynomial uses.
 pub fn certificate_text(alloc: Global, certificate: &Certificate) -> Result<Vec<u8>, Memory>
-    ensures text { IfOk result (λ text. text.items ≡ compact_text (certificate_data (written_of certificate.now)) ++ codes "\n") }
+    ensures text { IfOk result (λ text. text.items ≡ text_of_certificate certificate.now) }
     ensures reads { IfOk result (λ text. HasCertificate text.items (claim_of_certificate certificate.now)) }
 {
     let value = certificate_value(alloc, certificate)?;

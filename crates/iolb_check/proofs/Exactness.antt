@@ -1,20 +1,36 @@
--- A certificate isn't both accepted and refused, and gives one bound.
-use Rattle.std.proofs.Common.{◌≡◌, sym, ◌∙◌, ap, List, [], ◌∷◌, length, arith}
+-- A certificate isn't both accepted and refused; what is accepted has values, and gives one bound.
+use Rattle.std.proofs.Common.{◌≡◌, refl, sym, ◌∙◌, ap, subst, ℕ, suc, List, [], ◌∷◌, ◌++◌, get_or, length, take, arith}
+use Rattle.std.proofs.Math.Seq.{take-length}
 use Rattle.base_laws.proofs.Lists.{cons-same}
 use Rattle.iolb_model.specs.Program.{AffineProgram}
-use Rattle.claims.proofs.Laws.{accepted-stand, refused-one}
-use Rattle.domain_count.proofs.Claimed.{right-claims-give-one, sums-same}
+use Rattle.claims.specs.Claims.{Claim, AllHold, numbered}
+use Rattle.claims.specs.declared.place.Step.{Step}
+use Rattle.claims.specs.declared.place.Step.TheVariants.{Key, Index}
+use Rattle.claims.specs.declared.key.TheConstants.{COLD, OUTER_SUMS, PARTITION, SUMS, WAVEFRONT}
+use Rattle.claims.proofs.Laws.{AllHold-left, AllHold-right, accepted-stand, refused-one}
+use Rattle.claims.proofs.Members.{numbered-member}
+use Rattle.dep_quast.specs.Tree.{SelectionTree}
+use Rattle.domain_count.specs.CountClaims.{count_claims, sums_claims}
+use Rattle.domain_count.proofs.Claimed.{claims-count, right-claims-give-one, sums-give, sums-same}
 use Rattle.k_partition.proofs.CreditSums.{total-same}
 use Rattle.k_partition.specs.declared.term.PartitionBound.{PartitionBound}
-use Rattle.k_partition.specs.PartitionClaims.{no_points}
-use Rattle.k_partition.specs.Term.{PartitionTerm}
+use Rattle.k_partition.specs.Numbers.{factor_over, factor_under}
+use Rattle.k_partition.specs.PartitionClaims.{HasCreditsTotal, apart_claims, cover_claims, credit_claims, credit_place, family_claims_at, inside_claims, no_points, point_claims, sound_claims, unit_claims}
+use Rattle.k_partition.specs.Term.{CreditTerm, PartitionTerm}
+use Rattle.k_partition.specs.TermLoads.{weight_of}
 use Rattle.poly_tree.specs.Poly.{Quotient}
-use Rattle.wavefront.specs.FrontTerm.{outer_nest}
+use Rattle.reuse_paths.specs.Quasts.{tree_for}
+use Rattle.reuse_paths.specs.Trees.{rows_claims}
+use Rattle.wavefront.specs.ColdClaims.{instance_claims}
+use Rattle.wavefront.specs.FrontClaims.{front_counts, wave_claims}
+use Rattle.wavefront.specs.FrontTerm.{WavefrontTerm, outer_nest}
+use Rattle.wavefront.specs.Term.{ColdTerm}
 use Rattle.iolb_check.specs.Claims.{TermClaim, cold, partition, front, cold_term, front_term, BranchClaim}
 use Rattle.iolb_check.specs.declared.bound.Value.{Value}
 use Rattle.iolb_check.specs.declared.bound.Value.TheVariants as values
-use Rattle.iolb_check.specs.Conditions.{conditions, IsPartitionValue, IsValueOf, AreValuesOf, AreBranchValues}
-use Rattle.iolb_check.specs.Exact.{RefusalsAreOne, ValidCertificatesGiveOne, ValidCertificatesStand}
+use Rattle.iolb_check.specs.Conditions.{conditions, branch_claims, disjoint_claims, term_claims, term_claims_at, terms_claims, terms_place, IsPartitionValue, IsValueOf, AreValuesOf, AreBranchValues}
+use Rattle.iolb_check.specs.Exact.{RefusalsAreOne, ValidCertificatesGiveOne, ValidCertificatesHaveValues, ValidCertificatesStand}
+use Rattle.iolb_check.specs.TermFit.{certificate_fit}
 
 -- two bounds of a partition term are one
 bound-same : (program : AffineProgram) (term : PartitionTerm) (one other : PartitionBound) → IsPartitionValue program term one → IsPartitionValue program term other → one ≡ other
@@ -62,8 +78,97 @@ branches-same program (b ∷ branches) [] other h g = absurd h
 branches-same program (b ∷ branches) (v ∷ one) [] h g = absurd g
 branches-same program (b ∷ branches) (v ∷ one) (w ∷ other) h g = cons-same _ _ _ _ (values-same program b.terms v w h.0 g.0) (branches-same program branches one other h.1 g.1)
 
+-- ---- values, where the claims hold
+
+-- the counts of credits have a sum, where the claims about each of them hold
+credits-total : (program : AffineProgram) (place : List Step) (credits : List CreditTerm) → AllHold (numbered (credit_claims program place credits) 0 credits)
+    → HasCreditsTotal (length program.parameters) credits
+credits-total program place [] h = (no_points, refl)
+credits-total program place (credit ∷ credits) h =
+    let last : ℕ = length credits in
+    let all : List CreditTerm = credit ∷ credits in
+    let here = numbered-member (credit_claims program place all) all last credit (omega arith) h in
+    let sum = AllHold-right (count_claims program (get_or all last credit).nest.nest (get_or all last credit).count (credit_place place last))
+    (record { condition = 2; place = credit_place place last ++ Key SUMS ∷ []; statement = HasCreditsTotal (length program.parameters) (take (suc last) all) } ∷ []) here in
+    subst (HasCreditsTotal (length program.parameters)) (take-length all) sum.0
+
+value-there : (program : AffineProgram) (trees : List (List SelectionTree)) (place : List Step) (term : TermClaim) → AllHold (term_claims program trees place term)
+    → (value : Value) × IsValueOf program term value
+value-there program trees place (cold claim sums) h =
+    let at : List Step = place ++ Key COLD ∷ [] in
+    let term : ColdTerm = cold_term claim sums in
+    let count = claims-count program claim.nest term.count at
+    (AllHold-left (count_claims program term.nest term.count at) (instance_claims program at (tree_for trees term.reader) term) h) in
+    (values.Cold count.0, count.1)
+value-there program trees place (partition term) h =
+    let at : List Step = place ++ Key PARTITION ∷ [] in
+    let counts : List Claim = count_claims program term.nest term.count at in
+    let points : List Claim = point_claims program at term in
+    let cover : List Claim = unit_claims at term ++ cover_claims at term in
+    let families : List Claim = numbered (family_claims_at program trees at term) 0 term.families in
+    let first : AllHold (counts ++ points) =
+    AllHold-left (counts ++ points) cover (AllHold-left (counts ++ points ++ cover) families
+    (AllHold-left (sound_claims program trees at term) (apart_claims term.shape program trees at term) h)) in
+    let count = claims-count program term.nest term.count at (AllHold-left counts points first) in
+    let credits = credits-total program at term.credits
+    (AllHold-right (inside_claims program at term) (numbered (credit_claims program at term.credits) 0 term.credits) (AllHold-right counts points first)) in (
+      values.Partition (record {
+        count = count.0;
+        credits = credits.0;
+        a = term.a;
+        b = term.b;
+        q = term.q;
+        m = weight_of term;
+        num = factor_over term.shape term;
+        den = factor_under term.shape term;
+      }),
+      record {
+        count = count.1;
+        credits = credits.1;
+        numbers = record { a = refl; b = refl; q = refl; m = refl; num = refl; den = refl };
+      },
+    )
+value-there program trees place (front claim sums outer_sums) h =
+    let at : List Step = place ++ Key WAVEFRONT ∷ [] in
+    let term : WavefrontTerm = front_term claim sums outer_sums in
+    let counts : List Claim = count_claims program term.nest term.count at in
+    let outer : List Claim = sums_claims program (outer_nest term) outer_sums at OUTER_SUMS in
+    let both : AllHold (counts ++ outer) = AllHold-left (front_counts program at term) (wave_claims program at trees term) h in
+    let pairs = claims-count program term.nest term.count at (AllHold-left counts outer both) in
+    let fronts = sums-give (length program.parameters) (outer_nest term) outer_sums at OUTER_SUMS (AllHold-right counts outer both) in
+    (values.Wavefront pairs.0 fronts.0, (pairs.1, fronts.1))
+
+values-there : (program : AffineProgram) (trees : List (List SelectionTree)) (place : List Step) (index : ℕ) (terms : List TermClaim)
+    → AllHold (numbered (term_claims_at program trees place) index terms) → (values : List Value) × AreValuesOf program terms values
+values-there program trees place index [] h = ([], refl)
+values-there program trees place index (term ∷ terms) h =
+    let here : List Claim = term_claims_at program trees place index term in
+    let others : List Claim = numbered (term_claims_at program trees place) (suc index) terms in
+    let first = value-there program trees (place ++ Index index ∷ []) term (AllHold-left here others h) in
+    let rest = values-there program trees place (suc index) terms (AllHold-right here others h) in
+    (first.0 ∷ rest.0, (first.1, rest.1))
+
+branches-there : (program : AffineProgram) (trees : List (List SelectionTree)) (index : ℕ) (branches : List BranchClaim)
+    → AllHold (numbered (branch_claims program trees) index branches) → (values : List (List Value)) × AreBranchValues program branches values
+branches-there program trees index [] h = ([], refl)
+branches-there program trees index (branch ∷ branches) h =
+    let here : List Claim = branch_claims program trees index branch in
+    let others : List Claim = numbered (branch_claims program trees) (suc index) branches in
+    let first = values-there program trees (terms_place index) 0 branch.terms
+    (AllHold-left (terms_claims program trees (terms_place index) branch.terms) (disjoint_claims program trees index branch) (AllHold-left here others h)) in
+    let rest = branches-there program trees (suc index) branches (AllHold-right here others h) in
+    (first.0 ∷ rest.0, (first.1, rest.1))
+
+-- ---- the laws
+
 pub valid-certificates-stand : ValidCertificatesStand
-valid-certificates-stand program certificate values failed is fails = accepted-stand (conditions program certificate) failed is.accepted fails
+valid-certificates-stand program certificate failed holds fails = accepted-stand (conditions program certificate) failed holds fails
+
+pub valid-certificates-have-values : ValidCertificatesHaveValues
+valid-certificates-have-values program certificate holds =
+    let given = branches-there program certificate.trees 0 certificate.branches
+    (AllHold-right (certificate_fit program certificate ++ rows_claims program 0 certificate.trees) (numbered (branch_claims program certificate.trees) 0 certificate.branches) holds) in
+    (given.0, record { accepted = holds; valued = given.1 })
 
 pub valid-certificates-give-one : ValidCertificatesGiveOne
 valid-certificates-give-one program certificate one two h g = branches-same program certificate.branches one two h.valued g.valued

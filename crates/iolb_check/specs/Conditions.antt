@@ -1,13 +1,10 @@
 -- The conditions of certificates, in the order in which they are tested.
 use Rattle.std.specs.Prelude.{◌≡◌, ℕ, List, [], ◌∷◌, ◌++◌, length, map}
-use Rattle.std.specs.List.{AllByRecursion}
-use Rattle.iolb_model.specs.Footprint.{Footprint, IsFootprintOf, HasFootprints}
 use Rattle.iolb_model.specs.Program.{AffineProgram}
 use Rattle.claims.specs.Claims.{Claim, AllHold, numbered}
 use Rattle.claims.specs.declared.place.Step.{Step}
 use Rattle.claims.specs.declared.place.Step.TheVariants.{Key, Index}
 use Rattle.claims.specs.declared.key.TheConstants.{BRANCHES, COLD, DISJOINT, PARTITION, TERMS, WAVEFRONT}
-use Rattle.affine_program.specs.Parts.{ProgramParts, meaning}
 use Rattle.dep_quast.specs.Claims.{pointless_claims}
 use Rattle.dep_quast.specs.Tree.{SelectionTree}
 use Rattle.domain_count.specs.Count.{IsCount, IsSumFrom}
@@ -17,7 +14,7 @@ use Rattle.k_partition.specs.PartitionClaims.{IsCreditsTotal, no_points, partiti
 use Rattle.k_partition.specs.PartitionPieces.{partition_pieces}
 use Rattle.k_partition.specs.Term.{PartitionTerm}
 use Rattle.reuse_paths.specs.DisjointClaims.{pairwise_systems}
-use Rattle.reuse_paths.specs.Pieces.{FootprintPiece, AreCovered}
+use Rattle.reuse_paths.specs.Pieces.{FootprintPiece}
 use Rattle.reuse_paths.specs.Quasts.{tree_for}
 use Rattle.reuse_paths.specs.Trees.{rows_claims}
 use Rattle.wavefront.specs.ColdClaims.{cold_claims}
@@ -29,7 +26,6 @@ use Rattle.iolb_check.specs.Claims.{TermClaim, cold, partition, front, cold_term
 use Rattle.iolb_check.specs.TermFit.{certificate_fit}
 use Rattle.iolb_check.specs.declared.bound.Value.{Value}
 use Rattle.iolb_check.specs.declared.bound.Value.TheVariants as values
-use Rattle.iolb_check.specs.Bounds.{IsTermValue, term_of, terms_of}
 
 -- ---- claims
 
@@ -118,23 +114,3 @@ AreBranchValues program (branch ∷ branches) (values ∷ others) = AreValuesOf 
 pub record MeetsConditions (program : AffineProgram) (certificate : CertificateClaim) (values : List (List Value)) : Type 0 where
   pub accepted : AllHold (conditions program certificate)
   pub valued : AreBranchValues program certificate.branches values
-
--- ---- what follows
-
--- A term's value has a footprint, which the term's pieces cover, and counts something.
-pub record TermHolds (program : ProgramParts) (pieces : List FootprintPiece) (value : Value) : Type 0 where
-  pub footprint : Footprint
-  pub loaded : IsFootprintOf (meaning program) (term_of value) footprint
-  pub covered : AreCovered (meaning program) footprint pieces
-  pub counting : IsTermValue program.assumed value
-
--- so do the values of terms, one for each list of pieces
-abbrev pub TermsHold : ProgramParts → List (List FootprintPiece) → List Value → Type 0
-TermsHold program [] values = values ≡ []
-TermsHold program (pieces ∷ lists) [] = ⊥
-TermsHold program (pieces ∷ lists) (value ∷ values) = TermHolds program pieces value × TermsHold program lists values
-
--- the values of a branch have footprints of which no two have a vertex in common, and count something
-pub record BranchHolds (program : ProgramParts) (branch : List Value) : Type 0 where
-  pub footprints : HasFootprints (meaning program) (terms_of branch)
-  pub counting : AllByRecursion (IsTermValue program.assumed) branch

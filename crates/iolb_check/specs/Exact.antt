@@ -2,18 +2,23 @@
 -- one condition first, at one place.
 use Rattle.std.specs.Prelude.{◌≡◌, List}
 use Rattle.iolb_model.specs.Program.{AffineProgram}
-use Rattle.claims.specs.Claims.{FirstFails}
+use Rattle.claims.specs.Claims.{AllHold, FirstFails}
 use Rattle.claims.specs.declared.refused.No.{No}
 use Rattle.iolb_check.specs.Claims.{CertificateClaim}
 use Rattle.iolb_check.specs.declared.bound.Value.{Value}
 use Rattle.iolb_check.specs.Conditions.{conditions, MeetsConditions}
 
--- What meets the conditions is not refused.
+-- Where all conditions hold, the certificate isn't refused.
 abbrev pub ValidCertificatesStand : Type 0
-ValidCertificatesStand = (program : AffineProgram) (certificate : CertificateClaim) (values : List (List Value)) (failed : No)
-    → MeetsConditions program certificate values → FirstFails (conditions program certificate) failed → ⊥
+ValidCertificatesStand = (program : AffineProgram) (certificate : CertificateClaim) (failed : No) → AllHold (conditions program certificate)
+    → FirstFails (conditions program certificate) failed → ⊥
 
--- It meets them with one list of values.
+-- Its terms have values then, whatever the program.
+abbrev pub ValidCertificatesHaveValues : Type 0
+ValidCertificatesHaveValues = (program : AffineProgram) (certificate : CertificateClaim) → AllHold (conditions program certificate)
+    → (values : List (List Value)) × MeetsConditions program certificate values
+
+-- It meets the conditions with one list of values.
 abbrev pub ValidCertificatesGiveOne : Type 0
 ValidCertificatesGiveOne = (program : AffineProgram) (certificate : CertificateClaim) (one two : List (List Value))
     → MeetsConditions program certificate one → MeetsConditions program certificate two → one ≡ two

@@ -10,3 +10,4 @@ pub mod PartitionFit
 pub mod TermFit
 pub mod Fit
 pub mod Sound
+pub mod Holds

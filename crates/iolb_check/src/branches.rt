@@ -10,7 +10,8 @@ ghost use Rattle.iolb_check.specs.Claims.{claim_of_branch, claim_of_term};
 ghost use Rattle.iolb_check.specs.Fit.{BranchFits, BranchesFit, HasPieces, TermFits};
 ghost use Rattle.iolb_check.specs.Bounds.{lists};
 ghost use Rattle.iolb_check.specs.Sound.{IsSound, IsSoundBranch};
-ghost use Rattle.iolb_check.specs.Conditions.{AreBranchValues, AreValuesOf, BranchHolds, TermsHold, branch_claims, branch_pieces, terms_claims, terms_place as place_of_terms};
+ghost use Rattle.iolb_check.specs.Conditions.{AreBranchValues, AreValuesOf, branch_claims, terms_claims, terms_place as place_of_terms};
+ghost use Rattle.iolb_check.specs.Holds.{BranchHolds, BranchesHold, TermsHold};
 
 use crate::bound::Value;
 use crate::pairs::check_pairs;
@@ -38,7 +39,7 @@ pub(crate) fn check_branches(
     requires are_true { RowsAreTrue (meaning program.now) 0 (trees_of quasts.now) }
     ensures accepted { IfOk result (λ values. AllHold (numbered (branch_claims (meaning program.now) (trees_of quasts.now)) 0 (map claim_of_branch branches.now))) }
     ensures values { IfOk result (λ values. AreBranchValues (meaning program.now) (map claim_of_branch branches.now) (lists values.items)) }
-    ensures hold { IfOk result (λ values. AllByRecursion (BranchHolds program.now) (lists values.items)) }
+    ensures hold { IfOk result (λ values. BranchesHold program.now branches.now (lists values.items)) }
     ensures sound { OnOk result (AllByRecursion (IsSoundBranch program.now) branches.now) }
     ensures refused { IfErr result (IsRefusal (numbered (branch_claims (meaning program.now) (trees_of quasts.now)) 0 (map claim_of_branch branches.now))) }
 {
@@ -65,7 +66,7 @@ fn check_branch(
     requires are_true { RowsAreTrue (meaning program.now) 0 (trees_of quasts.now) }
     ensures accepted { IfOk result (λ values. AllHold (branch_claims (meaning program.now) (trees_of quasts.now) number (claim_of_branch branch.now))) }
     ensures values { IfOk result (λ values. AreValuesOf (meaning program.now) (map claim_of_term branch.now.terms.items) values.items) }
-    ensures holds { IfOk result (λ values. BranchHolds program.now values.items) }
+    ensures holds { IfOk result (λ values. BranchHolds program.now branch.now values.items) }
     ensures sound { OnOk result (IsSoundBranch program.now branch.now) }
     ensures refused { IfErr result (IsRefusal (branch_claims (meaning program.now) (trees_of quasts.now) number (claim_of_branch branch.now))) }
 {
@@ -102,7 +103,7 @@ fn check_terms(
     requires are_true { RowsAreTrue (meaning program.now) 0 (trees_of quasts.now) }
     ensures accepted { IfOk result (λ values. AllHold (terms_claims (meaning program.now) (trees_of quasts.now) place.now (map claim_of_term terms.now))) }
     ensures values { IfOk result (λ values. AreValuesOf (meaning program.now) (map claim_of_term terms.now) values.items) }
-    ensures hold { IfOk result (λ values. TermsHold program.now (branch_pieces (meaning program.now) (trees_of quasts.now) (map claim_of_term terms.now)) values.items) }
+    ensures hold { IfOk result (λ values. TermsHold program.now (trees_of quasts.now) terms.now values.items) }
     ensures pieces { OnOk result (AllByRecursion (HasPieces program.now (trees_of quasts.now)) terms.now) }
     ensures sound { OnOk result (AllByRecursion (IsSound program.now) terms.now) }
     ensures refused { IfErr result (IsRefusal (terms_claims (meaning program.now) (trees_of quasts.now) place.now (map claim_of_term terms.now))) }

@@ -1,14 +1,14 @@
 //! The checker.
 
 ghost use Rattle.std.specs.Prelude.{◌≡◌, IfOk, IfErr, OnOk};
-ghost use Rattle.std.specs.List.{AllByRecursion};
+ghost use Rattle.std.specs.List.{AllByRecursion, AllZip};
 ghost use Rattle.iolb_model.specs.Headline.{BoundHolds};
 ghost use Rattle.affine_program.specs.Parts.{meaning};
 ghost use Rattle.iolb_check.specs.Bounds.{bound_of};
 ghost use Rattle.claims.specs.Claims.{IsRefusal};
 ghost use Rattle.iolb_check.specs.Claims.{claim_of_certificate};
 ghost use Rattle.iolb_check.specs.Conditions.{MeetsConditions, conditions};
-ghost use Rattle.iolb_check.specs.Sound.{IsSoundBranch};
+ghost use Rattle.iolb_check.specs.Sound.{AreCounted, ArePaid, IsSoundBranch};
 
 use crate::bound::Bound;
 use crate::branches::check_branches;
@@ -23,7 +23,11 @@ use std::alloc::Global;
 /// Checks a certificate for a program. The answer is the bound that it gives, and the bound holds: at all parameter values
 /// that meet the program's assumptions, of any size, and every number of red pebbles, every complete pebbling of the
 /// program's computation graph (Hong and Kung 1981, without recomputation) makes at least as many loads as the bound's
-/// value. Each term of the certificate is sound (`IsSound`).
+/// value.
+///
+/// Each branch of the certificate is sound (`IsSoundBranch`): each of its terms is, and at all admitted parameter values no two
+/// of them have a vertex of their footprints in common. Each term costs its value in loads of its footprint (`paid`), and the
+/// counts of the value are the numbers of points of the term's nests (`counts`).
 ///
 /// # Errors
 ///
@@ -35,6 +39,8 @@ pub fn check(alloc: Global, program: &Program, certificate: &Certificate) -> Res
     ensures meets { IfOk result (λ bound. MeetsConditions (meaning program.now) (claim_of_certificate certificate.now) bound.branches) }
     ensures holds { IfOk result (λ bound. BoundHolds (meaning program.now) (bound_of bound)) }
     ensures sound { OnOk result (AllByRecursion (IsSoundBranch program.now) certificate.now.branches) }
+    ensures paid { IfOk result (λ bound. AllZip (ArePaid program.now) certificate.now.branches bound.branches) }
+    ensures counts { IfOk result (λ bound. AllZip (AreCounted program.now) certificate.now.branches bound.branches) }
     ensures refused { IfErr result (IsRefusal (conditions (meaning program.now) (claim_of_certificate certificate.now))) }
 {
     match first_misfit(alloc, program, certificate) {

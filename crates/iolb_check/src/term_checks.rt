@@ -7,20 +7,18 @@ ghost use Rattle.claims.specs.declared.place.Step.TheVariants.{Key, Index};
 ghost use Rattle.claims.specs.declared.key.TheConstants.{COLD, PARTITION, WAVEFRONT};
 ghost use Rattle.domain_count.specs.Count.{IsCount, IsSumFrom};
 ghost use Rattle.k_partition.specs.PartitionClaims.{partition_claims};
-ghost use Rattle.k_partition.specs.PartitionPieces.{partition_pieces};
 ghost use Rattle.k_partition.specs.View.{partition_of};
 ghost use Rattle.reuse_paths.specs.Quasts.{tree_for, trees_of};
 ghost use Rattle.reuse_paths.specs.Trees.{RowsAreTrue, RowsFit};
 ghost use Rattle.wavefront.specs.ColdClaims.{cold_claims};
-ghost use Rattle.wavefront.specs.ColdPieces.{cold_pieces};
 ghost use Rattle.wavefront.specs.FrontClaims.{front_claims};
-ghost use Rattle.wavefront.specs.FrontPieces.{front_pieces};
 ghost use Rattle.wavefront.specs.FrontTerm.{outer_nest};
 ghost use Rattle.wavefront.specs.View.{front_of, term_of};
 ghost use Rattle.iolb_check.specs.Claims.{claim_of_term};
 ghost use Rattle.iolb_check.specs.Fit.{ColdTermFits, FrontTermFits, HasPieces, PartitionTermFits, TermFits};
 ghost use Rattle.iolb_check.specs.Sound.{IsSound};
-ghost use Rattle.iolb_check.specs.Conditions.{IsPartitionValue, IsValueOf, TermHolds, term_claims_at, term_pieces};
+ghost use Rattle.iolb_check.specs.Conditions.{IsPartitionValue, IsValueOf, term_claims_at};
+ghost use Rattle.iolb_check.specs.Holds.{TermHolds};
 
 use crate::bound::Value;
 use crate::term::Term;
@@ -51,7 +49,7 @@ pub(crate) fn check_term(
     requires are_true { RowsAreTrue (meaning program.now) 0 (trees_of quasts.now) }
     ensures accepted { IfOk result (λ value. AllHold (term_claims_at (meaning program.now) (trees_of quasts.now) place.now index (claim_of_term term.now))) }
     ensures value { IfOk result (λ value. IsValueOf (meaning program.now) (claim_of_term term.now) value) }
-    ensures holds { IfOk result (λ value. TermHolds program.now (term_pieces (meaning program.now) (trees_of quasts.now) (claim_of_term term.now)) value) }
+    ensures holds { IfOk result (λ value. TermHolds program.now (trees_of quasts.now) term.now value) }
     ensures pieces { OnOk result (HasPieces program.now (trees_of quasts.now) term.now) }
     ensures sound { OnOk result (IsSound program.now term.now) }
     ensures refused { IfErr result (IsRefusal (term_claims_at (meaning program.now) (trees_of quasts.now) place.now index (claim_of_term term.now))) }
@@ -93,7 +91,7 @@ fn check_cold_term(
     requires are_true { RowsAreTrue (meaning program.now) 0 (trees_of quasts.now) }
     ensures accepted { IfOk result (λ count. AllHold (cold_claims (meaning program.now) ((place.now ++ Index index ∷ []) ++ Key COLD ∷ []) (tree_for (trees_of quasts.now) (term_of cold.now).reader) (term_of cold.now))) }
     ensures value { IfOk result (λ count. IsCount (meaning program.now) cold.now.nest cold.now.sums count) }
-    ensures holds { IfOk result (λ count. TermHolds program.now (cold_pieces (meaning program.now) (tree_for (trees_of quasts.now) (term_of cold.now).reader) (term_of cold.now)) (Value.Cold count)) }
+    ensures holds { IfOk result (λ count. TermHolds program.now (trees_of quasts.now) (Term.Cold cold.now) (Value.Cold count)) }
     ensures pieces { OnOk result (HasPieces program.now (trees_of quasts.now) (Term.Cold cold.now)) }
     ensures sound { OnOk result (IsSound program.now (Term.Cold cold.now)) }
     ensures refused { IfErr result (IsRefusal (cold_claims (meaning program.now) ((place.now ++ Index index ∷ []) ++ Key COLD ∷ []) (tree_for (trees_of quasts.now) (term_of cold.now).reader) (term_of cold.now))) }
@@ -120,7 +118,7 @@ fn check_partition_term(
     requires are_true { RowsAreTrue (meaning program.now) 0 (trees_of quasts.now) }
     ensures accepted { IfOk result (λ bound. AllHold (partition_claims (meaning program.now) (trees_of quasts.now) ((place.now ++ Index index ∷ []) ++ Key PARTITION ∷ []) (partition_of partition.now))) }
     ensures value { IfOk result (λ bound. IsPartitionValue (meaning program.now) (partition_of partition.now) bound) }
-    ensures holds { IfOk result (λ bound. TermHolds program.now (partition_pieces (meaning program.now) (trees_of quasts.now) (partition_of partition.now)) (Value.Partition bound)) }
+    ensures holds { IfOk result (λ bound. TermHolds program.now (trees_of quasts.now) (Term.Partition partition.now) (Value.Partition bound)) }
     ensures pieces { OnOk result (HasPieces program.now (trees_of quasts.now) (Term.Partition partition.now)) }
     ensures sound { OnOk result (IsSound program.now (Term.Partition partition.now)) }
     ensures refused { IfErr result (IsRefusal (partition_claims (meaning program.now) (trees_of quasts.now) ((place.now ++ Index index ∷ []) ++ Key PARTITION ∷ []) (partition_of partition.now))) }
@@ -149,7 +147,7 @@ fn check_front_term(
     ensures accepted { IfOk result (λ counts. AllHold (front_claims (meaning program.now) ((place.now ++ Index index ∷ []) ++ Key WAVEFRONT ∷ []) (trees_of quasts.now) (front_of front.now))) }
     ensures value { IfOk result (λ counts. IsCount (meaning program.now) front.now.nest front.now.sums counts.0) }
     ensures outer { IfOk result (λ counts. IsSumFrom (length program.now.params) (outer_nest (front_of front.now)) front.now.outer_sums.items counts.1) }
-    ensures holds { IfOk result (λ counts. TermHolds program.now (front_pieces (meaning program.now) (front_of front.now)) (Value.Wavefront counts.0 counts.1)) }
+    ensures holds { IfOk result (λ counts. TermHolds program.now (trees_of quasts.now) (Term.Wavefront front.now) (Value.Wavefront counts.0 counts.1)) }
     ensures sound { OnOk result (IsSound program.now (Term.Wavefront front.now)) }
     ensures refused { IfErr result (IsRefusal (front_claims (meaning program.now) ((place.now ++ Index index ∷ []) ++ Key WAVEFRONT ∷ []) (trees_of quasts.now) (front_of front.now))) }
 {

@@ -1,3 +1,4 @@
+pub mod Absences
 pub mod Lookups
 pub mod Moved
 pub mod Opened

@@ -1,5 +1,5 @@
 -- The faults of reads, each told with the name of its file.
-use Rattle.std.specs.Prelude.{ℕ, Bool, true, false, List, [], ◌∷◌, ◌++◌, map, count_by, String, Result, Ok, Err}
+use Rattle.std.specs.Prelude.{ℕ, Bool, true, false, List, [], ◌∷◌, ◌++◌, map, filter, not, count_by, String, Result, Ok, Err}
 use Rattle.std.specs.String.{string_bytes}
 use Rattle.std.specs.declared.alloc.Global.{Global}
 use Rattle.iolb_host.specs.declared.files.FileFault.{FileFault}
@@ -32,6 +32,10 @@ is_failure Memory = false
 -- how many reads failed
 abbrev pub failure_count : List NamedFault → ℕ
 failure_count faults = count_by (λ (named : NamedFault). is_failure named.fault) faults
+
+-- the faults that are no failures: files that were missing or too long
+abbrev pub absences : List NamedFault → List NamedFault
+absences faults = filter (λ (named : NamedFault). not (is_failure named.fault)) faults
 
 -- the faults that a list of the program holds
 abbrev pub faults_in : List (String Global × FileFault) → List NamedFault

@@ -19,3 +19,10 @@ abbrev pub after_write : {T : Type 0} → ℕ → Result T SinkFault → ℕ
 after_write count (Ok _) = count
 after_write count (Err Failed) = next_count count
 after_write count (Err Memory) = count
+
+-- The count of answers that memory was wanted, after a write with this outcome: one more where this is the answer, and else
+-- as before.
+abbrev pub after_want : {T : Type 0} → ℕ → Result T SinkFault → ℕ
+after_want count (Ok _) = count
+after_want count (Err Failed) = count
+after_want count (Err Memory) = next_count count

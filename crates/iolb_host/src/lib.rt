@@ -25,7 +25,7 @@ pub use mem_sink::MemSink;
 pub use sink::{Sink, SinkFault};
 pub use std_files::StdFiles;
 pub use std_sink::StdSink;
-pub use sure_files::SureFiles;
+pub use sure_files::{SureFiles, sure_files_never_fail};
 pub use sure_sink::SureSink;
 
 #[cfg(test)]

@@ -1,7 +1,7 @@
 //! A sink in memory of which some writes fail.
 ghost use Rattle.std.specs.Prelude.{◌≡◌, ◌++◌, ◌↔◌, [], Some, OnOk, IsErrOf, Contains};
 ghost use Rattle.iolb_host.specs.MemSink.{after_put};
-ghost use Rattle.iolb_host.specs.Sink.{after_write};
+ghost use Rattle.iolb_host.specs.Sink.{after_want, after_write};
 
 use crate::count::raise;
 use crate::failing::is_listed;
@@ -16,6 +16,7 @@ pub struct MemSink {
     failing: Vec<u32>,
     calls: u64,
     faults: u64,
+    wants: u64,
 }
 
 impl Model for MemSink {
@@ -28,6 +29,7 @@ impl Model for MemSink {
       failing = sink.failing.items;
       calls = sink.calls;
       faults = sink.faults;
+      wants = sink.wants;
     } };
 }
 
@@ -36,6 +38,7 @@ impl MemSink {
     pub fn new(alloc: Global, failing: Vec<u32>) -> Self
         ensures written { ⟦<MemSink as Sink>⟧.written result ≡ Some [] }
         ensures faults { ⟦<MemSink as Sink>⟧.faults result ≡ 0 }
+        ensures wants { ⟦<MemSink as Sink>⟧.wants result ≡ 0 }
         ensures failing { result.failing ≡ failing.items }
         ensures calls { result.calls ≡ 0 }
     {
@@ -44,6 +47,7 @@ impl MemSink {
             failing,
             calls: 0,
             faults: 0,
+            wants: 0,
         }
     }
 
@@ -60,8 +64,11 @@ impl Sink for MemSink {
 
     ghost faults = { λ sink. sink.faults };
 
+    ghost wants = { λ sink. sink.wants };
+
     fn put(&mut self, bytes: &[u8]) -> Result<(), SinkFault>
         ensures faults { self.new.faults ≡ after_write self.old.faults result }
+        ensures wants { self.new.wants ≡ after_want self.old.wants result }
         ensures ok { OnOk result (self.new.written ≡ self.old.written ++ bytes.now) }
         ensures failed { IsErrOf result SinkFault.Failed → self.new.written ≡ self.old.written }
         ensures memory { IsErrOf result SinkFault.Memory → self.new.written ≡ self.old.written }
@@ -76,7 +83,12 @@ impl Sink for MemSink {
             raise(&mut self.faults);
             return Err(SinkFault::Failed);
         }
-        self.bytes.extend_from_slice(bytes)?;
-        Ok(())
+        match self.bytes.extend_from_slice(bytes) {
+            Ok(()) => Ok(()),
+            Err(_) => {
+                raise(&mut self.wants);
+                Err(SinkFault::Memory)
+            }
+        }
     }
 }

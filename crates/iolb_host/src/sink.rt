@@ -1,7 +1,7 @@
 //! Sinks as the program sees them.
 ghost use Rattle.std.specs.Prelude.{◌≡◌, ℕ, List, Option, OnOk, IsErrOf};
 ghost use Rattle.iolb_host.specs.declared.sink.SinkFault.TheVariants.{Memory};
-ghost use Rattle.iolb_host.specs.Sink.{AppendsPiece, AppendsPart, after_write};
+ghost use Rattle.iolb_host.specs.Sink.{AppendsPiece, AppendsPart, after_want, after_write};
 
 use std::alloc::AllocError;
 
@@ -30,10 +30,14 @@ pub trait Sink {
     /// How often a write failed.
     ghost faults: { Self → ℕ };
 
+    /// How often memory was wanted for a write.
+    ghost wants: { Self → ℕ };
+
     /// Writes the piece behind what was written before.
     fn put(&mut self, bytes: &[u8]) -> Result<(), SinkFault>
-        // The count rises where the write fails, and stays else.
+        // A count rises where it is for this answer, and stays else.
         ensures faults { faults self.new ≡ after_write (faults self.old) result }
+        ensures wants { wants self.new ≡ after_want (wants self.old) result }
 
         ensures ok { OnOk result (AppendsPiece (written self.old) (written self.new) bytes.now) }
         ensures failed { IsErrOf result SinkFault.Failed →

@@ -76,6 +76,8 @@ impl<W: Write> Sink for StdSink<W> {
 
     ghost faults = { λ sink. fault_count sink };
 
+    ghost wants = { λ _. 0 };
+
     fn put(&mut self, bytes: &[u8]) -> Result<(), SinkFault>
         ensures faults { fault_count self.new ≡ after_write (fault_count self.old) result }
         ensures never_memory { ¬ IsErrOf result SinkFault.Memory }

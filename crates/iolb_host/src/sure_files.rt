@@ -1,8 +1,8 @@
 //! Files in memory of which every read succeeds.
 ghost use Rattle.std.specs.Prelude.{◌≡◌, ◌≤◌, [], Some, IfOk, IsErrOf, length};
-ghost use Rattle.iolb_host.specs.Faults.{after_read};
+ghost use Rattle.iolb_host.specs.Faults.{absences, after_read, failure_count};
 ghost use Rattle.iolb_host.specs.Files.{content_of, Answers};
-ghost use Rattle.iolb_host.specs.MemFiles.{files_of};
+ghost use Rattle.iolb_host.specs.MemFiles.{files_of, SureStore};
 
 use crate::fault_list::noted;
 use crate::held::copy_of;
@@ -46,14 +46,20 @@ impl SureFiles {
     }
 }
 
+/// Whatever was read of them, such files tell no failure among their faults.
+pub fn sure_files_never_fail()
+    ensures { (store : SureStore) → failure_count (⟦<SureFiles as Files>⟧.faults store) ≡ 0 }
+{}
+
 impl Files for SureFiles {
     ghost told = { λ store. Some store.files };
 
-    ghost faults = { λ store. store.faults };
+    // Only those that are no failures: a read that fails could not tell its fault.
+    ghost faults = { λ store. absences store.faults };
 
     fn read(&mut self, name: &str, most: u64) -> Result<Vec<u8>, FileFault>
         ensures told_stays { self.new.files ≡ self.old.files }
-        ensures faults { self.new.faults ≡ after_read self.old.faults name.now result }
+        ensures faults { absences self.new.faults ≡ after_read (absences self.old.faults) name.now result }
         ensures within { IfOk result (λ bytes. length bytes.items ≤ most) }
         ensures answers { Answers (content_of self.old.files name.now) most result }
         ensures never_fails { ¬ IsErrOf result FileFault.Failed }

@@ -1,6 +1,7 @@
 //! A sink in memory of which every write succeeds.
 ghost use Rattle.std.specs.Prelude.{◌≡◌, [], Some};
 
+use crate::count::raise;
 use crate::{Sink, SinkFault};
 use std::alloc::Global;
 use std::marker::Model;
@@ -9,14 +10,15 @@ use std::marker::Model;
 #[derive(Drop)]
 pub struct SureSink {
     bytes: Vec<u8>,
+    wants: u64,
 }
 
 impl Model for SureSink {
-    ghost use Rattle.std.specs.Prelude.{ℕ, List};
+    ghost use Rattle.iolb_host.specs.MemSink.{SureBytes};
 
-    ghost Value = { List ℕ };
+    ghost Value = { SureBytes };
 
-    ghost view = { λ sink. sink.bytes.items };
+    ghost view = { λ sink. record { written = sink.bytes.items; wants = sink.wants } };
 }
 
 impl SureSink {
@@ -24,9 +26,11 @@ impl SureSink {
     pub fn new(alloc: Global) -> Self
         ensures written { ⟦<SureSink as Sink>⟧.written result ≡ Some [] }
         ensures faults { ⟦<SureSink as Sink>⟧.faults result ≡ 0 }
+        ensures wants { ⟦<SureSink as Sink>⟧.wants result ≡ 0 }
     {
         SureSink {
             bytes: Vec::new(alloc),
+            wants: 0,
         }
     }
 
@@ -39,12 +43,19 @@ impl SureSink {
 }
 
 impl Sink for SureSink {
-    ghost written = { λ sink. Some sink };
+    ghost written = { λ sink. Some sink.written };
 
     ghost faults = { λ _. 0 };
 
+    ghost wants = { λ sink. sink.wants };
+
     fn put(&mut self, bytes: &[u8]) -> Result<(), SinkFault> {
-        self.bytes.extend_from_slice(bytes)?;
-        Ok(())
+        match self.bytes.extend_from_slice(bytes) {
+            Ok(()) => Ok(()),
+            Err(_) => {
+                raise(&mut self.wants);
+                Err(SinkFault::Memory)
+            }
+        }
     }
 }

@@ -95,3 +95,18 @@ pub const STRETCH: u8 = 64;
 
 /// The events of a stretch beside these, at most.
 pub const STRETCH_MORE: u32 = 1 << 20;
+
+/// Keys of a statement in a schedule, at most.
+pub const SCHEDULE_KEYS: usize = 8;
+
+/// The divisor of a schedule's key, at most.
+pub const DIVISOR: u32 = 1 << 20;
+
+/// The bytes of a program's file, at most.
+pub const PROGRAM_BYTES: usize = 4 << 20;
+
+/// The bytes of a certificate's file, at most.
+pub const CERTIFICATE_BYTES: usize = 64 << 20;
+
+/// The bytes of a schedule's file, at most.
+pub const SCHEDULE_BYTES: usize = 1 << 20;

@@ -1,23 +1,19 @@
 -- Complete pebblings keep to the red pebbles, and compute each instance once.
-use Rattle.std.proofs.Common.{◌≡◌, refl, sym, ◌∙◌, ap, subst, inl, inr, ℕ, zero, suc, ◌+◌, ◌-◌, ◌*◌, ◌/◌, ◌<◌, ◌≤◌, ◌≢◌, Bool, true, false, cond, List, [], ◌∷◌, length, set, arith, IsTrue}
-use Rattle.std.specs.Prelude.{◌⊎◌, ◌||◌, ◌&&◌, nat_eq, filter}
+use Rattle.std.proofs.Common.{◌≡◌, refl, sym, ◌∙◌, ap, inl, inr, ℕ, zero, suc, ◌+◌, ◌<◌, ◌≤◌, ◌≢◌, Bool, true, false, cond, List, [], ◌∷◌, length, set, arith, IsTrue}
+use Rattle.std.specs.Prelude.{◌⊎◌, ◌||◌, nat_eq, filter}
 use Rattle.std.specs.List.{AllByRecursion, IsDistinct}
-use Rattle.std.specs.Set.{is_member}
-use Rattle.std.specs.Cmp.{nat_eq_equiv}
-use Rattle.std.proofs.Math.Nat.{div-mul-le_self, mul_comm, zero-div}
-use Rattle.std.proofs.lemmas.Bool.{eqb-true, ne_eqb, cases_eq, or_parts}
+use Rattle.std.proofs.lemmas.Bool.{ne_eqb, cases_eq, or_parts}
 use Rattle.std.proofs.lemmas.List.{get_or-set_other, get_or-set_same, length-set, length-replicate}
 use Rattle.std.proofs.lemmas.List.Sums.{sum_by-cons}
-use Rattle.std.proofs.lemmas.Map.Made.{is_member-filter, length-le_from_is_member}
 use Rattle.execution_laws.proofs.Members.{Member}
 use Rattle.iolb_model.specs.declared.game.Move.{Move}
 use Rattle.iolb_model.specs.declared.game.Move.TheVariants.{Load, Store, Compute, Drop, Erase}
 use Rattle.iolb_model.specs.Graph.{ComputationGraph}
-use Rattle.iolb_model.specs.Game.{AreAllowed, Board, IsCompletePebbling, board_after, final_board, first_board, loads_of, loads_one_of, mark_count, marked, stands_in, vertices}
-use Rattle.k_partition.specs.Laws.{AreInstances, PartitionsAreLoadedEach, PartitionsAreLoadedSum, PointsTakeEventsEach, PointsTakeEventsSum}
-use Rattle.k_partition.specs.Reuse.{ReusePartition, words_of}
-use Rattle.k_partition.specs.Runs.{IsRedRun, computed_vertices, events, is_event, points_computed}
-use Rattle.pebble_game.proofs.Marks.{count-put, distinct-filtered, member-stands, unmarked-at, none-marked}
+use Rattle.iolb_model.specs.Game.{AreAllowed, Board, IsCompletePebbling, board_after, final_board, first_board, mark_count, marked, stands_in, vertices}
+use Rattle.k_partition.specs.Laws.{AreInstances, CompletePebblingsAreRuns, DifferentComputationsAreFew, PartitionsAreLoadedEach, PartitionsAreLoadedSum, RunsAreLoadedEach, RunsAreLoadedSum}
+use Rattle.k_partition.specs.Reuse.{ReusePartition}
+use Rattle.k_partition.specs.Runs.{IsRedRun, computations_of, computed_vertices, points_computed}
+use Rattle.pebble_game.proofs.Marks.{count-put, member-stands, unmarked-at, none-marked}
 
 -- ---- red pebbles
 
@@ -92,81 +88,46 @@ module _ (graph : ComputationGraph) (s : ℕ) where
   computed-once board (Drop w ∷ moves) wide allowed = let later = computed-once (board_after board (Drop w)) moves wide allowed.1 in record { distinct = later.distinct; fresh = later.fresh }
   computed-once board (Erase w ∷ moves) wide allowed = let later = computed-once (board_after board (Erase w)) moves wide allowed.1 in record { distinct = later.distinct; fresh = later.fresh }
 
--- ---- events
-
-module _ (partition : ReusePartition) where
-  longer : (b : Bool) (v : ℕ) (rest : List ℕ) → length (cond b (v ∷ rest) rest) ≡ cond b 1 0 + length rest
-  longer true v rest = omega arith
-  longer false v rest = omega arith
-
-  -- events are loads of words and computations of credited vertices
-  events-are : (moves : List Move) → events partition moves ≡ loads_of (words_of partition) moves + length (filter (stands_in partition.credited) (computed_vertices moves))
-  events-are [] = refl
-  events-are (Load v ∷ moves) =
-      omega (
-        arith,
-        sum_by-cons (λ (move : Move). cond (is_event partition move) 1 0) (Load v) moves,
-        sum_by-cons (λ (move : Move). cond (loads_one_of (words_of partition) move) 1 0) (Load v) moves,
-        events-are moves,
-      )
-  events-are (Store v ∷ moves) = events-are moves
-  events-are (Compute v ∷ moves) =
-      omega (
-        arith,
-        sum_by-cons (λ (move : Move). cond (is_event partition move) 1 0) (Compute v) moves,
-        longer (stands_in partition.credited v) v (filter (stands_in partition.credited) (computed_vertices moves)),
-        events-are moves,
-      )
-  events-are (Drop v ∷ moves) = events-are moves
-  events-are (Erase v ∷ moves) = events-are moves
-
-  -- computations of credited vertices are at most as many as these
-  credits-few : (moves : List Move) → IsDistinct nat_eq (computed_vertices moves) → length (filter (stands_in partition.credited) (computed_vertices moves)) ≤ length partition.credited
-  credits-few moves distinct =
-      length-le_from_is_member nat_eq_equiv (filter (stands_in partition.credited) (computed_vertices moves)) partition.credited
-      (distinct-filtered (stands_in partition.credited) (computed_vertices moves) distinct)
-      (λ v h. second (is_member nat_eq (computed_vertices moves) v) (stands_in partition.credited v)
-      (sym (is_member-filter nat_eq_equiv (stands_in partition.credited) v (λ x e. ap (stands_in partition.credited) (eqb-true v x e)) (computed_vertices moves)) ∙ h)) where
-        second : (a b : Bool) → (a && b) ≡ true → b ≡ true
-        second true b e = e
-        second false b e = cc
-
 all-left : (test : ℕ → Bool) (xs : List ℕ) → ((v : ℕ) → Member v xs → test v ≡ true) → length (filter test xs) ≡ length xs
 all-left test [] h = refl
 all-left test (x ∷ xs) h =
     ap (λ (b : Bool). length (cond b (x ∷ filter test xs) (filter test xs))) (h x (inl refl)) ∙ ap suc (all-left test xs (λ v m. h v (inr m)))
 
-module _ (graph : ComputationGraph) (s t u : ℕ) (partition : ReusePartition) (moves : List Move) (are : AreInstances graph partition) (game : IsCompletePebbling graph s moves)
-    (some : 1 ≤ u) (takes : (j : ℕ) → j * u < length (points_computed partition moves) → j * t ≤ events partition moves) where
-  all-computed : length (points_computed partition moves) ≡ length partition.points
-  all-computed =
-      all-left (stands_in (computed_vertices moves)) partition.points
-      (λ v m. member-stands (computed_vertices moves) v
-      (is-computed graph s (first_board graph) moves v (game.computed v (are.there v (member-stands partition.points v m))) (unmarked-at (vertices graph) v)))
-
+pub complete-pebblings-are-runs : CompletePebblingsAreRuns
+complete-pebblings-are-runs graph s moves game = (
+  red-run graph s (first_board graph) moves (omega (arith, none-marked (vertices graph))) game.allowed,
+  once.distinct,
+  λ v below. member-stands (computed_vertices moves) v (is-computed graph s (first_board graph) moves v (game.computed v below) (unmarked-at (vertices graph) v)),
+) where
   once : IsOnce graph s (first_board graph) moves
   once = computed-once graph s (first_board graph) moves (omega (arith, length-replicate (vertices graph) false)) game.allowed
 
-  few-loads : t * ((length partition.points - 1) / u) ≤ loads_of (words_of partition) moves + length partition.credited
-  few-loads = by (length partition.points) refl where
-    by : (n : ℕ) → n ≡ length partition.points → t * ((length partition.points - 1) / u) ≤ loads_of (words_of partition) moves + length partition.credited
-    by zero e =
-        let none : (length partition.points - 1) / u ≡ 0 = ap (λ (k : ℕ). (k - 1) / u) (sym e) ∙ zero-div u in
-        subst (λ (k : ℕ). t * k ≤ loads_of (words_of partition) moves + length partition.credited) (sym none) (omega arith)
-    by (suc n) e =
-        let j : ℕ = (length partition.points - 1) / u in
-        let within : j * u ≤ length partition.points - 1 = div-mul-le_self (length partition.points - 1) u in
-        let enough : j * t ≤ events partition moves = takes j (omega (arith, within, e, all-computed)) in
-        omega (arith, mul_comm t j, enough, events-are partition moves, credits-few partition moves once.distinct)
+-- all points are computed
+pub all-computed : (partition : ReusePartition) (moves : List Move) → ((v : ℕ) → stands_in partition.points v ≡ true → stands_in (computed_vertices moves) v ≡ true)
+    → length (points_computed partition moves) ≡ length partition.points
+all-computed partition moves computed = all-left (stands_in (computed_vertices moves)) partition.points (λ v m. computed v (member-stands partition.points v m))
 
-pub partitions-loaded-each : PointsTakeEventsEach → PartitionsAreLoadedEach
-partitions-loaded-each take graph q s t u partition moves sound are greatest game =
-    few-loads graph s t u partition moves are game greatest.at_least_one
-    (λ j many. take graph q s t u partition (first_board graph).red moves sound greatest
-    (red-run graph s (first_board graph) moves (omega (arith, none-marked (vertices graph))) game.allowed) j many)
+module _ (runs : CompletePebblingsAreRuns) (different : DifferentComputationsAreFew) (graph : ComputationGraph) (s : ℕ) (partition : ReusePartition) (moves : List Move)
+    (are : AreInstances graph partition) (game : IsCompletePebbling graph s moves) where
+  -- so its points are as many as those that are computed
+  points-many : length partition.points ≤ length (points_computed partition moves)
+  points-many = omega (arith, all-computed partition moves (λ v stands. (runs graph s moves game).2 v (are.there v stands)))
 
-pub partitions-loaded-sum : PointsTakeEventsSum → PartitionsAreLoadedSum
-partitions-loaded-sum take graph q s t u partition moves sound apart are greatest game =
-    few-loads graph s t u partition moves are game greatest.at_least_one
-    (λ j many. take graph q s t u partition (first_board graph).red moves sound apart greatest
-    (red-run graph s (first_board graph) moves (omega (arith, none-marked (vertices graph))) game.allowed) j many)
+  credits-few : computations_of partition.credited moves ≤ length partition.credited
+  credits-few = different partition.credited moves (runs graph s moves game).1
+
+pub partitions-loaded-each : RunsAreLoadedEach → DifferentComputationsAreFew → CompletePebblingsAreRuns → PartitionsAreLoadedEach
+partitions-loaded-each loaded different runs graph q s t u partition moves sound are greatest game =
+    omega (
+      arith,
+      loaded graph q s t u (length partition.points) partition (first_board graph).red moves sound greatest (runs graph s moves game).0 (points-many runs different graph s partition moves are game),
+      credits-few runs different graph s partition moves are game,
+    )
+
+pub partitions-loaded-sum : RunsAreLoadedSum → DifferentComputationsAreFew → CompletePebblingsAreRuns → PartitionsAreLoadedSum
+partitions-loaded-sum loaded different runs graph q s t u partition moves sound apart are greatest game =
+    omega (
+      arith,
+      loaded graph q s t u (length partition.points) partition (first_board graph).red moves sound apart greatest (runs graph s moves game).0 (points-many runs different graph s partition moves are game),
+      credits-few runs different graph s partition moves are game,
+    )

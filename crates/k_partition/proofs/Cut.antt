@@ -8,20 +8,15 @@ use Rattle.iolb_model.specs.Graph.{ComputationGraph}
 use Rattle.iolb_model.specs.Game.{stands_in}
 use Rattle.pebble_game.specs.Sets.{DisjointLoadsAddUp}
 use Rattle.uniform_cover.specs.Cover.{CoverBoundEach, CoverBoundSum}
-use Rattle.k_partition.specs.Laws.{PointsTakeEventsEach, PointsTakeEventsSum}
+use Rattle.k_partition.specs.Laws.{PointsTakeEventsEach, PointsTakeEventsSum, StretchesAreRedRuns, StretchesHoldLabelsEach, StretchesHoldLabelsSum, StretchesHoldPointsEach, StretchesHoldPointsSum}
 use Rattle.k_partition.specs.Reuse.{ReusePartition}
-use Rattle.k_partition.specs.Runs.{IsRedRun, computed_vertices, events, is_event, points_computed, red_after}
-use Rattle.k_partition.proofs.Stretch.{stretch-each, stretch-sum}
+use Rattle.k_partition.specs.Runs.{IsRedRun, computed_vertices, events, final_red, is_event, points_computed, red_after}
+use Rattle.k_partition.proofs.Stretch.{labels-each, labels-sum, stretch-each, stretch-sum}
 
 -- ---- two lists of moves, one after the other
 
-pub red_after_all : List Bool → List Move → List Bool
-red_after_all red [] = red
-red_after_all red (move ∷ moves) = red_after_all (red_after red move) moves
-
 module _ (graph : ComputationGraph) (s : ℕ) where
-  run-behind : (red : List Bool) (first rest : List Move) → IsRedRun graph s red (first ++ rest) → IsRedRun graph s (red_after_all red first) rest
-  unfolding red_after_all
+  run-behind : (red : List Bool) (first rest : List Move) → IsRedRun graph s red (first ++ rest) → IsRedRun graph s (final_red red first) rest
   run-behind red [] rest run = run
   run-behind red (move ∷ first) rest run = run-behind (red_after red move) first rest run.2
 
@@ -131,14 +126,14 @@ module _ (partition : ReusePartition) where
       let before : IsRedRun graph s red cut.first = run-before graph s red cut.first cut.rest split in
       let points = ap (λ (l : List Move). length (points_computed partition l)) cut.whole in
       by cut before (run-behind graph s red cut.first cut.rest split) points (takes-events graph s t u bound j) cut.enough where
-        by : (c : Cut t moves) → IsRedRun graph s red c.first → IsRedRun graph s (red_after_all red c.first) c.rest
+        by : (c : Cut t moves) → IsRedRun graph s red c.first → IsRedRun graph s (final_red red c.first) c.rest
             → length (points_computed partition moves) ≡ length (points_computed partition (c.first ++ c.rest))
             → ((r : List Bool) (ms : List Move) → IsRedRun graph s r ms → j * u < length (points_computed partition ms) → j * t ≤ events partition ms)
             → (events partition c.first ≡ t) ⊎ ((events partition c.first ≤ t) × (c.rest ≡ [])) → suc j * t ≤ events partition moves
         by c before behind points further (inl e) =
             let few : length (points_computed partition c.first) ≤ u = bound red c.first before (omega (arith, e)) in
             let later : j * u < length (points_computed partition c.rest) = omega (arith, many, points, points-append c.first c.rest, few) in
-            omega (arith, further (red_after_all red c.first) c.rest behind later, events-append c.first c.rest, ap (events partition) c.whole, e)
+            omega (arith, further (final_red red c.first) c.rest behind later, events-append c.first c.rest, ap (events partition) c.whole, e)
         by c before behind points further (inr (few, ended)) =
             let same : length (points_computed partition (c.first ++ c.rest)) ≡ length (points_computed partition c.first)
             = ap (λ (l : List Move). length (points_computed partition (c.first ++ l))) ended ∙ ap (λ (l : List Move). length (points_computed partition l)) (append-none c.first) in
@@ -147,10 +142,28 @@ module _ (partition : ReusePartition) where
               append-none [] = refl
               append-none (m ∷ l) = ap (λ (k : List Move). m ∷ k) (append-none l)
 
-pub take-events-each : CoverBoundEach ℕ ℤ (List ℤ) nat_eq → PointsTakeEventsEach
-take-events-each cover graph q s t u partition red moves sound greatest run j many =
-    takes-events partition graph s t u (λ r ms started few. stretch-each graph q s t partition sound r ms started cover u greatest few) j red moves run many
+-- ---- the laws
 
-pub take-events-sum : CoverBoundSum ℕ ℤ (List ℤ) nat_eq → DisjointLoadsAddUp → PointsTakeEventsSum
-take-events-sum cover add_up graph q s t u partition red moves sound apart greatest run j many =
-    takes-events partition graph s t u (λ r ms started few. stretch-sum graph q s t partition sound r ms started cover add_up apart u greatest few) j red moves run many
+pub stretches-are-red-runs : StretchesAreRedRuns
+stretches-are-red-runs graph s red before stretch after run = run-behind graph s red before stretch (run-before graph s red (before ++ stretch) after run)
+
+pub stretches-hold-labels-each : StretchesHoldLabelsEach
+stretches-hold-labels-each graph q s t partition red stretch sound run few = labels-each graph q s t partition sound red stretch run few
+
+pub stretches-hold-labels-sum : DisjointLoadsAddUp → StretchesHoldLabelsSum
+stretches-hold-labels-sum add_up graph q s t partition red stretch sound apart run few = labels-sum graph q s t partition sound red stretch run add_up apart few
+
+pub stretches-hold-points-each : CoverBoundEach ℕ ℤ (List ℤ) nat_eq → StretchesHoldPointsEach
+stretches-hold-points-each cover graph q s t u partition red stretch sound greatest run few = stretch-each graph q s t partition sound red stretch run cover u greatest few
+
+pub stretches-hold-points-sum : CoverBoundSum ℕ ℤ (List ℤ) nat_eq → DisjointLoadsAddUp → StretchesHoldPointsSum
+stretches-hold-points-sum cover add_up graph q s t u partition red stretch sound apart greatest run few =
+    stretch-sum graph q s t partition sound red stretch run cover add_up apart u greatest few
+
+pub take-events-each : StretchesHoldPointsEach → PointsTakeEventsEach
+take-events-each hold graph q s t u partition red moves sound greatest run j many =
+    takes-events partition graph s t u (λ r ms started few. hold graph q s t u partition r ms sound greatest started few) j red moves run many
+
+pub take-events-sum : StretchesHoldPointsSum → PointsTakeEventsSum
+take-events-sum hold graph q s t u partition red moves sound apart greatest run j many =
+    takes-events partition graph s t u (λ r ms started few. hold graph q s t u partition r ms sound apart greatest started few) j red moves run many

@@ -1,10 +1,13 @@
 pub mod Held
+pub mod Labels
 pub mod Stretch
 pub mod Cut
+pub mod RunLoads
 pub mod CompletePebblings
 pub mod ReusedWords
 pub mod TermCovers
 pub mod FixedRows
+pub mod TermNumbers
 pub mod TermLoads
 pub mod PartitionSound
 pub mod Weights

@@ -1,13 +1,13 @@
 -- The counts of a partition term and the numbers of its bound are the value of a term with its footprint.
-use Rattle.std.proofs.Common.{◌≡◌, refl, sym, ◌∙◌, ap, subst, inl, inr, ℕ, ◌+◌, ◌-◌, ◌*◌, ◌/◌, ◌^◌, ◌<◌, ◌≤◌, true, List, [], ◌∷◌, ◌++◌, arith}
+use Rattle.std.proofs.Common.{◌≡◌, refl, sym, ◌∙◌, subst, inl, inr, ℕ, ◌+◌, ◌-◌, ◌*◌, ◌/◌, ◌<◌, ◌≤◌, true, List, [], ◌∷◌, ◌++◌, arith}
 use Rattle.std.specs.Prelude.{◌⊎◌, flat_map}
 use Rattle.std.specs.List.{AllByRecursion}
 use Rattle.std.proofs.Math.IntN.{ℤ}
 use Rattle.std.proofs.lemmas.Option.{slice_get_within}
 use Rattle.iolb_model.specs.Program.{AffineProgram, IsWellFormed}
-use Rattle.iolb_model.specs.Bound.{IsAdmitted, count_value, events_of, labels_of, points_of, partition}
+use Rattle.iolb_model.specs.Bound.{IsAdmitted, StretchNumbers, count_value, events_of, points_of, partition}
 use Rattle.iolb_model.specs.Execution.{execution}
-use Rattle.iolb_model.specs.Footprint.{AreVertices, Footprint, IsFootprintOf}
+use Rattle.iolb_model.specs.Footprint.{AreVertices, Footprint, CostsItsValue}
 use Rattle.iolb_model.specs.Game.{loads_of, stands_in, vertices}
 use Rattle.iolb_model.specs.Graph.{computation_graph, input_cells}
 use Rattle.execution_laws.proofs.Members.{Member}
@@ -24,17 +24,14 @@ use Rattle.reuse_paths.specs.Families.{FamilyForms}
 use Rattle.reuse_paths.specs.FamilyFootprint.{family_footprint}
 use Rattle.reuse_paths.specs.FamilyPieces.{family_pieces}
 use Rattle.reuse_paths.specs.Pieces.{FootprintPiece, AreCovered, IsInPieces, IsVertexOf}
-use Rattle.uniform_cover.specs.Greatest.{IsGreatest}
-use Rattle.uniform_cover.proofs.Powers.{self_pow_pos}
 use Rattle.k_partition.specs.declared.term.PartitionBound.{PartitionBound}
-use Rattle.k_partition.specs.declared.term.Shape.{Shape}
-use Rattle.k_partition.specs.declared.term.Shape.TheVariants.{Each, Sum}
-use Rattle.k_partition.specs.Numbers.{factor_over, factor_under, HasNumbers, numbers_of}
+use Rattle.k_partition.specs.Numbers.{HasNumbers, numbers_of}
 use Rattle.k_partition.specs.PartitionPieces.{partition_pieces, CountsCredits}
-use Rattle.k_partition.specs.ReusedWords.{IsSoundTerm}
+use Rattle.k_partition.specs.ReusedWords.{IsSoundTerm, counted_points}
 use Rattle.k_partition.specs.Term.{PartitionTerm}
-use Rattle.k_partition.specs.TermLoads.{AreApartFor, IsGreatestOf, SoundTermsAreLoaded, credited_count, footprint_in, stretch_of, term_footprint, weight_of}
-use Rattle.k_partition.proofs.GreatestUpTo.{greatest-is}
+use Rattle.k_partition.specs.TermLoads.{AreApartWhere, SoundTermsAreLoaded, credited_count, footprint_in, term_footprint}
+use Rattle.k_partition.specs.TermRuns.{SplitsAmongRuns, TermSplits, stretch_numbers}
+use Rattle.k_partition.proofs.TermNumbers.{greatest-of, same-numbers}
 
 -- ---- covered footprints have vertices alone
 
@@ -59,55 +56,49 @@ module _ (program : AffineProgram) (values : List ℤ) where
       all-members (λ (v : ℕ). v < vertices (computation_graph program values)) (footprint values)
       (λ v m. in-pieces pieces v (covered values v admitted (member-stands (footprint values) v m)))
 
--- ---- the numbers
-
-module _ (term : PartitionTerm) (bound : PartitionBound) (has : HasNumbers term bound) (positive : 1 ≤ term.q) where
-  same-events : (s : ℕ) → events_of (numbers_of bound) s ≡ stretch_of term s
-  same-events s = ap (λ (n : ℕ). n * s + bound.b) has.a ∙ ap (λ (n : ℕ). term.a * s + n) has.b
-
-  labels-are : (s over : ℕ) → bound.num ≡ over → labels_of (numbers_of bound) s ≡ over * (s + stretch_of term s) ^ weight_of term
-  labels-are s over e =
-      ap (λ (n : ℕ). n * (s + events_of (numbers_of bound) s) ^ bound.m) e ∙ ap (λ (n : ℕ). over * (s + n) ^ bound.m) (same-events s) ∙ ap (λ (n : ℕ). over * (s + stretch_of term s) ^ n) has.m
-
-  same : (q r den other top limit u : ℕ) → q ≡ r → den ≡ other → top ≡ limit → IsGreatest q den top u → IsGreatest r other limit u
-  same q r den other top limit u e f g h =
-      subst (λ (n : ℕ). IsGreatest r other n u) g (subst (λ (n : ℕ). IsGreatest r n top u) f (subst (λ (n : ℕ). IsGreatest n den top u) e h))
-
-  -- the greatest number of points in a stretch
-  pub greatest-of : (s : ℕ) → IsGreatestOf term.shape term s (points_of (numbers_of bound) s)
-  greatest-of s = by term.shape has.num has.den where
-    u : ℕ
-    u = points_of (numbers_of bound) s
-
-    by : (shape : Shape) → bound.num ≡ factor_over shape term → bound.den ≡ factor_under shape term → IsGreatestOf shape term s u
-    by Each num den =
-        same bound.q term.q bound.den 1 (labels_of (numbers_of bound) s) (1 * (s + stretch_of term s) ^ weight_of term) u has.q den (labels-are s 1 num)
-        (greatest-is bound.q bound.den (labels_of (numbers_of bound) s) (omega (arith, has.q, positive)) (omega (arith, den)))
-    by Sum num den =
-        same bound.q term.q bound.den (weight_of term ^ weight_of term) (labels_of (numbers_of bound) s) (factor_over Sum term * (s + stretch_of term s) ^ weight_of term) u has.q den (labels-are s (factor_over Sum term) num)
-        (greatest-is bound.q bound.den (labels_of (numbers_of bound) s) (omega (arith, has.q, positive)) (omega (arith, den, self_pow_pos (weight_of term))))
-
 -- ---- the footprint
 
-pub partition-footprint-is : (program : AffineProgram) (trees : List (List SelectionTree)) (term : PartitionTerm) (bound : PartitionBound) → IsWellFormed program → IsSoundTerm program term
-    → SoundTermsAreLoaded → TermsHaveTheValue → HasNumbers term bound → IsLegal bound.count → IsLegal bound.credits → CountsPoints program term.nest bound.count → CountsCredits program term bound.credits
-    → ((values : List ℤ) → IsAdmitted program values → AreApartFor term.shape program term values) → AreCovered program (term_footprint program term) (partition_pieces program trees term)
-    → IsFootprintOf program (partition (polynomial_of bound.count) (polynomial_of bound.credits) (numbers_of bound)) (term_footprint program term)
-partition-footprint-is program trees term bound formed sound law value has legal legal_credits counts credited apart covered = record {
-  vertices = λ values admitted. covered-vertices program values (term_footprint program term) (partition_pieces program trees term) admitted covered;
-  loaded = λ values s moves admitted some game.
-      let u : ℕ = points_of (numbers_of bound) s in
-      let costs : stretch_of term s * ((count term.nest values - 1) / u) ≤ loads_of (term_footprint program term values) moves + credited_count term values =
-      law program term values s u moves formed admitted sound (apart values admitted) (greatest-of term bound has sound.positive s) game in
-      less (stretch_of term s) (events_of (numbers_of bound) s) (count term.nest values) (count_value (polynomial_of bound.count) values) (credited_count term values)
-      (count_value (polynomial_of bound.credits) values) u (loads_of (term_footprint program term values) moves) (same-events term bound has sound.positive s)
-      (counted program term.nest bound.count values legal counts value admitted) (counted-value bound.credits values (credited_count term values) legal_credits value (credited values admitted)) costs;
-} where
-  less : (t e n m c d u l : ℕ) → e ≡ t → m ≡ n → d ≡ c → t * ((n - 1) / u) ≤ l + c → e * ((m - 1) / u) - d ≤ l
-  less t e n m c d u l f g h le =
-      subst (λ (x : ℕ). x * ((m - 1) / u) - d ≤ l) (sym f) (subst (λ (x : ℕ). t * ((x - 1) / u) - d ≤ l) (sym g) (subst (λ (x : ℕ). t * ((n - 1) / u) - x ≤ l) (sym h) (within (t * ((n - 1) / u)) c l le))) where
-        within : (p c l : ℕ) → p ≤ l + c → p - c ≤ l
-        within p c l le = omega (arith, le)
+module _ (program : AffineProgram) (term : PartitionTerm) (bound : PartitionBound) (value : TermsHaveTheValue) (has : HasNumbers term bound) (legal : IsLegal bound.count) (legal_credits : IsLegal bound.credits)
+    (counts : CountsPoints program term.nest bound.count) (credited : CountsCredits program term bound.credits) where
+  -- the polynomials have the values of the counts
+  count-is : (values : List ℤ) → IsAdmitted program values → count_value (polynomial_of bound.count) values ≡ count term.nest values
+  count-is values admitted = counted program term.nest bound.count values legal counts value admitted
+
+  credits-are : (values : List ℤ) → IsAdmitted program values → count_value (polynomial_of bound.credits) values ≡ credited_count term values
+  credits-are values admitted = counted-value bound.credits values (credited_count term values) legal_credits value (credited values admitted)
+
+  pub partition-footprint-is : (trees : List (List SelectionTree)) → IsWellFormed program → IsSoundTerm program term → SoundTermsAreLoaded → AreApartWhere program term
+      → AreCovered program (term_footprint program term) (partition_pieces program trees term)
+      → CostsItsValue program (partition (polynomial_of bound.count) (polynomial_of bound.credits) (numbers_of bound)) (term_footprint program term)
+  partition-footprint-is trees formed sound law apart covered = record {
+    vertices = λ values admitted. covered-vertices program values (term_footprint program term) (partition_pieces program trees term) admitted covered;
+    loaded = λ values s moves admitted some game.
+        less (numbers_of bound) (count term.nest values) (count_value (polynomial_of bound.count) values) (credited_count term values) (count_value (polynomial_of bound.credits) values) s
+        (loads_of (term_footprint program term values) moves) (same-numbers term bound has) (count-is values admitted) (credits-are values admitted)
+        (law program term values s (points_of (stretch_numbers term) s) moves formed admitted sound (apart values admitted) (greatest-of term s sound.positive) game);
+  } where
+    less : (numbers : StretchNumbers) (n m c d s l : ℕ) → numbers ≡ stretch_numbers term → m ≡ n → d ≡ c
+        → events_of (stretch_numbers term) s * ((n - 1) / points_of (stretch_numbers term) s) ≤ l + c → events_of numbers s * ((m - 1) / points_of numbers s) - d ≤ l
+    less numbers n m c d s l f g h le =
+        subst (λ (x : StretchNumbers). events_of x s * ((m - 1) / points_of x s) - d ≤ l) (sym f)
+        (subst (λ (x : ℕ). events_of (stretch_numbers term) s * ((x - 1) / points_of (stretch_numbers term) s) - d ≤ l) (sym g)
+        (within (events_of (stretch_numbers term) s * ((n - 1) / points_of (stretch_numbers term) s)) c d l h le)) where
+          within : (p c d l : ℕ) → d ≡ c → p ≤ l + c → p - d ≤ l
+          within p c d l e le = omega (arith, e, le)
+
+  -- what is said of the term is said of the value of its bound
+  pub partition-splits : TermSplits program term
+      → SplitsAmongRuns program (count_value (polynomial_of bound.count)) (count_value (polynomial_of bound.credits)) (numbers_of bound) (counted_points program term) (term_footprint program term)
+  partition-splits split = record {
+    distinct = split.distinct;
+    instances = split.instances;
+    many = λ values admitted. split.many values admitted ∙ sym (count-is values admitted);
+    loaded = λ values s n red moves admitted run distinct few.
+        let l : ℕ = loads_of (term_footprint program term values) moves in
+        subst (λ (c : ℕ). events_of (numbers_of bound) s * ((n - 1) / points_of (numbers_of bound) s) ≤ l + c) (sym (credits-are values admitted))
+        (subst (λ (x : StretchNumbers). events_of x s * ((n - 1) / points_of x s) ≤ l + credited_count term values) (sym (same-numbers term bound has))
+        (split.loaded values s n red moves admitted run distinct few));
+  }
 
 -- ---- the pieces of all families cover
 

@@ -1,9 +1,14 @@
 -- At most so many points are computed in a stretch of moves, by the uniform cover inequality.
 use Rattle.std.proofs.Common.{◌≡◌, refl, sym, ◌∙◌, ap, subst, inl, inr, ℕ, ◌+◌, ◌*◌, ◌^◌, ◌≤◌, Bool, true, cond, List, [], ◌∷◌, ◌++◌, length, map, sum_by, arith, length-append, zero-add}
 use Rattle.std.specs.Prelude.{ℤ, nat_eq, filter, Contains, count_by}
+use Rattle.std.specs.Cmp.Rules.{signed_items}
 use Rattle.std.specs.List.{AllByRecursion}
+use Rattle.std.specs.Ordering.{int_eq}
+use Rattle.std.proofs.lemmas.Cmp.{int_eq_equiv, lists_equiv}
 use Rattle.std.proofs.lemmas.List.{length-map}
 use Rattle.std.proofs.lemmas.List.Sums.{sum_by-cons, length-filter, count_by-le-length}
+use lib.Pointwise.{pointwise}
+use Rattle.base_laws.proofs.Lists.{All-map}
 use Rattle.execution_laws.proofs.Members.{Member, Member-append_left, Member-append_right, Member-filter, Member-flat_map, Member-map, Contains-member}
 use Rattle.iolb_model.specs.declared.game.Move.{Move}
 use Rattle.iolb_model.specs.declared.game.Move.TheVariants.{Load}
@@ -13,10 +18,11 @@ use Rattle.pebble_game.specs.Sets.{DisjointLoadsAddUp}
 use Rattle.uniform_cover.specs.Cover.{CoverBoundEach, CoverBoundSum, Family, FixesSet, HasLabels, IsUniformCover}
 use Rattle.uniform_cover.specs.Greatest.{IsGreatest}
 use Rattle.uniform_cover.specs.Products.{product_by}
-use Rattle.k_partition.specs.Laws.{IsGreatestEach, IsGreatestSum}
+use Rattle.k_partition.specs.Laws.{IsGreatestEach, IsGreatestSum, start_label_count}
 use Rattle.k_partition.specs.Reuse.{AreApart, FixesCoordinates, IsSoundFamily, IsSoundPartition, ReuseFamily, ReusePartition, words_of}
 use Rattle.k_partition.specs.Runs.{IsRedRun, computed_vertices, events, points_computed}
 use Rattle.k_partition.proofs.Held.{event_vertices, length-event_vertices, start-held}
+use Rattle.k_partition.proofs.Labels.{distinct-few}
 use Rattle.pebble_game.proofs.Marks.{distinct-filtered, all-contained, all-filtered, length-marked_from, marked-member, marked_from, member-stands, standing-member}
 
 -- ---- the families of a stretch
@@ -54,17 +60,27 @@ module _ (graph : ComputationGraph) (q s t : ℕ) (partition : ReusePartition) (
   label-held family v m word =
       Contains-member (family.label v) (labels_in family) (Member-map family.label v (filter (stands_in family.words) held) (Member-filter (stands_in family.words) v held m word))
 
-  has-labels : (family : ReuseFamily) → Member family partition.families → IsSoundFamily graph partition family → HasLabels points (family_in family)
-  has-labels family member is v c =
-      all-contained (λ (u : ℕ). Contains (labels_in family) (family.start u)) points v
-      (all-filtered (λ (u : ℕ). Contains (labels_in family) (family.start u)) (stands_in (computed_vertices moves)) partition.points
+  -- and so is the label of the start of each point that is computed
+  starts-held : (family : ReuseFamily) → Member family partition.families → IsSoundFamily graph partition family
+      → AllByRecursion (λ (u : ℕ). Contains (labels_in family) (family.start u)) points
+  starts-held family member is =
+      all-filtered (λ (u : ℕ). Contains (labels_in family) (family.start u)) (stands_in (computed_vertices moves)) partition.points
       (λ u m e. start-held graph s partition family is
       (λ w word. member-stands (words_of partition) w (Member-flat_map (λ (f : ReuseFamily). f.words) family partition.families w member (standing-member family.words w word)))
       (labels_in family) red moves run
       (λ w on word. label-held family w (Member-append_left w (marked_from 0 red) (event_vertices partition moves)
       (subst (λ (n : ℕ). Member n (marked_from 0 red)) (zero-add w) (marked-member 0 red w on))) word)
       (λ w n word. label-held family w (Member-append_right w (marked_from 0 red) (event_vertices partition moves) n) word)
-      u (member-stands partition.points u m) (standing-member (computed_vertices moves) u e))) c
+      u (member-stands partition.points u m) (standing-member (computed_vertices moves) u e))
+
+  has-labels : (family : ReuseFamily) → Member family partition.families → IsSoundFamily graph partition family → HasLabels points (family_in family)
+  has-labels family member is v c = all-contained (λ (u : ℕ). Contains (labels_in family) (family.start u)) points v (starts-held family member is) c
+
+  -- so there are at most as many different ones
+  starts-few : (family : ReuseFamily) → Member family partition.families → IsSoundFamily graph partition family → start_label_count partition moves family ≤ length (labels_in family)
+  starts-few family member is =
+      distinct-few (pointwise int_eq) (lists_equiv int_eq_equiv) signed_items (map family.start points) (labels_in family)
+      (All-map (Contains (labels_in family)) family.start points (starts-held family member is))
 
   all-labels : (families : List ReuseFamily) → ((f : ReuseFamily) → Member f families → Member f partition.families) → AllByRecursion (IsSoundFamily graph partition) families
       → AllByRecursion (HasLabels points) (map family_in families)
@@ -111,6 +127,17 @@ module _ (graph : ComputationGraph) (q s t : ℕ) (partition : ReusePartition) (
     labels-few few families,
   )
 
+  starts-few-each : events partition moves ≤ t → (families : List ReuseFamily) → ((f : ReuseFamily) → Member f families → Member f partition.families)
+      → AllByRecursion (IsSoundFamily graph partition) families → AllByRecursion (λ (f : ReuseFamily). start_label_count partition moves f ≤ s + t) families
+  starts-few-each few [] among is = tt
+  starts-few-each few (family ∷ families) among is = (
+    omega (arith, starts-few family (among family (inl refl)) is.0, (labels-few few (family ∷ [])).0),
+    starts-few-each few families (λ f m. among f (inr m)) is.1,
+  )
+
+  pub labels-each : events partition moves ≤ t → AllByRecursion (λ (f : ReuseFamily). start_label_count partition moves f ≤ s + t) partition.families
+  labels-each few = starts-few-each few partition.families (λ f m. m) sound.sound
+
   pub stretch-each : CoverBoundEach ℕ ℤ (List ℤ) nat_eq → (u : ℕ) → IsGreatestEach q (s + t) partition u → events partition moves ≤ t → length points ≤ u
   stretch-each cover u greatest few =
       cover q partition.dimensions (s + t) u partition.coordinate points (map family_in partition.families) is-cover (labels-few few partition.families)
@@ -147,16 +174,34 @@ module _ (graph : ComputationGraph) (q s t : ℕ) (partition : ReusePartition) (
         labels-loads families,
       )
 
-  pub stretch-sum : CoverBoundSum ℕ ℤ (List ℤ) nat_eq → DisjointLoadsAddUp → AreApart partition → (u : ℕ) → IsGreatestSum q (s + t) partition u → events partition moves ≤ t → length points ≤ u
-  stretch-sum cover add_up apart u greatest few =
-      cover q partition.dimensions (s + t) u partition.coordinate points (map family_in partition.families) is-cover
-      (omega (
+  labels-few-sum : DisjointLoadsAddUp → AreApart partition → events partition moves ≤ t → sum_by (λ (f : Family ℕ (List ℤ)). length f.labels) (map family_in partition.families) ≤ s + t
+  labels-few-sum add_up apart few =
+      omega (
         arith,
         labels-loads partition.families,
         add_up (loading held) (map (λ (family : ReuseFamily). family.words) partition.families) apart,
         loads-loading held,
         held-few few,
-      ))
+      )
+
+  starts-few-sum : (families : List ReuseFamily) → ((f : ReuseFamily) → Member f families → Member f partition.families) → AllByRecursion (IsSoundFamily graph partition) families
+      → sum_by (λ (f : ReuseFamily). start_label_count partition moves f) families ≤ sum_by (λ (f : Family ℕ (List ℤ)). length f.labels) (map family_in families)
+  starts-few-sum [] among is = omega arith
+  starts-few-sum (family ∷ families) among is =
+      omega (
+        arith,
+        sum_by-cons (λ (f : ReuseFamily). start_label_count partition moves f) family families,
+        sum_by-cons (λ (f : Family ℕ (List ℤ)). length f.labels) (family_in family) (map family_in families),
+        starts-few family (among family (inl refl)) is.0,
+        starts-few-sum families (λ f m. among f (inr m)) is.1,
+      )
+
+  pub labels-sum : DisjointLoadsAddUp → AreApart partition → events partition moves ≤ t → sum_by (λ (f : ReuseFamily). start_label_count partition moves f) partition.families ≤ s + t
+  labels-sum add_up apart few = omega (arith, starts-few-sum partition.families (λ f m. m) sound.sound, labels-few-sum add_up apart few)
+
+  pub stretch-sum : CoverBoundSum ℕ ℤ (List ℤ) nat_eq → DisjointLoadsAddUp → AreApart partition → (u : ℕ) → IsGreatestSum q (s + t) partition u → events partition moves ≤ t → length points ≤ u
+  stretch-sum cover add_up apart u greatest few =
+      cover q partition.dimensions (s + t) u partition.coordinate points (map family_in partition.families) is-cover (labels-few-sum add_up apart few)
       (subst (λ (n : ℕ). IsGreatest q (n ^ n) (product_by (λ (f : Family ℕ (List ℤ)). f.weight ^ f.weight) (map family_in partition.families) * (s + t) ^ n) u) (sym (total-same partition.families))
       (subst (λ (p : ℕ). IsGreatest q (total ^ total) (p * (s + t) ^ total) u) (sym (products-same partition.families)) greatest)) where
         total : ℕ

@@ -1,6 +1,7 @@
 -- Sound partition terms are loaded.
 use Rattle.std.proofs.Common.{◌≡◌, refl, sym, ◌∙◌, ap, subst, ℕ, ◌+◌, ◌-◌, ◌*◌, ◌/◌, ◌^◌, ◌≤◌, List, [], ◌∷◌, ◌++◌, length, map, arith}
 use Rattle.std.specs.Prelude.{nat_eq, not, Bool, flat_map, sum_by}
+use Rattle.std.specs.List.{IsDistinct}
 use Rattle.std.proofs.Math.IntN.{ℤ}
 use Rattle.std.proofs.lemmas.List.{length-map, length-append}
 use Rattle.std.proofs.lemmas.List.Sums.{sum_by-cons, length-filter, count_by-le-length}
@@ -8,7 +9,8 @@ use Rattle.iolb_model.specs.declared.game.Move.{Move}
 use Rattle.iolb_model.specs.Program.{AffineProgram}
 use Rattle.iolb_model.specs.Execution.{Instance}
 use Rattle.iolb_model.specs.Footprint.{ArePairwiseDisjoint}
-use Rattle.iolb_model.specs.Game.{loads_of}
+use Rattle.iolb_model.specs.Bound.{points_of}
+use Rattle.iolb_model.specs.Game.{first_board, loads_of}
 use Rattle.iolb_model.specs.Graph.{computation_graph, distinct}
 use Rattle.domain_count.specs.Points.{points, count}
 use Rattle.reuse_paths.specs.Families.{CreditedNest, FamilyForms}
@@ -18,12 +20,16 @@ use Rattle.uniform_cover.specs.Greatest.{IsGreatest}
 use Rattle.uniform_cover.specs.Products.{product_by}
 use Rattle.k_partition.specs.declared.term.Shape.{Shape}
 use Rattle.k_partition.specs.declared.term.Shape.TheVariants.{Each, Sum}
-use Rattle.k_partition.specs.Laws.{PartitionsAreLoadedEach, PartitionsAreLoadedSum}
-use Rattle.k_partition.specs.Reuse.{ReuseFamily, ReusePartition, total_weight, words_of}
-use Rattle.k_partition.specs.ReusedWords.{nest_vertices, credited_vertices, reuse_family, reuse_partition}
+use Rattle.k_partition.specs.Laws.{IsGreatestEach, IsGreatestSum, CompletePebblingsAreRuns, DifferentComputationsAreFew, RunsAreLoadedEach, RunsAreLoadedSum, StretchesHoldLabelsEach, StretchesHoldLabelsSum, StretchesHoldPointsEach, StretchesHoldPointsSum}
+use Rattle.k_partition.specs.Reuse.{ReuseFamily, ReusePartition, AreApart, total_weight, words_of}
+use Rattle.k_partition.specs.ReusedWords.{counted_points, credited_vertices, nest_vertices, reuse_family, reuse_partition}
+use Rattle.k_partition.specs.Runs.{computations_of, computed_among, computed_vertices}
 use Rattle.k_partition.specs.Term.{PartitionTerm, credited_nests}
 use Rattle.k_partition.specs.TermLoads.{footprint_in, term_footprint, weight_of, stretch_of, IsGreatestOf, AreApartFor, credited_count, SoundTermsAreLoaded}
+use Rattle.k_partition.specs.TermRuns.{AreLabelsFew, SoundTermsAreLoadedInRuns, SoundTermsSplit, StretchesOfTermsAreSmall, stretch_numbers}
+use Rattle.k_partition.proofs.CompletePebblings.{all-computed}
 use Rattle.k_partition.proofs.TermCovers.{mapped-twice, summed, sound-terms-are-sound}
+use Rattle.k_partition.proofs.TermNumbers.{greatest-of}
 
 distinct-few : {X : Type 0} (same : X → X → Bool) (xs : List X) → length (distinct same xs) ≤ length xs
 distinct-few same [] = omega arith
@@ -68,32 +74,87 @@ module _ (program : AffineProgram) (parameters : List ℤ) where
     product-is [] = refl
     product-is (family ∷ families) = ap (λ (n : ℕ). family.weight ^ family.weight * n) (product-is families)
 
-    -- what a partition costs is what the term does
-    costs : (s u : ℕ) (moves : List Move)
-        → stretch_of term s * ((length partition.points - 1) / u) ≤ loads_of (words_of partition) moves + length partition.credited
-        → stretch_of term s * ((count term.nest parameters - 1) / u) ≤ loads_of (term_footprint program term parameters) moves + credited_count term parameters
-    costs s u moves h =
-        let pointed : stretch_of term s * ((count term.nest parameters - 1) / u) ≤ loads_of (words_of partition) moves + length partition.credited =
-        subst (λ (n : ℕ). stretch_of term s * ((n - 1) / u) ≤ loads_of (words_of partition) moves + length partition.credited) points-many h in
-        let loaded : stretch_of term s * ((count term.nest parameters - 1) / u) ≤ loads_of (term_footprint program term parameters) moves + length partition.credited =
-        subst (λ (l : List ℕ). stretch_of term s * ((count term.nest parameters - 1) / u) ≤ loads_of l moves + length partition.credited) (words-are term.families) pointed in
-        omega (arith, loaded, credits-few (credited_nests term))
+    -- the premises of the laws of partitions
+    greatest-each : (s u : ℕ) → IsGreatestOf Each term s u → IsGreatestEach term.q (s + stretch_of term s) partition u
+    greatest-each s u greatest = subst (λ (w : ℕ). IsGreatest term.q 1 (1 * (s + stretch_of term s) ^ w) u) (sym weight-is) greatest
 
-pub terms-loaded : PartitionsAreLoadedEach → PartitionsAreLoadedSum → SoundTermsAreLoaded
-terms-loaded each sum program term parameters s u moves formed admitted sound apart greatest game = by term.shape apart greatest where
-  by : (shape : Shape) → AreApartFor shape program term parameters → IsGreatestOf shape term s u
-      → stretch_of term s * ((count term.nest parameters - 1) / u) ≤ loads_of (term_footprint program term parameters) moves + credited_count term parameters
-  by Each apart greatest =
-      let both = sound-terms-are-sound program term parameters formed admitted sound in
-      costs program parameters term s u moves
-      (each (computation_graph program parameters) term.q s (stretch_of term s) u (reuse_partition program term parameters) moves both.0 both.1
-      (subst (λ (w : ℕ). IsGreatest term.q 1 (1 * (s + stretch_of term s) ^ w) u) (sym (weight-is program parameters term)) greatest) game)
-  by Sum apart greatest =
-      let both = sound-terms-are-sound program term parameters formed admitted sound in
-      let k : ℕ = s + stretch_of term s in
-      costs program parameters term s u moves
-      (sum (computation_graph program parameters) term.q s (stretch_of term s) u (reuse_partition program term parameters) moves both.0
-      (subst ArePairwiseDisjoint (sym (mapped-twice (λ (family : ReuseFamily). family.words) (reuse_family program term parameters) term.families)) apart) both.1
-      (subst (λ (p : ℕ). IsGreatest term.q (total_weight (reuse_partition program term parameters) ^ total_weight (reuse_partition program term parameters)) (p * k ^ total_weight (reuse_partition program term parameters)) u)
-      (sym (product-is program parameters term term.families))
-      (subst (λ (w : ℕ). IsGreatest term.q (w ^ w) (product_by (λ (family : FamilyForms). family.weight ^ family.weight) term.families * k ^ w) u) (sym (weight-is program parameters term)) greatest)) game)
+    greatest-sum : (s u : ℕ) → IsGreatestOf Sum term s u → IsGreatestSum term.q (s + stretch_of term s) partition u
+    greatest-sum s u greatest =
+        let k : ℕ = s + stretch_of term s in
+        subst (λ (p : ℕ). IsGreatest term.q (total_weight partition ^ total_weight partition) (p * k ^ total_weight partition) u) (sym (product-is term.families))
+        (subst (λ (w : ℕ). IsGreatest term.q (w ^ w) (product_by (λ (family : FamilyForms). family.weight ^ family.weight) term.families * k ^ w) u) (sym weight-is) greatest)
+
+    families-apart : AreApartFor Sum program term parameters → AreApart partition
+    families-apart apart = subst ArePairwiseDisjoint (sym (mapped-twice (λ (family : ReuseFamily). family.words) (reuse_family program term parameters) term.families)) apart
+
+    -- what a partition costs is what the term does
+    costs : (s u n : ℕ) (moves : List Move)
+        → stretch_of term s * ((n - 1) / u) ≤ loads_of (words_of partition) moves + computations_of partition.credited moves
+        → stretch_of term s * ((n - 1) / u) ≤ loads_of (term_footprint program term parameters) moves + computations_of partition.credited moves
+    costs s u n moves h =
+        subst (λ (l : List ℕ). stretch_of term s * ((n - 1) / u) ≤ loads_of l moves + computations_of partition.credited moves) (words-are term.families) h
+
+    -- where no vertex is computed again, the credited vertices are computed at most as often as there are credited points
+    credited-few : DifferentComputationsAreFew → (moves : List Move) → IsDistinct nat_eq (computed_vertices moves) → computations_of partition.credited moves ≤ credited_count term parameters
+    credited-few different moves distinct = omega (arith, different partition.credited moves distinct, credits-few (credited_nests term))
+
+-- ---- the laws
+
+pub terms-loaded-in-runs : RunsAreLoadedEach → RunsAreLoadedSum → SoundTermsAreLoadedInRuns
+terms-loaded-in-runs each sum program term parameters s u n red moves formed admitted sound apart greatest run few =
+    costs program parameters term s u n moves (by term.shape apart greatest) where
+      by : (shape : Shape) → AreApartFor shape program term parameters → IsGreatestOf shape term s u
+          → stretch_of term s * ((n - 1) / u) ≤ loads_of (words_of (reuse_partition program term parameters)) moves + computations_of (reuse_partition program term parameters).credited moves
+      by Each apart greatest =
+          each (computation_graph program parameters) term.q s (stretch_of term s) u n (reuse_partition program term parameters) red moves
+          (sound-terms-are-sound program term parameters formed admitted sound).0 (greatest-each program parameters term s u greatest) run few
+      by Sum apart greatest =
+          sum (computation_graph program parameters) term.q s (stretch_of term s) u n (reuse_partition program term parameters) red moves
+          (sound-terms-are-sound program term parameters formed admitted sound).0 (families-apart program parameters term apart) (greatest-sum program parameters term s u greatest) run few
+
+pub terms-loaded : SoundTermsAreLoadedInRuns → DifferentComputationsAreFew → CompletePebblingsAreRuns → SoundTermsAreLoaded
+terms-loaded loaded different runs program term parameters s u moves formed admitted sound apart greatest game =
+    let graph = computation_graph program parameters in
+    let are = (sound-terms-are-sound program term parameters formed admitted sound).1 in
+    let run = runs graph s moves game in
+    omega (
+      arith,
+      loaded program term parameters s u (count term.nest parameters) (first_board graph).red moves formed admitted sound apart greatest run.0
+          (omega (arith, points-many program parameters term, all-computed (reuse_partition program term parameters) moves (λ v stands. run.2 v (are.there v stands)))),
+      credited-few program parameters term different moves run.1,
+    )
+
+pub terms-split : SoundTermsAreLoadedInRuns → DifferentComputationsAreFew → SoundTermsSplit
+terms-split loaded different program term formed sound apart = record {
+  distinct = λ values admitted. (sound-terms-are-sound program term values formed admitted sound).0.cover.distinct;
+  instances = λ values v admitted stands. (sound-terms-are-sound program term values formed admitted sound).1.there v stands;
+  many = λ values admitted. points-many program values term;
+  loaded = λ values s n red moves admitted run distinct few.
+      omega (
+        arith,
+        loaded program term values s (points_of (stretch_numbers term) s) n red moves formed admitted sound (apart values admitted) (greatest-of term s sound.positive) run few,
+        credited-few program values term different moves distinct,
+      );
+}
+
+pub stretches-of-terms : StretchesHoldLabelsEach → StretchesHoldLabelsSum → StretchesHoldPointsEach → StretchesHoldPointsSum → StretchesOfTermsAreSmall
+stretches-of-terms labels_each labels_sum points_each points_sum program term parameters s red stretch formed admitted sound apart run few =
+    by term.shape apart (greatest-of term s sound.positive) where
+      u : ℕ
+      u = points_of (stretch_numbers term) s
+
+      by : (shape : Shape) → AreApartFor shape program term parameters → IsGreatestOf shape term s u
+          → AreLabelsFew shape (reuse_partition program term parameters) stretch (s + stretch_of term s) × (length (computed_among (counted_points program term parameters) stretch) ≤ u)
+      by Each apart greatest =
+          let graph = computation_graph program parameters in
+          let both = sound-terms-are-sound program term parameters formed admitted sound in (
+            labels_each graph term.q s (stretch_of term s) (reuse_partition program term parameters) red stretch both.0 run few,
+            points_each graph term.q s (stretch_of term s) u (reuse_partition program term parameters) red stretch both.0 (greatest-each program parameters term s u greatest) run few,
+          )
+      by Sum apart greatest =
+          let graph = computation_graph program parameters in
+          let both = sound-terms-are-sound program term parameters formed admitted sound in
+          let disjoint = families-apart program parameters term apart in (
+            labels_sum graph term.q s (stretch_of term s) (reuse_partition program term parameters) red stretch both.0 disjoint run few,
+            points_sum graph term.q s (stretch_of term s) u (reuse_partition program term parameters) red stretch both.0 disjoint (greatest-sum program parameters term s u greatest) run few,
+          )

@@ -10,3 +10,4 @@ pub mod View
 pub mod CreditSums
 pub mod Numbers
 pub mod PartitionPieces
+pub mod TermRuns

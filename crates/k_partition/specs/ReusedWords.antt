@@ -6,6 +6,7 @@ use Rattle.iolb_model.specs.Form.{dot}
 use Rattle.iolb_model.specs.Program.{AffineProgram, IsWellFormed}
 use Rattle.iolb_model.specs.Bound.{IsAdmitted}
 use Rattle.iolb_model.specs.Execution.{Instance, execution}
+use Rattle.iolb_model.specs.Footprint.{Footprint}
 use Rattle.iolb_model.specs.Game.{stands_in}
 use Rattle.iolb_model.specs.Graph.{computation_graph, distinct, input_cells}
 use Rattle.iolb_model.specs.Source.{Cell}
@@ -56,10 +57,14 @@ nest_vertices program parameters nest = map (place_of program parameters) (insta
 abbrev pub credited_vertices : AffineProgram → List CreditedNest → List ℤ → List ℕ
 credited_vertices program credits parameters = distinct nat_eq (flat_map (nest_vertices program parameters) credits)
 
+-- the vertices of the term's points
+abbrev pub counted_points : AffineProgram → PartitionTerm → Footprint
+counted_points program term parameters = nest_vertices program parameters (record { statement = term.statement; nest = term.nest })
+
 -- the term at parameter values
 abbrev pub reuse_partition : AffineProgram → PartitionTerm → List ℤ → ReusePartition
 reuse_partition program term parameters = record {
-  points = nest_vertices program parameters (record { statement = term.statement; nest = term.nest });
+  points = counted_points program term parameters;
   dimensions = length term.nest;
   coordinate = coordinate_of program term.matrix parameters;
   families = map (reuse_family program term parameters) term.families;

@@ -1,6 +1,6 @@
 -- Lists of moves that keep to the red pebbles, whatever becomes of the blue ones and however often an instance is computed: a
--- complete pebbling is one, and so are the moves of one processor among several.
-use Rattle.std.specs.Prelude.{ℕ, ◌<◌, ◌≤◌, Bool, true, false, ⊤, IsTrue, List, [], ◌∷◌, slice_set, count_by, filter}
+-- complete pebbling is one, and so may be the moves of one processor among several, who share the blue pebbles.
+use Rattle.std.specs.Prelude.{ℕ, ◌<◌, ◌≤◌, Bool, true, false, ⊤, IsTrue, List, [], ◌∷◌, slice_set, count_by, filter, fold}
 use Rattle.std.specs.List.{AllByRecursion}
 use Rattle.iolb_model.specs.declared.game.Move.{Move}
 use Rattle.iolb_model.specs.declared.game.Move.TheVariants.{Load, Store, Compute, Drop, Erase}
@@ -15,6 +15,10 @@ red_after red (Store v) = red
 red_after red (Compute v) = slice_set red v true
 red_after red (Drop v) = slice_set red v false
 red_after red (Erase v) = red
+
+-- the red marks that the moves leave
+abbrev pub final_red : List Bool → List Move → List Bool
+final_red red moves = fold red_after red moves
 
 -- a move computes an instance alone, and only where all its predecessors are red
 abbrev pub ComputesFromRed : ComputationGraph → List Bool → Move → Type 0
@@ -38,9 +42,16 @@ computed_vertices (Compute v ∷ moves) = v ∷ computed_vertices moves
 computed_vertices (Drop v ∷ moves) = computed_vertices moves
 computed_vertices (Erase v ∷ moves) = computed_vertices moves
 
--- the points that are computed
+-- how many computations of vertices of a set the moves make
+abbrev pub computations_of : List ℕ → List Move → ℕ
+computations_of set moves = count_by (stands_in set) (computed_vertices moves)
+
+-- the points of a list that are computed
+abbrev pub computed_among : List ℕ → List Move → List ℕ
+computed_among points moves = filter (stands_in (computed_vertices moves)) points
+
 abbrev pub points_computed : ReusePartition → List Move → List ℕ
-points_computed partition moves = filter (stands_in (computed_vertices moves)) partition.points
+points_computed partition moves = computed_among partition.points moves
 
 -- an event is a load of a word or the computation of a credited vertex
 abbrev pub is_event : ReusePartition → Move → Bool

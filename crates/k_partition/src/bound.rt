@@ -37,8 +37,8 @@ pub(crate) fn bound_of(term: &Partition, count: Poly, credits: Poly) -> Partitio
     }
 }
 
-/// The sum of the weights.
-fn weight_of(families: &[Family]) -> u8
+/// The sum of the weights of a term's families.
+pub fn weight_of(families: &[Family]) -> u8
     requires { sum_by (λ (f : family). f.weight) families.now ≤ WEIGHTS }
     ensures { result ≡ sum_by (λ (f : family). f.weight) families.now }
 {

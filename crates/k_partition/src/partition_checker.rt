@@ -5,13 +5,14 @@ ghost use Rattle.std.specs.List.{AllByRecursion};
 ghost use Rattle.affine_program.specs.Parts.{meaning};
 ghost use Rattle.claims.specs.Claims.{AllHold, Finds, IsRefusal};
 ghost use Rattle.domain_count.specs.Count.{CountsPoints, IsCount};
-ghost use Rattle.iolb_model.specs.Bound.{partition};
-ghost use Rattle.iolb_model.specs.Footprint.{IsFootprintOf};
+ghost use Rattle.iolb_model.specs.Bound.{count_value, partition};
+ghost use Rattle.iolb_model.specs.Footprint.{CostsItsValue};
 ghost use Rattle.k_partition.specs.Numbers.{numbers_of, HasNumbers};
 ghost use Rattle.k_partition.specs.PartitionClaims.{apart_claims, no_points, partition_claims, pieces_of_families as pieces_by_family, IsCreditsTotal};
 ghost use Rattle.k_partition.specs.PartitionPieces.{partition_pieces, CountsCredits, HasPartitionPieces};
-ghost use Rattle.k_partition.specs.ReusedWords.{IsSoundTerm};
+ghost use Rattle.k_partition.specs.ReusedWords.{counted_points, IsSoundTerm};
 ghost use Rattle.k_partition.specs.TermLoads.{term_footprint, AreApartWhere};
+ghost use Rattle.k_partition.specs.TermRuns.{SplitsAmongRuns};
 ghost use Rattle.k_partition.specs.View.{partition_of, FitsPartition};
 ghost use Rattle.poly_tree.specs.Expansion.{IsCanonical};
 ghost use Rattle.poly_tree.specs.Printed.{polynomial_of};
@@ -25,6 +26,7 @@ ghost use Rattle.reuse_paths.specs.Trees.{RowsFit};
 use crate::partitions::partitions_are_sound;
 use crate::sound_checker::check_sound;
 use crate::term::{Partition, PartitionBound, Shape};
+use crate::term_runs::terms_are_loaded_in_runs;
 use crate::terms_loaded::sound_terms_are_loaded;
 use affine_form::Memory;
 use affine_program::Program;
@@ -154,7 +156,8 @@ fn families_apart(
 /// After `Ok` the term is sound, no two of its families have a word in common where its shape asks for it, and its value is
 /// loaded: at all parameter values that meet the program's assumptions, of any size, and for
 /// every number of red pebbles, every complete pebbling (Hong and Kung 1981, without recomputation) makes at least as many
-/// loads of the term's footprint as the value says.
+/// loads of the term's footprint as the value says; and a red run that computes a part of the points, and no vertex again,
+/// makes as many as the value would say of so many points.
 ///
 /// # Errors
 ///
@@ -179,13 +182,15 @@ pub fn check_partition(
     ensures apart { OnOk result (AreApartWhere (meaning program.now) (partition_of term.now)) }
     ensures few { OnOk result (HasPartitionPieces (meaning program.now) (trees_of quasts.now) (partition_of term.now)) }
     ensures covered { OnOk result (AreCovered (meaning program.now) (term_footprint (meaning program.now) (partition_of term.now)) (partition_pieces (meaning program.now) (trees_of quasts.now) (partition_of term.now))) }
-    ensures footprint { IfOk result (λ bound. IsFootprintOf (meaning program.now) (partition (polynomial_of bound.count) (polynomial_of bound.credits) (numbers_of bound)) (term_footprint (meaning program.now) (partition_of term.now))) }
+    ensures footprint { IfOk result (λ bound. CostsItsValue (meaning program.now) (partition (polynomial_of bound.count) (polynomial_of bound.credits) (numbers_of bound)) (term_footprint (meaning program.now) (partition_of term.now))) }
+    ensures splits { IfOk result (λ bound. SplitsAmongRuns (meaning program.now) (count_value (polynomial_of bound.count)) (count_value (polynomial_of bound.credits)) (numbers_of bound) (counted_points (meaning program.now) (partition_of term.now)) (term_footprint (meaning program.now) (partition_of term.now))) }
     ensures refused { IfErr result (λ refused. IsRefusal (partition_claims (meaning program.now) (trees_of quasts.now) place.now (partition_of term.now)) refused) }
 {
     let _params = program.params();
     right_claims_count();
     partitions_are_sound();
     sound_terms_are_loaded();
+    terms_are_loaded_in_runs();
     terms_have_the_value();
     contexts_are_few();
     family_pieces_cover();

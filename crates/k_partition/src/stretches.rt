@@ -1,19 +1,36 @@
-//! Points that are computed take events.
+//! Stretches of red runs, and what points that are computed take.
 
-ghost use Rattle.k_partition.specs.Laws.{PointsTakeEventsEach, PointsTakeEventsSum};
+ghost use Rattle.k_partition.specs.Laws.{PointsTakeEventsEach, PointsTakeEventsSum, StretchesAreRedRuns, StretchesHoldLabelsEach, StretchesHoldLabelsSum, StretchesHoldPointsEach, StretchesHoldPointsSum};
 
 use pebble_game::sets::disjoint_loads_add_up;
 use uniform_cover::{cover_inequality_each, cover_inequality_sum};
 
+/// A law: any part of the moves of a red run is a red run, from the red marks at its start.
+pub fn stretches_are_red_runs()
+    ensures { StretchesAreRedRuns }
+{}
+
 /// A law over any list of moves that computes instances alone, from red predecessors, and never has more than s red
-/// vertices: where at most u points go into a stretch of t events, by the greatest u that the cover inequality allows at
-/// s + t labels, more than j times u points take at least j times t events. In the first case each family holds so many
-/// labels; in the second, where no two families have a word in common, all families together.
-pub fn points_take_events()
-    ensures each { PointsTakeEventsEach }
-    ensures sum { PointsTakeEventsSum }
+/// vertices, whichever are red at its start: if it has at most t events, the starts of the points that it computes have at
+/// most s + t different labels, and at most u points are computed, the greatest number that the cover inequality allows at so
+/// many labels. In the first case each family has at most so many; in the second, where no two families have a word in
+/// common, all families together.
+pub fn stretches_are_small()
+    ensures labels_each { StretchesHoldLabelsEach }
+    ensures labels_sum { StretchesHoldLabelsSum }
+    ensures points_each { StretchesHoldPointsEach }
+    ensures points_sum { StretchesHoldPointsSum }
 {
     cover_inequality_each();
     cover_inequality_sum();
     disjoint_loads_add_up();
+}
+
+/// A law over any such list of moves, of any number of events: where at most u points go into a stretch of t events, more
+/// than j times u points take at least j times t events.
+pub fn points_take_events()
+    ensures each { PointsTakeEventsEach }
+    ensures sum { PointsTakeEventsSum }
+{
+    stretches_are_small();
 }

@@ -26,7 +26,7 @@ use Rattle.reuse_paths.specs.FamilyFits.{CountedFits, NodesFit, FamilyFits}
 use Rattle.reuse_paths.specs.Trees.{RowsFit}
 use Rattle.reuse_paths.specs.WalkFits.{IsLabel, AreInstanceLabels, AreCellLabels, CreditFits}
 use Rattle.reuse_paths.specs.WalkSettings.{WalkSetting}
-use Rattle.part_fit.specs.FamilyFit.{label_fit, subscripts_of, input_fit, inputs_fit, node_fit, nodes_fit, set_fit, start_fit, family_fit, family_at, credit_nest_fit, credit_count_fit, credit_fit}
+use Rattle.part_fit.specs.FamilyFit.{RisesBelow, label_fit, subscripts_of, input_fit, inputs_fit, node_fit, nodes_fit, set_fit, start_fit, family_fit, family_at, credit_nest_fit, credit_count_fit, credit_fit}
 use Rattle.part_fit.specs.FamilyViews.{credit_at}
 use Rattle.part_fit.specs.Limits.{AreSmall, AreSmallBounds, IsSmallFamily, IsSmallFamilyNode, IsSmallLabel}
 use Rattle.part_fit.specs.TreeFit.{trees_fit}
@@ -66,10 +66,9 @@ module _ (program : AffineProgram) (size : ℕ) (place : List Step) where
 -- ---- families
 
 -- what holds of the rows of a set
-set-below : (depth count : ℕ) (place : List Step) (index least : ℕ) (set : List ℕ) → count ≡ depth → AllHold (set_fit depth place index least set)
-    → AllByRecursion (λ (row : ℕ). row < count) set
-set-below depth count place index least [] e h = tt
-set-below depth count place index least (row ∷ set) e h = (omega (arith, e, h.0.1), set-below depth count place (suc index) (suc row) set e h.1)
+set-below : (depth count least : ℕ) (set : List ℕ) → count ≡ depth → RisesBelow depth least set → AllByRecursion (λ (row : ℕ). row < count) set
+set-below depth count least [] e h = tt
+set-below depth count least (row ∷ set) e h = (omega (arith, e, h.0.1), set-below depth count (suc row) set e h.1)
 
 module _ (program : AffineProgram) (trees : List (List SelectionTree)) (fit : AllHold (trees_fit program trees)) (rows : RowsFit program 0 trees) (credits : List CreditedNest) where
   module _ (family : FamilyForms) (place : List Step) where
@@ -119,7 +118,7 @@ module _ (program : AffineProgram) (trees : List (List SelectionTree)) (fit : Al
         let walk : WalkSetting = family_setting program trees credits family family.start_label in
         let inputs : List Claim = inputs_fit program (place ++ Key INPUTS ∷ []) family in
         let nodes : List Claim = nodes_fit program trees credits (place ++ Key NODES ∷ []) family in
-        let set : List Claim = set_fit (depth_of program statement) (place ++ Key SET ∷ []) 0 0 family.set in
+        let set : List Claim = set_fit (depth_of program statement) (place ++ Key SET ∷ []) family.set in
         let start : List Claim = start_fit program trees statement credits (place ++ Key START ∷ []) family in
         let label : List Claim = label_fit size vars ((place ++ Key START ∷ []) ++ Key LABEL ∷ []) family.start_label in
         let tree : List Claim = walk_fit walk statement ((place ++ Key START ∷ []) ++ Key TREE ∷ []) family.start in
@@ -131,7 +130,7 @@ module _ (program : AffineProgram) (trees : List (List SelectionTree)) (fit : Al
         let same : (k : ℕ) → slice_get program.arrays (0 + k) ≡ slice_get program.arrays k = λ k. ap (slice_get program.arrays) (zero-add k) in record {
           counted = counted;
           scale = small.some_scale;
-          set = set-below (depth_of program statement) matrix.rows (place ++ Key SET ∷ []) 0 0 family.set counted.rows in_set;
+          set = set-below (depth_of program statement) matrix.rows 0 family.set counted.rows in_set.0;
           start_label = label-is size vars ((place ++ Key START ∷ []) ++ Key LABEL ∷ []) family.start_label small.start_label (AllHold-left label tree in_start);
           labels = record {
             instances = instance-labels family (place ++ Key NODES ∷ []) 0 family.nodes small.nodes in_nodes.1;

@@ -1,6 +1,6 @@
 -- What is asked of families of walks and of credited nests. A statement that isn't there counts as one without loops and
 -- reads, and an array that isn't there as one without subscripts. A list is looked at before its members.
-use Rattle.std.specs.Prelude.{ℕ, suc, ◌+◌, ◌<◌, ◌≤◌, List, [], ◌∷◌, ◌++◌, length, Option, None, Some, slice_get}
+use Rattle.std.specs.Prelude.{⊤, ℕ, suc, ◌+◌, ◌<◌, ◌≤◌, List, [], ◌∷◌, ◌++◌, length, Option, None, Some, slice_get}
 use Rattle.iolb_model.specs.Form.{AffineForm}
 use Rattle.iolb_model.specs.Program.{Array, AffineProgram}
 use Rattle.claims.specs.Claims.{Claim, numbered}
@@ -46,11 +46,14 @@ abbrev pub node_fit : AffineProgram → List (List SelectionTree) → List Credi
 node_fit program trees credits family place statement None = []
 node_fit program trees credits family place statement (Some node) = node_fit_at program trees credits family (place ++ Index statement ∷ []) statement node
 
--- A set of rows below the depth that rises: each is at least a number, and the next is greater.
-abbrev pub set_fit : ℕ → List Step → ℕ → ℕ → List ℕ → List Claim
-set_fit depth place index least [] = []
-set_fit depth place index least (row ∷ set) =
-    record { condition = 1; place = place ++ Index index ∷ []; statement = (least ≤ row) × (row < depth) } ∷ set_fit depth place (suc index) (suc row) set
+-- rows that rise and are below the depth: each is at least a number, and the next is greater
+abbrev pub RisesBelow : ℕ → ℕ → List ℕ → Type 0
+RisesBelow depth least [] = ⊤
+RisesBelow depth least (row ∷ set) = ((least ≤ row) × (row < depth)) × RisesBelow depth (suc row) set
+
+-- A set rises and is below the depth.
+abbrev pub set_fit : ℕ → List Step → List ℕ → List Claim
+set_fit depth place set = record { condition = 1; place = place; statement = RisesBelow depth 0 set } ∷ []
 
 -- the walk from the instances that are counted, and the label that it begins with
 abbrev pub start_fit : AffineProgram → List (List SelectionTree) → ℕ → List CreditedNest → List Step → FamilyForms → List Claim
@@ -73,7 +76,7 @@ abbrev pub family_fit : AffineProgram → List (List SelectionTree) → ℕ → 
 family_fit program trees statement credits place family =
     inputs_fit program (place ++ Key INPUTS ∷ []) family
     ++ (nodes_fit program trees credits (place ++ Key NODES ∷ []) family
-    ++ (set_fit (depth_of program statement) (place ++ Key SET ∷ []) 0 0 family.set
+    ++ (set_fit (depth_of program statement) (place ++ Key SET ∷ []) family.set
     ++ start_fit program trees statement credits (place ++ Key START ∷ []) family))
 
 -- families, each at its index in a list

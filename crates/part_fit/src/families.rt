@@ -6,7 +6,7 @@ ghost use Rattle.affine_program.specs.Parts.{meaning};
 ghost use Rattle.claims.specs.Claims.{numbered};
 ghost use Rattle.claims.specs.declared.key.TheConstants.{INPUTS, LABEL, NODES, SET, START};
 ghost use Rattle.claims.specs.declared.place.Step.TheVariants.{Key};
-ghost use Rattle.part_fit.specs.FamilyFit.{families_fit, family_fit, input_fit, inputs_fit, label_fit, node_fit, node_fit_at, nodes_fit, set_fit, start_fit, subscripts_of};
+ghost use Rattle.part_fit.specs.FamilyFit.{RisesBelow, families_fit, family_fit, input_fit, inputs_fit, label_fit, node_fit, node_fit_at, nodes_fit, set_fit, start_fit, subscripts_of};
 ghost use Rattle.part_fit.specs.FitClaims.{FindsMisfit};
 ghost use Rattle.reuse_paths.specs.Families.{credit_of, family_of, forms_of, node_of};
 ghost use Rattle.reuse_paths.specs.FamilyClaims.{family_setting};
@@ -14,7 +14,7 @@ ghost use Rattle.reuse_paths.specs.Quasts.{trees_of};
 ghost use Rattle.reuse_paths.specs.WalkViews.{walk_of};
 
 use crate::counts::loops_around;
-use crate::lists::{forms_misfit_in, member_misfit, misfit_at};
+use crate::lists::{forms_misfit_in, misfit_at};
 use crate::walks::{region_misfit, walk_misfit};
 use affine_form::{Form, Memory};
 use affine_program::Program;
@@ -267,25 +267,34 @@ fn is_next(row: usize, least: usize, depth: usize) -> bool
     least <= row && row < depth
 }
 
-/// The place of the first row of a set, in the list with the key `set`, that isn't greater than the one before it or isn't
-/// below the depth.
+/// Whether the rows of a set rise and are below the depth.
+fn rises_below(depth: usize, set: &[u8]) -> bool
+    ensures { IsTrue result ↔ RisesBelow depth 0 set.now }
+{
+    let mut least: usize = 0;
+    for member in set {
+        let row = usize::from(*member);
+        if !is_next(row, least, depth) {
+            return false;
+        }
+        least = row + 1;
+    }
+    true
+}
+
+/// The place of a set, the list with the key `set`, that doesn't rise or isn't below the depth.
 fn set_misfit(
     alloc: Global,
     place: &Place,
     depth: usize,
     set: &[u8],
 ) -> Result<Option<Place>, Memory>
-    ensures { IfOk result (λ found. FindsMisfit (set_fit depth (place.now ++ Key SET ∷ []) 0 0 set.now) found) }
+    ensures { IfOk result (λ found. FindsMisfit (set_fit depth (place.now ++ Key SET ∷ []) set.now) found) }
 {
-    let mut least: usize = 0;
-    for (index, row) in set.iter().enumerate() {
-        let row = usize::from(*row);
-        if !is_next(row, least, depth) {
-            return member_misfit(alloc, place, Step::Key(SET), index);
-        }
-        least = row + 1;
+    if rises_below(depth, set) {
+        return Ok(None);
     }
-    Ok(None)
+    misfit_at(alloc, place, Step::Key(SET))
 }
 
 /// The place of what doesn't fit first of the walk from the instances that are counted, and of its label, at this place.
@@ -322,7 +331,7 @@ fn counted_misfit(
     place: &Place,
     family: &Family,
 ) -> Result<Option<Place>, Memory>
-    ensures { IfOk result (λ found. FindsMisfit (set_fit (depth_of (meaning program.now) statement) (place.now ++ Key SET ∷ []) 0 0 (family_of family.now).set
+    ensures { IfOk result (λ found. FindsMisfit (set_fit (depth_of (meaning program.now) statement) (place.now ++ Key SET ∷ []) (family_of family.now).set
         ++ start_fit (meaning program.now) (trees_of quasts.now) statement (map credit_of credits.now) (place.now ++ Key START ∷ []) (family_of family.now)) found) }
 {
     let depth = loops_around(program, statement);

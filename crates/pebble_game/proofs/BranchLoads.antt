@@ -5,7 +5,7 @@ use Rattle.std.proofs.lemmas.List.Sums.{sum_by-cons, sum-map}
 use Rattle.iolb_model.specs.declared.game.Move.{Move}
 use Rattle.iolb_model.specs.Program.{AffineProgram}
 use Rattle.iolb_model.specs.Bound.{IsAdmitted, BoundTerm, term_value}
-use Rattle.iolb_model.specs.Footprint.{Footprint, AreFootprintsOf}
+use Rattle.iolb_model.specs.Footprint.{Footprint, CostTheirValues}
 use Rattle.iolb_model.specs.Graph.{computation_graph}
 use Rattle.iolb_model.specs.Game.{IsCompletePebbling, loads_of}
 use Rattle.pebble_game.proofs.Disjoint.{disjoint_loads}
@@ -14,9 +14,10 @@ use Rattle.pebble_game.specs.Branches.{BranchesAreLoaded}
 module _ (program : AffineProgram) (values : List ℤ) (s : ℕ) (moves : List Move) (admitted : IsAdmitted program values) (some : 1 ≤ s)
     (game : IsCompletePebbling (computation_graph program values) s moves) where
   -- each term's value is at most the loads of its footprint
-  values-low : (terms : List BoundTerm) (footprints : List Footprint) → AreFootprintsOf program terms footprints
+  values-low : (terms : List BoundTerm) (footprints : List Footprint) → CostTheirValues program terms footprints
       → sum_by (λ term. term_value term values s) terms ≤ sum_by (λ set. loads_of set moves) (map (λ (footprint : Footprint). footprint values) footprints)
-  values-low [] footprints each = omega arith
+  values-low [] [] each = omega arith
+  values-low [] (footprint ∷ footprints) each = absurd each
   values-low (term ∷ terms) [] each = absurd each
   values-low (term ∷ terms) (footprint ∷ footprints) each =
       omega (

@@ -10,8 +10,8 @@ use Rattle.iolb_model.specs.Source.{Cell, same_cell, cell_of, Source, input, sou
 use Rattle.iolb_model.specs.Graph.{placed, input_cell, input_cells, vertex_of, input_vertex, predecessors_of, computation_graph}
 use Rattle.iolb_model.specs.Game.{predecessors_at, loads_of}
 use Rattle.pebble_game.specs.Inputs.{IsReadInput}
-use Rattle.pebble_game.proofs.Loaded.{read_inputs_loaded}
-use Rattle.pebble_game.specs.Cold.{read_vertices, ReadsInput, InputReadsAreVertices, InputReadsAreLoaded}
+use Rattle.pebble_game.proofs.Loaded.{each_input_loaded, read_inputs_loaded}
+use Rattle.pebble_game.specs.Cold.{read_vertices, ReadsInput, EachInputReadIsLoaded, InputReadsAreVertices, InputReadsAreLoaded}
 use Rattle.execution_laws.proofs.Members.{Member, Member-map, Member-flat_map, Member-filter_map, Member-distinct, Member-enumerate, Contains-member}
 use Rattle.execution_laws.proofs.Cells.{same_cell-equal, position-Member, position-apart}
 
@@ -130,6 +130,12 @@ input_reads_vertices program parameters statement read (values ∷ points) h =
     slice_get-below cells (position_or_len (same_cell cell) cells) cell (position-Member cell cells (Member-input_cells program parameters statement read values h.0)) in
     (omega (arith, place), input_reads_vertices program parameters statement read points h.1)
 
+pub each_read_loaded : EachInputReadIsLoaded
+each_read_loaded program parameters statement read points s moves game reads =
+    each_input_loaded (computation_graph program parameters) s moves (read_vertices program parameters statement read points) game
+    (are_read_inputs program parameters statement read points reads)
+
+-- points whose cells differ cost a load each
 pub input_reads_loaded : InputReadsAreLoaded
 input_reads_loaded program parameters statement read points s moves game reads apart =
     subst (λ (n : ℕ). n ≤ loads_of (read_vertices program parameters statement read points) moves)

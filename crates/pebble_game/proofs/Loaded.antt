@@ -1,10 +1,10 @@
 -- Each input that is read was loaded: between a board without its red pebble and the computing of a reader
 -- stands a load of it.
 use Rattle.std.proofs.Common.{inl, inr, ◌≡◌, refl, sym, ◌∙◌, ap, subst, ℕ, ◌+◌, ◌≤◌, ◌≢◌, Bool, true, false, cond, List, [], ◌∷◌, zero, suc, length, set, replicate, arith, IsTrue}
-use Rattle.std.specs.Prelude.{filter, nat_eq, ◌||◌, Contains}
+use Rattle.std.specs.Prelude.{filter, nat_eq, ◌||◌, ◌⊎◌, Contains}
 use Rattle.std.specs.List.{AllByRecursion, IsDistinct}
 use Rattle.std.proofs.lemmas.List.Elements.{All-from_recursion, All-contains}
-use Rattle.std.proofs.lemmas.Bool.{eqb-true, eqb-false, ne_eqb, cases_eq, and_from}
+use Rattle.std.proofs.lemmas.Bool.{eqb-true, eqb-false, ne_eqb, cases_eq, cases_Bool, and_from}
 use Rattle.std.proofs.lemmas.Map.Made.{length-le_from_is_member, is_member-filter}
 use Rattle.std.specs.Set.{is_member}
 use Rattle.std.specs.Cmp.{nat_eq_equiv}
@@ -14,17 +14,10 @@ use Rattle.iolb_model.specs.declared.game.Move.{Move}
 use Rattle.iolb_model.specs.declared.game.Move.TheVariants.{Load, Store, Compute, Drop, Erase}
 use Rattle.iolb_model.specs.Graph.{ComputationGraph}
 use Rattle.iolb_model.specs.Game.{Board, marked, predecessors_at, AreAllowed, board_after, final_board, IsCompletePebbling, loads_one_of, loads_of, stands_in, first_board}
-use Rattle.pebble_game.proofs.Marks.{unmarked-at}
-use Rattle.pebble_game.specs.Inputs.{IsReadInput, ReadInputIsLoaded, ReadInputsAreLoaded}
-
--- the vertices that are loaded, in order
-abbrev pub loaded : List Move → List ℕ
-loaded [] = []
-loaded (Load v ∷ moves) = v ∷ loaded moves
-loaded (Store v ∷ moves) = loaded moves
-loaded (Compute v ∷ moves) = loaded moves
-loaded (Drop v ∷ moves) = loaded moves
-loaded (Erase v ∷ moves) = loaded moves
+use Rattle.execution_laws.proofs.Members.{Member}
+use Rattle.pebble_game.proofs.Marks.{distinct-filtered, filtered-member, member-stands, standing-member, unmarked-at}
+use Rattle.pebble_game.specs.Inputs.{EachReadInputIsLoaded, IsReadInput, ReadInputIsLoaded, ReadInputsAreLoaded}
+use Rattle.pebble_game.specs.Loaded.{AreLoaded, DifferentAreLoads, LoadedByALoad, is_loaded, loaded, loaded_among}
 
 filtered-step : (b : Bool) (v n : ℕ) (rest : List ℕ) → n ≡ length rest → cond b 1 0 + n ≡ length (cond b (v ∷ rest) rest)
 filtered-step true v n rest e = omega (arith, e)
@@ -59,10 +52,6 @@ unmarked (m ∷ marks) (suc v) (suc w) h = unmarked marks v w h
 pub or_true : (b x : Bool) → (b ≡ false → x ≡ true) → (b || x) ≡ true
 or_true true x h = refl
 or_true false x h = h refl
-
--- a number's place among the loaded vertices
-abbrev pub is_loaded : ℕ → List Move → Bool
-is_loaded v moves = is_member nat_eq (loaded moves) v
 
 -- Between a board where an input has no red pebble and the computing of an instance that reads it, it is loaded.
 pub loaded_before_reader : (graph : ComputationGraph) (s : ℕ) (v n : ℕ) → graph.instances ≤ v → Contains (predecessors_at graph n) v
@@ -122,3 +111,41 @@ one_distinct v = (tt, tt)
 
 pub read_input_loaded_once : ReadInputIsLoaded
 read_input_loaded_once graph s moves v game read = read_inputs_loaded graph s moves (v ∷ []) game (one_distinct v) (read, tt)
+
+-- each of them is loaded
+pub each_input_loaded : EachReadInputIsLoaded
+each_input_loaded graph s moves [] game read = tt
+each_input_loaded graph s moves (v ∷ inputs) game read = (read_input_loaded graph s moves v game read.0, each_input_loaded graph s moves inputs game read.1)
+
+-- ---- loaded vertices and loads
+
+pub different_are_loads : DifferentAreLoads
+different_are_loads moves set distinct =
+    subst (λ (n : ℕ). length (loaded_among set moves) ≤ n) (sym (loads_of-loaded set moves))
+    (length-le_from_is_member nat_eq_equiv (loaded_among set moves) (filter (stands_in set) (loaded moves)) (distinct-filtered (λ v. is_loaded v moves) set distinct)
+    (λ v h. let m = filtered-member (λ u. is_loaded u moves) set v (standing-member (loaded_among set moves) v h) in
+    is_member-filter nat_eq_equiv (stands_in set) v (λ x e. ap (stands_in set) (eqb-true v x e)) (loaded moves)
+    ∙ and_from (is_member nat_eq (loaded moves) v) (stands_in set v) m.1 (member-stands set v m.0)))
+
+pub loaded_by_a_load : LoadedByALoad
+loaded_by_a_load moves v = (forth, back) where
+  forth : is_loaded v moves ≡ true → 1 ≤ loads_of (v ∷ []) moves
+  forth on = subst (λ (b : Bool). length (cond b (v ∷ []) []) ≤ loads_of (v ∷ []) moves) on (different_are_loads moves (v ∷ []) (one_distinct v))
+
+  some : (xs : List ℕ) → 1 ≤ length (filter (stands_in (v ∷ [])) xs) → stands_in xs v ≡ true
+  some [] le = absurd (omega (arith, le))
+  some (x ∷ xs) le = by_eqb v x (λ same. member-stands (x ∷ xs) v (inl same)) (λ apart. member-stands (x ∷ xs) v (inr (standing-member xs v (some xs (later apart))))) where
+    off : nat_eq v x ≡ false → stands_in (v ∷ []) x ≡ false
+    off apart = by (cases_Bool (stands_in (v ∷ []) x)) where
+      by : (stands_in (v ∷ []) x ≡ true) ⊎ (stands_in (v ∷ []) x ≡ false) → stands_in (v ∷ []) x ≡ false
+      by (inr e) = e
+      by (inl e) = absurd (eqb-false v x apart (only (standing-member (v ∷ []) x e))) where
+        only : Member x (v ∷ []) → v ≡ x
+        only (inl e) = sym e
+        only (inr m) = absurd m
+
+    later : nat_eq v x ≡ false → 1 ≤ length (filter (stands_in (v ∷ [])) xs)
+    later apart = subst (λ (b : Bool). 1 ≤ length (cond b (x ∷ filter (stands_in (v ∷ [])) xs) (filter (stands_in (v ∷ [])) xs))) (off apart) le
+
+  back : 1 ≤ loads_of (v ∷ []) moves → is_loaded v moves ≡ true
+  back le = some (loaded moves) (subst (λ (n : ℕ). 1 ≤ n) (loads_of-loaded (v ∷ []) moves) le)

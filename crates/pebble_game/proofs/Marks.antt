@@ -109,3 +109,12 @@ distinct-filtered test (x ∷ xs) h = by (test x) (distinct-filtered test xs h.1
   by : (b : Bool) → IsDistinct nat_eq (filter test xs) → IsDistinct nat_eq (cond b (x ∷ filter test xs) (filter test xs))
   by true rest = (apart-filtered x test xs h.0, rest)
   by false rest = rest
+
+-- a number that is left by a test is a member and passes it
+pub filtered-member : (test : ℕ → Bool) (xs : List ℕ) (v : ℕ) → Member v (filter test xs) → Member v xs × (test v ≡ true)
+filtered-member test [] v m = absurd m
+filtered-member test (x ∷ xs) v m = by (test x) refl m (λ n. filtered-member test xs v n) where
+  by : (b : Bool) → b ≡ test x → Member v (cond b (x ∷ filter test xs) (filter test xs)) → (Member v (filter test xs) → Member v xs × (test v ≡ true)) → Member v (x ∷ xs) × (test v ≡ true)
+  by true e (inl same) later = (inl same, ap test same ∙ sym e)
+  by true e (inr n) later = let r = later n in (inr r.0, r.1)
+  by false e n later = let r = later n in (inr r.0, r.1)

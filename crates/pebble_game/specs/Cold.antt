@@ -8,6 +8,7 @@ use Rattle.iolb_model.specs.Source.{read_cell, same_cell, source_of, input}
 use Rattle.iolb_model.specs.Graph.{computation_graph, input_vertex}
 use Rattle.iolb_model.specs.Game.{IsCompletePebbling, loads_of}
 use Rattle.iolb_model.specs.Footprint.{AreVertices}
+use Rattle.pebble_game.specs.Loaded.{AreLoaded}
 
 -- The instance of the statement at these loop values is executed, and the source of its read of this number is
 -- the input cell itself.
@@ -37,3 +38,10 @@ InputReadsAreLoaded = (program : AffineProgram) (parameters : List ℤ) (stateme
     → AllByRecursion (ReadsInput program parameters statement read) points
     → IsDistinct same_cell (map (read_cell program parameters statement read) points)
     → length points ≤ loads_of (read_vertices program parameters statement read points) moves
+
+-- Each of the cells is loaded, whether or not two of them are the same.
+abbrev pub EachInputReadIsLoaded : Type 0
+EachInputReadIsLoaded = (program : AffineProgram) (parameters : List ℤ) (statement read : ℕ) (points : List (List ℤ)) (s : ℕ) (moves : List Move)
+    → IsCompletePebbling (computation_graph program parameters) s moves
+    → AllByRecursion (ReadsInput program parameters statement read) points
+    → AreLoaded (read_vertices program parameters statement read points) moves

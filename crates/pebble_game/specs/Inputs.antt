@@ -4,6 +4,7 @@ use Rattle.std.specs.List.{AllByRecursion, IsDistinct}
 use Rattle.iolb_model.specs.declared.game.Move.{Move}
 use Rattle.iolb_model.specs.Graph.{ComputationGraph}
 use Rattle.iolb_model.specs.Game.{predecessors_at, IsCompletePebbling, loads_of}
+use Rattle.pebble_game.specs.Loaded.{AreLoaded}
 
 -- an input that is a predecessor of some instance
 pub record IsReadInput (graph : ComputationGraph) (vertex : ℕ) : Type 0 where
@@ -21,3 +22,8 @@ ReadInputIsLoaded = (graph : ComputationGraph) (s : ℕ) (moves : List Move) (ve
 abbrev pub ReadInputsAreLoaded : Type 0
 ReadInputsAreLoaded = (graph : ComputationGraph) (s : ℕ) (moves : List Move) (inputs : List ℕ) → IsCompletePebbling graph s moves
     → IsDistinct nat_eq inputs → AllByRecursion (IsReadInput graph) inputs → length inputs ≤ loads_of inputs moves
+
+-- Of any list of them each is loaded.
+abbrev pub EachReadInputIsLoaded : Type 0
+EachReadInputIsLoaded = (graph : ComputationGraph) (s : ℕ) (moves : List Move) (inputs : List ℕ) → IsCompletePebbling graph s moves
+    → AllByRecursion (IsReadInput graph) inputs → AreLoaded inputs moves

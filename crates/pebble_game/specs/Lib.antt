@@ -1,5 +1,6 @@
 pub mod Inputs
 pub mod Sets
+pub mod Loaded
 pub mod Graphs
 pub mod Cold
 pub mod Branches

@@ -37,8 +37,8 @@ use Rattle.projective_bounds.proofs.Sums.{polynomials-hold, shown-many}
 
 -- the sets of all arrays rise
 coordinates-rise : (params loops : ℕ) (found : Option Access) → IsRising loops (coordinates params loops found)
-coordinates-rise params loops None place = tt
-coordinates-rise params loops (Some access) place = filtered-rises _ loops place
+coordinates-rise params loops None = tt
+coordinates-rise params loops (Some access) = filtered-rises _ loops
 
 all-rise : (program : AffineProgram) → AllByRecursion (IsRising (depth_of program 0)) (projection_sets program)
 all-rise program =

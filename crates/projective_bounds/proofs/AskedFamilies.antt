@@ -24,7 +24,7 @@ use Rattle.reuse_paths.specs.Trees.{read_of}
 use Rattle.reuse_paths.specs.WalkFits.{AreCellLabels, IsLabel}
 use Rattle.reuse_paths.specs.WalkSettings.{WalkSetting, region_at}
 use Rattle.part_fit.specs.EntryFit.{EntryAim, aimed_at, aimed_entries_fit, aimed_fit, leaf_names, names_in}
-use Rattle.part_fit.specs.FamilyFit.{family_at, family_fit, input_fit, inputs_fit, label_fit, node_fit, nodes_fit, set_fit, start_fit, subscripts_of}
+use Rattle.part_fit.specs.FamilyFit.{RisesBelow, family_at, family_fit, input_fit, inputs_fit, label_fit, node_fit, nodes_fit, set_fit, start_fit, subscripts_of}
 use Rattle.part_fit.specs.FitClaims.{names}
 use Rattle.part_fit.specs.WalkFit.{entry_aim, row_count, rows_called, walk_fit}
 use Rattle.part_fit.proofs.ReadTrees.{names-of, open-many}
@@ -111,24 +111,22 @@ none-called f none (name ∷ named) (suc k) = none-called f none named k
 -- ---- sets
 
 -- the numbers of a range that pass a test rise
-rising-asked : (passes : ℕ → Bool) (depth : ℕ) (place : List Step) (index least first count : ℕ) → least ≤ first → first + count ≤ depth
-    → AllHold (set_fit depth place index least (filter passes (range_with_len first count)))
-rising-asked passes depth place index least first zero le within = tt
-rising-asked passes depth place index least first (suc count) le within =
-    by (passes first) (rising-asked passes depth place (suc index) (suc first) (first + 1) count (omega arith) (omega (arith, within)))
-    (rising-asked passes depth place index least (first + 1) count (omega (arith, le)) (omega (arith, within))) where
-      by : (b : Bool) → AllHold (set_fit depth place (suc index) (suc first) (filter passes (range_with_len (first + 1) count)))
-          → AllHold (set_fit depth place index least (filter passes (range_with_len (first + 1) count)))
-          → AllHold (set_fit depth place index least (cond b (first ∷ filter passes (range_with_len (first + 1) count)) (filter passes (range_with_len (first + 1) count))))
+rising-asked : (passes : ℕ → Bool) (depth least first count : ℕ) → least ≤ first → first + count ≤ depth → RisesBelow depth least (filter passes (range_with_len first count))
+rising-asked passes depth least first zero le within = tt
+rising-asked passes depth least first (suc count) le within =
+    by (passes first) (rising-asked passes depth (suc first) (first + 1) count (omega arith) (omega (arith, within)))
+    (rising-asked passes depth least (first + 1) count (omega (arith, le)) (omega (arith, within))) where
+      by : (b : Bool) → RisesBelow depth (suc first) (filter passes (range_with_len (first + 1) count)) → RisesBelow depth least (filter passes (range_with_len (first + 1) count))
+          → RisesBelow depth least (cond b (first ∷ filter passes (range_with_len (first + 1) count)) (filter passes (range_with_len (first + 1) count)))
       by true taken left = ((le, omega (arith, within)), taken)
       by false taken left = left
 
--- a set is as asked, wherever it stands
+-- a set is as asked
 abbrev pub IsRising : ℕ → List ℕ → Type 0
-IsRising depth set = (place : List Step) → AllHold (set_fit depth place 0 0 set)
+IsRising depth set = RisesBelow depth 0 set
 
 pub filtered-rises : (passes : ℕ → Bool) (depth : ℕ) → IsRising depth (filter passes (range_with_len 0 depth))
-filtered-rises passes depth place = rising-asked passes depth place 0 0 0 depth (omega arith) (omega arith)
+filtered-rises passes depth = rising-asked passes depth 0 0 depth (omega arith) (omega arith)
 
 -- ---- a family
 
@@ -210,11 +208,11 @@ module _ (program : AffineProgram) (trees : List (List SelectionTree)) (array : 
   family-asked place =
       let inputs : List Claim = inputs_fit program (place ++ Key INPUTS ∷ []) family in
       let nodes : List Claim = nodes_fit program trees [] (place ++ Key NODES ∷ []) family in
-      let rows : List Claim = set_fit d (place ++ Key SET ∷ []) 0 0 set in
+      let rows : List Claim = set_fit d (place ++ Key SET ∷ []) set in
       let start : List Claim = start_fit program trees 0 [] (place ++ Key START ∷ []) family in
       AllHold-append inputs (nodes ++ (rows ++ start)) (inputs-asked (place ++ Key INPUTS ∷ []))
       (AllHold-append nodes (rows ++ start) (nodes-asked (place ++ Key NODES ∷ []))
-      (AllHold-append rows start (rising (place ++ Key SET ∷ [])) (start-asked (place ++ Key START ∷ []))))
+      (AllHold-append rows start (rising, tt) (start-asked (place ++ Key START ∷ []))))
 
 -- ---- all families
 

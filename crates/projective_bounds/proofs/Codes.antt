@@ -1,27 +1,33 @@
 -- Steps of the code.
 use Rattle.std.proofs.Common.{◌≡◌, refl, sym, ◌∙◌, ap, subst, ℕ, zero, suc, ◌+◌, ◌<◌, ◌≤◌, Bool, true, false, List, [], ◌∷◌, ◌++◌, length, map, filter, cond, take, get_or, arith}
-use Rattle.std.specs.Prelude.{Some, ◌==◌, if◌then◌else◌}
-use Rattle.std.specs.List.{AllByRecursion, range_with_len}
-use Rattle.std.proofs.lemmas.Bool.{eqb-true, lt-ltb, ltb-true}
-use Rattle.std.proofs.lemmas.List.{append-nil, length-map, map-append, take_more}
-use Rattle.std.proofs.lemmas.List.FromFn.{filter_of_map_range_with_len_more, length-range_with_len}
-use Rattle.base_laws.proofs.Ranges.{filter-few}
+use Rattle.std.specs.Prelude.{Option, None, Some, IsSomeAnd, nat_eq, slice_get, ◌==◌, if◌then◌else◌}
+use Rattle.std.specs.List.{AllByRecursion, IsDistinct, range_with_len}
+use Rattle.std.proofs.lemmas.Bool.{eq-eqb, eqb-true}
+use Rattle.std.proofs.lemmas.List.{length-map, map-append, take_more}
+use Rattle.std.proofs.lemmas.Map.Steps.{length-le_from_distinct_below}
+use Rattle.std.proofs.lemmas.Option.{slice_get_within}
+use Rattle.base_laws.proofs.Ranges.{filter-failed, filter-passed, range-distinct}
 use Rattle.base_laws.proofs.Lists.{All-at, All-push, All-weaken}
 use Rattle.iolb_model.specs.Form.{AffineForm}
-use Rattle.iolb_model.specs.Program.{Access, AffineProgram, no_statement, read_at, statement_at}
+use Rattle.iolb_model.specs.Program.{Access, AffineProgram, Array, IsWellFormed, no_statement, read_at, statement_at}
 use Rattle.affine_form.specs.Rows.{step_of}
 use Rattle.affine_program.specs.Domain.{depth_of}
 use Rattle.affine_program.specs.Parts.{ProgramParts, meaning}
-use Rattle.cold_terms.specs.Held.{AreRising, IsHeldCold, IsPlaced, array_read as array_of_cold}
+use Rattle.cold_terms.specs.Held.{IsHeldCold, IsPlaced, array_read as array_of_cold}
 use Rattle.dep_quast.specs.Context.{ReadOf}
 use Rattle.dep_quast.specs.Tree.{SelectionTree}
+use Rattle.dep_quast.specs.Truth.{ReadFits}
+use Rattle.execution_laws.proofs.Ordered.{All-member}
+use Rattle.pebble_game.proofs.Marks.{distinct-filtered, standing-member}
+use Rattle.projective.specs.SourceTrees.{read_number}
 use Rattle.projective.specs.Products.{AreAssumed}
 use Rattle.projective.proofs.Runs.{run-many}
 use Rattle.projective.specs.Projective.{Assumes, HoldsOfOne, IsLoop, IsProjection, IsProjective}
 use Rattle.reuse_paths.specs.Quasts.{tree_at, tree_or_blank}
+use Rattle.reuse_paths.proofs.FamilyLabels.{read-rank}
 use Rattle.wavefront.specs.declared.cold.Cold.{Cold}
 use Rattle.projective_bounds.specs.Families.{array_read, first_to, loop_form, loops_label}
-use Rattle.projective_bounds.specs.Colds.{AreColdsOf, IsArrayCold, IsReadCold, is_read}
+use Rattle.projective_bounds.specs.Colds.{AreColdsOf, IsReadCold, is_first_read}
 use Rattle.projective_bounds.specs.Loops.{RunLoops}
 
 -- ---- loops
@@ -69,23 +75,58 @@ first-array array (a ∷ accesses) d below = by (a.array == array) refl below (f
   by true e inside rest = eqb-true a.array array (sym e)
   by false e inside rest = rest (omega arith)
 
-pub read-there : (program : AffineProgram) (array : ℕ) → is_read program array ≡ true → array_read program array < length (statement_at program 0).reads
-read-there program array e = ltb-true (array_read program array) (length (statement_at program 0).reads) e
+-- the array of a read
+abbrev array_at : AffineProgram → ℕ → ℕ
+array_at program read = (read_at program 0 read).array
 
-pub is-there : (program : AffineProgram) (array : ℕ) → array_read program array < length (statement_at program 0).reads → is_read program array ≡ true
-is-there program array below = lt-ltb (array_read program array) (length (statement_at program 0).reads) below
+rank-within : (found : Option Array) (arrays : List Array) (array rank : ℕ) → found ≡ slice_get arrays array → IsSomeAnd found (λ a. rank ≡ a.rank) → array < length arrays
+rank-within None arrays array rank e some = absurd some
+rank-within (Some a) arrays array rank e some = slice_get_within arrays array a (sym e)
 
-pub not-there : (program : AffineProgram) (array : ℕ) → (array_read program array < length (statement_at program 0).reads → ⊥) → is_read program array ≡ false
-not-there program array none = by (is_read program array) refl where
-  by : (b : Bool) → b ≡ is_read program array → is_read program array ≡ false
-  by true e = absurd (none (read-there program array (sym e)))
-  by false e = sym e
+-- it is there
+array-there : (program : AffineProgram) → IsWellFormed program → (read : ℕ) → ReadFits program (read_number read) → array_at program read < length program.arrays
+array-there program well read fits =
+    rank-within (slice_get program.arrays (array_at program read)) program.arrays (array_at program read) (length (read_at program 0 read).subscripts) refl
+    (read-rank program (read_number read) well fits)
 
--- the cold term of an array reads it
-pub reads-array : (program : AffineProgram) (array : ℕ) (cold : Cold) → is_read program array ≡ true → IsArrayCold program array cold → array_of_cold program cold ≡ array
-reads-array program array cold there is =
-    ap (λ (reader : ReadOf). (read_at program reader.statement reader.read).array) is.outline.reader
-    ∙ first-array array (statement_at program 0).reads no_statement.writes (read-there program array there)
+-- what passes a test in a range, and stands there
+passing : (passes : ℕ → Bool) (first count : ℕ) → AllByRecursion (λ (n : ℕ). (passes n ≡ true) × (n < first + count)) (filter passes (range_with_len first count))
+passing passes first zero = tt
+passing passes first (suc count) =
+    by (passes first) refl
+    (All-weaken (λ (n : ℕ). (passes n ≡ true) × (n < (first + 1) + count)) (λ (n : ℕ). (passes n ≡ true) × (n < first + suc count)) (filter passes (range_with_len (first + 1) count))
+    (λ n h. (h.0, omega (arith, h.1))) (passing passes (first + 1) count)) where
+      by : (b : Bool) → b ≡ passes first → AllByRecursion (λ (n : ℕ). (passes n ≡ true) × (n < first + suc count)) (filter passes (range_with_len (first + 1) count))
+          → AllByRecursion (λ (n : ℕ). (passes n ≡ true) × (n < first + suc count)) (cond b (first ∷ filter passes (range_with_len (first + 1) count)) (filter passes (range_with_len (first + 1) count)))
+      by true e rest = ((sym e, omega arith), rest)
+      by false e rest = rest
+
+-- reads that are the first of their arrays read different arrays
+firsts-differ : (program : AffineProgram) (reads : List ℕ) → IsDistinct nat_eq reads → AllByRecursion (λ (read : ℕ). is_first_read program read ≡ true) reads
+    → IsDistinct nat_eq (map (array_at program) reads)
+unfolding IsDistinct
+firsts-differ program [] distinct first = tt
+firsts-differ program (read ∷ reads) distinct first = (others reads distinct.0 first.1, firsts-differ program reads distinct.1 first.1) where
+  differ : (other : ℕ) → nat_eq read other ≡ false → is_first_read program other ≡ true → nat_eq (array_at program read) (array_at program other) ≡ false
+  differ other apart there = by (nat_eq (array_at program read) (array_at program other)) refl where
+    by : (b : Bool) → b ≡ nat_eq (array_at program read) (array_at program other) → nat_eq (array_at program read) (array_at program other) ≡ false
+    by true e =
+        let same : read ≡ other =
+        sym (eqb-true (array_read program (array_at program read)) read first.0)
+        ∙ ap (array_read program) (eqb-true (array_at program read) (array_at program other) (sym e))
+        ∙ eqb-true (array_read program (array_at program other)) other there in
+        let met : nat_eq read other ≡ true = eq-eqb read other same in
+        cc
+    by false e = sym e
+
+  others : (rest : List ℕ) → AllByRecursion (λ (other : ℕ). nat_eq read other ≡ false) rest → AllByRecursion (λ (other : ℕ). is_first_read program other ≡ true) rest
+      → AllByRecursion (λ (array : ℕ). nat_eq (array_at program read) array ≡ false) (map (array_at program) rest)
+  others [] apart there = tt
+  others (other ∷ rest) apart there = (differ other apart.0 there.0, others rest apart.1 there.1)
+
+-- different numbers below one are no more than it
+few-below : (n : ℕ) (xs : List ℕ) → IsDistinct nat_eq xs → AllByRecursion (λ (x : ℕ). x < n) xs → length xs ≤ n
+few-below n xs distinct below = length-le_from_distinct_below xs n distinct (λ v m. All-member (λ (x : ℕ). x < n) xs v below (standing-member xs v m))
 
 -- ---- cold terms
 
@@ -103,61 +144,65 @@ module _ (program : ProgramParts) (trees : List (List SelectionTree)) where
         no_rows = λ none. ap (λ m. m.columns) is.outline.matrix ∙ sym (ap (λ m. m.rows) is.outline.matrix) ∙ none;
       }
 
-  -- those of the arrays before one
+  -- the first reads before one
+  abbrev firsts : ℕ → List ℕ
+  firsts bound = filter (is_first_read P) (range_with_len 0 bound)
+
+  -- those of these reads
   pub record ColdsTo (bound : ℕ) (colds : List Cold) : Type 0 where
-    pub are : AreColdsOf P (filter (is_read P) (range_with_len 0 bound)) colds
+    pub are : AreColdsOf P (firsts bound) colds
     pub placed : AllByRecursion (IsPlaced P trees) colds
-    pub arrays : map (array_of_cold P) colds ≡ filter (is_read P) (range_with_len 0 bound)
 
-  map-self : (xs : List ℕ) → map (λ (n : ℕ). n) xs ≡ xs
-  map-self [] = refl
-  map-self (x ∷ xs) = ap (λ (ys : List ℕ). x ∷ ys) (map-self xs)
+  colds-push : (reads : List ℕ) (colds : List Cold) (read : ℕ) (cold : Cold) → AreColdsOf P reads colds → IsReadCold P read cold → AreColdsOf P (reads ++ read ∷ []) (colds ++ cold ∷ [])
+  colds-push [] [] read cold h one = (one, tt)
+  colds-push [] (c ∷ colds) read cold h one = absurd h
+  colds-push (r ∷ reads) [] read cold h one = absurd h
+  colds-push (r ∷ reads) (c ∷ colds) read cold h one = (h.0, colds-push reads colds read cold h.1 one)
 
-  more-arrays : (bound : ℕ) → filter (is_read P) (range_with_len 0 (bound + 1)) ≡ filter (is_read P) (range_with_len 0 bound) ++ cond (is_read P bound) (bound ∷ []) []
-  more-arrays bound =
-      ap (filter (is_read P)) (sym (map-self (range_with_len 0 (bound + 1)))) ∙ filter_of_map_range_with_len_more (is_read P) (λ (n : ℕ). n) 0 bound bound (omega arith)
-      ∙ ap (λ (xs : List ℕ). filter (is_read P) xs ++ cond (is_read P bound) (bound ∷ []) []) (map-self (range_with_len 0 bound))
-
-  colds-push : (arrays : List ℕ) (colds : List Cold) (array : ℕ) (cold : Cold) → AreColdsOf P arrays colds → IsArrayCold P array cold → AreColdsOf P (arrays ++ array ∷ []) (colds ++ cold ∷ [])
-  colds-push [] [] array cold h one = (one, tt)
-  colds-push [] (c ∷ colds) array cold h one = absurd h
-  colds-push (a ∷ arrays) [] array cold h one = absurd h
-  colds-push (a ∷ arrays) (c ∷ colds) array cold h one = (h.0, colds-push arrays colds array cold h.1 one)
-
-  pub colds-more : (bound : ℕ) (colds more : List Cold) (cold : Cold) → ColdsTo bound colds → is_read P bound ≡ true → IsArrayCold P bound cold → IsPlaced P trees cold → array_of_cold P cold ≡ bound
+  pub colds-more : (bound : ℕ) (colds more : List Cold) (cold : Cold) → ColdsTo bound colds → is_first_read P bound ≡ true → IsReadCold P bound cold → IsPlaced P trees cold
       → more ≡ colds ++ cold ∷ [] → ColdsTo (bound + 1) more
-  colds-more bound colds more cold h there is placed array pushed =
-      let next : filter (is_read P) (range_with_len 0 (bound + 1)) ≡ filter (is_read P) (range_with_len 0 bound) ++ bound ∷ [] =
-      more-arrays bound ∙ ap (λ (b : Bool). filter (is_read P) (range_with_len 0 bound) ++ cond b (bound ∷ []) []) there in
-      record {
-        are = subst (AreColdsOf P (filter (is_read P) (range_with_len 0 (bound + 1)))) (sym pushed)
-            (subst (λ (arrays : List ℕ). AreColdsOf P arrays (colds ++ cold ∷ [])) (sym next) (colds-push (filter (is_read P) (range_with_len 0 bound)) colds bound cold h.are is));
-        placed = subst (AllByRecursion (IsPlaced P trees)) (sym pushed) (All-push (IsPlaced P trees) colds cold h.placed placed);
-        arrays = ap (map (array_of_cold P)) pushed ∙ map-append (array_of_cold P) colds (cold ∷ []) ∙ ap (λ (ns : List ℕ). ns ++ array_of_cold P cold ∷ []) h.arrays
-            ∙ ap (λ (n : ℕ). filter (is_read P) (range_with_len 0 bound) ++ n ∷ []) array ∙ sym next;
-      }
+  colds-more bound colds more cold h first is placed pushed = record {
+    are = subst (AreColdsOf P (firsts (bound + 1))) (sym pushed)
+        (subst (λ (reads : List ℕ). AreColdsOf P reads (colds ++ cold ∷ [])) (sym (filter-passed (is_first_read P) bound first)) (colds-push (firsts bound) colds bound cold h.are is));
+    placed = subst (AllByRecursion (IsPlaced P trees)) (sym pushed) (All-push (IsPlaced P trees) colds cold h.placed placed);
+  }
 
-  pub colds-kept : (bound : ℕ) (colds : List Cold) → ColdsTo bound colds → is_read P bound ≡ false → ColdsTo (bound + 1) colds
-  colds-kept bound colds h out =
-      let same : filter (is_read P) (range_with_len 0 (bound + 1)) ≡ filter (is_read P) (range_with_len 0 bound) =
-      more-arrays bound ∙ ap (λ (b : Bool). filter (is_read P) (range_with_len 0 bound) ++ cond b (bound ∷ []) []) out ∙ append-nil (filter (is_read P) (range_with_len 0 bound)) in
-      record { are = subst (λ (arrays : List ℕ). AreColdsOf P arrays colds) (sym same) h.are; placed = h.placed; arrays = h.arrays ∙ sym same }
+  pub colds-kept : (bound : ℕ) (colds : List Cold) → ColdsTo bound colds → is_first_read P bound ≡ false → ColdsTo (bound + 1) colds
+  colds-kept bound colds h out = record {
+    are = subst (λ (reads : List ℕ). AreColdsOf P reads colds) (sym (filter-failed (is_first_read P) bound out)) h.are;
+    placed = h.placed;
+  }
 
--- ---- what passes a test in a range rises
+  -- their arrays are those of the reads
+  arrays-are : (reads : List ℕ) (colds : List Cold) → AreColdsOf P reads colds → map (array_of_cold P) colds ≡ map (array_at P) reads
+  arrays-are [] [] h = refl
+  arrays-are [] (cold ∷ colds) h = absurd h
+  arrays-are (read ∷ reads) [] h = absurd h
+  arrays-are (read ∷ reads) (cold ∷ colds) h =
+      ap (λ (n : ℕ). n ∷ map (array_of_cold P) colds) (ap (λ (reader : ReadOf). (read_at P reader.statement reader.read).array) h.0.outline.reader)
+      ∙ ap (λ (ns : List ℕ). array_at P read ∷ ns) (arrays-are reads colds h.1)
 
-rising-from : (passes : ℕ → Bool) (first count : ℕ)
-    → AllByRecursion (λ (n : ℕ). first ≤ n) (filter passes (range_with_len first count)) × AreRising (filter passes (range_with_len first count))
-rising-from passes first zero = (tt, tt)
-rising-from passes first (suc count) = by (passes first) (rising-from passes (first + 1) count) where
-  by : (b : Bool) → AllByRecursion (λ (n : ℕ). first + 1 ≤ n) (filter passes (range_with_len (first + 1) count)) × AreRising (filter passes (range_with_len (first + 1) count)) → AllByRecursion (λ (n : ℕ). first ≤ n) (cond b (first ∷ (filter passes (range_with_len (first + 1) count))) (filter passes (range_with_len (first + 1) count))) × AreRising (cond b (first ∷ (filter passes (range_with_len (first + 1) count))) (filter passes (range_with_len (first + 1) count)))
-  by true h = (
-    (omega arith, All-weaken (λ (n : ℕ). first + 1 ≤ n) (λ (n : ℕ). first ≤ n) (filter passes (range_with_len (first + 1) count)) (λ n more. omega (arith, more)) h.0),
-    (All-weaken (λ (n : ℕ). first + 1 ≤ n) (λ (n : ℕ). first < n) (filter passes (range_with_len (first + 1) count)) (λ n more. omega (arith, more)) h.0, h.1),
-  )
-  by false h = (All-weaken (λ (n : ℕ). first + 1 ≤ n) (λ (n : ℕ). first ≤ n) (filter passes (range_with_len (first + 1) count)) (λ n more. omega (arith, more)) h.0, h.1)
+  -- and differ
+  pub arrays-differ : (bound : ℕ) (colds : List Cold) → ColdsTo bound colds → IsDistinct nat_eq (map (array_of_cold P) colds)
+  arrays-differ bound colds h =
+      subst (IsDistinct nat_eq) (sym (arrays-are (firsts bound) colds h.are))
+      (firsts-differ P (firsts bound) (distinct-filtered (is_first_read P) (range_with_len 0 bound) (range-distinct 0 bound))
+      (All-weaken (λ (n : ℕ). (is_first_read P n ≡ true) × (n < bound)) (λ (n : ℕ). is_first_read P n ≡ true) (firsts bound) (λ n h. h.0) (standing bound))) where
+        standing : (count : ℕ) → AllByRecursion (λ (n : ℕ). (is_first_read P n ≡ true) × (n < count)) (firsts count)
+        standing count =
+            All-weaken (λ (n : ℕ). (is_first_read P n ≡ true) × (n < 0 + count)) (λ (n : ℕ). (is_first_read P n ≡ true) × (n < count)) (firsts count)
+            (λ n h. (h.0, omega (arith, h.1))) (passing (is_first_read P) 0 count)
 
-pub rising : (passes : ℕ → Bool) (count : ℕ) → AreRising (filter passes (range_with_len 0 count))
-rising passes count = (rising-from passes 0 count).1
-
-pub passing-few : (passes : ℕ → Bool) (count : ℕ) → length (filter passes (range_with_len 0 count)) ≤ count
-passing-few passes count = omega (arith, filter-few passes (range_with_len 0 count), length-range_with_len 0 count)
+  -- so they are no more than the arrays
+  pub colds-few : (colds : List Cold) → IsWellFormed P → length P.statements ≡ 1 → ColdsTo (length (statement_at P 0).reads) colds → length colds ≤ length P.arrays
+  colds-few colds well one h =
+      let count : ℕ = length (statement_at P 0).reads in
+      let there : AllByRecursion (λ (array : ℕ). array < length P.arrays) (map (array_at P) (firsts count)) =
+      mapped (firsts count) (passing (is_first_read P) 0 count) in
+      subst (λ (n : ℕ). n ≤ length P.arrays) (length-map colds (array_of_cold P))
+      (few-below (length P.arrays) (map (array_of_cold P) colds) (arrays-differ count colds h)
+      (subst (AllByRecursion (λ (array : ℕ). array < length P.arrays)) (sym (arrays-are (firsts count) colds h.are)) there)) where
+        mapped : (reads : List ℕ) → AllByRecursion (λ (n : ℕ). (is_first_read P n ≡ true) × (n < 0 + length (statement_at P 0).reads)) reads
+            → AllByRecursion (λ (array : ℕ). array < length P.arrays) (map (array_at P) reads)
+        mapped [] h = tt
+        mapped (read ∷ reads) h = (array-there P well read (record { statement = omega (arith, one); read = omega (arith, h.0.1) }), mapped reads h.1)

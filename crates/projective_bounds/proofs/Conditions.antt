@@ -1,7 +1,8 @@
 -- The certificate of source trees that stand, a term of the whole domain and placed cold terms meets all conditions, and is within the
 -- limits.
 use Rattle.std.proofs.Common.{◌≡◌, refl, sym, ap, subst, ℕ, ◌≤◌, List, [], ◌∷◌, ◌++◌, length, map, arith}
-use Rattle.std.specs.List.{AllByRecursion}
+use Rattle.std.specs.Prelude.{nat_eq}
+use Rattle.std.specs.List.{AllByRecursion, IsDistinct}
 use Rattle.std.proofs.lemmas.List.{length-map}
 use Rattle.iolb_model.specs.Program.{AffineProgram}
 use Rattle.iolb_model.specs.declared.limits.TheConstants.{TERMS}
@@ -30,7 +31,7 @@ use Rattle.iolb_check.specs.Conditions.{branch_claims, conditions, disjoint_clai
 use Rattle.iolb_check.specs.Limits.{IsSmallBranch, IsSmallPartition, IsSmallTerm, IsWithinLimits}
 use Rattle.iolb_check.specs.PartitionFit.{partition_fit}
 use Rattle.iolb_check.specs.TermFit.{branch_at, branch_fit}
-use Rattle.cold_terms.specs.Held.{AreRising, IsPlaced, array_read}
+use Rattle.cold_terms.specs.Held.{IsPlaced, array_read}
 use Rattle.cold_terms.proofs.BranchLaws.{branch-fits, branch-holds, made}
 use Rattle.projective_bounds.specs.WholeLaws.{CanBeShown}
 use Rattle.projective_bounds.proofs.Asked.{whole-terms-asked}
@@ -61,9 +62,9 @@ module _ (program : ProgramParts) (trees : List (List SelectionTree)) where
         (AllHold-append (partition_claims P trees own term) [] (hold own) tt) tt
 
     -- such a branch, and one of placed cold terms
-    both-hold : (colds : List Cold) → AreRising (map (array_read P) colds) → AllByRecursion (IsPlaced P trees) colds → AllHold (trees_fit P trees) → AllHold (rows_claims P 0 trees)
+    both-hold : (colds : List Cold) → IsDistinct nat_eq (map (array_read P) colds) → AllByRecursion (IsPlaced P trees) colds → AllHold (trees_fit P trees) → AllHold (rows_claims P 0 trees)
         → AllHold (conditions P (record { trees = trees; branches = alone term ∷ made program trees colds ∷ [] }))
-    both-hold colds rising placed trees_fitting valid =
+    both-hold colds different placed trees_fitting valid =
         let second : BranchClaim = made program trees colds in
         let fit_first : List Claim = branch_at P trees 0 (alone term) in
         let fit_second : List Claim = branch_at P trees 1 second in
@@ -72,7 +73,7 @@ module _ (program : ProgramParts) (trees : List (List SelectionTree)) where
         let second_claims : List Claim = branch_claims P trees 1 second in
         let fits : AllHold (fit_first ++ (fit_second ++ [])) =
         AllHold-append fit_first (fit_second ++ []) (alone-fits (Key BRANCHES ∷ Index 0 ∷ []))
-        (AllHold-append fit_second [] (branch-fits program trees (Key BRANCHES ∷ Index 1 ∷ []) colds rising placed) tt) in
+        (AllHold-append fit_second [] (branch-fits program trees (Key BRANCHES ∷ Index 1 ∷ []) colds different placed) tt) in
         let holds : AllHold (first_claims ++ (second_claims ++ [])) =
         AllHold-append first_claims (second_claims ++ []) (alone-holds 0) (AllHold-append second_claims [] (branch-holds program trees 1 colds placed) tt) in
         AllHold-append (whole_fit ++ rows_claims P 0 trees) (first_claims ++ (second_claims ++ []))
@@ -91,7 +92,7 @@ pub record AreParts (program : ProgramParts) (quasts : Quasts) (first second : B
   pub all : second.terms.items ≡ map terms.Cold colds
   pub alone : second.disjoint.items ≡ []
   pub placed : AllByRecursion (IsPlaced (meaning program) (trees_of quasts)) colds
-  pub rising : AreRising (map (array_read (meaning program)) colds)
+  pub different : IsDistinct nat_eq (map (array_read (meaning program)) colds)
   pub few : length colds ≤ TERMS
 
 module _ (program : ProgramParts) (quasts : Quasts) (first second : Branch) (h : AreParts program quasts first second) where
@@ -111,7 +112,7 @@ module _ (program : ProgramParts) (quasts : Quasts) (first second : Branch) (h :
       let both : claim_of_branch first ∷ claim_of_branch second ∷ [] ≡ alone term ∷ made program held h.colds ∷ [] = λ i. one i ∷ two i ∷ [] in
       subst (λ (branches : List BranchClaim). AllHold (conditions (meaning program) (record { trees = held; branches = branches }))) (sym both)
       (both-hold program held term (λ place. whole-terms-asked program held h.q h.weights term place h.can h.whole.whole)
-      (λ place. whole-terms-hold program held h.q h.weights term place h.can h.whole.whole) h.colds h.rising h.placed
+      (λ place. whole-terms-hold program held h.q h.weights term place h.can h.whole.whole) h.colds h.different h.placed
       (trees-fit (meaning program) h.can.program.well_formed held stand) (trees-valid (meaning program) h.can.program.well_formed held stand))
 
   -- ---- within the limits

@@ -6,6 +6,7 @@ use Rattle.std.proofs.lemmas.List.Sums.{sum_by-cons}
 use Rattle.iolb_model.specs.Program.{AffineProgram}
 use Rattle.claims.proofs.Laws.{accepted-stand}
 use Rattle.cover_lp.proofs.Duality.{dual}
+use Rattle.cover_lp.proofs.Reach.{pairs-in-reach}
 use Rattle.affine_program.specs.Domain.{depth_of}
 use Rattle.reuse_paths.specs.Families.{FamilyForms}
 use Rattle.reuse_paths.specs.Quasts.{trees_of}
@@ -16,7 +17,7 @@ use Rattle.iolb_check.specs.Conditions.{conditions}
 use Rattle.projective.specs.Projective.{projection_sets}
 use Rattle.projective_bounds.proofs.Small.{weights-all}
 use Rattle.projective_bounds.specs.Certified.{family_weights}
-use Rattle.projective_bounds.specs.Laws.{CertifiedAreAccepted, CertifiedHaveLeastExponents}
+use Rattle.projective_bounds.specs.Laws.{CertifiedAreAccepted, CertifiedHaveLeastExponents, CoversInReachHaveLeast}
 
 weights-sum : (families : List FamilyForms) → sum (map (λ (family : FamilyForms). family.weight) families) ≡ sum_by (λ (family : FamilyForms). family.weight) families
 weights-sum [] = refl
@@ -43,3 +44,9 @@ least program certificate is other others some covers =
 
 pub accepted : CertifiedAreAccepted
 accepted program certificate is failed fails = accepted-stand (conditions program (claim_of_certificate certificate)) failed is.meets fails
+
+-- the least pair is a least cover in reach
+pub in-reach : CoversInReachHaveLeast
+in-reach program has =
+    let found = pairs-in-reach (projection_sets program) (depth_of program 0) has.q has.weights has.packing has.pair in
+    (found.0, found.1, found.2, record { least = found.3; few = found.4.few; light = found.4.light })

@@ -5,7 +5,7 @@ use Rattle.iolb_model.specs.Program.{AffineProgram}
 use Rattle.iolb_model.specs.declared.limits.TheConstants.{WEIGHT, WEIGHTS}
 use Rattle.affine_program.specs.Domain.{depth_of}
 use Rattle.claims.specs.Claims.{AllHold}
-use Rattle.cover_lp.specs.Cover.{IsLeastPair}
+use Rattle.cover_lp.specs.Cover.{IsLeastPair, IsPairInReach}
 use Rattle.dep_quast.specs.Tree.{SelectionTree}
 use Rattle.reuse_paths.specs.Families.{FamilyForms}
 use Rattle.reuse_paths.specs.Quasts.{trees_of}
@@ -30,13 +30,14 @@ pub record IsCoverInReach (program : AffineProgram) (q : ℕ) (weights packing :
   pub few : q ≤ WEIGHT
   pub light : sum weights ≤ WEIGHTS
 
--- a projective program has one
+-- A program is projective, and some cover of its loops, with a packing of the same total, is within reach. (So is a least one then:
+-- `CoversInReachHaveLeast`.)
 pub record HasCoverInReach (program : AffineProgram) : Type 0 where
   pub projective : IsProjective program
   pub q : ℕ
   pub weights : List ℕ
   pub packing : List ℕ
-  pub cover : IsCoverInReach program q weights packing
+  pub pair : IsPairInReach (projection_sets program) (depth_of program 0) q weights packing
 
 -- the branch of the whole domain's term alone
 pub record IsWholeBranch (program : AffineProgram) (trees : List (List SelectionTree)) (q : ℕ) (weights : List ℕ) (branch : Branch) : Type 0 where

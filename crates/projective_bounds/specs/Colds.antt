@@ -1,7 +1,7 @@
--- The cold terms of a projective program: one for each array that is read.
-use Rattle.std.specs.Prelude.{ℕ, nat_lt, Bool, ⊤, List, [], ◌∷◌, length, filter}
+-- The cold terms of a projective program: one for each array that is read, that of its first read.
+use Rattle.std.specs.Prelude.{ℕ, ◌==◌, Bool, ⊤, List, [], ◌∷◌, length, filter}
 use Rattle.std.specs.List.{range_with_len}
-use Rattle.iolb_model.specs.Program.{AffineProgram, statement_at}
+use Rattle.iolb_model.specs.Program.{AffineProgram, read_at, statement_at}
 use Rattle.domain_count.specs.Count.{IsCount}
 use Rattle.poly_tree.specs.Poly.{Quotient}
 use Rattle.projective.specs.Products.{IsProduct}
@@ -20,24 +20,21 @@ pub record IsReadCold (program : AffineProgram) (read : ℕ) (cold : Cold) : Typ
   pub right : IsCount program cold.nest cold.sums total
   pub product : IsProduct (parameters_of outline.below outline.loops) total
 
--- the cold term of an array is that of its first read
-abbrev pub IsArrayCold : AffineProgram → ℕ → Cold → Type 0
-IsArrayCold program array cold = IsReadCold program (array_read program array) cold
+-- whether a read is the first of its array
+abbrev pub is_first_read : AffineProgram → ℕ → Bool
+is_first_read program read = array_read program (read_at program 0 read).array == read
 
--- whether an array is read: its first read is there
-abbrev pub is_read : AffineProgram → ℕ → Bool
-is_read program array = nat_lt (array_read program array) (length (statement_at program 0).reads)
+-- the first reads of the arrays that are read, in their order
+abbrev pub first_reads : AffineProgram → List ℕ
+first_reads program = filter (is_first_read program) (range_with_len 0 (length (statement_at program 0).reads))
 
--- the arrays that are read, in their order
-abbrev pub arrays_read : AffineProgram → List ℕ
-arrays_read program = filter (is_read program) (range_with_len 0 (length program.arrays))
-
--- the cold terms of these arrays, one each
+-- the cold terms of these reads, one each
 abbrev pub AreColdsOf : AffineProgram → List ℕ → List Cold → Type 0
 AreColdsOf program [] [] = ⊤
 AreColdsOf program [] (cold ∷ colds) = ⊥
-AreColdsOf program (array ∷ arrays) [] = ⊥
-AreColdsOf program (array ∷ arrays) (cold ∷ colds) = IsArrayCold program array cold × AreColdsOf program arrays colds
+AreColdsOf program (read ∷ reads) [] = ⊥
+AreColdsOf program (read ∷ reads) (cold ∷ colds) = IsReadCold program read cold × AreColdsOf program reads colds
 
+-- the cold terms of the arrays that are read, in the order of first read
 abbrev pub AreArrayColds : AffineProgram → List Cold → Type 0
-AreArrayColds program colds = AreColdsOf program (arrays_read program) colds
+AreArrayColds program colds = AreColdsOf program (first_reads program) colds

@@ -23,3 +23,4 @@ pub mod whole_laws;
 
 pub use certificates::certify;
 pub use fault::CertifyFault;
+pub use whole::stretch_for;

@@ -49,7 +49,7 @@ fn total(weights: &[u8]) -> u8
 }
 
 /// How many events a stretch has for each word that is red, for a cover of `q` whose weights have this total.
-fn stretch_for(q: u8, total: u8) -> u8
+pub fn stretch_for(q: u8, total: u8) -> u8
     requires { q ≤ total }
     ensures { result ≡ stretch_for q total }
 {

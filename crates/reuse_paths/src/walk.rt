@@ -1,10 +1,12 @@
 //! Walks back along the sources of reads.
 
-ghost use Rattle.std.specs.Prelude.{◌≡◌, min};
+ghost use Rattle.std.specs.Prelude.{◌≡◌, ◌+◌, min};
+ghost use Rattle.iolb_model.specs.declared.limits.TheConstants.{TREE_LEAVES};
 ghost use Rattle.reuse_paths.specs.Walks.{entry_count, tree_of_walk};
 
 use crate::leaf::Leaf;
 use affine_form::Form;
+use iolb_model::limits;
 
 /// How a walk goes on from the instances of a statement: at a point it comes to one read, and takes its source.
 #[derive(Debug, Drop)]
@@ -23,13 +25,18 @@ pub enum Walk {
     },
 }
 
-/// How many claims at leaves a walk has, or 65 if they are more.
+/// How many claims at leaves a walk has, or one more than it may have if they are more.
 pub fn entry_count(walk: &Walk) -> usize
-    ensures { result ≡ min (entry_count (tree_of_walk walk.now)) 65 }
+    ensures { result ≡ min (entry_count (tree_of_walk walk.now)) (TREE_LEAVES + 1) }
 {
     match walk {
-        Walk::Test { yes, no, .. } => (entry_count(yes) + entry_count(no)).min(65),
-        Walk::Take { leaves, .. } => leaves.as_slice().len().min(65),
+        Walk::Test { yes, no, .. } => {
+            (entry_count(yes) + entry_count(no)).min(usize::from(limits::TREE_LEAVES) + 1)
+        }
+        Walk::Take { leaves, .. } => leaves
+            .as_slice()
+            .len()
+            .min(usize::from(limits::TREE_LEAVES) + 1),
     }
 }
 

@@ -10,7 +10,7 @@ use Rattle.claims.specs.declared.place.Step.{Step}
 use Rattle.claims.specs.declared.place.Step.TheVariants.{Key as KeyStep, Index}
 use Rattle.iolb_model.specs.Form.{AffineForm}
 use Rattle.iolb_model.specs.Program.{AffineProgram, IsOver}
-use Rattle.iolb_model.specs.declared.limits.TheConstants.{NUMBER_SIZE}
+use Rattle.iolb_model.specs.declared.limits.TheConstants.{DIVISOR, NUMBER_SIZE}
 use Rattle.serde_json.specs.Data.{Data}
 use Rattle.serde_json.specs.Find.{get}
 use Rattle.cert_parts.specs.Outcome.{Outcome, ◌>>=◌, fault, under}
@@ -89,21 +89,21 @@ natural_least least most (Some (pos m)) n h =
     omega (arith, leb-true least m (first_so (nat_le least m) (nat_le m most) within.0))
 natural_least least most (Some (negsuc m)) n h = absurd cc
 
-divisor_some : (d : Data) (n : ℕ) → reads_natural 1 (2 ^ 20) d ≡ Ok n → 1 ≤ n
+divisor_some : (d : Data) (n : ℕ) → reads_natural 1 DIVISOR d ≡ Ok n → 1 ≤ n
 unfolding reads_natural
-divisor_some d n h = natural_least 1 (2 ^ 20) (integer_of d) n h
+divisor_some d n h = natural_least 1 DIVISOR (integer_of d) n h
 
 key_fits : (variables : ℕ) (ds : List Data) (key : Key) → key_in variables ds ≡ Ok key → IsKey variables key
 key_fits variables [] key h = absurd cc
 key_fits variables (d ∷ []) key h = absurd cc
 key_fits variables (d ∷ e ∷ []) key h =
     let form = first_ok (under (Index 0) (reads_form_over variables d)) _ key h in
-    let divisor = first_ok (under (Index 1) (reads_natural 1 (2 ^ 20) e)) _ key form.1.1 in
+    let divisor = first_ok (under (Index 1) (reads_natural 1 DIVISOR e)) _ key form.1.1 in
     let made : Key = record { form = form.0; divisor = divisor.0 } in
     let is : made ≡ key = same_ok made key divisor.1.1 in
     subst (IsKey variables) is (record {
       over = form_over variables d form.0 (under_ok (Index 0) (reads_form_over variables d) form.0 form.1.0);
-      divides = divisor_some e divisor.0 (under_ok (Index 1) (reads_natural 1 (2 ^ 20) e) divisor.0 divisor.1.0);
+      divides = divisor_some e divisor.0 (under_ok (Index 1) (reads_natural 1 DIVISOR e) divisor.0 divisor.1.0);
     })
 key_fits variables (d ∷ e ∷ more ∷ others) key h = absurd cc
 

@@ -1,5 +1,6 @@
 -- The texts of schedules.
-use Rattle.std.specs.Prelude.{ℕ, suc, ◌+◌, ◌^◌, ◌==◌, List, [], ◌∷◌, length, nat_le, if◌then◌else◌, codes, Ok}
+use Rattle.std.specs.Prelude.{ℕ, suc, ◌+◌, ◌==◌, List, [], ◌∷◌, length, nat_le, if◌then◌else◌, codes, Ok}
+use Rattle.iolb_model.specs.declared.limits.TheConstants.{DIVISOR, SCHEDULE_KEYS}
 use Rattle.iolb_model.specs.Form.{AffineForm}
 use Rattle.iolb_model.specs.Program.{AffineProgram}
 use Rattle.claims.specs.declared.place.Step.TheVariants.{Index}
@@ -22,7 +23,7 @@ key_in variables [] = fault 2
 key_in variables (d ∷ []) = fault 2
 key_in variables (d ∷ e ∷ []) = do
   form ← under (Index 0) (reads_form_over variables d)
-  divisor ← under (Index 1) (reads_natural 1 (2 ^ 20) e)
+  divisor ← under (Index 1) (reads_natural 1 DIVISOR e)
   Ok (record { form = form; divisor = divisor })
 key_in variables (d ∷ e ∷ more ∷ others) = fault 2
 
@@ -30,11 +31,11 @@ key_in variables (d ∷ e ∷ more ∷ others) = fault 2
 unfoldable pub reads_key : ℕ → Data → Outcome Key
 reads_key variables d = reads_list d >>= key_in variables
 
--- A list of so many members, at most eight.
+-- A list of so many members, as many as a statement may have keys at most.
 unfoldable pub reads_key_list : ℕ → Data → Outcome (List Data)
 reads_key_list count d = do
   members ← reads_list d
-  if length members == count then (if nat_le count 8 then Ok members else fault 3) else fault 2
+  if length members == count then (if nat_le count SCHEDULE_KEYS then Ok members else fault 3) else fault 2
 
 -- The keys of a statement: so many, each over so many variables.
 unfoldable pub reads_keys : ℕ → ℕ → Data → Outcome (List Key)

@@ -112,6 +112,7 @@ impl Play {
     /// are made. What a failed write or want of memory leaves is a prefix of the lines.
     pub fn put<O: Sink>(self, alloc: Global, out: &mut O) -> Result<(), SinkFault>
         ensures faults { O.faults out.new ≡ after_write (O.faults out.old) result }
+        ensures wants { OnOk result (O.wants out.new ≡ O.wants out.old) }
         ensures ok { OnOk result (AppendsPiece (O.written out.old) (O.written out.new) (play_text (moves_of self))) }
         ensures err { OnErr result (AppendsPart (O.written out.old) (O.written out.new) (play_text (moves_of self))) }
     {

@@ -15,6 +15,7 @@ use affine_form::Form;
 use affine_program::Program;
 use cert_parts::{CertError, fault, form, has_keys, list, natural, under};
 use claims::{Step, key};
+use iolb_model::limits;
 use serde_json::{Category, Value};
 use std::alloc::Global;
 
@@ -46,7 +47,7 @@ fn one_key(alloc: Global, value: &Value, variables: usize) -> Result<Key, CertEr
         Ok(form) => form,
         Err(error) => return Err(under(alloc, Step::Index(0), error)),
     };
-    match natural(alloc, &values[1], 1, 1 << 20) {
+    match natural(alloc, &values[1], 1, u64::from(limits::DIVISOR)) {
         Ok(divisor) => Ok(Key {
             form,
             divisor: divisor as u32,
@@ -55,7 +56,7 @@ fn one_key(alloc: Global, value: &Value, variables: usize) -> Result<Key, CertEr
     }
 }
 
-/// The members of an array of so many. Another length has fault 2, and a length above 8 fault 3.
+/// The members of an array of so many. Another length has fault 2, and a length above the limit fault 3.
 #[tactic(auto, unfolding(crate::specs::Reading::reads_key_list))]
 fn key_list(alloc: Global, value: &Value, count: usize) -> Result<&[Value], CertError>
     ensures { Gives (λ list. map view list.now) result (reads_key_list count (view value.now)) }
@@ -64,7 +65,7 @@ fn key_list(alloc: Global, value: &Value, count: usize) -> Result<&[Value], Cert
     if values.len() != count {
         return Err(fault(alloc, 2));
     }
-    if count <= 8 {
+    if count <= limits::SCHEDULE_KEYS {
         Ok(values)
     } else {
         Err(fault(alloc, 3))

@@ -22,6 +22,7 @@ fn put_number<O: Sink>(
     out: &mut O,
 ) -> Result<(), SinkFault>
     ensures faults { O.faults out.new ≡ after_write (O.faults out.old) result }
+    ensures wants { OnOk result (O.wants out.new ≡ O.wants out.old) }
     ensures ok { OnOk result (AppendsPiece (O.written out.old) (O.written out.new) (number_line words.now number)) }
     ensures err { OnErr result (AppendsPart (O.written out.old) (O.written out.new) (number_line words.now number)) }
 {
@@ -32,6 +33,7 @@ fn put_number<O: Sink>(
 /// Writes a move on a line.
 fn put_move<O: Sink>(line: &mut Vec<u8>, step: Move, out: &mut O) -> Result<(), SinkFault>
     ensures faults { O.faults out.new ≡ after_write (O.faults out.old) result }
+    ensures wants { OnOk result (O.wants out.new ≡ O.wants out.old) }
     ensures ok { OnOk result (AppendsPiece (O.written out.old) (O.written out.new) (move_line step)) }
     ensures err { OnErr result (AppendsPart (O.written out.old) (O.written out.new) (move_line step)) }
 {
@@ -47,6 +49,7 @@ fn put_move<O: Sink>(line: &mut Vec<u8>, step: Move, out: &mut O) -> Result<(), 
 /// Writes a line for each of some moves.
 fn put_moves<O: Sink>(line: &mut Vec<u8>, moves: &[Move], out: &mut O) -> Result<(), SinkFault>
     ensures faults { O.faults out.new ≡ after_write (O.faults out.old) result }
+    ensures wants { OnOk result (O.wants out.new ≡ O.wants out.old) }
     ensures ok { OnOk result (AppendsPiece (O.written out.old) (O.written out.new) (moves_text moves.now)) }
     ensures err { OnErr result (AppendsPart (O.written out.old) (O.written out.new) (moves_text moves.now)) }
 {
@@ -63,6 +66,7 @@ fn put_totals<O: Sink>(
     out: &mut O,
 ) -> Result<(), SinkFault>
     ensures faults { O.faults out.new ≡ after_write (O.faults out.old) result }
+    ensures wants { OnOk result (O.wants out.new ≡ O.wants out.old) }
     ensures ok { OnOk result (AppendsPiece (O.written out.old) (O.written out.new) (totals_text totals.0 totals.1 totals.2)) }
     ensures err { OnErr result (AppendsPart (O.written out.old) (O.written out.new) (totals_text totals.0 totals.1 totals.2)) }
 {
@@ -84,6 +88,7 @@ fn put_steps<O: Sink>(
     requires { IsAtStart graph.now order.now (pebbles_of player) player }
     ensures totals { IfOk result (λ totals. totals ≡ totals_of (played graph.now (pebbles_of player) order.now)) }
     ensures faults { O.faults out.new ≡ after_write (O.faults out.old) result }
+    ensures wants { OnOk result (O.wants out.new ≡ O.wants out.old) }
     ensures ok { OnOk result (AppendsPiece (O.written out.old) (O.written out.new) (moves_text (played graph.now (pebbles_of player) order.now))) }
     ensures err { OnErr result (AppendsPart (O.written out.old) (O.written out.new) (moves_text (played graph.now (pebbles_of player) order.now))) }
 {
@@ -106,6 +111,7 @@ pub(crate) fn put_lines<O: Sink>(
 ) -> Result<(), SinkFault>
     requires { IsAtStart graph.now order.now (pebbles_of player) player }
     ensures faults { O.faults out.new ≡ after_write (O.faults out.old) result }
+    ensures wants { OnOk result (O.wants out.new ≡ O.wants out.old) }
     ensures ok { OnOk result (AppendsPiece (O.written out.old) (O.written out.new) (play_text (played graph.now (pebbles_of player) order.now))) }
     ensures err { OnErr result (AppendsPart (O.written out.old) (O.written out.new) (play_text (played graph.now (pebbles_of player) order.now))) }
 {

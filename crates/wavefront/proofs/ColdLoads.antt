@@ -14,7 +14,7 @@ use Rattle.iolb_model.specs.Game.{loads_of}
 use Rattle.pebble_game.specs.Cold.{ReadsInput}
 use Rattle.iolb_model.specs.Domain.{IsWithin, IsAt}
 use Rattle.execution_laws.proofs.Domains.{domains_executed, way-there}
-use Rattle.pebble_game.proofs.InputVertices.{input_reads_loaded, input_reads_vertices}
+use Rattle.pebble_game.proofs.InputVertices.{each_read_loaded, input_reads_loaded, input_reads_vertices}
 use Rattle.claims.specs.declared.place.Step.{Step}
 use Rattle.claims.specs.declared.place.Step.TheVariants.{Key}
 use Rattle.claims.specs.declared.key.TheConstants.{INSIDE, LEAVES}
@@ -28,7 +28,7 @@ use Rattle.execution_laws.proofs.Ways.{holds-there}
 use Rattle.dep_quast.proofs.Shown.{goals-met, within_rows-few}
 use Rattle.domain_count.specs.Points.{points}
 use Rattle.wavefront.specs.Term.{ColdTerm, nest_variables, nest_system, instance_point, inside_goals, cell_forms}
-use Rattle.wavefront.specs.Loads.{ColdFits, ColdTermsAreLoaded, instance_values, all_instances, footprint_of}
+use Rattle.wavefront.specs.Loads.{ColdFits, ColdTermsAreLoaded, ColdWordsAreLoaded, IsSoundCold, SoundColdsAreLoaded, instance_values, all_instances, footprint_of}
 use Rattle.claims.specs.Claims.{Claim, AllHold}
 use Rattle.claims.proofs.Laws.{AllHold-left, AllHold-right}
 use Rattle.wavefront.specs.Leaves.{inside_claims, term_leaves}
@@ -89,13 +89,21 @@ module _ (program : AffineProgram) (place : List Step) (tree : SelectionTree) (t
       (cells-differ program term values admitted.each fits.parts.scale holds-undone (points term.nest values) (points-differ term.nest values)
       (points-long term.nest values))
 
-pub cold-terms-loaded : ColdTermsAreLoaded
-cold-terms-loaded program place tree term formed fits true_tree holds = (
-  λ values admitted. (all-read program place tree term formed fits true_tree holds values admitted, all-differ program place tree term formed fits true_tree holds values admitted),
-  λ values admitted. input_reads_vertices program values term.reader.statement term.reader.read (all_instances term values)
-      (all-read program place tree term formed fits true_tree holds values admitted),
+pub sound-colds-loaded : SoundColdsAreLoaded
+sound-colds-loaded program term sound = (
+  λ values admitted. input_reads_vertices program values term.reader.statement term.reader.read (all_instances term values) (sound values admitted).0,
   λ values s moves admitted game.
       subst (λ (n : ℕ). n ≤ loads_of (footprint_of program term values) moves) (length-map (points term.nest values) (instance_values term values))
-      (input_reads_loaded program values term.reader.statement term.reader.read (all_instances term values) s moves game
-      (all-read program place tree term formed fits true_tree holds values admitted) (all-differ program place tree term formed fits true_tree holds values admitted)),
+      (input_reads_loaded program values term.reader.statement term.reader.read (all_instances term values) s moves game (sound values admitted).0 (sound values admitted).1),
 )
+
+pub cold-words-loaded : ColdWordsAreLoaded
+cold-words-loaded program term values s moves sound admitted game =
+    each_read_loaded program values term.reader.statement term.reader.read (all_instances term values) s moves game (sound values admitted).0
+
+pub cold-terms-loaded : ColdTermsAreLoaded
+cold-terms-loaded program place tree term formed fits true_tree holds =
+    let sound : IsSoundCold program term = λ values admitted.
+    (all-read program place tree term formed fits true_tree holds values admitted, all-differ program place tree term formed fits true_tree holds values admitted) in
+    let costs = sound-colds-loaded program term sound in
+    (sound, costs.0, costs.1)

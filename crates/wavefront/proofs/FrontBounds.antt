@@ -3,7 +3,7 @@
 use Rattle.std.proofs.Common.{◌≡◌, sym, subst, ℕ, ◌+◌, ◌-◌, ◌*◌, ◌≤◌, arith}
 use Rattle.iolb_model.specs.Program.{AffineProgram}
 use Rattle.iolb_model.specs.Bound.{count_value, wavefront}
-use Rattle.iolb_model.specs.Footprint.{IsFootprintOf}
+use Rattle.iolb_model.specs.Footprint.{CostsItsValue}
 use Rattle.iolb_model.specs.Game.{loads_of}
 use Rattle.poly_tree.specs.Poly.{Quotient, IsLegal}
 use Rattle.poly_tree.specs.Printed.{polynomial_of, TermsHaveTheValue}
@@ -16,7 +16,7 @@ use Rattle.wavefront.proofs.FrontLoads.{fronts-loaded, fronts-vertices}
 
 pub front-footprint-is : (program : AffineProgram) (term : WavefrontTerm) (pairs outer : Quotient) → IsLegal pairs → IsLegal outer → CountsPoints program term.nest pairs
     → CountsPoints program (outer_nest term) outer → TermsHaveTheValue → IsSoundFront program term
-    → IsFootprintOf program (wavefront (polynomial_of pairs) (polynomial_of outer)) (front_footprint program term)
+    → CostsItsValue program (wavefront (polynomial_of pairs) (polynomial_of outer)) (front_footprint program term)
 front-footprint-is program term pairs outer legal_pairs legal_outer counts_pairs counts_outer value sound = record {
   vertices = λ values admitted. fronts-vertices program term values (sound values admitted);
   loaded = λ values s moves admitted some game.

@@ -8,25 +8,27 @@ use Rattle.std.proofs.lemmas.List.{append-nil, length-append, length-map}
 use Rattle.base_laws.proofs.Lists.{All-flat_map, All-map, All-weaken}
 use Rattle.iolb_model.specs.Program.{AffineProgram}
 use Rattle.iolb_model.specs.Execution.{execution}
-use Rattle.iolb_model.specs.Game.{loads_of, vertices}
+use Rattle.iolb_model.specs.Game.{vertices}
 use Rattle.iolb_model.specs.Graph.{ComputationGraph, computation_graph, input_cells, vertex_of}
 use Rattle.iolb_model.specs.Source.{Source}
 use Rattle.execution_laws.proofs.Members.{Member}
 use Rattle.execution_laws.proofs.Ordered.{All-from, All-member, Member-map_from}
+use Rattle.pebble_game.specs.Loaded.{loaded_among}
 use Rattle.pebble_game.proofs.InputVertices.{input_reads_vertices, slice_get-below}
+use Rattle.pebble_game.proofs.Loaded.{different_are_loads}
 use Rattle.domain_count.specs.Points.{points, points_over}
 use Rattle.domain_count.proofs.Parted.{flat_map-flat_map, flat_map-same, map-flat_map, points-parted}
 use Rattle.reuse_paths.specs.Arrival.{instance_of}
 use Rattle.reuse_paths.specs.Reached.{IsReached}
 use Rattle.reuse_paths.specs.Walks.{SpotForms}
 use Rattle.wavefront.specs.FrontTerm.{WavefrontTerm, outer_nest, user_read}
-use Rattle.wavefront.specs.Fronts.{spot_values, word_vertex, IsThereAt, IsSoundAt, IsSoundUnder, front_footprint, FrontsAreLoaded, FrontsHaveVertices}
+use Rattle.wavefront.specs.Fronts.{spot_values, word_vertex, IsThereAt, IsSoundAt, IsSoundUnder, front_footprint, FrontWordsAreLoaded, FrontsAreLoaded, FrontsHaveVertices}
 use Rattle.reuse_paths.specs.Places.{place_of}
 use Rattle.wavefront.specs.Waves.{Wave, WavePoint, IsSoundPoint, IsSoundWave, words_of, all_words}
 use Rattle.reuse_paths.proofs.NestPoints.{points-long}
 use Rattle.reuse_paths.proofs.ReadSources.{source-read}
 use Rattle.wavefront.proofs.Lists.{All-parts}
-use Rattle.wavefront.proofs.WaveLoads.{waves-loaded}
+use Rattle.wavefront.proofs.WaveLoads.{waves-reloaded}
 
 -- parts of at most one each are at most as many
 few-parts : {X Y : Type 0} (f : X → List Y) → ((x : X) → length (f x) ≤ 1) → (xs : List X) → length (flat_map f xs) ≤ length xs
@@ -126,16 +128,20 @@ module _ (program : AffineProgram) (term : WavefrontTerm) (parameters : List ℤ
         (one-vertex front (All-member (λ (t : List ℤ). length t ≡ length (outer_nest term)) fronts front (points-long (outer_nest term) parameters) m))
         (All-member (λ (t : List ℤ). AllByRecursion (IsSoundAt program term parameters) (over t)) fronts front each m)))
 
-pub fronts-loaded : FrontsAreLoaded
-fronts-loaded program term parameters s moves sound game =
+pub front-words-loaded : FrontWordsAreLoaded
+front-words-loaded program term parameters s moves sound game =
     let all : List ℕ = front_footprint program term parameters in
     let distinct : IsDistinct nat_eq (all_words (waves program term parameters)) = subst (IsDistinct nat_eq) (sym (words-same program term parameters)) sound.apart in
-    let loaded : length all ≤ loads_of all moves + s * length (waves program term parameters) =
-    subst (λ (l : List ℕ). length l ≤ loads_of l moves + s * length (waves program term parameters)) (words-same program term parameters)
-    (waves-loaded (graph program term parameters) s moves (waves program term parameters) game (waves-sound program term parameters sound) distinct) in
+    let loaded : length all ≤ length (loaded_among all moves) + s * length (waves program term parameters) =
+    subst (λ (l : List ℕ). length l ≤ length (loaded_among l moves) + s * length (waves program term parameters)) (words-same program term parameters)
+    (waves-reloaded (graph program term parameters) s moves (waves program term parameters) game (waves-sound program term parameters sound) distinct) in
     let few : length (waves program term parameters) ≤ length (fronts program term parameters) =
     few-parts (λ (front : List ℤ). wave_over program term parameters (over program term parameters front)) (λ front. wave-few program term parameters (over program term parameters front)) (fronts program term parameters) in
     omega (arith, loaded, mul-le-mul_left s few, length-map (points term.nest parameters) (word_vertex program term parameters))
+
+pub fronts-loaded : FrontsAreLoaded
+fronts-loaded program term parameters s moves sound game =
+    omega (arith, different_are_loads moves (front_footprint program term parameters) sound.apart, front-words-loaded program term parameters s moves sound game)
 
 pub fronts-vertices : FrontsHaveVertices
 fronts-vertices program term parameters sound =

@@ -1,7 +1,6 @@
 -- Where a matrix turns forms back into a number times a nest's variables, different points have different values of the forms.
 use Rattle.std.proofs.Common.{◌≡◌, refl, subst, ℕ, zero, suc, ◌≤◌, List, [], ◌∷◌, ◌++◌, length, map, drop, arith}
-use Rattle.std.proofs.Math.IntN.{ℤ, ◌+ℤ◌}
-use Rattle.std.proofs.lemmas.Int.{ints}
+use Rattle.std.proofs.Math.IntN.{ℤ}
 use Rattle.base_laws.proofs.Ring.{sums-cancel}
 use Rattle.base_laws.proofs.Lists.{cons-same}
 use Rattle.iolb_model.specs.Form.{AffineForm, dot, form_value}

@@ -1,24 +1,23 @@
 -- Words of waves are loaded, but for those that are red when a wave's vertex is computed.
-use Rattle.std.proofs.Common.{◌≡◌, ◌≢◌, refl, sym, ◌∙◌, ap, subst, inl, inr, ℕ, zero, suc, ◌+◌, ◌*◌, ◌<◌, ◌≤◌, Bool, true, false, cond, not, List, [], ◌∷◌, ◌++◌, length, map, set, arith, IsTrue, zero-add}
-use Rattle.std.specs.Prelude.{◌⊎◌, nat_eq, filter, Contains}
+use Rattle.std.proofs.Common.{◌≡◌, ◌≢◌, refl, sym, ◌∙◌, ap, subst, inl, inr, ℕ, zero, suc, ◌+◌, ◌*◌, ◌<◌, ◌≤◌, Bool, true, false, not, List, [], ◌∷◌, ◌++◌, length, map, set, arith, IsTrue, zero-add}
+use Rattle.std.specs.Prelude.{◌⊎◌, nat_eq, Contains}
 use Rattle.std.specs.List.{AllByRecursion, IsDistinct}
-use Rattle.std.specs.Set.{is_member}
 use Rattle.std.specs.Cmp.{nat_eq_equiv}
-use Rattle.std.proofs.lemmas.Bool.{eqb-true, eqb-false, cases_eq, cases_Bool, and_from}
+use Rattle.std.proofs.lemmas.Bool.{eqb-false, cases_eq, cases_Bool}
 use Rattle.std.proofs.lemmas.List.{get_or-set_other, get_or-set_same, length-append}
 use Rattle.std.proofs.lemmas.List.Elements.{filter-append}
 use Rattle.std.proofs.lemmas.List.Filters.{length-filter_both}
-use Rattle.std.proofs.lemmas.Map.Made.{is_member-filter, length-le_from_is_member}
+use Rattle.std.proofs.lemmas.Map.Made.{length-le_from_is_member}
 use Rattle.iolb_model.specs.declared.game.Move.{Move}
 use Rattle.iolb_model.specs.declared.game.Move.TheVariants.{Load, Store, Compute, Drop, Erase}
 use Rattle.iolb_model.specs.Graph.{ComputationGraph}
-use Rattle.iolb_model.specs.Game.{AreAllowed, Board, IsCompletePebbling, board_after, final_board, first_board, loads_of, mark_count, marked, predecessors_at, stands_in, vertices}
-use Rattle.pebble_game.proofs.Loaded.{is_loaded, loaded, loads_of-loaded}
+use Rattle.iolb_model.specs.Game.{AreAllowed, Board, IsCompletePebbling, board_after, final_board, first_board, mark_count, marked, predecessors_at, vertices}
 use Rattle.execution_laws.proofs.Members.{Member}
-use Rattle.pebble_game.proofs.Loaded.{or_true}
-use Rattle.pebble_game.proofs.Marks.{all-contained, count-put, distinct-filtered, length-marked_from, marked-member, marked_from, member-stands, standing-member, unmarked-at}
+use Rattle.pebble_game.specs.Loaded.{is_loaded, unloaded_among}
+use Rattle.pebble_game.proofs.Loaded.{different_are_loads, or_true}
+use Rattle.pebble_game.proofs.Marks.{all-contained, count-put, distinct-filtered, filtered-member, length-marked_from, marked-member, marked_from, member-stands, standing-member, unmarked-at}
 use Rattle.reuse_paths.specs.Reached.{IsReached}
-use Rattle.wavefront.specs.Waves.{IsSoundPoint, IsSoundWave, Wave, WavePoint, WavesAreLoaded, all_words, words_of}
+use Rattle.wavefront.specs.Waves.{IsSoundPoint, IsSoundWave, Wave, WavePoint, WavesAreLoaded, WavesAreReloaded, WavesLeaveFew, all_words, words_of}
 use Rattle.wavefront.proofs.Kept.{IsKept, kept-first, kept-next, reached-computed}
 
 module _ (graph : ComputationGraph) (s : ℕ) where
@@ -178,14 +177,6 @@ marked-few marks xs distinct on =
     (length-le_from_is_member nat_eq_equiv xs (marked_from 0 marks) distinct
     (λ v h. member-stands (marked_from 0 marks) v (subst (λ (n : ℕ). Member n (marked_from 0 marks)) (zero-add v) (marked-member 0 marks v (on v (standing-member xs v h))))))
 
-filtered-member : (test : ℕ → Bool) (xs : List ℕ) (v : ℕ) → Member v (filter test xs) → Member v xs × (test v ≡ true)
-filtered-member test [] v m = absurd m
-filtered-member test (x ∷ xs) v m = by (test x) refl m (λ n. filtered-member test xs v n) where
-  by : (b : Bool) → b ≡ test x → Member v (cond b (x ∷ filter test xs) (filter test xs)) → (Member v (filter test xs) → Member v xs × (test v ≡ true)) → Member v (x ∷ xs) × (test v ≡ true)
-  by true e (inl same) later = (inl same, ap test same ∙ sym e)
-  by true e (inr n) later = let r = later n in (inr r.0, r.1)
-  by false e n later = let r = later n in (inr r.0, r.1)
-
 word-point : (points : List WavePoint) (v : ℕ) → Member v (map (λ (point : WavePoint). point.word) points) → (graph : ComputationGraph) (vertex : ℕ) → AllByRecursion (IsSoundPoint graph vertex) points
     → (point : WavePoint) × (v ≡ point.word) × IsSoundPoint graph vertex point
 word-point [] v m graph vertex sound = absurd m
@@ -205,17 +196,13 @@ not-true true h e = cc
 not-true false h e = cc
 
 module _ (graph : ComputationGraph) (s : ℕ) (moves : List Move) (game : IsCompletePebbling graph s moves) where
-  is_left : ℕ → Bool
-  is_left v = not (is_loaded v moves)
-
   -- at most s words of a wave are never loaded
-  left-few : (wave : Wave) → IsSoundWave graph wave → IsDistinct nat_eq (words_of wave) → length (filter is_left (words_of wave)) ≤ s
-  unfolding is_left
+  left-few : (wave : Wave) → IsSoundWave graph wave → IsDistinct nat_eq (words_of wave) → length (unloaded_among (words_of wave) moves) ≤ s
   left-few wave sound distinct =
       let at : IsFront graph s wave moves =
       front graph s wave sound.there (first_board graph) moves (kept-first graph s) game.allowed (unmarked-at (vertices graph) wave.vertex) game.computed in
-      omega (arith, at.few, marked-few at.red (filter is_left (words_of wave)) (distinct-filtered is_left (words_of wave) distinct) (λ v m. red at v (filtered-member is_left (words_of wave) v m))) where
-        red : (at : IsFront graph s wave moves) (v : ℕ) → Member v (words_of wave) × (is_left v ≡ true) → marked at.red v ≡ true
+      omega (arith, at.few, marked-few at.red (unloaded_among (words_of wave) moves) (distinct-filtered (λ v. not (is_loaded v moves)) (words_of wave) distinct) (λ v m. red at v (filtered-member (λ u. not (is_loaded u moves)) (words_of wave) v m))) where
+        red : (at : IsFront graph s wave moves) (v : ℕ) → Member v (words_of wave) × (not (is_loaded v moves) ≡ true) → marked at.red v ≡ true
         red at v m =
             let point = word-point wave.points v m.0 graph wave.vertex sound.points in
             by point (at.each point.0 point.2) where
@@ -223,14 +210,14 @@ module _ (graph : ComputationGraph) (s : ℕ) (moves : List Move) (game : IsComp
               by point (inl h) = absurd (not-true (is_loaded v moves) m.1 (ap (λ (x : ℕ). is_loaded x moves) point.1 ∙ h))
               by point (inr h) = ap (marked at.red) point.1 ∙ h
 
-  all-left : (waves : List Wave) → AllByRecursion (IsSoundWave graph) waves → IsDistinct nat_eq (all_words waves) → length (filter is_left (all_words waves)) ≤ s * length waves
+  all-left : (waves : List Wave) → AllByRecursion (IsSoundWave graph) waves → IsDistinct nat_eq (all_words waves) → length (unloaded_among (all_words waves) moves) ≤ s * length waves
   all-left [] sound distinct = omega arith
   all-left (wave ∷ waves) sound distinct =
       let parts = distinct-parts (words_of wave) (all_words waves) distinct in
       omega (
         arith,
-        ap length (filter-append is_left (words_of wave) (all_words waves)),
-        length-append (filter is_left (words_of wave)) (filter is_left (all_words waves)),
+        ap length (filter-append (λ v. not (is_loaded v moves)) (words_of wave) (all_words waves)),
+        length-append (unloaded_among (words_of wave) moves) (unloaded_among (all_words waves) moves),
         left-few wave sound.0 parts.0,
         all-left waves sound.1 parts.1,
         product s (length waves),
@@ -238,21 +225,17 @@ module _ (graph : ComputationGraph) (s : ℕ) (moves : List Move) (game : IsComp
         product : (m n : ℕ) → m * suc n ≡ m + m * n
         product m n = grind arith
 
-  -- the others are loaded
-  loaded-many : (words : List ℕ) → IsDistinct nat_eq words → length (filter (λ v. is_loaded v moves) words) ≤ loads_of words moves
-  loaded-many words distinct =
-      subst (λ (n : ℕ). length (filter (λ v. is_loaded v moves) words) ≤ n) (sym (loads_of-loaded words moves))
-      (length-le_from_is_member nat_eq_equiv (filter (λ v. is_loaded v moves) words) (filter (stands_in words) (loaded moves)) (distinct-filtered (λ v. is_loaded v moves) words distinct)
-      (λ v h. let m = filtered-member (λ u. is_loaded u moves) words v (standing-member (filter (λ u. is_loaded u moves) words) v h) in
-      is_member-filter nat_eq_equiv (stands_in words) v (λ x e. ap (stands_in words) (eqb-true v x e)) (loaded moves)
-      ∙ and_from (is_member nat_eq (loaded moves) v) (stands_in words v) m.1 (member-stands words v m.0)))
+pub waves-leave-few : WavesLeaveFew
+waves-leave-few graph s moves wave game sound distinct = left-few graph s moves game wave sound distinct
 
-pub waves-loaded : WavesAreLoaded
-unfolding is_left
-waves-loaded graph s moves waves game sound distinct =
+pub waves-reloaded : WavesAreReloaded
+waves-reloaded graph s moves waves game sound distinct =
     omega (
       arith,
-      length-filter_both (λ v. is_loaded v moves) (is_left graph s moves game) (λ v. refl) (all_words waves),
-      loaded-many graph s moves game (all_words waves) distinct,
+      length-filter_both (λ v. is_loaded v moves) (λ v. not (is_loaded v moves)) (λ v. refl) (all_words waves),
       all-left graph s moves game waves sound distinct,
     )
+
+pub waves-loaded : WavesAreLoaded
+waves-loaded graph s moves waves game sound distinct =
+    omega (arith, different_are_loads moves (all_words waves) distinct, waves-reloaded graph s moves waves game sound distinct)

@@ -9,6 +9,7 @@ use Rattle.iolb_model.specs.Footprint.{AreVertices, Footprint}
 use Rattle.iolb_model.specs.Game.{IsCompletePebbling, loads_of}
 use Rattle.iolb_model.specs.Graph.{computation_graph, input_cells, vertex_of}
 use Rattle.iolb_model.specs.Source.{Source, written_at, input, read_cell}
+use Rattle.pebble_game.specs.Loaded.{loaded_among}
 use Rattle.affine_form.specs.Substitution.{values_at}
 use Rattle.dep_quast.specs.Truth.{ReadFits, source_at}
 use Rattle.domain_count.specs.Points.{points, count}
@@ -74,6 +75,12 @@ abbrev pub FrontsAreLoaded : Type 0
 FrontsAreLoaded = (program : AffineProgram) (term : WavefrontTerm) (parameters : List ℤ) (s : ℕ) (moves : List Move)
     → IsSoundUnder program term parameters → IsCompletePebbling (computation_graph program parameters) s moves
     → count term.nest parameters ≤ loads_of (front_footprint program term parameters) moves + s * count (outer_nest term) parameters
+
+-- So many different ones of them are loaded, however often each is.
+abbrev pub FrontWordsAreLoaded : Type 0
+FrontWordsAreLoaded = (program : AffineProgram) (term : WavefrontTerm) (parameters : List ℤ) (s : ℕ) (moves : List Move)
+    → IsSoundUnder program term parameters → IsCompletePebbling (computation_graph program parameters) s moves
+    → count term.nest parameters ≤ length (loaded_among (front_footprint program term parameters) moves) + s * count (outer_nest term) parameters
 
 abbrev pub FrontsHaveVertices : Type 0
 FrontsHaveVertices = (program : AffineProgram) (term : WavefrontTerm) (parameters : List ℤ) → IsSoundUnder program term parameters

@@ -9,6 +9,7 @@ use Rattle.iolb_model.specs.Source.{same_cell, read_cell}
 use Rattle.iolb_model.specs.Graph.{computation_graph}
 use Rattle.iolb_model.specs.Game.{IsCompletePebbling, loads_of}
 use Rattle.pebble_game.specs.Cold.{read_vertices, ReadsInput}
+use Rattle.pebble_game.specs.Loaded.{AreLoaded}
 use Rattle.claims.specs.declared.place.Step.{Step}
 use Rattle.affine_form.specs.Substitution.{values_at}
 use Rattle.affine_form.specs.Rows.{BoundsFit, IsSmallOver}
@@ -71,6 +72,14 @@ HasFootprint program term = (values : List ℤ) → IsAdmitted program values �
 abbrev pub CostsItsCount : AffineProgram → ColdTerm → Type 0
 CostsItsCount program term = (values : List ℤ) (s : ℕ) (moves : List Move) → IsAdmitted program values
     → IsCompletePebbling (computation_graph program values) s moves → count term.nest values ≤ loads_of (footprint_of program term values) moves
+
+-- A sound cold term has this footprint and costs this, and each vertex of its footprint is loaded.
+abbrev pub SoundColdsAreLoaded : Type 0
+SoundColdsAreLoaded = (program : AffineProgram) (term : ColdTerm) → IsSoundCold program term → HasFootprint program term × CostsItsCount program term
+
+abbrev pub ColdWordsAreLoaded : Type 0
+ColdWordsAreLoaded = (program : AffineProgram) (term : ColdTerm) (values : List ℤ) (s : ℕ) (moves : List Move) → IsSoundCold program term
+    → IsAdmitted program values → IsCompletePebbling (computation_graph program values) s moves → AreLoaded (footprint_of program term values) moves
 
 -- A cold term whose claims hold, over a true source tree, is sound, and costs its count in loads of its footprint.
 abbrev pub ColdTermsAreLoaded : Type 0

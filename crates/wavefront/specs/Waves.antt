@@ -5,6 +5,7 @@ use Rattle.std.specs.List.{AllByRecursion, IsDistinct}
 use Rattle.iolb_model.specs.declared.game.Move.{Move}
 use Rattle.iolb_model.specs.Graph.{ComputationGraph}
 use Rattle.iolb_model.specs.Game.{IsCompletePebbling, loads_of, predecessors_at}
+use Rattle.pebble_game.specs.Loaded.{loaded_among, unloaded_among}
 use Rattle.reuse_paths.specs.Reached.{IsReached}
 
 -- a word, and an instance that reads it
@@ -42,3 +43,15 @@ abbrev pub WavesAreLoaded : Type 0
 WavesAreLoaded = (graph : ComputationGraph) (s : ℕ) (moves : List Move) (waves : List Wave) → IsCompletePebbling graph s moves
     → AllByRecursion (IsSoundWave graph) waves → IsDistinct nat_eq (all_words waves)
     → length (all_words waves) ≤ loads_of (all_words waves) moves + s * length waves
+
+-- Of the different words of one wave at most s are never loaded.
+abbrev pub WavesLeaveFew : Type 0
+WavesLeaveFew = (graph : ComputationGraph) (s : ℕ) (moves : List Move) (wave : Wave) → IsCompletePebbling graph s moves
+    → IsSoundWave graph wave → IsDistinct nat_eq (words_of wave) → length (unloaded_among (words_of wave) moves) ≤ s
+
+-- So of the different words of all waves so many are loaded as there are, but s for each wave: different words, however often
+-- each is loaded.
+abbrev pub WavesAreReloaded : Type 0
+WavesAreReloaded = (graph : ComputationGraph) (s : ℕ) (moves : List Move) (waves : List Wave) → IsCompletePebbling graph s moves
+    → AllByRecursion (IsSoundWave graph) waves → IsDistinct nat_eq (all_words waves)
+    → length (all_words waves) ≤ length (loaded_among (all_words waves) moves) + s * length waves

@@ -2,7 +2,7 @@
 
 ghost use Rattle.std.specs.Prelude.{length, IfOk, OnOk, IfErr};
 ghost use Rattle.iolb_model.specs.Bound.{cold};
-ghost use Rattle.iolb_model.specs.Footprint.{IsFootprintOf};
+ghost use Rattle.iolb_model.specs.Footprint.{CostsItsValue};
 ghost use Rattle.affine_program.specs.Parts.{meaning};
 ghost use Rattle.claims.specs.Claims.{AllHold, Finds, IsRefusal};
 ghost use Rattle.dep_quast.specs.Tree.{tree_of};
@@ -59,7 +59,7 @@ pub fn check_cold(
     ensures parameters { IfOk result (λ poly. IsCanonical (length program.now.params) poly.tree) }
     ensures holds { OnOk result (AllHold (cold_claims (meaning program.now) place.now (tree_for (trees_of quasts.now) (term_of term.now).reader) (term_of term.now))) }
     ensures sound { OnOk result (IsSoundCold (meaning program.now) (term_of term.now)) }
-    ensures footprint { IfOk result (λ poly. IsFootprintOf (meaning program.now) (cold (polynomial_of poly)) (footprint_of (meaning program.now) (term_of term.now))) }
+    ensures footprint { IfOk result (λ poly. CostsItsValue (meaning program.now) (cold (polynomial_of poly)) (footprint_of (meaning program.now) (term_of term.now))) }
     ensures few { OnOk result (LeavesAreFew (meaning program.now) (tree_for (trees_of quasts.now) (term_of term.now).reader) (term_of term.now)) }
     ensures covered { OnOk result (AreCovered (meaning program.now) (footprint_of (meaning program.now) (term_of term.now)) (cold_pieces (meaning program.now) (tree_for (trees_of quasts.now) (term_of term.now).reader) (term_of term.now))) }
     ensures refused { IfErr result (λ refused. IsRefusal (cold_claims (meaning program.now) place.now (tree_for (trees_of quasts.now) (term_of term.now).reader) (term_of term.now)) refused) }

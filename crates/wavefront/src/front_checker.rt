@@ -2,7 +2,7 @@
 
 ghost use Rattle.std.specs.Prelude.{◌≡◌, length, take, IfOk, OnOk, IfErr};
 ghost use Rattle.iolb_model.specs.Bound.{wavefront};
-ghost use Rattle.iolb_model.specs.Footprint.{IsFootprintOf};
+ghost use Rattle.iolb_model.specs.Footprint.{CostsItsValue};
 ghost use Rattle.affine_program.specs.Parts.{meaning};
 ghost use Rattle.claims.specs.Claims.{AllHold, Finds, IsRefusal};
 ghost use Rattle.dep_quast.specs.Tree.{tree_of};
@@ -66,7 +66,7 @@ pub fn check_wavefront(
     ensures outer_parameters { IfOk result (λ counts. IsCanonical (length program.now.params) counts.1.tree) }
     ensures holds { OnOk result (AllHold (front_claims (meaning program.now) place.now (trees_of quasts.now) (front_of term.now))) }
     ensures sound { OnOk result (IsSoundFront (meaning program.now) (front_of term.now)) }
-    ensures footprint { IfOk result (λ counts. IsFootprintOf (meaning program.now) (wavefront (polynomial_of counts.0) (polynomial_of counts.1)) (front_footprint (meaning program.now) (front_of term.now))) }
+    ensures footprint { IfOk result (λ counts. CostsItsValue (meaning program.now) (wavefront (polynomial_of counts.0) (polynomial_of counts.1)) (front_footprint (meaning program.now) (front_of term.now))) }
     ensures refused { IfErr result (λ refused. IsRefusal (front_claims (meaning program.now) place.now (trees_of quasts.now) (front_of term.now)) refused) }
 {
     let Some(quast) = quasts.tree(term.user.statement, term.read) else {

@@ -1,8 +1,10 @@
 //! Calls, and what they answer.
 
+ghost use Rattle.std.specs.Prelude.{◌≢◌};
+
 use crate::scene::{Failing, Scene};
-use iolb_call::run;
-use iolb_host::{Files, MemFiles, MemSink};
+use iolb_call::{Status, run, sure_calls_have_no_fault};
+use iolb_host::{Files, MemFiles, MemSink, SureFiles, SureSink};
 use std::alloc::{AllocError, Global};
 use std::collections::BTreeMap;
 
@@ -46,37 +48,79 @@ struct Answered {
     status: u8,
 }
 
-/// What a call with these words over these files answers. What it wrote to the output is printed, or only the last lines of it,
-/// and what it wrote to the standard error, and its status.
+/// What is kept of a call that wrote this and ended with this status: all of the output, or the last lines of it, are printed,
+/// and what was written to the standard error, and the status.
+fn answered(
+    alloc: Global,
+    scene: &Scene,
+    output: &[u8],
+    error: &[u8],
+    status: u8,
+) -> Result<Answered, AllocError> {
+    let written = match scene.last {
+        Some(count) => last_lines(output, count),
+        None => output,
+    };
+    let mut printed = Vec::from_slice(alloc, written)?;
+    printed.extend_from_slice(error)?;
+    printed.extend_from_slice(format!(in alloc; "status {status}\n")?.as_bytes())?;
+    Ok(Answered {
+        output: Vec::from_slice(alloc, output)?,
+        printed,
+        status,
+    })
+}
+
+/// What a call with these words over these files answers, where a read or a write fails.
+fn failing_answer(
+    alloc: Global,
+    scene: &Scene,
+    words: &Vec<String>,
+    files: BTreeMap<String, Vec<u8>>,
+    failing: Failing,
+) -> Result<Answered, AllocError> {
+    let (reads, output, error) = match failing {
+        Failing::Read(number) => (Some(number), None, None),
+        Failing::Output(number) => (None, Some(number), None),
+        Failing::Error(number) => (None, None, Some(number)),
+    };
+    let mut files = MemFiles::new(alloc, files, numbers(alloc, reads)?);
+    let mut out = MemSink::new(alloc, numbers(alloc, output)?);
+    let mut err = MemSink::new(alloc, numbers(alloc, error)?);
+    let status = run(alloc, words, &mut files, &mut out, &mut err);
+    answered(alloc, scene, out.bytes(), err.bytes(), status.number())
+}
+
+/// Makes a call over files and sinks of which every read and every write succeeds. It ends neither with 6 nor with 7.
+fn sure_call(
+    alloc: Global,
+    words: &Vec<String>,
+    files: &mut SureFiles,
+    out: &mut SureSink,
+    err: &mut SureSink,
+) -> Status
+    ensures read { result ≢ Status.ReadFault }
+    ensures write { result ≢ Status.WriteFault }
+{
+    sure_calls_have_no_fault();
+    run(alloc, words, files, out, err)
+}
+
+/// What a call with these words over these files answers.
 fn answer(
     alloc: Global,
     scene: &Scene,
     words: &Vec<String>,
     files: BTreeMap<String, Vec<u8>>,
 ) -> Result<Answered, AllocError> {
-    let (reads, output, error) = match scene.failing {
-        Some(Failing::Read(number)) => (Some(number), None, None),
-        Some(Failing::Output(number)) => (None, Some(number), None),
-        Some(Failing::Error(number)) => (None, None, Some(number)),
-        None => (None, None, None),
-    };
-    let mut files = MemFiles::new(alloc, files, numbers(alloc, reads)?);
-    let mut out = MemSink::new(alloc, numbers(alloc, output)?);
-    let mut err = MemSink::new(alloc, numbers(alloc, error)?);
-    let status = run(alloc, words, &mut files, &mut out, &mut err).number();
-    let written = match scene.last {
-        Some(count) => last_lines(out.bytes(), count),
-        None => out.bytes(),
-    };
-    let mut printed = Vec::from_slice(alloc, written)?;
-    printed.extend_from_slice(err.bytes())?;
-    printed.extend_from_slice(format!(in alloc; "status {status}\n")?.as_bytes())?;
-    let output = Vec::from_slice(alloc, out.bytes())?;
-    Ok(Answered {
-        output,
-        printed,
-        status,
-    })
+    if let Some(failing) = scene.failing {
+        return failing_answer(alloc, scene, words, files, failing);
+    }
+    let mut files = SureFiles::new(alloc, files);
+    let mut out = SureSink::new(alloc);
+    let mut err = SureSink::new(alloc);
+    let status = sure_call(alloc, words, &mut files, &mut out, &mut err);
+    answered(alloc, scene, out.bytes(), err.bytes(), status.number())
 }
 
 /// Writes lengths in a row, and the answer that they have in common.

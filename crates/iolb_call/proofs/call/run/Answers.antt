@@ -5,6 +5,7 @@ use Rattle.iolb_call.specs.declared.stop.Stop.TheVariants.{Words}
 use Rattle.iolb_call.specs.Lines.{usage}
 use Rattle.iolb_call.specs.Stop.{call_of, stop_line}
 use Rattle.iolb_call.specs.Use.{files_use, sink_use}
+use Rattle.iolb_call.proofs.Counts.{error-counts, output-counts}
 use Rattle.iolb_call.proofs.Words.{words_are}
 use Rattle.iolb_call.proofs.Headline.{headline}
 use Rattle.iolb_call.proofs.Outcomes.{stopped_outcome, done_outcome}
@@ -25,7 +26,7 @@ returns-in-Ok-None-clause-outcome g c =
       cause = words_are c.as_slice.ensures.value (sym c.in-Ok-None.ensures.command ∙ ap (option_map asked) c.in-Ok-None.field-0-is);
       unread = refl;
       says = refl;
-    })) (refl, refl) c.stopped.ensures
+    })) (refl, refl) c.stopped.ensures.written
 
 pub returns-in-Ok-clause-outcome : goal.returns-in-Ok-clause-outcome
 returns-in-Ok-clause-outcome g c =
@@ -41,7 +42,17 @@ returns-in-Ok-clause-outcome g c =
       asked = words_are c.as_slice.ensures.value (sym c.in-Ok-Some.ensures.command ∙ ap (option_map asked) c.in-Ok-Some.field-0-is);
       answered = c.in-Ok.ensures.answered;
       read = c.in-Ok.ensures.read;
-    }) c.in-Ok.ensures.kind c.write_answer.ensures
+    }) c.in-Ok.ensures.kind c.write_answer.ensures.written
+
+pub returns-in-Ok-clause-output_counts : goal.returns-in-Ok-clause-output_counts
+returns-in-Ok-clause-output_counts g c =
+    output-counts (sink_use g.O.Sink.written g.O.Sink.faults c.args.out.now c.write_answer.new.out) (sink_use g.E.Sink.written g.E.Sink.faults c.args.err.now c.write_answer.new.err) c.in-Ok.answer
+    c.write_answer.result c.write_answer.ensures.written
+
+pub returns-in-Ok-clause-error_counts : goal.returns-in-Ok-clause-error_counts
+returns-in-Ok-clause-error_counts g c =
+    error-counts (sink_use g.O.Sink.written g.O.Sink.faults c.args.out.now c.write_answer.new.out) (sink_use g.E.Sink.written g.E.Sink.faults c.args.err.now c.write_answer.new.err) c.in-Ok.answer
+    c.write_answer.result c.write_answer.ensures.written
 
 pub returns-in-Ok-clause-headline : goal.returns-in-Ok-clause-headline
 returns-in-Ok-clause-headline g c =
@@ -68,7 +79,7 @@ returns-clause-outcome g c =
       cause = c.in-Err-run_command.ensures.stop;
       noted = c.in-Err-run_command.ensures.noted;
       says = refl;
-    }))) (refl, refl) c.stopped-in-Err-run_command.ensures
+    }))) (refl, refl) c.stopped-in-Err-run_command.ensures.written
 
 pub returns-clause-reads : goal.returns-clause-reads
 returns-clause-reads g c =

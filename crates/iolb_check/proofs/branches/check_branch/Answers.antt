@@ -12,7 +12,9 @@ use Rattle.iolb_check.specs.declared.term.Branch.{Branch}
 use Rattle.iolb_check.specs.declared.term.Term.{Term}
 use Rattle.iolb_check.specs.Claims.{claim_of_branch, claim_of_term}
 use Rattle.iolb_check.specs.Fit.{HasPieces}
-use Rattle.iolb_check.specs.Conditions.{AreValuesOf, TermsHold, branch_claims, branch_pieces, disjoint_claims, terms_claims, terms_place}
+use Rattle.iolb_check.specs.Conditions.{AreValuesOf, branch_claims, disjoint_claims, terms_claims, terms_place}
+use Rattle.iolb_check.specs.Holds.{TermsHold}
+use Rattle.iolb_check.specs.Sound.{IsSound}
 use Rattle.iolb_check.proofs.Terms.{branch-holds}
 use Rattle.iolb_check.proofs.branches.check_branch.Goals as goal
 
@@ -53,11 +55,20 @@ returns-clause-values c =
 
 pub returns-clause-holds : goal.returns-clause-holds
 returns-clause-holds c =
-    let program = meaning c.args.program.now in
     let trees = trees_of c.args.quasts.now in
-    branch-holds c.args.program.now (branch_pieces program trees (map claim_of_term c.args.branch.now.terms.items)) c.in_ok-values.values.items
-    (subst (λ (l : List Term). TermsHold c.args.program.now (branch_pieces program trees (map claim_of_term l)) c.in_ok-values.values.items) c.as_slice.ensures.value c.in_ok-values.ensures.hold)
+    branch-holds c.args.program.now trees c.args.branch.now c.in_ok-values.values.items
+    (subst (λ (l : List Term). TermsHold c.args.program.now trees l c.in_ok-values.values.items) c.as_slice.ensures.value c.in_ok-values.ensures.hold)
     c.in_ok-check_pairs.ensures.apart
+
+pub returns-clause-sound : goal.returns-clause-sound
+returns-clause-sound c =
+    let trees = trees_of c.args.quasts.now in
+    record {
+      terms = subst (AllByRecursion (IsSound c.args.program.now)) c.as_slice.ensures.value c.in_ok-values.ensures.sound;
+      apart = (branch-holds c.args.program.now trees c.args.branch.now c.in_ok-values.values.items
+          (subst (λ (l : List Term). TermsHold c.args.program.now trees l c.in_ok-values.values.items) c.as_slice.ensures.value c.in_ok-values.ensures.hold)
+          c.in_ok-check_pairs.ensures.apart).apart;
+    }
 
 pub returns-in_err-values-clause-refused : goal.returns-in_err-values-clause-refused
 returns-in_err-values-clause-refused c =

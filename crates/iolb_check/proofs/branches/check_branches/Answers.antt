@@ -2,7 +2,7 @@ use Rattle.std.proofs.Common.{rules, ◌≡◌, refl, sym, ◌∙◌, ap, subst,
 use Rattle.std.specs.List.{AllByRecursion}
 use Rattle.std.proofs.lemmas.List.{drop_all, map-append}
 use Rattle.std.proofs.Math.Numerals.{suc-eq-add-one}
-use Rattle.base_laws.proofs.Lists.{All-append, rest_after}
+use Rattle.base_laws.proofs.Lists.{rest_after}
 use Rattle.affine_program.specs.Parts.{meaning}
 use Rattle.claims.specs.Claims.{Claim, AllHold, IsRefusal, numbered}
 use Rattle.claims.proofs.Found.{refused-first, refused-later}
@@ -13,7 +13,8 @@ use Rattle.iolb_check.specs.declared.bound.Value.{Value}
 use Rattle.iolb_check.specs.Bounds.{lists}
 use Rattle.iolb_check.specs.Claims.{BranchClaim, claim_of_branch, claim_of_term}
 use Rattle.iolb_check.specs.Fit.{BranchesFit}
-use Rattle.iolb_check.specs.Conditions.{AreBranchValues, AreValuesOf, BranchHolds, branch_claims}
+use Rattle.iolb_check.specs.Conditions.{AreBranchValues, AreValuesOf, branch_claims}
+use Rattle.iolb_check.specs.Holds.{BranchesHold}
 use Rattle.iolb_check.specs.Sound.{IsSoundBranch}
 use Rattle.iolb_check.proofs.branches.check_branches.Goals as goal
 
@@ -46,9 +47,10 @@ loop-number-preserved c =
           (subst (AreBranchValues (meaning program) (map claim_of_branch branches)) (sym (append_assoc (lists old) (value.items ∷ []) others))
           (c.loop-number.invariant.values (value.items ∷ others) (subst (λ (l : List Branch). AreBranchValues (meaning program) (map claim_of_branch l) (value.items ∷ others)) (sym split)
           (valued, subst (λ (n : ℕ). AreBranchValues (meaning program) (map claim_of_branch (drop n branches)) others) (sym (suc-eq-add-one i)) h))));
-      hold = subst (AllByRecursion (BranchHolds program)) (sym items)
-          (All-append (BranchHolds program) (lists old) (value.items ∷ []) c.loop-number.invariant.hold
-          (c.in_ok-terms.ensures.holds, tt));
+      hold = λ others h. subst (λ (l : List (List Value)). BranchesHold program branches (l ++ others)) (sym items)
+          (subst (BranchesHold program branches) (sym (append_assoc (lists old) (value.items ∷ []) others))
+          (c.loop-number.invariant.hold (value.items ∷ others) (subst (λ (l : List Branch). BranchesHold program l (value.items ∷ others)) (sym split)
+          (c.in_ok-terms.ensures.holds, subst (λ (n : ℕ). BranchesHold program (drop n branches) others) (sym (suc-eq-add-one i)) h))));
       sound = λ h. c.loop-number.invariant.sound (subst (AllByRecursion (IsSoundBranch program)) (sym split) (c.in_ok-terms.ensures.sound, subst (AllByRecursion (IsSoundBranch program)) (sym more) h));
       refused = λ r h. c.loop-number.invariant.refused r (subst (λ (l : List Branch). IsRefusal (numbered each i (map claim_of_branch l)) r) (sym split)
           (refused-later here rest r accepted (subst (λ (n : ℕ). IsRefusal (numbered each n (map claim_of_branch (drop n branches))) r) (sym (suc-eq-add-one i)) h)));
@@ -76,3 +78,10 @@ returns-clause-values c =
     let ended : drop c.loop-number.number branches ≡ [] = drop_all c.loop-number.number branches c.loop-number-test.false in
     subst (AreBranchValues (meaning c.args.program.now) (map claim_of_branch branches)) (append-nil (lists c.loop-number.values.items))
     (c.loop-number.invariant.values [] (subst (λ (l : List Branch). AreBranchValues (meaning c.args.program.now) (map claim_of_branch l) []) (sym ended) refl))
+
+pub returns-clause-hold : goal.returns-clause-hold
+returns-clause-hold c =
+    let branches : List Branch = c.args.branches.now in
+    let ended : drop c.loop-number.number branches ≡ [] = drop_all c.loop-number.number branches c.loop-number-test.false in
+    subst (BranchesHold c.args.program.now branches) (append-nil (lists c.loop-number.values.items))
+    (c.loop-number.invariant.hold [] (subst (λ (l : List Branch). BranchesHold c.args.program.now l []) (sym ended) tt))

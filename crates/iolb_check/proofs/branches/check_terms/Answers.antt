@@ -7,13 +7,13 @@ use Rattle.affine_program.specs.Parts.{meaning}
 use Rattle.claims.specs.Claims.{Claim, AllHold, IsRefusal, numbered}
 use Rattle.claims.proofs.Found.{refused-first, refused-later}
 use Rattle.claims.proofs.Laws.{AllHold-append}
-use Rattle.reuse_paths.specs.Pieces.{FootprintPiece}
 use Rattle.reuse_paths.specs.Quasts.{trees_of}
 use Rattle.iolb_check.specs.declared.term.Term.{Term}
 use Rattle.iolb_check.specs.declared.bound.Value.{Value}
 use Rattle.iolb_check.specs.Claims.{TermClaim, claim_of_term}
 use Rattle.iolb_check.specs.Fit.{HasPieces, TermFits}
-use Rattle.iolb_check.specs.Conditions.{AreValuesOf, TermsHold, branch_pieces, term_claims_at, terms_claims}
+use Rattle.iolb_check.specs.Conditions.{AreValuesOf, term_claims_at, terms_claims}
+use Rattle.iolb_check.specs.Holds.{TermsHold}
 use Rattle.iolb_check.specs.Sound.{IsSound}
 use Rattle.iolb_check.proofs.branches.check_terms.Goals as goal
 
@@ -29,7 +29,6 @@ loop-index-preserved c =
     let split = rest_after terms i term c.loop-index-test.true c.index-terms-index.is in
     let fits = subst (AllByRecursion (TermFits program trees)) split c.loop-index.invariant.fits in
     let more : drop (suc i) terms ≡ drop (i + 1) terms = ap (λ (n : ℕ). drop n terms) (suc-eq-add-one i) in
-    let pieces : List (List FootprintPiece) = branch_pieces (meaning program) trees (map claim_of_term terms) in
     let here : List Claim = each i (claim_of_term term) in
     let rest : List Claim = numbered each (suc i) (map claim_of_term (drop (suc i) terms)) in
     record {
@@ -40,10 +39,10 @@ loop-index-preserved c =
           (subst (AreValuesOf (meaning program) (map claim_of_term terms)) (sym (append_assoc c.loop-index.values.items (value ∷ []) others))
           (c.loop-index.invariant.values (value ∷ others) (subst (λ (l : List Term). AreValuesOf (meaning program) (map claim_of_term l) (value ∷ others)) (sym split)
           (c.in_ok-value.ensures.value, subst (λ (n : ℕ). AreValuesOf (meaning program) (map claim_of_term (drop n terms)) others) (sym (suc-eq-add-one i)) h))));
-      hold = λ others h. subst (λ (items : List Value). TermsHold program pieces (items ++ others)) (sym c.in-Ok.ensures.items)
-          (subst (TermsHold program pieces) (sym (append_assoc c.loop-index.values.items (value ∷ []) others))
-          (c.loop-index.invariant.hold (value ∷ others) (subst (λ (l : List Term). TermsHold program (branch_pieces (meaning program) trees (map claim_of_term l)) (value ∷ others)) (sym split)
-          (c.in_ok-value.ensures.holds, subst (λ (n : ℕ). TermsHold program (branch_pieces (meaning program) trees (map claim_of_term (drop n terms))) others) (sym (suc-eq-add-one i)) h))));
+      hold = λ others h. subst (λ (items : List Value). TermsHold program trees terms (items ++ others)) (sym c.in-Ok.ensures.items)
+          (subst (TermsHold program trees terms) (sym (append_assoc c.loop-index.values.items (value ∷ []) others))
+          (c.loop-index.invariant.hold (value ∷ others) (subst (λ (l : List Term). TermsHold program trees l (value ∷ others)) (sym split)
+          (c.in_ok-value.ensures.holds, subst (λ (n : ℕ). TermsHold program trees (drop n terms) others) (sym (suc-eq-add-one i)) h))));
       pieces = λ h. c.loop-index.invariant.pieces (subst (AllByRecursion (HasPieces program trees)) (sym split)
           (c.in_ok-value.ensures.pieces, subst (AllByRecursion (HasPieces program trees)) (sym more) h));
       sound = λ h. c.loop-index.invariant.sound (subst (AllByRecursion (IsSound program)) (sym split) (c.in_ok-value.ensures.sound, subst (AllByRecursion (IsSound program)) (sym more) h));
@@ -75,8 +74,8 @@ returns-clause-values c =
 
 pub returns-clause-hold : goal.returns-clause-hold
 returns-clause-hold c =
+    let trees = trees_of c.args.quasts.now in
     let terms : List Term = c.args.terms.now in
-    let pieces : List Term → List (List FootprintPiece) = λ l. branch_pieces (meaning c.args.program.now) (trees_of c.args.quasts.now) (map claim_of_term l) in
     let ended : drop c.loop-index.index terms ≡ [] = drop_all c.loop-index.index terms c.loop-index-test.false in
-    subst (TermsHold c.args.program.now (pieces terms)) (append-nil c.loop-index.values.items)
-    (c.loop-index.invariant.hold [] (subst (λ (l : List Term). TermsHold c.args.program.now (pieces l) []) (sym ended) refl))
+    subst (TermsHold c.args.program.now trees terms) (append-nil c.loop-index.values.items)
+    (c.loop-index.invariant.hold [] (subst (λ (l : List Term). TermsHold c.args.program.now trees l []) (sym ended) tt))

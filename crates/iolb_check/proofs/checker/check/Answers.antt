@@ -1,6 +1,5 @@
 use Rattle.std.proofs.Common.{rules, ◌≡◌, sym, ◌∙◌, ap, subst, List, ◌++◌, map}
 use Rattle.std.specs.Prelude.{Option, IfNone}
-use Rattle.std.specs.List.{AllByRecursion}
 use Rattle.affine_form.specs.System.{AffineSystem}
 use Rattle.affine_program.specs.Parts.{ProgramParts, meaning}
 use Rattle.claims.specs.Claims.{Claim, AllHold, IsRefusal, numbered}
@@ -14,11 +13,15 @@ use Rattle.reuse_paths.specs.Trees.{RowsFit, rows_claims}
 use Rattle.iolb_check.specs.declared.term.Branch.{Branch}
 use Rattle.iolb_check.specs.Bounds.{BoundParts, IsBound, lists}
 use Rattle.iolb_check.specs.Claims.{claim_of_branch, claim_of_certificate}
-use Rattle.iolb_check.specs.Conditions.{AreBranchValues, BranchHolds, branch_claims}
+use Rattle.iolb_check.specs.Conditions.{AreBranchValues, branch_claims}
+use Rattle.iolb_check.specs.declared.bound.Value.{Value}
+use Rattle.iolb_check.specs.Holds.{BranchHolds, BranchesHold}
+use Rattle.iolb_check.specs.Sound.{AreCounted, ArePaid}
 use Rattle.iolb_check.specs.Fit.{BranchesFit, PartsFit}
 use Rattle.part_fit.specs.FitClaims.{misfit, FindsMisfit}
 use Rattle.iolb_check.specs.Limits.{CertificateParts}
 use Rattle.iolb_check.specs.TermFit.{certificate_fit}
+use Rattle.iolb_check.proofs.Lists.{zip-weaken}
 use Rattle.iolb_check.proofs.Terms.{bound-holds, is-bound}
 use Rattle.iolb_check.proofs.checker.check.Goals as goal
 
@@ -100,7 +103,7 @@ returns-in_err-values-clause-refused c =
 pub new-requires : goal.new-requires
 new-requires c =
     subst (λ (a : AffineSystem). IsBound (record { assumed = a; branches = lists c.in_ok-values.values.items })) (sym (c.in-Ok.ensures ∙ c.assumed.ensures.assumed))
-    (is-bound c.args.program.now (lists c.in_ok-values.values.items) c.in_ok-values.ensures.hold)
+    (is-bound c.args.program.now c.branches.result.now (lists c.in_ok-values.values.items) c.in_ok-values.ensures.hold)
 
 pub returns-clause-meets : goal.returns-clause-meets
 returns-clause-meets c =
@@ -116,7 +119,26 @@ returns-clause-meets c =
           (subst (λ (l : List Branch). AreBranchValues (meaning program) (map claim_of_branch l) (lists c.in_ok-values.values.items)) c.branches.ensures.branches c.in_ok-values.ensures.values);
     }
 
+-- what holds of the certificate's branches, with the values of the bound
+branches-hold : (program : ProgramParts) (parts : CertificateParts) (made : BoundParts) (bs : List Branch) (values : List (List Value)) → bs ≡ parts.branches → made.branches ≡ values
+    → BranchesHold program bs values → BranchesHold program parts.branches made.branches
+branches-hold program parts made bs values all given h =
+    subst (BranchesHold program parts.branches) (sym given) (subst (λ (l : List Branch). BranchesHold program l values) all h)
+
 pub returns-clause-holds : goal.returns-clause-holds
 returns-clause-holds c =
-    bound-holds c.args.program.now c.new.result
-    (subst (AllByRecursion (BranchHolds c.args.program.now)) (sym (ap (λ (parts : BoundParts). parts.branches) c.new.ensures)) c.in_ok-values.ensures.hold)
+    bound-holds c.args.program.now c.new.result c.args.certificate.now.branches
+    (branches-hold c.args.program.now c.args.certificate.now c.new.result c.branches.result.now (lists c.in_ok-values.values.items) c.branches.ensures.branches
+    (ap (λ (parts : BoundParts). parts.branches) c.new.ensures) c.in_ok-values.ensures.hold)
+
+pub returns-clause-paid : goal.returns-clause-paid
+returns-clause-paid c =
+    zip-weaken (BranchHolds c.args.program.now) (ArePaid c.args.program.now) (λ branch values h. h.paid) c.args.certificate.now.branches c.new.result.branches
+    (branches-hold c.args.program.now c.args.certificate.now c.new.result c.branches.result.now (lists c.in_ok-values.values.items) c.branches.ensures.branches
+    (ap (λ (parts : BoundParts). parts.branches) c.new.ensures) c.in_ok-values.ensures.hold)
+
+pub returns-clause-counts : goal.returns-clause-counts
+returns-clause-counts c =
+    zip-weaken (BranchHolds c.args.program.now) (AreCounted c.args.program.now) (λ branch values h. h.counted) c.args.certificate.now.branches c.new.result.branches
+    (branches-hold c.args.program.now c.args.certificate.now c.new.result c.branches.result.now (lists c.in_ok-values.values.items) c.branches.ensures.branches
+    (ap (λ (parts : BoundParts). parts.branches) c.new.ensures) c.in_ok-values.ensures.hold)

@@ -2,7 +2,6 @@ use Rattle.std.proofs.Common.{◌≡◌, subst, sym, ℕ, length}
 use Rattle.affine_program.specs.Parts.{meaning}
 use Rattle.domain_count.specs.Points.{count}
 use Rattle.poly_tree.specs.Expansion.{IsCanonical}
-use Rattle.wavefront.specs.Fronts.{front_footprint}
 use Rattle.wavefront.specs.FrontTerm.{outer_nest}
 use Rattle.wavefront.specs.View.{front_of}
 use Rattle.iolb_check.proofs.Terms.{whole}
@@ -24,9 +23,9 @@ returns-clause-holds c =
     let kept : program.assumed.vars ≡ length program.params = c.params-params.ensures.kept.assumed in
     let counts = c.in_ok-counts.counts in
     record {
-      footprint = front_footprint (meaning program) term;
-      loaded = c.in_ok-counts.ensures.footprint;
+      paid = c.in_ok-counts.ensures.footprint;
       covered = c.front_pieces_cover.ensures (meaning program) term c.params-params.ensures.kept.well_formed c.in_ok-counts.ensures.sound;
+      counted = (c.in_ok-counts.ensures.counts, c.in_ok-counts.ensures.outer_counts);
       counting = (
         record {
           parameters = subst (λ (n : ℕ). IsCanonical n counts.0.tree) (sym kept) c.in_ok-counts.ensures.parameters;

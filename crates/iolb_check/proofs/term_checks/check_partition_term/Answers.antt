@@ -8,7 +8,7 @@ use Rattle.k_partition.specs.declared.term.Shape.{Shape}
 use Rattle.k_partition.specs.declared.term.Shape.TheVariants.{Each, Sum}
 use Rattle.k_partition.specs.Numbers.{factor_under}
 use Rattle.k_partition.specs.Term.{PartitionTerm}
-use Rattle.k_partition.specs.TermLoads.{credited_count, term_footprint, weight_of}
+use Rattle.k_partition.specs.TermLoads.{credited_count, weight_of}
 use Rattle.k_partition.specs.View.{partition_of, FitsPartition}
 use Rattle.affine_form.specs.Matrix.{HasShape}
 use Rattle.reuse_paths.specs.Quasts.{trees_of}
@@ -47,9 +47,9 @@ returns-clause-holds c =
     let bound = c.in_ok-bound.bound in
     let is = c.in_ok-bound.ensures.numbers in
     record {
-      footprint = term_footprint (meaning program) term;
-      loaded = c.in_ok-bound.ensures.footprint;
+      paid = c.in_ok-bound.ensures.footprint;
       covered = c.in_ok-bound.ensures.covered;
+      counted = (c.in_ok-bound.ensures.counts, c.in_ok-bound.ensures.credited);
       counting = record {
         count = record {
           parameters = subst (λ (n : ℕ). IsCanonical n bound.count.tree) (sym kept) c.in_ok-bound.ensures.parameters.0;

@@ -14,7 +14,7 @@ use Rattle.k_partition.specs.PartitionPieces.{partition_pieces, CountsCredits}
 use Rattle.k_partition.specs.TermLoads.{term_footprint}
 use Rattle.k_partition.specs.View.{partition_of}
 use Rattle.k_partition.proofs.CreditsValue.{credits-fit, credits-value, total-uses}
-use Rattle.k_partition.proofs.PartitionBounds.{families-cover, partition-footprint-is}
+use Rattle.k_partition.proofs.PartitionBounds.{families-cover, partition-footprint-is, partition-splits}
 use Rattle.k_partition.proofs.PartitionSound.{contexts-are-few, families-covered, holds-credits}
 use Rattle.k_partition.proofs.partition_checker.check_partition.Goals as goal
 
@@ -109,7 +109,23 @@ returns-clause-footprint c =
     credits-value program c.args.place.now term.credits c.in_ok-bound.bound.credits values c.params-params.ensures.kept.well_formed admitted c.right_claims_count.ensures
     (credits-fit c.args.program.now c.args.term.now.credits.items c.requires.credits)
     (holds-credits program trees term c.args.place.now c.params-params.ensures.kept.well_formed c.requires.trees_fit c.requires.trees_true c.requires.fits c.in_ok-bound.ensures.holds) c.in_ok-bound.ensures.total in
-    partition-footprint-is program trees term c.in_ok-bound.bound c.params-params.ensures.kept.well_formed c.in_ok-bound.ensures.sound c.sound_terms_are_loaded.ensures.loaded c.terms_have_the_value.ensures
-    c.in_ok-bound.ensures.numbers c.den-count.ensures.legal c.den-credits.ensures.legal c.in_ok-bound.ensures.counts credited
+    partition-footprint-is program term c.in_ok-bound.bound c.terms_have_the_value.ensures c.in_ok-bound.ensures.numbers c.den-count.ensures.legal c.den-credits.ensures.legal c.in_ok-bound.ensures.counts credited
+    trees c.params-params.ensures.kept.well_formed c.in_ok-bound.ensures.sound c.sound_terms_are_loaded.ensures.loaded
     (λ values admitted. c.partitions_are_sound.ensures.apart program trees term c.args.place.now values c.params-params.ensures.kept.well_formed c.requires.trees_fit c.requires.trees_true c.requires.fits c.in_ok-no.ensures.fit holds admitted)
     covered
+
+pub returns-clause-splits : goal.returns-clause-splits
+returns-clause-splits c =
+    let program = meaning c.args.program.now in
+    let trees = trees_of c.args.quasts.now in
+    let term = partition_of c.args.term.now in
+    let apart : List Claim = apart_claims term.shape program trees c.args.place.now term in
+    let holds : AllHold (partition_claims program trees c.args.place.now term) =
+    AllHold-append (sound_claims program trees c.args.place.now term) apart c.in_ok-bound.ensures.holds (subst (λ (found : Option No). Finds apart found) c.in_default.is c.in_ok-no.ensures.found) in
+    let credited : CountsCredits program term c.in_ok-bound.bound.credits = λ values admitted.
+    credits-value program c.args.place.now term.credits c.in_ok-bound.bound.credits values c.params-params.ensures.kept.well_formed admitted c.right_claims_count.ensures
+    (credits-fit c.args.program.now c.args.term.now.credits.items c.requires.credits)
+    (holds-credits program trees term c.args.place.now c.params-params.ensures.kept.well_formed c.requires.trees_fit c.requires.trees_true c.requires.fits c.in_ok-bound.ensures.holds) c.in_ok-bound.ensures.total in
+    partition-splits program term c.in_ok-bound.bound c.terms_have_the_value.ensures c.in_ok-bound.ensures.numbers c.den-count.ensures.legal c.den-credits.ensures.legal c.in_ok-bound.ensures.counts credited
+    (c.terms_are_loaded_in_runs.ensures.split program term c.params-params.ensures.kept.well_formed c.in_ok-bound.ensures.sound
+    (λ values admitted. c.partitions_are_sound.ensures.apart program trees term c.args.place.now values c.params-params.ensures.kept.well_formed c.requires.trees_fit c.requires.trees_true c.requires.fits c.in_ok-no.ensures.fit holds admitted))

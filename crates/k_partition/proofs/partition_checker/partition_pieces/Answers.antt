@@ -1,12 +1,10 @@
-use Rattle.std.proofs.Common.{rules, ◌≡◌, refl, sym, ◌∙◌, ap, subst, arith, ℕ, List, [], ◌∷◌, ◌++◌, map, length, Vec, Global}
+use Rattle.std.proofs.Common.{rules, ◌≡◌, sym, ap, subst, List, ◌++◌, map}
 use Rattle.std.specs.List.{AllByRecursion}
-use Rattle.std.proofs.lemmas.List.{append-nil, map-append}
+use Rattle.std.proofs.lemmas.List.{map-append}
 use Rattle.base_laws.proofs.Lists.{All-append}
 use Rattle.affine_program.specs.Parts.{meaning}
-use Rattle.reuse_paths.specs.declared.family.Family.{Family}
 use Rattle.reuse_paths.specs.declared.piece.Piece.{Piece}
-use Rattle.reuse_paths.specs.Families.{FamilyForms, family_of}
-use Rattle.reuse_paths.specs.FamilyPieces.{family_pieces}
+use Rattle.reuse_paths.specs.Families.{family_of}
 use Rattle.reuse_paths.specs.Pieces.{piece_of, pieces_of, PieceFits}
 use Rattle.reuse_paths.specs.Quasts.{trees_of}
 use Rattle.k_partition.specs.PartitionPieces.{partition_pieces}

@@ -2,7 +2,7 @@ use Rattle.k_partition.proofs.CompletePebblings.{partitions-loaded-each, partiti
 use Rattle.k_partition.proofs.pebblings.partitions_are_loaded.Goals as goal
 
 pub returns-clause-each : goal.returns-clause-each
-returns-clause-each c = partitions-loaded-each c.points_take_events.ensures.each
+returns-clause-each c = partitions-loaded-each c.runs_are_loaded.ensures.each c.different_computations_are_few.ensures c.complete_pebblings_are_runs.ensures
 
 pub returns-clause-sum : goal.returns-clause-sum
-returns-clause-sum c = partitions-loaded-sum c.points_take_events.ensures.sum
+returns-clause-sum c = partitions-loaded-sum c.runs_are_loaded.ensures.sum c.different_computations_are_few.ensures c.complete_pebblings_are_runs.ensures

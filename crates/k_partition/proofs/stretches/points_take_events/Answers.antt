@@ -2,7 +2,7 @@ use Rattle.k_partition.proofs.Cut.{take-events-each, take-events-sum}
 use Rattle.k_partition.proofs.stretches.points_take_events.Goals as goal
 
 pub returns-clause-each : goal.returns-clause-each
-returns-clause-each c = take-events-each c.cover_inequality_each.ensures.points
+returns-clause-each c = take-events-each c.stretches_are_small.ensures.points_each
 
 pub returns-clause-sum : goal.returns-clause-sum
-returns-clause-sum c = take-events-sum c.cover_inequality_sum.ensures.points c.disjoint_loads_add_up.ensures
+returns-clause-sum c = take-events-sum c.stretches_are_small.ensures.points_sum

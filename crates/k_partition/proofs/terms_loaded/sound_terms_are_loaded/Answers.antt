@@ -6,4 +6,4 @@ pub returns-clause-sound : goal.returns-clause-sound
 returns-clause-sound c = sound-terms-are-sound
 
 pub returns-clause-loaded : goal.returns-clause-loaded
-returns-clause-loaded c = terms-loaded c.partitions_are_loaded.ensures.each c.partitions_are_loaded.ensures.sum
+returns-clause-loaded c = terms-loaded c.terms_are_loaded_in_runs.ensures.loaded c.different_computations_are_few.ensures c.complete_pebblings_are_runs.ensures

@@ -20,7 +20,7 @@ returns-in-Some c =
     let place = c.args.place.now in
     let inputs : List Claim = inputs_fit program (place ++ Key INPUTS ∷ []) family in
     let nodes : List Claim = nodes_fit program trees credits (place ++ Key NODES ∷ []) family in
-    let counted : List Claim = set_fit (depth_of program s) (place ++ Key SET ∷ []) 0 0 family.set ++ start_fit program trees s credits (place ++ Key START ∷ []) family in
+    let counted : List Claim = set_fit (depth_of program s) (place ++ Key SET ∷ []) family.set ++ start_fit program trees s credits (place ++ Key START ∷ []) family in
     pair-stops inputs (nodes ++ counted) c.in_ok-misfit.field-0 c.in-Some.misfit c.in-Some.is c.in_ok-misfit.ensures
 
 pub returns-in-Some-2 : goal.returns-in-Some-2
@@ -33,7 +33,7 @@ returns-in-Some-2 c =
     let place = c.args.place.now in
     let inputs : List Claim = inputs_fit program (place ++ Key INPUTS ∷ []) family in
     let nodes : List Claim = nodes_fit program trees credits (place ++ Key NODES ∷ []) family in
-    let counted : List Claim = set_fit (depth_of program s) (place ++ Key SET ∷ []) 0 0 family.set ++ start_fit program trees s credits (place ++ Key START ∷ []) family in
+    let counted : List Claim = set_fit (depth_of program s) (place ++ Key SET ∷ []) family.set ++ start_fit program trees s credits (place ++ Key START ∷ []) family in
     misfit-later inputs (nodes ++ counted) c.in-Some-2.misfit (found-none inputs c.in_ok-misfit.field-0 c.in_default.is c.in_ok-misfit.ensures)
     (pair-stops nodes counted c.in_ok-misfit-2.field-0 c.in-Some-2.misfit c.in-Some-2.is c.in_ok-misfit-2.ensures)
 
@@ -47,6 +47,6 @@ returns c =
     let place = c.args.place.now in
     let inputs : List Claim = inputs_fit program (place ++ Key INPUTS ∷ []) family in
     let nodes : List Claim = nodes_fit program trees credits (place ++ Key NODES ∷ []) family in
-    let counted : List Claim = set_fit (depth_of program s) (place ++ Key SET ∷ []) 0 0 family.set ++ start_fit program trees s credits (place ++ Key START ∷ []) family in
+    let counted : List Claim = set_fit (depth_of program s) (place ++ Key SET ∷ []) family.set ++ start_fit program trees s credits (place ++ Key START ∷ []) family in
     pair-goes inputs (nodes ++ counted) c.in_ok-misfit.field-0 c.counted_misfit.result c.in_default.is c.in_ok-misfit.ensures
     (pair-goes nodes counted c.in_ok-misfit-2.field-0 c.counted_misfit.result c.in_default-2.is c.in_ok-misfit-2.ensures c.counted_misfit.ensures)

@@ -1,4 +1,4 @@
-use Rattle.pebble_game.proofs.Loaded.{read_input_loaded_once, read_inputs_loaded}
+use Rattle.pebble_game.proofs.Loaded.{each_input_loaded, read_input_loaded_once, read_inputs_loaded}
 use Rattle.pebble_game.proofs.inputs.read_inputs_are_loaded.Goals as goal
 
 pub returns-clause-each : goal.returns-clause-each
@@ -6,3 +6,6 @@ returns-clause-each c = read_input_loaded_once
 
 pub returns-clause-many : goal.returns-clause-many
 returns-clause-many c = read_inputs_loaded
+
+pub returns-clause-all : goal.returns-clause-all
+returns-clause-all c = each_input_loaded

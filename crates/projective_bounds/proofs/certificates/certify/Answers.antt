@@ -30,7 +30,7 @@ certificate_of-requires c =
       all = c.in_ok-second.ensures.all;
       alone = c.in_ok-second.ensures.alone;
       placed = c.in_ok-colds.ensures.placed;
-      rising = c.in_ok-colds.ensures.rising;
+      different = c.in_ok-colds.ensures.different;
       few = c.in_ok-colds.ensures.few;
     })
 
@@ -51,7 +51,7 @@ returns-clause-certified c =
       all = c.in_ok-second.ensures.all;
       alone = c.in_ok-second.ensures.alone;
       placed = c.in_ok-colds.ensures.placed;
-      rising = c.in_ok-colds.ensures.rising;
+      different = c.in_ok-colds.ensures.different;
       few = c.in_ok-colds.ensures.few;
     }) reach c.in_ok-colds.ensures.terms c.in_ok-certificate.ensures
 
@@ -61,4 +61,11 @@ returns-clause-exponent c is = c.certified_have_least_exponents.ensures (meaning
 pub returns-clause-reach : goal.returns-clause-reach
 returns-clause-reach c =
     let cover = c.in_ok-cover.cover in
-    record { projective = c.requires.projective; q = cover.q; weights = cover.weights.items; packing = cover.packing.items; cover = c.in_ok-cover.ensures.cover }
+    let reach = c.in_ok-cover.ensures.cover in
+    record {
+      projective = c.requires.projective;
+      q = cover.q;
+      weights = cover.weights.items;
+      packing = cover.packing.items;
+      pair = record { positive = reach.least.positive; few = reach.few; light = reach.light; is_pair = reach.least.is_pair };
+    }

@@ -19,4 +19,5 @@ loop-step-preserved g c =
           ∙ sym (append_assoc c.loop-step.invariant.0 _ (moves_text (drop (c.loop-step.step-index + 1) c.args.moves.now))),
       piece_on _ (g.O.Sink.written c.loop-step.out) _ c.loop-step.invariant.0 _ c.loop-step.invariant.2 c.in_ok-put_move.ensures.ok,
       c.in_ok-put_move.ensures.faults ∙ c.loop-step.invariant.3,
+      c.in_ok-put_move.ensures.wants ∙ c.loop-step.invariant.4,
     )

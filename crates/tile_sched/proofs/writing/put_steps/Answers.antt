@@ -27,6 +27,7 @@ loop-moves-preserved g c =
           (c.as_slice.ensures.value ∙ moves ∙ ap (λ s. moves_at c.args.graph.now s c.args.order.now c.loop-moves.player.place) c.loop-moves.invariant.pebbles)
           c.loop-moves.invariant.written c.in_ok-put_moves-in-Ok-Some.ensures.ok);
       calm = c.in_ok-put_moves-in-Ok-Some.ensures.faults ∙ c.loop-moves.invariant.calm;
+      spared = c.in_ok-put_moves-in-Ok-Some.ensures.wants ∙ c.loop-moves.invariant.spared;
     }
 
 pub returns-in-Err-clause-err : goal.returns-in-Err-clause-err

@@ -10,6 +10,7 @@ invariant-loop-moves g l = record {
   pebbles : l.player.s ≡ l.fn.player.s;
   written : AppendsPiece (g.O.Sink.written l.fn.out) (g.O.Sink.written l.out) (moves_text (moves_before l.graph l.fn.player.s l.order l.player.place));
   calm : g.O.Sink.faults l.out ≡ g.O.Sink.faults l.fn.out;
+  spared : g.O.Sink.wants l.out ≡ g.O.Sink.wants l.fn.out;
 }
 
 abbrev pub decreases-loop-moves : goal.decreases-loop-moves

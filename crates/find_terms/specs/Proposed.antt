@@ -1,0 +1,31 @@
+-- Branches that are proposed.
+use Rattle.std.specs.Prelude.{◌≡◌, ◌≤◌, ⊤, List, length, Option, None, Some}
+use Rattle.std.specs.List.{AllByRecursion}
+use Rattle.k_partition.specs.declared.term.Partition.{Partition}
+use Rattle.k_partition.specs.TermLoads.{weight_of}
+use Rattle.k_partition.specs.View.{partition_of}
+use Rattle.iolb_check.specs.Limits.{IsSmallBranch}
+use Rattle.iolb_check.specs.declared.term.Branch.{Branch}
+use Rattle.iolb_check.specs.declared.term.Term.{Term}
+use Rattle.iolb_check.specs.declared.term.Term.TheVariants as terms
+use Rattle.projective_bounds.specs.Whole.{stretch_for}
+
+-- the stretches of a partition term are those which make its bound strongest for its exponent
+abbrev pub HasBestStretches : Partition → Type 0
+HasBestStretches partition = (partition.a ≡ stretch_for partition.q (weight_of (partition_of partition))) × (partition.b ≡ 0)
+
+abbrev pub IsAsProposed : Term → Type 0
+IsAsProposed (terms.Cold cold) = ⊤
+IsAsProposed (terms.Partition partition) = HasBestStretches partition
+IsAsProposed (terms.Wavefront front) = ⊤
+
+-- A branch that is proposed has a term, is within the limits of branches, and its partition terms have such stretches.
+pub record IsProposal (branch : Branch) : Type 0 where
+  pub some : 1 ≤ length branch.terms.items
+  pub small : IsSmallBranch branch
+  pub terms : AllByRecursion IsAsProposed branch.terms.items
+
+-- an opening branch, where there is one, is within the limits
+abbrev pub IsSmallOpening : Option Branch → Type 0
+IsSmallOpening None = ⊤
+IsSmallOpening (Some branch) = IsSmallBranch branch
