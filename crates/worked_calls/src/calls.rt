@@ -50,7 +50,7 @@ struct Answered {
 
 /// What is kept of a call that wrote this and ended with this status: all of the output, or the last lines of it, are printed,
 /// and what was written to the standard error, and the status.
-fn answered(
+fn answer_of(
     alloc: Global,
     scene: &Scene,
     output: &[u8],
@@ -88,7 +88,7 @@ fn failing_answer(
     let mut out = MemSink::new(alloc, numbers(alloc, output)?);
     let mut err = MemSink::new(alloc, numbers(alloc, error)?);
     let status = run(alloc, words, &mut files, &mut out, &mut err);
-    answered(alloc, scene, out.bytes(), err.bytes(), status.number())
+    answer_of(alloc, scene, out.bytes(), err.bytes(), status.number())
 }
 
 /// Makes a call over files and sinks of which every read and every write succeeds. It ends neither with 6 nor with 7.
@@ -120,7 +120,7 @@ fn answer(
     let mut out = SureSink::new(alloc);
     let mut err = SureSink::new(alloc);
     let status = sure_call(alloc, words, &mut files, &mut out, &mut err);
-    answered(alloc, scene, out.bytes(), err.bytes(), status.number())
+    answer_of(alloc, scene, out.bytes(), err.bytes(), status.number())
 }
 
 /// Writes lengths in a row, and the answer that they have in common.
