@@ -11,7 +11,6 @@ pub mod MeansText
 pub mod WordsAre
 pub mod Readable
 pub mod Rows
-pub mod TreeGrows
 pub mod Among
 pub mod TreeFits
 pub mod Made

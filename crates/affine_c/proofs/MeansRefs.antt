@@ -10,11 +10,10 @@ use Rattle.iolb_model.specs.Program.{AffineProgram}
 use Rattle.iolb_model.specs.Program as program
 use Rattle.c_reading.specs.declared.named.Kind.{Kind}
 use Rattle.c_reading.specs.declared.named.Kind.TheVariants.{Array}
-use Rattle.c_reading.specs.declared.lines.Line.{Line}
-use Rattle.c_reading.specs.declared.lines.Line.TheVariants.{Does}
+use Rattle.c_reading.specs.Tree.{Items, assign, with_item}
 use Rattle.c_reading.specs.Access.{Access}
 use Rattle.c_reading.specs.Affine.{kind_of, with_name, is_short}
-use Rattle.c_reading.specs.Items.{is_array, with_line, most_statements}
+use Rattle.c_reading.specs.Items.{is_array, most_statements}
 use Rattle.c_reading.specs.Refs.{with_kind, most_arrays, most_subscripts}
 use Rattle.c_reading.specs.Values.{Accesses, most_reads}
 use Rattle.affine_c.specs.Text.{array_name}
@@ -110,7 +109,6 @@ access_new brackets k rank rows r i none short same count few long f =
 pub record IsSeen (p : AffineProgram) (around : List (List ℕ)) (seen count : ℕ) (i j : Names) : Type 0 where
   pub knows : Knows p (length p.parameters) around seen count j
   pub names : Extends i.names j.names
-  pub lines : j.lines ≡ i.lines
 
 -- whether a name may be read
 abbrev IsReadable : Option Kind → Type 0
@@ -158,7 +156,7 @@ module _ (p : AffineProgram) (around : List (List ℕ)) (is : HasRoles p) (loops
       record {
         names = i;
         is = ap (λ n. reference_means (suc brackets) (record { name = n; subscripts = r.subscripts }) i) (sym found.2) ∙ access_known (suc brackets) printed.array a.rank rows r i known (meant i (knows-variables p around seen i is loops knows.0)) long;
-        so = record { knows = subst (λ n. Knows p (length p.parameters) around n count i) (sym unchanged) knows; names = extends_none i.names; lines = refl };
+        so = record { knows = subst (λ n. Knows p (length p.parameters) around n count i) (sym unchanged) knows; names = extends_none i.names };
       })
       (λ after.
       let here : printed.array ≡ seen = omega (arith, fits.seen_first) in
@@ -173,7 +171,7 @@ module _ (p : AffineProgram) (around : List (List ℕ)) (is : HasRoles p) (loops
         is = ap (λ n. reference_means (suc brackets) (record { name = n; subscripts = r.subscripts }) i) (sym found.2)
             ∙ access_new (suc brackets) seen a.rank rows r i none (short_name a.name found.3) knows.0.same knows.2 few long (meant _ (array-variables p is around loops seen i knows.0 a there (Array i.arrays 0) (i.arrays + 1)))
             ∙ ap (λ n. Some (record { array = n; subscripts = rows }, last)) (sym here);
-        so = record { knows = subst (λ n. Knows p (length p.parameters) around n count last) (sym grown) (knows_array p is around loops seen i knows.0 a there, knows.1, omega (arith, knows.2), knows.3); names = (a.name ∷ [], refl); lines = refl };
+        so = record { knows = subst (λ n. Knows p (length p.parameters) around n count last) (sym grown) (knows_array p is around loops seen i knows.0 a there, knows.1, omega (arith, knows.2), knows.3); names = (a.name ∷ [], refl) };
       })
       (order printed.array seen)
 
@@ -212,41 +210,37 @@ module _ (p : AffineProgram) (around : List (List ℕ)) (is : HasRoles p) (loops
       record {
         names = rest.names;
         is = means_then (value_means (suc brackets) before (read_tree p (p.parameters ++ around) read) i) (λ more. arguments_means (suc brackets) more (arguments_tree p (p.parameters ++ around) other reads)) one.is (rest.is ∙ ap (λ a. Some (a, rest.names)) (append_assoc before (wide ∷ []) (map (widened_access (length p.parameters) (length around)) (other ∷ reads))));
-        so = record { knows = rest.so.knows; names = extends_both i.names one.names.names rest.names.names one.so.names rest.so.names; lines = rest.so.lines ∙ one.so.lines };
+        so = record { knows = rest.so.knows; names = extends_both i.names one.names.names rest.names.names one.so.names rest.so.names };
       }
 
   -- what a statement reads
   reads_mean : (brackets seen count : ℕ) (i : Names) (reads : List program.Access) → length reads ≤ most_reads → Knows p (length p.parameters) around seen count i → AreReadableAccesses p (length around) seen reads
       → Means (value_means (suc (suc brackets)) [] (reads_tree p (p.parameters ++ around) reads) i) (map (widened_access (length p.parameters) (length around)) reads) (IsSeen p around (accesses_seen seen reads) count i)
   unfolding value_means unary_means operands_means
-  reads_mean brackets seen count i [] few knows fit = record { names = i; is = refl; so = record { knows = knows; names = extends_none i.names; lines = refl } }
+  reads_mean brackets seen count i [] few knows fit = record { names = i; is = refl; so = record { knows = knows; names = extends_none i.names } }
   reads_mean brackets seen count i (read ∷ reads) few knows fit =
       let all = arguments_mean brackets count read reads seen i [] (omega arith) knows fit in
       record { names = all.names; is = means_then (arguments_means (suc brackets) [] (arguments_tree p (p.parameters ++ around) read reads) i) _ all.is refl; so = all.so }
 
   -- ---- statements
 
-  -- a printed statement means its line
-  pub statement_meant : (brackets seen count : ℕ) (i : Names) (printed : program.Statement) → count < most_statements → Knows p (length p.parameters) around seen count i → IsReadableStatement p (length around) seen printed
-      → Means (statement_means (suc (suc brackets)) (statement_tree p (p.parameters ++ around) printed) i) tt
-      (λ j. Knows p (length p.parameters) around (statement_seen seen printed) (suc count) j × Extends i.names j.names × (j.lines ≡ i.lines ++ Does (widened_statement (length p.parameters) (length around) printed) ∷ []))
-  unfolding statement_means assign_means with_line
-  statement_meant brackets seen count i printed few knows fits =
+  -- a printed statement means itself, behind others
+  pub statement_meant : (brackets seen count : ℕ) (before : Items) (i : Names) (printed : program.Statement) → count < most_statements → Knows p (length p.parameters) around seen count i → IsReadableStatement p (length around) seen printed
+      → Means (statement_means (suc (suc brackets)) before (statement_tree p (p.parameters ++ around) printed) i) (with_item before (assign (widened_statement (length p.parameters) (length around) printed)))
+      (λ j. Knows p (length p.parameters) around (statement_seen seen printed) (suc count) j × Extends i.names j.names)
+  unfolding statement_means assign_means
+  statement_meant brackets seen count before i printed few knows fits =
       let found = array_named printed.writes (length around) seen fits.accesses.0 in
       let target : tree.Reference = access_tree p (p.parameters ++ around) printed.writes in
       let written : is_array (kind_of target.name i) ≡ true = array_written (kind_of target.name i) (subst (λ n. IsReadable (kind_of n i)) found.2 (readable seen count i printed.writes.array found.0 knows found.1)) in
       let below : nat_le most_statements i.statements ≡ false = (let is_count : i.statements ≡ count = knows.3 in grind (arith, nat_tests)) in
       let write = access_means (suc brackets) seen count i printed.writes knows fits.accesses.0 in
       let read = reads_mean brackets (access_seen seen printed.writes) count write.names printed.reads fits.few write.so.knows fits.accesses.1 in
-      let line : Line = Does (widened_statement (length p.parameters) (length around) printed) in
-      let two : Names = read.names in
-      let three : Names = record two { lines = two.lines ++ line ∷ [] } in
       record {
-        names = record three { statements = i.statements + 1 };
+        names = record read.names { statements = i.statements + 1 };
         is = rw (written, below) (means_then (assign_means (suc (suc brackets)) (statement_tree p (p.parameters ++ around) printed) i) _ (means_then (reference_means (suc (suc brackets)) target i) _ write.is (means_then (value_means (suc (suc brackets)) [] (reads_tree p (p.parameters ++ around) printed.reads) write.names) _ read.is refl)) refl);
         so = (
           (read.so.knows.0, read.so.knows.1, read.so.knows.2, omega (arith, knows.3)),
-          extends_both i.names write.names.names two.names write.so.names read.so.names,
-          ap (λ ls. ls ++ line ∷ []) (read.so.lines ∙ write.so.lines),
+          extends_both i.names write.names.names read.names.names write.so.names read.so.names,
         );
       }

@@ -1,6 +1,6 @@
 -- The text that prints a program means the program.
 use Rattle.std.proofs.Common.{◌≡◌, refl, sym, ap, subst, ◌∙◌, ℕ, zero, suc, ◌+◌, ◌<◌, ◌≤◌, true, false, List, [], ◌∷◌, ◌++◌, append_assoc, append-nil, length, take, replicate, map, arith, length-append, inl, ℤ, pos, negsuc}
-use Rattle.std.specs.Prelude.{Option, Some, None, slice_get, nat_le, nat_lt, ◌⊎◌}
+use Rattle.std.specs.Prelude.{option_map, Option, Some, None, slice_get, nat_le, nat_lt, ◌⊎◌}
 use Rattle.std.specs.List.{AllByRecursion, range_with_len}
 use Rattle.std.proofs.lemmas.Bool.Decides.{nat_tests}
 use Rattle.affine_program.specs.Parts.{array_of}
@@ -17,7 +17,10 @@ use Rattle.c_reading.specs.Head.{Head}
 use Rattle.c_reading.specs.Text.{Reading, all_at_least_one, assumptions_of, start_of}
 use Rattle.c_grammar.specs.Meaning as mean
 use Rattle.c_grammar.specs.Meaning.{Names, affine_means, compare_means, slot_by, parameters_mean, compares_mean, lines_mean, items_means, whole_means, text_means}
-use Rattle.c_grammar.specs.Program.{narrowed, IsReadingOf, row_lines, tree_lines, statements_among}
+use Rattle.affine_program.specs.Tree.{row_from}
+use Rattle.c_reading.specs.Tree as read
+use Rattle.c_reading.specs.Tree.{Items as ReadItems}
+use Rattle.c_grammar.specs.Program.{narrowed, statements_in, items_meant, program_of}
 use Rattle.affine_c.specs.Tree.{form_tree, row_tree, parameters_tree, assumption_tree, assumptions_tree, program_tree}
 use Rattle.affine_c.proofs.Roles.{widened, IsSmallForm, Role, parameter, array, other, role, HasRoles, row_seen}
 use Rattle.c_tokens.specs.Names.{IsName}
@@ -26,7 +29,7 @@ use Rattle.c_grammar.proofs.NameKinds.{lookup, kind_of-lookup, lookup-new, looku
 use Rattle.affine_c.proofs.State.{AreLoops, Knows, KnowsNames, not_seen, one_more_seen, names_differ, named, length-named, knows-variables, take_one_more}
 use Rattle.affine_c.proofs.MeansForms.{KnowsVariables, form_means, terms_means}
 use Rattle.affine_c.proofs.MeansRefs.{Means, extends_none, short_name}
-use Rattle.affine_c.proofs.MeansItems.{length-widened, row_meant}
+use Rattle.affine_c.proofs.MeansItems.{length-widened, row_back, row_is_meant}
 use Rattle.std.proofs.Math.Seq.{take-length}
 use Rattle.c_grammar.proofs.Steps.{means_then}
 use Rattle.std.proofs.lemmas.List.FromFn.{length-range_with_len, fill_by_all}
@@ -35,7 +38,7 @@ use Rattle.std.proofs.lemmas.List.FromFn.{length-range_with_len, fill_by_all}
 
 -- what the reader knows where it saw so many parameters, before any line
 abbrev KnowsFirst : AffineProgram → ℕ → Names → Type 0
-KnowsFirst p n i = KnowsNames p n [] 0 i.names i.kinds × (i.parameters ≡ n) × (i.arrays ≡ 0) × (i.statements ≡ 0) × (i.lines ≡ [])
+KnowsFirst p n i = KnowsNames p n [] 0 i.names i.kinds × (i.parameters ≡ n) × (i.arrays ≡ 0) × (i.statements ≡ 0)
 
 module _ (p : AffineProgram) (is : HasRoles p) where
   -- one parameter more
@@ -81,7 +84,7 @@ module _ (p : AffineProgram) (is : HasRoles p) where
       let short : is_short name ≡ true = short_name name all.0 in
       let few : i.parameters < most_parameters = omega (arith, knows.1, is.few_parameters) in
       let grown : Names = record (named name (Parameter i.parameters) i) { parameters = i.parameters + 1 } in
-      let rest = names_mean names (suc n) grown (λ k m e. (let same : suc n + k ≡ n + suc k = omega arith in ap (slice_get p.parameters) same ∙ among (suc k) m e)) all.1 (omega arith) (subst (λ m. KnowsNames p (suc n) [] 0 (i.names ++ name ∷ []) (i.kinds ++ Parameter m ∷ [])) (sym knows.1) (knows_one_more n i.names i.kinds name knows.0 there), omega (arith, knows.1), knows.2, knows.3, knows.4) in
+      let rest = names_mean names (suc n) grown (λ k m e. (let same : suc n + k ≡ n + suc k = omega arith in ap (slice_get p.parameters) same ∙ among (suc k) m e)) all.1 (omega arith) (subst (λ m. KnowsNames p (suc n) [] 0 (i.names ++ name ∷ []) (i.kinds ++ Parameter m ∷ [])) (sym knows.1) (knows_one_more n i.names i.kinds name knows.0 there), omega (arith, knows.1), knows.2, knows.3) in
       record {
         names = rest.names;
         is = means_then (mean.slot name i) _ (slot_new name i unknown short few) rest.is;
@@ -160,11 +163,11 @@ module _ (p : AffineProgram) (is : HasRoles p) (well : IsWellFormed p) where
         parameter_names = refl;
         array_names = refl;
       } in
-      (knows, refl, refl, refl, refl)
+      (knows, refl, refl, refl)
 
   -- the lines before the program mean its parameters and its assumptions
   lines_meant : (names : List (List ℕ)) → p.parameters ≡ names
-      → Means (lines_mean (head_of []) (parameters_tree names (assumptions_tree p.parameters p.assumptions)) (start_of [] [])) (head_of (map (widened (length p.parameters) 0) p.assumptions)) (λ j. Knows p (length p.parameters) [] 0 0 j × (j.lines ≡ []))
+      → Means (lines_mean (head_of []) (parameters_tree names (assumptions_tree p.parameters p.assumptions)) (start_of [] [])) (head_of (map (widened (length p.parameters) 0) p.assumptions)) (Knows p (length p.parameters) [] 0 0)
   unfolding lines_mean
   lines_meant [] none =
       let zero_is : 0 ≡ length p.parameters = sym (ap length none) in
@@ -172,7 +175,7 @@ module _ (p : AffineProgram) (is : HasRoles p) (well : IsWellFormed p) where
       record {
         names = start_of [] [];
         is = assumptions_mean p is (start_of [] []) (knows-variables p [] 0 (start_of [] []) is no_loops knows.0) p.assumptions [] is.assumptions (omega (arith, is.few_assumptions));
-        so = ((knows.0, knows.1, knows.2, knows.3), refl);
+        so = (knows.0, knows.1, knows.2, knows.3);
       }
   lines_meant (name ∷ names) same =
       let named_so = names_mean p is (name ∷ names) 0 (start_of [] []) (λ k m e. (let zero_k : 0 + k ≡ k = omega arith in ap (slice_get p.parameters) zero_k ∙ ap (λ ns. slice_get ns k) same ∙ e)) (subst (AllByRecursion _) same is.parameters) (omega (arith, ap length same)) starts in
@@ -181,11 +184,11 @@ module _ (p : AffineProgram) (is : HasRoles p) (well : IsWellFormed p) where
       record {
         names = j;
         is = means_then (parameters_mean (name ∷ names) (start_of [] [])) _ named_so.is (assumptions_mean p is j (knows-variables p [] 0 j is no_loops knows.0) p.assumptions [] is.assumptions (omega (arith, is.few_assumptions)));
-        so = ((knows.0, knows.1, knows.2, knows.3), knows.4);
+        so = (knows.0, knows.1, knows.2, knows.3);
       }
 
   -- the tree of a printed program means the program
-  pub tree_means : (s : Reading) × (text_means (program_tree p) ≡ Some s) × IsReadingOf s p
+  pub tree_means : option_map program_of (text_means (program_tree p)) ≡ Some p
   unfolding whole_means
   tree_means =
       let P : ℕ = length p.parameters in
@@ -193,24 +196,20 @@ module _ (p : AffineProgram) (is : HasRoles p) (well : IsWellFormed p) where
       let j : Names = front.names in
       let none : P ≡ P + 0 = omega arith in
       let many : length (row_statements p.tree) ≡ length p.statements = ap length well.numbered ∙ length-range_with_len 0 (length p.statements) in
-      let body = row_meant p is p.tree [] no_loops most_loops most_brackets 0 0 j refl refl front.so.0 (omega (arith, is.few_statements)) is.tree (subst (λ n. program.RowFits p n p.tree) none well.tree) (well.numbered ∙ ap (λ n. range_with_len 0 n) (sym many)) in
-      let k : Names = body.names in
+      let body = row_is_meant p is p.tree [] no_loops most_loops most_brackets 0 0 read.done j refl refl front.so (omega (arith, is.few_statements)) is.tree (subst (λ n. program.RowFits p n p.tree) none well.tree) (well.numbered ∙ ap (λ n. range_with_len 0 n) (sym many)) in
+      let items : ReadItems = body.0 in
+      let k : Names = body.1.names in
       let h : Head = head_of (map (widened P 0) p.assumptions) in
-      let s : Reading = record { names = k.names; kinds = k.kinds; assumptions = assumptions_of h k; lines = k.lines } in
-      let items_are : items_means most_loops most_brackets (row_tree p p.parameters p.tree) j ≡ Some (tt, k) = ap (λ ns. items_means most_loops most_brackets (row_tree p ns p.tree) j) (sym (append-nil p.parameters)) ∙ body.is in
-      let meant : whole_means (program_tree p) (start_of [] []) ≡ Some (h, k) = means_then (lines_mean (head_of []) _ (start_of [] [])) _ front.is (means_then (items_means most_loops most_brackets _ j) _ items_are refl) in
-      let knows : Knows p (length p.parameters) [] (row_seen p 0 p.tree) (0 + length (row_statements p.tree)) k = body.so.knows in
+      let s : Reading = record { names = k.names; kinds = k.kinds; assumptions = assumptions_of h k; items = items } in
+      let items_are : items_means most_loops most_brackets read.done (row_tree p p.parameters p.tree) j ≡ Some (items, k) = ap (λ ns. items_means most_loops most_brackets read.done (row_tree p ns p.tree) j) (sym (append-nil p.parameters)) ∙ body.1.is in
+      let meant : whole_means (program_tree p) (start_of [] []) ≡ Some ((h, items), k) = means_then (lines_mean (head_of []) _ (start_of [] [])) _ front.is (means_then (items_means most_loops most_brackets read.done _ j) _ items_are refl) in
+      let knows : Knows p (length p.parameters) [] (row_seen p 0 p.tree) (0 + length (row_statements p.tree)) k = body.1.so.knows in
       let names_are : parameters_among k.names k.kinds ≡ p.parameters = knows.0.parameter_names ∙ take-length p.parameters in
-      let lines_are : k.lines ≡ body.so.new ++ [] = body.so.lines ∙ ap (λ ls. ls ++ body.so.new) front.so.1 ∙ sym (append-nil body.so.new) in
-      let same_params : P ≡ length (parameters_among k.names k.kinds) = ap length (sym names_are) in (
-        s,
-        ap mean.reading_from meant,
-        record {
-          parameters = sym names_are;
-          assumptions = sym (ap (λ n. map (narrowed n 0) (assumptions_of h k)) (sym same_params) ∙ ap (map (narrowed P 0)) (assumed p k p.assumptions is.some_assumptions knows.1)
-              ∙ forms_back P 0 p.assumptions is.few_parameters (omega arith) (subst (λ n. AllByRecursion (IsOver n) p.assumptions) none well.assumptions));
-          arrays = sym (knows.0.array_names ∙ ap (λ n. take n p.arrays) is.seen ∙ take-length p.arrays);
-          statements = sym (ap (λ n. statements_among n 0 k.lines) (sym same_params) ∙ ap (statements_among P 0) lines_are ∙ body.so.table [] ∙ append-nil (map (statement_at p) (row_statements p.tree)) ∙ ap (map (statement_at p)) well.numbered ∙ sym (fill_by_all (statement_at p) p.statements (length p.statements) no_statement refl (λ k below. refl)));
-          tree = sym (ap (λ n. tree_lines k.names n 0 0 k.lines) (sym same_params) ∙ ap (tree_lines k.names P 0 0) lines_are ∙ body.so.same k.names [] (extends_none k.names) ∙ append-nil (row_lines p.tree));
-        },
-      )
+      let same_params : length (parameters_among k.names k.kinds) ≡ P = ap length names_are in
+      let assumptions_are : (program_of s).assumptions ≡ p.assumptions = ap (λ n. map (narrowed n 0) (assumptions_of h k)) same_params ∙ ap (map (narrowed P 0)) (assumed p k p.assumptions is.some_assumptions knows.1)
+      ∙ forms_back P 0 p.assumptions is.few_parameters (omega arith) (subst (λ n. AllByRecursion (IsOver n) p.assumptions) none well.assumptions) in
+      let arrays_are : (program_of s).arrays ≡ p.arrays = knows.0.array_names ∙ ap (λ n. take n p.arrays) is.seen ∙ take-length p.arrays in
+      let statements_are : (program_of s).statements ≡ p.statements = ap (λ n. statements_in n 0 items) same_params ∙ body.1.so.table ∙ ap (map (statement_at p)) well.numbered ∙ sym (fill_by_all (statement_at p) p.statements (length p.statements) no_statement refl (λ k below. refl)) in
+      let tree_is : (program_of s).tree ≡ p.tree = ap (λ n. row_from (items_meant k.names n 0 0 items)) same_params ∙ ap row_from (body.1.so.same k.names 0 (extends_none k.names) refl) ∙ row_back p.tree in
+      ap (λ o. option_map program_of (mean.reading_from o)) meant
+      ∙ (λ i. Some (record { parameters = names_are i; assumptions = assumptions_are i; arrays = arrays_are i; statements = statements_are i; tree = tree_is i }))

@@ -1,55 +1,33 @@
--- Rows with the same lines are the same, so a text means one program at most.
-use Rattle.std.proofs.Common.{◌≡◌, refl, sym, ◌∙◌, ap, subst, ℕ, List, [], ◌∷◌, ◌++◌, append_assoc}
-use Rattle.std.specs.Prelude.{Result, Ok}
-use Rattle.iolb_model.specs.Form.{AffineForm}
-use Rattle.iolb_model.specs.Program.{Item, assign, loop, Row, done, next, AffineProgram}
-use Rattle.c_reading.specs.Text.{Reading}
-use Rattle.c_grammar.specs.Program.{TreeLine, begins, ends, item_lines, row_lines, IsReadingOf}
+-- A text means one program at most, and then it has no fault.
+use Rattle.std.proofs.Common.{◌≡◌, refl, sym, ◌∙◌, ap, ℕ, List}
+use Rattle.std.specs.Prelude.{Result, Ok, Option, Some, None, option_map}
+use Rattle.iolb_model.specs.Program.{AffineProgram}
+use Rattle.c_tokens.specs.Text.{tokens_of}
+use Rattle.c_reading.specs.Text.{Reading, reading_of}
+use Rattle.c_grammar.specs.Meaning.{text_means}
+use Rattle.c_grammar.specs.Program.{program_of, Means}
+use Rattle.c_grammar.proofs.RunItems.{spelled}
+use Rattle.c_grammar.proofs.Lexical.{text_lexical}
+use Rattle.affine_c.specs.declared.fault.ProgramFault.{ProgramFault}
 use Rattle.affine_c.specs.Laws.{TextsMeanOneProgram}
+use Rattle.affine_c.specs.Meaning.{HasFault}
 
--- the lines of a loop, with what follows
-looped : (name : List ℕ) (lower upper : AffineForm) (body : Row) (rest : List TreeLine) → item_lines (loop name lower upper body) ++ rest ≡ begins name lower upper ∷ (row_lines body ++ ends ∷ rest)
-looped name lower upper body rest = ap (λ (ls : List TreeLine). begins name lower upper ∷ ls) (append_assoc (row_lines body) (ends ∷ []) rest)
+-- a text that means a program is read so
+is_read : (bytes : List ℕ) (p : AffineProgram) → Means bytes p → (r : Reading) × (reading_of bytes ≡ Ok r) × (program_of r ≡ p)
+is_read bytes p m = by (text_means m.tree) (λ r e. spelled bytes m.tree r (tokens_of bytes) (text_lexical bytes) m.spelled e) m.meant where
+  by : (o : Option Reading) → ((r : Reading) → o ≡ Some r → reading_of bytes ≡ Ok r) → option_map program_of o ≡ Some p → (r : Reading) × (reading_of bytes ≡ Ok r) × (program_of r ≡ p)
+  by None f e = absurd cc
+  by (Some r) f e = (r, f r refl, cc)
 
--- a row's lines, with what follows
-nexted : (item : Item) (row : Row) (rest : List TreeLine) → row_lines (next item row) ++ rest ≡ item_lines item ++ (row_lines row ++ rest)
-nexted item row rest = append_assoc (item_lines item) (row_lines row) rest
-
-mutual
-  same_item : (a b : Item) (r s : List TreeLine) → item_lines a ++ r ≡ item_lines b ++ s → (a ≡ b) × (r ≡ s)
-  same_item (assign m) (assign n) r s e = let number : m ≡ n = cc in (ap assign number, cc)
-  same_item (loop name lower upper body) (loop name' lower' upper' body') r s e =
-      let both : begins name lower upper ∷ (row_lines body ++ ends ∷ r) ≡ begins name' lower' upper' ∷ (row_lines body' ++ ends ∷ s) = sym (looped name lower upper body r) ∙ e ∙ looped name' lower' upper' body' s in
-      let names : name ≡ name' = cc in
-      let lowers : lower ≡ lower' = cc in
-      let uppers : upper ≡ upper' = cc in
-      let inner = same_row body body' r s cc in
-      let bodies : body ≡ body' = inner.0 in
-      (cc, inner.1)
-  same_item _ _ r s e = absurd cc
-
-  same_row : (a b : Row) (r s : List TreeLine) → row_lines a ++ ends ∷ r ≡ row_lines b ++ ends ∷ s → (a ≡ b) × (r ≡ s)
-  same_row done done r s e = (refl, cc)
-  same_row done (next (assign n) row) r s e = absurd cc
-  same_row done (next (loop name lower upper body) row) r s e = absurd cc
-  same_row (next (assign n) row) done r s e = absurd cc
-  same_row (next (loop name lower upper body) row) done r s e = absurd cc
-  same_row (next item row) (next item' row') r s e =
-      let first = same_item item item' (row_lines row ++ ends ∷ r) (row_lines row' ++ ends ∷ s) (sym (nexted item row (ends ∷ r)) ∙ e ∙ nexted item' row' (ends ∷ s)) in
-      let rest = same_row row row' r s first.1 in
-      (ap (λ (i : Item). next i row) first.0 ∙ ap (next item') rest.0, rest.1)
-
-one_reading : (r : Reading) (p q : AffineProgram) → IsReadingOf r p → IsReadingOf r q → p ≡ q
-one_reading r p q a b =
-    let trees = (same_row p.tree q.tree [] [] (ap (λ (ls : List TreeLine). ls ++ ends ∷ []) (a.tree ∙ sym b.tree))).0 in
-    λ i. record { parameters = (a.parameters ∙ sym b.parameters) i; assumptions = (a.assumptions ∙ sym b.assumptions) i; arrays = (a.arrays ∙ sym b.arrays) i; statements = (a.statements ∙ sym b.statements) i; tree = trees i }
+-- it has no fault
+pub meant_without_fault : (bytes : List ℕ) (fault : ProgramFault) (p : AffineProgram) → HasFault bytes fault → Means bytes p → ⊥
+meant_without_fault bytes fault p has m = let read = (is_read bytes p m).1 in absurd cc
 
 pub one_program : TextsMeanOneProgram
 one_program bytes p q a b =
-    let same : a.reading ≡ b.reading = oks (sym a.reads ∙ b.reads) in
-    one_reading a.reading p q a.says (moved (sym same) b.says) where
+    let first = is_read bytes p a in
+    let second = is_read bytes q b in
+    let same : first.0 ≡ second.0 = oks (sym first.1 ∙ second.1) in
+    sym first.2 ∙ ap program_of same ∙ second.2 where
       oks : {X E : Type 0} {x y : X} → ◌≡◌ {A = Result X E} (Ok x) (Ok y) → x ≡ y
       oks e = cc
-
-      moved : {r s : Reading} → r ≡ s → IsReadingOf r q → IsReadingOf s q
-      moved e h = subst (λ (t : Reading). IsReadingOf t q) e h

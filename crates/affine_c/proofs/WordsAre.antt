@@ -23,8 +23,6 @@ use Rattle.c_grammar.specs.Affine.{affine_words}
 use Rattle.c_grammar.specs.Item.{items_words}
 use Rattle.c_grammar.specs.Text.{line_none, compares_words, lines_words, text_words}
 use Rattle.c_grammar.specs.Program.{Means}
-use Rattle.c_grammar.proofs.RunItems.{spelled}
-use Rattle.c_grammar.proofs.Lexical.{text_lexical}
 use Rattle.affine_c.specs.Text.{row_text, parameters_text, assumption_text, program_text}
 use Rattle.affine_c.specs.Tree.{form_tree, row_tree, parameters_tree, assumption_tree, assumptions_tree, program_tree}
 use Rattle.affine_c.proofs.Roles.{IsSmallForm, HasRoles}
@@ -295,10 +293,4 @@ words_are p is =
 
 -- the text that prints a program means the program
 pub text_means_program : (p : AffineProgram) → HasRoles p → IsWellFormed p → Means (program_text p) p
-text_means_program p is well =
-    let meant = tree_means p is well in
-    record {
-      reading = meant.0;
-      reads = spelled (program_text p) (program_tree p) meant.0 _ (text_lexical (program_text p)) (words_are p is) meant.1;
-      says = meant.2;
-    }
+text_means_program p is well = record { tree = program_tree p; spelled = words_are p is; meant = tree_means p is well }

@@ -1,25 +1,16 @@
--- What a tree that is being built holds.
-use Rattle.std.specs.Prelude.{ℕ, ◌<◌, ◌≤◌, List, [], ◌∷◌, ◌++◌, length, IsSomeAnd}
-use Rattle.std.specs.List.{AllByRecursion}
+-- What statements that are being built hold.
+use Rattle.std.specs.Prelude.{◌≡◌, ℕ, ◌<◌, ◌≤◌, List, length, map, IsSomeAnd, Some}
+use Rattle.std.specs.List.{AllByRecursion, enumerate_from}
 use Rattle.iolb_model.specs.Path.{PathStep, rises, row_path}
 use Rattle.iolb_model.specs.Program.{Row}
 use Rattle.c_reading.specs.Access.{Access as ReadAccess}
-use Rattle.c_grammar.specs.Well.{IsRowOver}
+use Rattle.c_reading.specs.Text.{Reading}
+use Rattle.c_grammar.specs.Well.{IsRowOver, parameters_of, statement_count}
 use Rattle.affine_form.specs.Form.{IsSmallForm}
-use Rattle.affine_program.specs.Tree.{row_of}
-use Rattle.c_grammar.specs.Program.{TreeLine, begins, row_lines}
-use Rattle.affine_c.specs.declared.growing.OpenLoop.{OpenLoop}
-use Rattle.affine_c.specs.declared.growing.GrowingTree.{GrowingTree}
-use Rattle.iolb_model.specs.declared.limits.TheConstants.{LOOPS, NUMBER_SIZE}
-
--- the lines of the loops that have begun, each behind the items before it
-abbrev pub open_lines : List OpenLoop → List TreeLine
-open_lines [] = []
-open_lines (o ∷ os) = row_lines (row_of o.before.items) ++ begins o.name o.lower o.upper ∷ open_lines os
-
--- the lines so far
-abbrev pub lines_so_far : GrowingTree → List TreeLine
-lines_so_far tree = open_lines tree.open.items ++ row_lines (row_of tree.items.items)
+use Rattle.affine_form.specs.Rows.{step_of}
+use Rattle.affine_program.specs.declared.statement.Statement.{Statement}
+use Rattle.affine_program.specs.Limits.{IsStatementWithinLimits}
+use Rattle.iolb_model.specs.declared.limits.TheConstants.{LOOPS, PARAMETERS, STATEMENTS, NUMBER_SIZE}
 
 -- a reference whose subscripts are over so many parameters and loops
 abbrev pub AreRowsOver : ℕ → ℕ → ReadAccess → Type 0
@@ -33,5 +24,21 @@ abbrev pub IsShortWay : List PathStep → Type 0
 IsShortWay path = (length path ≤ LOOPS) × AllByRecursion IsSmallStep path
 
 -- each of so many statements stands in the tree, in few loops
-abbrev pub HasShortWays : Row → ℕ → Type 0
-HasShortWays tree many = (number : ℕ) → number < many → IsSomeAnd (row_path tree number) IsShortWay
+pub record HasShortWays (tree : Row) (many : ℕ) : Type 0 where
+  pub ways : (number : ℕ) → number < many → IsSomeAnd (row_path tree number) IsShortWay
+
+-- the tree of what was read, with so many parameters
+pub record IsTreeOf (r : Reading) (parameters : ℕ) (tree : Row) : Type 0 where
+  pub few : parameters ≤ PARAMETERS
+  pub parameters_are : parameters ≡ length (parameters_of r)
+  pub statements : statement_count r.items ≤ STATEMENTS
+  pub short : HasShortWays tree (statement_count r.items)
+
+-- a statement's bounds are those on the way to it in the tree
+abbrev pub StandsIn : Row → ℕ × Statement → Type 0
+StandsIn tree placed = row_path tree placed.0 ≡ Some (map step_of placed.1.bounds.items)
+
+-- statements within the limits, each with its bounds in the tree
+pub record ArePlaced (tree : Row) (statements : List Statement) : Type 0 where
+  pub bounds : AllByRecursion (StandsIn tree) (enumerate_from 0 statements)
+  pub limits : AllByRecursion IsStatementWithinLimits statements

@@ -4,7 +4,6 @@
 mod bounds;
 mod fault;
 mod forms;
-mod growing;
 mod items;
 mod law;
 mod parts;

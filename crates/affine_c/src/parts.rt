@@ -4,7 +4,7 @@ ghost use Rattle.std.specs.Prelude.{◌≡◌, ◌≤◌, ℕ, List, length, map
 ghost use Rattle.std.specs.List.{AllByRecursion};
 ghost use Rattle.c_grammar.specs.Well.{IsRowOver, IsWellRead, parameters_of};
 ghost use Rattle.affine_program.specs.Parts.{meaning, array_of};
-ghost use Rattle.c_grammar.specs.Program.{narrowed, IsReadingOf};
+ghost use Rattle.c_grammar.specs.Program.{narrowed, program_of};
 ghost use Rattle.iolb_model.specs.declared.limits.TheConstants.{PARAMETERS, SUBSCRIPTS, ASSUMPTIONS};
 
 use crate::forms::form_of;
@@ -44,7 +44,7 @@ fn arrays_of(alloc: Global, arrays: &[(Name, usize)]) -> Result<Vec<(Name, u8)>,
 /// The program that a reading says.
 pub(crate) fn program_of(alloc: Global, reading: &Reading) -> Result<Program, Memory>
     requires { IsWellRead reading.now }
-    ensures { IfOk result (λ program. IsReadingOf reading.now (meaning program)) }
+    ensures { IfOk result (λ program. meaning program ≡ program_of reading.now) }
 {
     let names = reading.parameters(alloc)?;
     let parameters = names.as_slice().len();

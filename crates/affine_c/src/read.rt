@@ -8,7 +8,7 @@ ghost use Rattle.affine_c.specs.Meaning.{IfFault};
 use crate::fault::{ProgramError, ProgramFault};
 use crate::parts::program_of;
 use affine_program::Program;
-use c_grammar::readings_are_well_read;
+use c_grammar::{accepted_texts_spell, readings_are_well_read};
 use c_reading::{ReadError, read_text};
 use std::alloc::Global;
 
@@ -19,6 +19,7 @@ pub fn read_program(alloc: Global, bytes: &[u8]) -> Result<Program, ProgramError
     ensures program { IfOk result (λ program. Means bytes.now (meaning program)) }
     ensures fault { IfErr result (λ error. IfFault bytes.now error) }
 {
+    accepted_texts_spell();
     readings_are_well_read();
     match read_text(alloc, bytes) {
         Ok(reading) => Ok(program_of(alloc, &reading)?),

@@ -1,23 +1,23 @@
-//! The statements of a text's lines.
+//! The statements of a text's items.
 
-ghost use Rattle.std.specs.Prelude.{◌≡◌, ◌≤◌, ◌<◌, length, map, IfOk, IsSomeAnd, Some, ℕ};
-ghost use Rattle.std.specs.List.{AllByRecursion, enumerate_from};
+ghost use Rattle.std.specs.Prelude.{◌≡◌, ◌≤◌, ◌+◌, ◌++◌, length, map, IfOk, OnOk, IsSomeAnd, Some};
+ghost use Rattle.std.specs.List.{AllByRecursion};
 ghost use Rattle.iolb_model.specs.Path.{row_path};
-ghost use Rattle.c_grammar.specs.Well.{IsRowOver, IsWellRead, parameters_of, statement_count};
+ghost use Rattle.c_reading.specs.Tree as read;
+ghost use Rattle.c_grammar.specs.Well.{IsRowOver, IsItemIn, AreItemsIn, item_count, statement_count};
 ghost use Rattle.affine_program.specs.Limits.{IsSmallReference, IsStatementWithinLimits};
 ghost use Rattle.affine_form.specs.Rows.{step_of};
 ghost use Rattle.affine_program.specs.Parts.{access_of, statement_of};
 ghost use Rattle.affine_program.specs.Tree.{row_of};
-ghost use Rattle.affine_program.specs.declared.statement.Statement.{Statement as PartStatement};
-ghost use Rattle.c_grammar.specs.Program.{narrowed_access, narrowed_statement, statements_among};
-ghost use Rattle.affine_c.specs.Built.{AreRowsOver, IsShortWay, HasShortWays};
+ghost use Rattle.c_grammar.specs.Program.{narrowed_access, narrowed_statement, statements_in_item, statements_in};
+ghost use Rattle.affine_c.specs.Built.{AreRowsOver, IsShortWay, IsTreeOf, ArePlaced};
 ghost use Rattle.iolb_model.specs.declared.limits.TheConstants.{LOOPS, PARAMETERS, READS};
 
 use crate::bounds::bounds_in;
 use crate::forms::forms_of;
 use affine_form::Memory;
 use affine_program::{Item, Reference, Statement};
-use c_reading::{Access, Line, Reading, Statement as ReadStatement};
+use c_reading::{Access, Item as ReadItem, Reading, Statement as ReadStatement};
 use std::alloc::Global;
 
 /// The reference that was read.
@@ -91,31 +91,94 @@ fn statement_at(
     })
 }
 
-/// The statements among the lines, in the order of the text, with the bounds of the loops around them in the tree.
+/// The statements of an item inside so many loops, put at the end, each with the bounds of the loops around it in the tree.
+#[cycle(placing)]
+fn place_item(
+    alloc: Global,
+    reading: &Reading,
+    parameters: usize,
+    depth: usize,
+    item: &ReadItem,
+    tree: &[Item],
+    statements: &mut Vec<Statement>,
+) -> Result<(), Memory>
+    requires tree { IsTreeOf reading.now parameters (row_of tree.now) }
+    requires inner { depth ≤ LOOPS }
+    requires fits { IsItemIn reading.now depth (read.item_of item.now) }
+    requires room { length statements.old.items + item_count (read.item_of item.now) ≤ statement_count reading.now.items }
+    requires placed { ArePlaced (row_of tree.now) statements.old.items }
+    ensures statements { OnOk result (map statement_of statements.new.items ≡ map statement_of statements.old.items ++ statements_in_item parameters depth (read.item_of item.now)) }
+    ensures count { OnOk result (length statements.new.items ≡ length statements.old.items + item_count (read.item_of item.now)) }
+    ensures placed { OnOk result (ArePlaced (row_of tree.now) statements.new.items) }
+{
+    match item {
+        ReadItem::Assign(statement) => {
+            let number = statements.as_slice().len() as u16;
+            statements.push(statement_at(alloc, statement, parameters, depth, tree, number)?)?;
+            Ok(())
+        }
+        ReadItem::Loop(_, body) => {
+            let inner = depth + 1;
+            place_items(
+                alloc,
+                reading,
+                parameters,
+                inner,
+                body.as_slice(),
+                tree,
+                statements,
+            )
+        }
+    }
+}
+
+/// The same of items in a row.
+#[cycle(placing)]
+fn place_items(
+    alloc: Global,
+    reading: &Reading,
+    parameters: usize,
+    depth: usize,
+    items: &[ReadItem],
+    tree: &[Item],
+    statements: &mut Vec<Statement>,
+) -> Result<(), Memory>
+    requires tree { IsTreeOf reading.now parameters (row_of tree.now) }
+    requires inner { depth ≤ LOOPS }
+    requires fits { AreItemsIn reading.now depth (read.items_of items.now) }
+    requires room { length statements.old.items + statement_count (read.items_of items.now) ≤ statement_count reading.now.items }
+    requires placed { ArePlaced (row_of tree.now) statements.old.items }
+    ensures statements { OnOk result (map statement_of statements.new.items ≡ map statement_of statements.old.items ++ statements_in parameters depth (read.items_of items.now)) }
+    ensures count { OnOk result (length statements.new.items ≡ length statements.old.items + statement_count (read.items_of items.now)) }
+    ensures placed { OnOk result (ArePlaced (row_of tree.now) statements.new.items) }
+{
+    for item in items {
+        place_item(alloc, reading, parameters, depth, item, tree, statements)?;
+    }
+    Ok(())
+}
+
+/// The statements of a reading, in the order of the text, with the bounds of the loops around them in the tree.
 pub(crate) fn statements_of(
     alloc: Global,
     reading: &Reading,
     parameters: usize,
     tree: &[Item],
 ) -> Result<Vec<Statement>, Memory>
-    requires well { IsWellRead reading.now }
-    requires parameters { parameters ≡ length (parameters_of reading.now) }
-    requires short { HasShortWays (row_of tree.now) (statement_count reading.now.lines) }
-    ensures statements { IfOk result (λ statements. map statement_of statements.items ≡ statements_among parameters 0 reading.now.lines) }
-    ensures bounds { IfOk result (λ statements. AllByRecursion (λ (placed : ℕ × PartStatement). row_path (row_of tree.now) placed.0 ≡ Some (map step_of placed.1.bounds.items)) (enumerate_from 0 statements.items)) }
-    ensures limits { IfOk result (λ statements. AllByRecursion IsStatementWithinLimits statements.items) }
+    requires tree { IsTreeOf reading.now parameters (row_of tree.now) }
+    requires fits { AreItemsIn reading.now 0 reading.now.items }
+    ensures statements { IfOk result (λ statements. map statement_of statements.items ≡ statements_in parameters 0 reading.now.items) }
+    ensures placed { IfOk result (λ statements. ArePlaced (row_of tree.now) statements.items) }
 {
     let mut statements = Vec::new(alloc);
-    let mut depth = 0;
-    for line in reading.lines() {
-        match line {
-            Line::Begin(_) => depth += 1,
-            Line::Does(statement) => {
-                let number = statements.as_slice().len() as u16;
-                statements.push(statement_at(alloc, statement, parameters, depth, tree, number)?)?;
-            }
-            Line::End => depth -= 1,
-        }
-    }
+    place_items(
+        alloc,
+        reading,
+        parameters,
+        0,
+        reading.items(),
+        tree,
+        &mut statements,
+    )?;
     Ok(statements)
 }

@@ -1,6 +1,6 @@
--- What the names and lines so far keep, and what a meaning adds to them.
+-- What the names and items so far keep, and what a meaning adds to them.
 use Rattle.std.proofs.Common.{◌≡◌, refl, sym, ◌∙◌, ap, subst, ℕ, zero, suc, ◌+◌, ◌≤◌, List, [], ◌∷◌, ◌++◌, length, arith, append_assoc, append-nil, Bool, true, false, ⊎_elim, inl, inr, length-append, length-set, leb-true, ◌<◌}
-use Rattle.std.specs.Prelude.{◌⊎◌, ℤ, bytes_eq, slice_get, slice_set, option_and_then, Option, Some, None, if◌then◌else◌, nat_le, flat_map}
+use Rattle.std.specs.Prelude.{⊤, ◌⊎◌, ℤ, bytes_eq, slice_get, slice_set, option_and_then, Option, Some, None, if◌then◌else◌, nat_le, flat_map}
 use Rattle.std.specs.List.{AllByRecursion, range_with_len}
 use Rattle.std.proofs.lemmas.Grind.{flat_map-append}
 use Rattle.std.proofs.lemmas.Bool.{and_parts}
@@ -14,13 +14,12 @@ use Rattle.c_reading.specs.Access.{Access, Statement}
 use Rattle.c_grammar.specs.Words.{Word}
 use Rattle.c_tokens.specs.Names.{IsWord, IsName}
 use Rattle.affine_program.specs.Printable.{IsOrdered, next_seen}
-use Rattle.c_grammar.specs.Well.{AreDistinct, numbers_of, line_numbers, Nests, IsLoopAt, IsLoopLine, statement_count}
-use Rattle.c_grammar.specs.Meaning.{Names, Meaning, then_in, given, end}
+use Rattle.c_grammar.specs.Well.{AreDistinct, item_numbers, items_numbers, IsLoopAt, IsNested, AreNested, item_count, statement_count}
+use Rattle.c_grammar.specs.Meaning.{Names, Meaning, then_in, given}
 use Rattle.c_grammar.proofs.Forms.{IsWhereSome, IsRow, more_row}
 use Rattle.c_grammar.proofs.NameKinds.{KindFits, parameter_count, ranks, AreNumbered, more_fits, rank_of, parameter_of, array_number, flat_map-set, All-get, get-append, lookup, kind_of-lookup, bytes_same, cond_none}
-use Rattle.c_reading.specs.declared.lines.Loop.{Loop}
-use Rattle.c_reading.specs.declared.lines.Line.{Line}
-use Rattle.c_reading.specs.declared.lines.Line.TheVariants.{Begin, Does, End}
+use Rattle.c_reading.specs.declared.tree.Header.{Header}
+use Rattle.c_reading.specs.Tree.{Item, assign, loop, Items, done, next, with_item}
 use Rattle.c_grammar.proofs.Steps.{if_holds}
 
 -- ---- words that are names
@@ -46,7 +45,7 @@ short_word name w short = record { begins = w.begins; bytes = w.name; few = leb-
 
 -- ---- states
 
--- the names and lines inside so many loops
+-- the names inside so many loops
 pub record State (depth : ℕ) (i : Names) : Type 0 where
   pub kinds : length i.kinds ≡ length i.names
   pub fit : AllByRecursion (KindFits i.parameters depth) i.kinds
@@ -58,10 +57,10 @@ pub record State (depth : ℕ) (i : Names) : Type 0 where
   pub names : AllByRecursion IsName i.names
   pub distinct : AreDistinct i.names
 
--- the state with another kind of one name, which counts as much, and other lines
-pub set_state : {depth deeper : ℕ} (i : Names) (at : ℕ) (old k : Kind) (ls : List Line) → State depth i → slice_get i.kinds at ≡ Some old → parameter_of k ≡ parameter_of old → array_number k ≡ array_number old
-    → AllByRecursion (KindFits i.parameters deeper) (slice_set i.kinds at k) → State deeper (record i { kinds = slice_set i.kinds at k; lines = ls })
-set_state i at old k ls s there parameters numbers fit = record {
+-- the state with another kind of one name, which counts as much
+pub set_state : {depth deeper : ℕ} (i : Names) (at : ℕ) (old k : Kind) → State depth i → slice_get i.kinds at ≡ Some old → parameter_of k ≡ parameter_of old → array_number k ≡ array_number old
+    → AllByRecursion (KindFits i.parameters deeper) (slice_set i.kinds at k) → State deeper (record i { kinds = slice_set i.kinds at k })
+set_state i at old k s there parameters numbers fit = record {
   kinds = length-set i.kinds at k ∙ s.kinds;
   fit = fit;
   parameters = ap length (flat_map-set parameter_of i.kinds at old k there parameters) ∙ s.parameters;
@@ -81,11 +80,10 @@ pub record Grown (i j : Names) : Type 0 where
   pub parameters : i.parameters ≤ j.parameters
   pub names : length i.names ≤ length j.names
 
--- the same, and no line is added, where references to arrays of these numbers stand
+-- the same, and no item is added, where references to arrays of these numbers stand
 pub record Kept (i : Names) (numbers : List ℕ) (j : Names) : Type 0 where
   pub grown : Grown i j
   pub order : IsOrdered i.arrays numbers j.arrays
-  pub lines : j.lines ≡ i.lines
   pub statements : j.statements ≡ i.statements
 
 -- names with the same kinds
@@ -118,11 +116,11 @@ ordered_both seen middle last (x ∷ xs) ys h g = (h.0, ordered_both (next_seen 
 
 -- one step behind another
 pub kept-trans : {i j k : Names} {xs ys : List ℕ} → Kept i xs j → Kept j ys k → Kept i (xs ++ ys) k
-kept-trans {i} {j} {k} {xs} {ys} g h = record { grown = grown-trans g.grown h.grown; order = ordered_both i.arrays j.arrays k.arrays xs ys g.order h.order; lines = h.lines ∙ g.lines; statements = h.statements ∙ g.statements }
+kept-trans {i} {j} {k} {xs} {ys} g h = record { grown = grown-trans g.grown h.grown; order = ordered_both i.arrays j.arrays k.arrays xs ys g.order h.order; statements = h.statements ∙ g.statements }
 
 -- names and themselves
 pub kept_self : (i : Names) → Kept i [] i
-kept_self i = record { grown = grown-same i i refl refl refl; order = refl; lines = refl; statements = refl }
+kept_self i = record { grown = grown-same i i refl refl refl; order = refl; statements = refl }
 
 -- ---- what was meant stays right where names are added
 
@@ -276,7 +274,7 @@ pub record After (depth : ℕ) (j : Names) (K V : Type 0) : Type 0 where
   pub kept : K
   pub value : V
 
--- a meaning without lines and references
+-- a meaning without items and references
 abbrev pub Reads : {A : Type 0} → ℕ → Names → Option (A × Names) → (A → Names → Type 0) → Type 0
 Reads depth i o Q = Gives o (λ a j. After depth j (Kept i [] j) (Q a j))
 
@@ -295,14 +293,14 @@ pub gives : {A : Type 0} {depth : ℕ} {i : Names} (o : Option A) {Q : A → Nam
 gives (Some a) s q = stays s q
 gives None s q = nothing
 
--- ---- lines
+-- ---- items
 
--- a loop that begins inside so many others
-pub record BeginsIn (depth : ℕ) (i : Names) (l : Loop) : Type 0 where
-  pub name : l.name < length i.names
+-- a loop's header inside so many others
+pub record HeaderFits (depth : ℕ) (i : Names) (h : Header) : Type 0 where
+  pub name : h.name < length i.names
   pub few : depth < LOOPS
-  pub lower : IsRow i.parameters depth l.lower
-  pub upper : IsRow i.parameters depth l.upper
+  pub lower : IsRow i.parameters depth h.lower
+  pub upper : IsRow i.parameters depth h.upper
 
 -- a statement inside so many loops
 pub record StatementIn (depth : ℕ) (i : Names) (statement : Statement) : Type 0 where
@@ -310,57 +308,57 @@ pub record StatementIn (depth : ℕ) (i : Names) (statement : Statement) : Type 
   pub few : length statement.reads ≤ READS
   pub reads : AllByRecursion (AccessIn depth i) statement.reads
 
--- lines from one depth to another
-abbrev pub Goes : ℕ → Names → List Line → ℕ → Type 0
-Goes depth i [] end = depth ≡ end
-Goes depth i (Begin l ∷ lines) end = BeginsIn depth i l × Goes (suc depth) i lines end
-Goes depth i (Does statement ∷ lines) end = StatementIn depth i statement × Goes depth i lines end
-Goes zero i (End ∷ lines) end = ⊥
-Goes (suc depth) i (End ∷ lines) end = Goes depth i lines end
+-- items inside so many loops
+abbrev mutual
+  pub ItemIn : ℕ → Names → Item → Type 0
+  ItemIn depth i (assign statement) = StatementIn depth i statement
+  ItemIn depth i (loop h body) = HeaderFits depth i h × ItemsIn (suc depth) i body
 
--- lines go where there is more
-pub goes-wider : (depth : ℕ) {i j : Names} (lines : List Line) (end : ℕ) → Wider i j → Goes depth i lines end → Goes depth j lines end
-goes-wider depth [] end w h = h
-goes-wider depth (Begin l ∷ lines) end w h =
-    (record { name = omega (arith, h.0.name, w.names); few = h.0.few; lower = more_row w.parameters (omega arith) h.0.lower; upper = more_row w.parameters (omega arith) h.0.upper }, goes-wider (suc depth) lines end w h.1)
-goes-wider depth {i} {j} (Does statement ∷ lines) end w h =
-    (record { writes = access-wider w h.0.writes; few = h.0.few; reads = All-weaken (AccessIn depth i) (AccessIn depth j) statement.reads (λ a r. access-wider w r) h.0.reads }, goes-wider depth lines end w h.1)
-goes-wider zero (End ∷ lines) end w h = h
-goes-wider (suc depth) (End ∷ lines) end w h = goes-wider depth lines end w h
+  pub ItemsIn : ℕ → Names → Items → Type 0
+  ItemsIn depth i done = ⊤
+  ItemsIn depth i (next t items) = ItemIn depth i t × ItemsIn depth i items
 
--- lines behind lines
-pub goes-append : (depth : ℕ) (i : Names) (xs ys : List Line) (middle end : ℕ) → Goes depth i xs middle → Goes middle i ys end → Goes depth i (xs ++ ys) end
-goes-append depth i [] ys middle end h g = subst (λ d. Goes d i ys end) (sym h) g
-goes-append depth i (Begin l ∷ xs) ys middle end h g = (h.0, goes-append (suc depth) i xs ys middle end h.1 g)
-goes-append depth i (Does statement ∷ xs) ys middle end h g = (h.0, goes-append depth i xs ys middle end h.1 g)
-goes-append zero i (End ∷ xs) ys middle end h g = h
-goes-append (suc depth) i (End ∷ xs) ys middle end h g = goes-append depth i xs ys middle end h g
+-- items fit where there is more
+mutual
+  item-wider : (depth : ℕ) {i j : Names} (t : Item) → Wider i j → ItemIn depth i t → ItemIn depth j t
+  item-wider depth {i} {j} (assign statement) w h =
+      record { writes = access-wider w h.writes; few = h.few; reads = All-weaken (AccessIn depth i) (AccessIn depth j) statement.reads (λ a r. access-wider w r) h.reads }
+  item-wider depth (loop l body) w h =
+      (record { name = omega (arith, h.0.name, w.names); few = h.0.few; lower = more_row w.parameters (omega arith) h.0.lower; upper = more_row w.parameters (omega arith) h.0.upper }, items-wider (suc depth) body w h.1)
 
--- the statements of lines behind lines
-pub count-lines : (xs ys : List Line) → statement_count (xs ++ ys) ≡ statement_count xs + statement_count ys
-count-lines [] ys = omega arith
-count-lines (Does statement ∷ xs) ys = ap suc (count-lines xs ys) ∙ omega arith
-count-lines (_ ∷ xs) ys = count-lines xs ys
+  pub items-wider : (depth : ℕ) {i j : Names} (items : Items) → Wider i j → ItemsIn depth i items → ItemsIn depth j items
+  items-wider depth done w h = tt
+  items-wider depth (next t items) w h = (item-wider depth t w h.0, items-wider depth items w h.1)
 
--- the arrays of lines behind lines
-pub lines_both : (xs ys : List Line) → line_numbers (xs ++ ys) ≡ line_numbers xs ++ line_numbers ys
-lines_both [] ys = refl
-lines_both (Does s ∷ xs) ys = ap (λ ns. s.writes.array ∷ ns) (ap (λ ns. numbers_of s.reads ++ ns) (lines_both xs ys) ∙ sym (append_assoc (numbers_of s.reads) (line_numbers xs) (line_numbers ys)))
-lines_both (_ ∷ xs) ys = lines_both xs ys
+-- one item more
+pub items_more : (depth : ℕ) (i : Names) (items : Items) (t : Item) → ItemsIn depth i items → ItemIn depth i t → ItemsIn depth i (with_item items t)
+items_more depth i done t h g = (g, tt)
+items_more depth i (next first items) t h g = (h.0, items_more depth i items t h.1 g)
 
--- lines behind lines nest
-pub nests_both : (around middle last : List ℕ) (xs ys : List Line) → Nests around xs middle → Nests middle ys last → Nests around (xs ++ ys) last
-nests_both around middle last [] ys h g = subst (λ a. Nests a ys last) (sym h) g
-nests_both around middle last (Begin l ∷ xs) ys h g = (h.0, nests_both (l.name ∷ around) middle last xs ys h.1 g)
-nests_both around middle last (Does s ∷ xs) ys h g = nests_both around middle last xs ys h g
-nests_both [] middle last (End ∷ xs) ys h g = absurd h
-nests_both (n ∷ around) middle last (End ∷ xs) ys h g = nests_both around middle last xs ys h g
+-- its statements
+pub count_more : (items : Items) (t : Item) → statement_count (with_item items t) ≡ statement_count items + item_count t
+count_more done t = omega arith
+count_more (next first items) t = omega (arith, count_more items t)
 
--- lines' loops stay loops
-pub loop_lines_more : (old new : List Kind) → ((at : ℕ) → IsLoopAt old at → IsLoopAt new at) → (lines : List Line) → AllByRecursion (IsLoopLine old) lines → AllByRecursion (IsLoopLine new) lines
-loop_lines_more old new f [] h = tt
-loop_lines_more old new f (Begin l ∷ lines) h = (f l.name h.0, loop_lines_more old new f lines h.1)
-loop_lines_more old new f (_ ∷ lines) h = (tt, loop_lines_more old new f lines h.1)
+-- its arrays
+pub numbers_more : (items : Items) (t : Item) → items_numbers (with_item items t) ≡ items_numbers items ++ item_numbers t
+numbers_more done t = append-nil (item_numbers t)
+numbers_more (next first items) t = ap (λ ns. item_numbers first ++ ns) (numbers_more items t) ∙ sym (append_assoc (item_numbers first) (items_numbers items) (item_numbers t))
+
+-- its loops
+pub nested_more : (kinds : List Kind) (around : List ℕ) (items : Items) (t : Item) → AreNested kinds around items → IsNested kinds around t → AreNested kinds around (with_item items t)
+nested_more kinds around done t h g = (g, tt)
+nested_more kinds around (next first items) t h g = (h.0, nested_more kinds around items t h.1 g)
+
+-- items' loops stay loops
+mutual
+  nested-item : (old new : List Kind) → ((at : ℕ) → IsLoopAt old at → IsLoopAt new at) → (around : List ℕ) (t : Item) → IsNested old around t → IsNested new around t
+  nested-item old new f around (assign s) h = tt
+  nested-item old new f around (loop l body) h = (f l.name h.0, h.1, nested-items old new f (l.name ∷ around) body h.2)
+
+  pub nested-items : (old new : List Kind) → ((at : ℕ) → IsLoopAt old at → IsLoopAt new at) → (around : List ℕ) (items : Items) → AreNested old around items → AreNested new around items
+  nested-items old new f around done h = tt
+  nested-items old new f around (next t items) h = (nested-item old new f around t h.0, nested-items old new f around items h.1)
 
 -- a place of the name of an open loop
 abbrev pub IsOpenAt : List Kind → ℕ → Type 0

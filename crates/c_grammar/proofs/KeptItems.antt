@@ -1,5 +1,5 @@
--- Items add lines that end at the depth at which they begin, over names that are there.
-use Rattle.std.proofs.Common.{◌≡◌, refl, sym, ◌∙◌, ap, subst, ℕ, zero, suc, ◌+◌, ◌-◌, ◌<◌, List, [], ◌∷◌, ◌++◌, length, arith, append_assoc, append-nil, Bool, true, false, leb-false}
+-- Items are over names that are there, and within the limits.
+use Rattle.std.proofs.Common.{◌≡◌, refl, sym, ◌∙◌, ap, subst, ℕ, zero, suc, ◌+◌, ◌-◌, ◌<◌, List, [], ◌∷◌, ◌++◌, length, arith, append-nil, Bool, true, false, leb-false}
 use Rattle.std.specs.Prelude.{ℤ, pos, slice_get, slice_set, nat_lt, nat_le, not, Option, Some, None, ◌||◌, codes}
 use Rattle.std.specs.List.{AllByRecursion, range_with_len}
 use Rattle.std.proofs.lemmas.Bool.{or_parts}
@@ -10,18 +10,17 @@ use Rattle.base_laws.proofs.Lists.{All-append, All-weaken}
 use Rattle.iolb_model.specs.declared.limits.TheConstants.{LOOPS, STATEMENTS}
 use Rattle.c_reading.specs.declared.named.Kind.{Kind}
 use Rattle.c_reading.specs.declared.named.Kind.TheVariants.{OpenLoop, ClosedLoop}
-use Rattle.c_reading.specs.declared.lines.Loop.{Loop}
-use Rattle.c_reading.specs.declared.lines.Line.{Line}
-use Rattle.c_reading.specs.declared.lines.Line.TheVariants.{Begin, Does, End}
+use Rattle.c_reading.specs.declared.tree.Header.{Header}
+use Rattle.c_reading.specs.Tree.{Item, assign, loop, Items, done, with_item}
 use Rattle.c_reading.specs.Access.{Access}
 use Rattle.c_reading.specs.Affine.{kind_of, number_of, with_name, is_short}
-use Rattle.c_reading.specs.Items.{with_line, first_reads, is_array, most_statements}
+use Rattle.c_reading.specs.Items.{first_reads, is_array, most_statements}
 use Rattle.c_reading.specs.Numbers.{most_loops, zeros}
 use Rattle.c_reading.specs.Refs.{with_kind}
 use Rattle.c_grammar.specs.Words.{Word, a_name, a_symbol}
 use Rattle.c_tokens.specs.Names.{IsWord}
 use Rattle.affine_program.specs.Printable.{IsOrdered}
-use Rattle.c_grammar.specs.Well.{numbers_of, line_numbers, Nests, IsLoop, IsLoopAt, IsLoopLine, statement_count}
+use Rattle.c_grammar.specs.Well.{numbers_of, item_numbers, items_numbers, IsLoop, IsLoopAt, IsNested, AreNested, item_count, statement_count}
 use Rattle.c_grammar.specs.Affine.{affine_words, reference_words}
 use Rattle.c_grammar.specs.Value.{value_words}
 use Rattle.c_grammar.specs.Item as item
@@ -30,69 +29,62 @@ use Rattle.c_grammar.specs.Meaning as mean
 use Rattle.c_grammar.specs.Meaning.{Names, Meaning, then_in, affine_means, reference_means, value_means, updates, assign_means, statement_means, loop_by, header_means, begin, end, item_means, items_means}
 use Rattle.c_grammar.proofs.Forms.{IsWhereSome, IsRow, more_row, combined_row, zeros_row}
 use Rattle.c_grammar.proofs.NameKinds.{KindFits, more_fits, get-append, rank_of, flat_map-set, All-set, get-set, set-back}
-use Rattle.c_grammar.proofs.Kept.{AreNamed, first_named, second_named, short_word, State, set_state, Grown, grown-same, grown-trans, Kept, kept-trans, kept_self, ordered_both, row-grown, AccessIn, accesses-grown, Wider, wider, access-wider, kind_found, new_state, new_grown, Gives, nothing, ok, chained, weaken, either, Reads, stays, BeginsIn, Goes, goes-wider, goes-append, count-lines, lines_both, nests_both, loop_lines_more, IsOpenAt, opens_stay}
+use Rattle.c_grammar.proofs.Kept.{AreNamed, first_named, second_named, short_word, State, set_state, Grown, grown-same, grown-trans, Kept, kept-trans, kept_self, ordered_both, row-grown, AccessIn, accesses-grown, Wider, wider, access-wider, kind_found, new_state, new_grown, Gives, nothing, ok, chained, either, Reads, stays, ItemIn, ItemsIn, items-wider, items_more, count_more, numbers_more, nested_more, nested-items, IsOpenAt, opens_stay}
 use Rattle.c_grammar.proofs.KeptRefs.{affine_form, reference_in, AreReads, value_read}
 use Rattle.c_grammar.proofs.Steps.{bool_cases}
 
--- ---- meanings that add lines
+-- ---- items behind items
 
--- lines are added that end at the depth at which they begin
-pub record Adds (depth : ℕ) (i j : Names) : Type 0 where
+-- Items behind these names, inside so many loops: they fit, and the names count their statements and their arrays.
+pub record Holds (depth : ℕ) (s : Names) (items : Items) (i : Names) : Type 0 where
+  pub state : State depth i
+  pub grown : Grown s i
+  pub fit : ItemsIn depth i items
+  pub statements : i.statements ≡ s.statements + statement_count items
+  pub nested : (around : List ℕ) → AllByRecursion (IsOpenAt s.kinds) around → AreNested i.kinds around items
+  pub order : IsOrdered s.arrays (items_numbers items) i.arrays
+
+-- no item
+pub holds_none : (depth : ℕ) (i : Names) → State depth i → Holds depth i done i
+holds_none depth i s = record { state = s; grown = (kept_self i).grown; fit = tt; statements = omega arith; nested = λ around o. tt; order = refl }
+
+-- one item more
+record Adds (depth : ℕ) (i : Names) (t : Item) (j : Names) : Type 0 where
   pub state : State depth j
   pub grown : Grown i j
-  pub new : List Line
-  pub lines : j.lines ≡ i.lines ++ new
-  pub goes : Goes depth j new depth
-  pub statements : j.statements ≡ i.statements + statement_count new
-  pub nested : (around : List ℕ) → AllByRecursion (IsOpenAt i.kinds) around → Nests around new around
-  pub loops : AllByRecursion (IsLoopLine j.kinds) new
-  pub order : IsOrdered i.arrays (line_numbers new) j.arrays
+  pub fits : ItemIn depth j t
+  pub statements : j.statements ≡ i.statements + item_count t
+  pub nested : (around : List ℕ) → AllByRecursion (IsOpenAt i.kinds) around → IsNested j.kinds around t
+  pub order : IsOrdered i.arrays (item_numbers t) j.arrays
 
--- no line
-adds_none : (depth : ℕ) {i j : Names} → State depth j → Kept i [] j → Adds depth i j
-adds_none depth {i} {j} s k = record { state = s; grown = k.grown; new = []; lines = k.lines ∙ sym (append-nil i.lines); goes = refl; statements = omega (arith, k.statements); nested = λ around h. refl; loops = tt; order = k.order }
-
--- one behind another adds the lines of both
-adds_both : (depth : ℕ) {i j k : Names} → Adds depth i j → Adds depth j k → Adds depth i k
-adds_both depth {i} {j} {k} g h = record {
-  state = h.state;
-  grown = grown-trans g.grown h.grown;
-  new = g.new ++ h.new;
-  lines = h.lines ∙ ap (λ (l : List Line). l ++ h.new) g.lines ∙ append_assoc i.lines g.new h.new;
-  goes = goes-append depth k g.new h.new depth depth (goes-wider depth g.new depth (wider h.grown) g.goes) h.goes;
-  statements = omega (arith, count-lines g.new h.new, g.statements, h.statements);
-  nested = λ around o. nests_both around around around g.new h.new (g.nested around o) (h.nested around (opens_stay g.grown around o));
-  loops = All-append (IsLoopLine k.kinds) g.new h.new (loop_lines_more j.kinds k.kinds (λ at l. subst (λ ks. IsLoopAt ks at) (sym h.grown.kinds) (l.0, get-append j.kinds h.grown.more at l.0 l.1, l.2)) g.new g.loops) h.loops;
-  order = subst (λ ns. IsOrdered i.arrays ns k.arrays) (sym (lines_both g.new h.new)) (ordered_both i.arrays j.arrays k.arrays (line_numbers g.new) (line_numbers h.new) g.order h.order);
+-- it is held with the others
+holds_more : {depth : ℕ} {s i j : Names} {items : Items} {t : Item} → Holds depth s items i → Adds depth i t j → Holds depth s (with_item items t) j
+holds_more {depth} {s} {i} {j} {items} {t} h a = record {
+  state = a.state;
+  grown = grown-trans h.grown a.grown;
+  fit = items_more depth j items t (items-wider depth items (wider a.grown) h.fit) a.fits;
+  statements = omega (arith, count_more items t, h.statements, a.statements);
+  nested = λ around o. nested_more j.kinds around items t
+      (nested-items i.kinds j.kinds (λ at l. subst (λ ks. IsLoopAt ks at) (sym a.grown.kinds) (l.0, get-append i.kinds a.grown.more at l.0 l.1, l.2)) around items (h.nested around o))
+      (a.nested around (opens_stay h.grown around o));
+  order = subst (λ ns. IsOrdered s.arrays ns j.arrays) (sym (numbers_more items t)) (ordered_both s.arrays i.arrays j.arrays (items_numbers items) (item_numbers t) h.order a.order);
 }
-
--- a meaning that adds lines
-abbrev pub Writes : {A : Type 0} → ℕ → Names → Option (A × Names) → Type 0
-Writes depth i o = Gives o (λ _ j. Adds depth i j)
-
--- one meaning behind another
-both : {A B : Type 0} {depth : ℕ} {i : Names} (o : Option (A × Names)) {f : A → Meaning B} → Writes depth i o → ((a : A) (j : Names) → State depth j → Writes depth j (f a j)) → Writes depth i (then_in o f)
-both {depth = depth} o {f = f} g h = chained o g (λ a j q. weaken (f a j) (h a j q.state) (λ b k r. adds_both depth q r))
 
 -- ---- statements
 
--- the line of a statement, which is counted
+-- a statement, which is counted
 statement_adds : (depth n : ℕ) (i l : Names) (w : Access) (u : Bool) (reads : List Access) (numbers : List ℕ) → i.statements < STATEMENTS → n ≡ i.statements + 1 → State depth l → Kept i (w.array ∷ numbers) l → AccessIn depth l w → AreReads depth l reads
-    → numbers_of reads ≡ numbers_of (first_reads u w) ++ numbers → Adds depth i (record l { lines = l.lines ++ Does (record { writes = w; reads = reads }) ∷ []; statements = n })
+    → numbers_of reads ≡ numbers_of (first_reads u w) ++ numbers → Adds depth i (assign (record { writes = w; reads = reads })) (record l { statements = n })
 statement_adds depth n i l w u reads numbers few counts s k fits reads_fit same =
-    let line : Line = Does (record { writes = w; reads = reads }) in
-    let last : Names = record l { lines = l.lines ++ line ∷ []; statements = n } in
+    let last : Names = record l { statements = n } in
     let here : Grown l last = grown-same l last refl refl refl in
     record {
       state = record { kinds = s.kinds; fit = s.fit; parameters = s.parameters; few_parameters = s.few_parameters; numbered = s.numbered; few_arrays = s.few_arrays; few_statements = omega arith; names = s.names; distinct = s.distinct };
       grown = grown-trans k.grown here;
-      new = line ∷ [];
-      lines = ap (λ (ls : List Line). ls ++ line ∷ []) k.lines;
-      goes = (record { writes = access-wider (wider here) fits; few = reads_fit.few; reads = accesses-grown depth reads here reads_fit.each }, refl);
-      statements = omega arith;
-      nested = λ around h. refl;
-      loops = (tt, tt);
-      order = subst (λ ns. IsOrdered i.arrays (w.array ∷ ns) l.arrays) (sym (append-nil (numbers_of reads))) (subst (λ ns. IsOrdered i.arrays (w.array ∷ ns) l.arrays) (sym same) (read_first u k.order));
+      fits = record { writes = access-wider (wider here) fits; few = reads_fit.few; reads = accesses-grown depth reads here reads_fit.each };
+      statements = counts;
+      nested = λ around h. tt;
+      order = subst (λ ns. IsOrdered i.arrays (w.array ∷ ns) l.arrays) (sym same) (read_first u k.order);
     } where
       -- what is written is read first, or not
       read_first : (u : Bool) → IsOrdered i.arrays (w.array ∷ numbers) l.arrays → IsOrdered i.arrays (w.array ∷ (numbers_of (first_reads u w) ++ numbers)) l.arrays
@@ -104,18 +96,18 @@ statement_adds depth n i l w u reads numbers few counts s k fits reads_fit same 
             (λ e. let after : nat_lt w.array (suc i.arrays) ≡ true = (let le = h.0 in grind (arith, nat_tests)) in rw e (omega (arith, h.0), rw after (rw e at h).1)),
       )
 
--- a statement adds its line
-statement_writes : {depth : ℕ} (b : ℕ) (a : item.Assign) (i : Names) → AreNamed (assign_words a) → State depth i → Writes depth i (statement_means b a i)
-unfolding statement_means assign_means with_line
-statement_writes {depth} b a i n s = either (not (is_array (kind_of a.target.name i)) || nat_le most_statements i.statements) (λ _. nothing) (λ h.
-    let few : i.statements < STATEMENTS = leb-false _ _ (or_parts (not (is_array (kind_of a.target.name i))) (nat_le most_statements i.statements) h).1 in
+-- a statement is one more
+statement_holds : {depth : ℕ} (b : ℕ) (s : Names) (before : Items) (a : item.Assign) (i : Names) → AreNamed (assign_words a) → Holds depth s before i → Gives (statement_means b before a i) (Holds depth s)
+unfolding statement_means assign_means
+statement_holds {depth} b s before a i n h = either (not (is_array (kind_of a.target.name i)) || nat_le most_statements i.statements) (λ _. nothing) (λ test.
+    let few : i.statements < STATEMENTS = leb-false _ _ (or_parts (not (is_array (kind_of a.target.name i))) (nat_le most_statements i.statements) test).1 in
     let ws = assigner_word a.assigner ∷ value_words a.value in
     let u : Bool = updates a.assigner in
-    chained (assign_means b a i) {Q = λ _ l. (n : ℕ) → n ≡ i.statements + 1 → Adds depth i (record l { statements = n })}
-    (chained (reference_means b a.target i) (reference_in b a.target i (first_named (reference_words a.target) ws n) s) (λ w j q.
+    chained (assign_means b a i) {Q = λ statement l. (n : ℕ) → n ≡ i.statements + 1 → Adds depth i (assign statement) (record l { statements = n })}
+    (chained (reference_means b a.target i) (reference_in b a.target i (first_named (reference_words a.target) ws n) h.state) (λ w j q.
     chained (value_means b (first_reads u w) a.value j) (value_read b (first_reads u w) a.value j (second_named (reference_words a.target) ws n).1 q.state (first_are depth j u w q.fits)) (λ reads l r.
     ok (λ m e. statement_adds depth m i l w u reads r.numbers few e r.state (kept-trans q.kept r.kept) (access-wider (wider r.kept.grown) q.fits) r.reads r.same))))
-    (λ _ l r. ok (r (i.statements + 1) refl))) where
+    (λ statement l r. ok (holds_more h (r (i.statements + 1) refl)))) where
       first_are : (depth : ℕ) (i : Names) (u : Bool) (w : Access) → AccessIn depth i w → AreReads depth i (first_reads u w)
       first_are depth i true w h = record { few = omega arith; each = (h, tt) }
       first_are depth i false w h = record { few = omega arith; each = tt }
@@ -123,7 +115,7 @@ statement_writes {depth} b a i n s = either (not (is_array (kind_of a.target.nam
 -- ---- headers
 
 -- a header, of which the name is that of no open loop
-record HeaderIn (depth : ℕ) (i : Names) (h : Loop) (j : Names) : Type 0 where
+record HeaderIn (depth : ℕ) (i : Names) (h : Header) (j : Names) : Type 0 where
   pub state : State depth j
   pub kept : Kept i [] j
   pub closed : slice_get j.kinds h.name ≡ Some ClosedLoop
@@ -138,7 +130,7 @@ loop_by_closed depth name None i e w s = either (is_short name)
     let none : i.parameters + 0 ≡ i.parameters = omega arith in
     ok (record {
       state = new_state i name ClosedLoop i.parameters i.arrays s (short_word name w short) e tt (omega arith) none s.few_parameters (append-nil (range_with_len 0 i.arrays)) s.few_arrays;
-      kept = record { grown = new_grown i name ClosedLoop i.parameters i.arrays tt (omega arith); order = refl; lines = refl; statements = refl };
+      kept = record { grown = new_grown i name ClosedLoop i.parameters i.arrays tt (omega arith); order = refl; statements = refl };
       value = ap (slice_get (i.kinds ++ ClosedLoop ∷ [])) (sym s.kinds) ∙ slice_get-get_or (i.kinds ++ ClosedLoop ∷ []) (length i.kinds) ClosedLoop (omega (arith, length-append i.kinds (ClosedLoop ∷ []))) ∙ ap Some (get_or_push i.kinds ClosedLoop ClosedLoop (length i.kinds) refl);
     }))
     (λ _. nothing)
@@ -189,22 +181,22 @@ loop_set (x ∷ kinds) (suc at) k (suc other) is l = loop_set kinds at k other i
 open_apart : (kinds : List Kind) (at other : ℕ) → slice_get kinds at ≡ Some ClosedLoop → IsOpenAt kinds other → other ≡ at → ⊥
 open_apart kinds at other closed o same = let both : Some (OpenLoop o.0) ≡ Some ClosedLoop = sym o.1 ∙ ap (slice_get kinds) same ∙ closed in cc
 
--- where a loop is open, and where it ended
-abbrev opened_at : ℕ → Loop → Names → Names
-opened_at depth h j = record j { kinds = slice_set j.kinds h.name (OpenLoop depth); lines = j.lines ++ Begin h ∷ [] }
+-- the names where a loop is open
+abbrev pub opened_at : ℕ → Header → Names → Names
+opened_at depth h j = record j { kinds = slice_set j.kinds h.name (OpenLoop depth) }
 
 -- where it ended
-abbrev closed_at : Loop → Names → Names
-closed_at h l = record l { kinds = slice_set l.kinds h.name ClosedLoop; lines = l.lines ++ End ∷ [] }
+abbrev pub closed_at : Header → Names → Names
+closed_at h l = record l { kinds = slice_set l.kinds h.name ClosedLoop }
 
 -- the state inside a loop that begins
-opened_state : (depth : ℕ) (h : Loop) (j : Names) → State depth j → slice_get j.kinds h.name ≡ Some ClosedLoop → State (suc depth) (opened_at depth h j)
+opened_state : (depth : ℕ) (h : Header) (j : Names) → State depth j → slice_get j.kinds h.name ≡ Some ClosedLoop → State (suc depth) (opened_at depth h j)
 opened_state depth h j s closed =
-    set_state j h.name ClosedLoop (OpenLoop depth) (j.lines ++ Begin h ∷ []) s closed refl refl
+    set_state j h.name ClosedLoop (OpenLoop depth) s closed refl refl
     (All-set (KindFits j.parameters (suc depth)) j.kinds h.name (OpenLoop depth) (omega arith) (All-weaken (KindFits j.parameters depth) (KindFits j.parameters (suc depth)) j.kinds (more_fits j.parameters depth j.parameters (suc depth) (omega arith) (omega arith)) s.fit))
 
 -- a loop behind its header
-module _ (depth : ℕ) (h : Loop) (i j l : Names) (few : depth < LOOPS) (f : HeaderIn depth i h j) (b : Adds (suc depth) (opened_at depth h j) l) where
+module _ (depth : ℕ) (h : Header) (body : Items) (i j l : Names) (few : depth < LOOPS) (f : HeaderIn depth i h j) (b : Holds (suc depth) (opened_at depth h j) body l) where
   -- the name of the loop is as it was before
   kinds_back : slice_set l.kinds h.name ClosedLoop ≡ j.kinds ++ b.grown.more
   kinds_back = ap (λ (k : List Kind). slice_set k h.name ClosedLoop) b.grown.kinds ∙ set-back j.kinds b.grown.more h.name ClosedLoop (OpenLoop depth) f.closed
@@ -220,43 +212,35 @@ module _ (depth : ℕ) (h : Loop) (i j l : Names) (few : depth < LOOPS) (f : Hea
   -- the state behind the loop
   closed_state : State depth (closed_at h l)
   closed_state =
-      set_state l h.name (OpenLoop depth) ClosedLoop (l.lines ++ End ∷ []) b.state still_open refl refl
+      set_state l h.name (OpenLoop depth) ClosedLoop b.state still_open refl refl
       (subst (AllByRecursion (KindFits l.parameters depth)) (sym kinds_back)
       (All-append (KindFits l.parameters depth) j.kinds b.grown.more
       (All-weaken (KindFits j.parameters depth) (KindFits l.parameters depth) j.kinds (more_fits j.parameters depth l.parameters depth b.grown.parameters (omega arith)) f.state.fit)
       (All-weaken (KindFits l.parameters 0) (KindFits l.parameters depth) b.grown.more (more_fits l.parameters 0 l.parameters depth (omega arith) (omega arith)) b.grown.settled)))
 
-  -- the line on which the loop begins
-  begins : BeginsIn depth (closed_at h l) h
-  begins = record {
-    name = omega (arith, slice_get_within j.kinds h.name ClosedLoop f.closed, f.state.kinds, b.grown.names);
-    few = few;
-    lower = more_row b.grown.parameters (omega arith) f.lower;
-    upper = more_row b.grown.parameters (omega arith) f.upper;
-  }
-
-  -- the whole loop adds its lines
-  loop_adds : Adds depth i (closed_at h l)
+  -- the whole loop is an item more
+  loop_adds : Adds depth i (loop h body) (closed_at h l)
   loop_adds = record {
     state = closed_state;
     grown = grown-trans f.kept.grown (record { more = b.grown.more; kinds = kinds_back; settled = b.grown.settled; parameters = b.grown.parameters; names = b.grown.names });
-    new = Begin h ∷ (b.new ++ End ∷ []);
-    lines =
-        ap (λ (k : List Line). k ++ End ∷ []) b.lines ∙ append_assoc (j.lines ++ Begin h ∷ []) b.new (End ∷ [])
-        ∙ append_assoc j.lines (Begin h ∷ []) (b.new ++ End ∷ []) ∙ ap (λ ls. ls ++ (Begin h ∷ (b.new ++ End ∷ []))) f.kept.lines;
-    goes = (begins, goes-append (suc depth) (closed_at h l) b.new (End ∷ []) (suc depth) depth (goes-wider (suc depth) b.new (suc depth) closed_wider b.goes) refl);
-    statements = omega (arith, b.statements, count-lines b.new (End ∷ []), f.kept.statements);
+    fits = (
+      record {
+        name = omega (arith, slice_get_within j.kinds h.name ClosedLoop f.closed, f.state.kinds, b.grown.names);
+        few = few;
+        lower = more_row b.grown.parameters (omega arith) f.lower;
+        upper = more_row b.grown.parameters (omega arith) f.upper;
+      },
+      items-wider (suc depth) body closed_wider b.fit,
+    );
+    statements = omega (arith, b.statements, f.kept.statements);
     nested = λ around o.
         let opens : AllByRecursion (IsOpenAt j.kinds) around = opens_stay f.kept.grown around o in (
+          (ClosedLoop, get-set l.kinds h.name (OpenLoop depth) ClosedLoop still_open, tt),
           All-weaken (IsOpenAt j.kinds) (λ n. n ≡ h.name → ⊥) around (λ n p. open_apart j.kinds h.name n f.closed p) opens,
-          nests_both (h.name ∷ around) (h.name ∷ around) around b.new (End ∷ [])
-              (b.nested (h.name ∷ around) ((depth, get-set j.kinds h.name ClosedLoop (OpenLoop depth) f.closed), All-weaken (IsOpenAt j.kinds) (IsOpenAt (slice_set j.kinds h.name (OpenLoop depth))) around (λ n o. (o.0, get_other j.kinds h.name n (OpenLoop o.0) (OpenLoop depth) (open_apart j.kinds h.name n f.closed o) o.1)) opens)) refl,
+          nested-items l.kinds (slice_set l.kinds h.name ClosedLoop) (λ at k. loop_set l.kinds h.name ClosedLoop at tt k) (h.name ∷ around) body
+              (b.nested (h.name ∷ around) ((depth, get-set j.kinds h.name ClosedLoop (OpenLoop depth) f.closed), All-weaken (IsOpenAt j.kinds) (IsOpenAt (slice_set j.kinds h.name (OpenLoop depth))) around (λ n o. (o.0, get_other j.kinds h.name n (OpenLoop o.0) (OpenLoop depth) (open_apart j.kinds h.name n f.closed o) o.1)) opens)),
         );
-    loops = (
-      (ClosedLoop, get-set l.kinds h.name (OpenLoop depth) ClosedLoop still_open, tt),
-      All-append (IsLoopLine (slice_set l.kinds h.name ClosedLoop)) b.new (End ∷ []) (loop_lines_more l.kinds (slice_set l.kinds h.name ClosedLoop) (λ at k. loop_set l.kinds h.name ClosedLoop at tt k) b.new b.loops) (tt, tt),
-    );
-    order = subst (λ n. IsOrdered n (line_numbers (b.new ++ End ∷ [])) l.arrays) (sym f.kept.order) (subst (λ ns. IsOrdered j.arrays ns l.arrays) (sym (lines_both b.new (End ∷ []) ∙ append-nil (line_numbers b.new))) b.order);
+    order = subst (λ n. IsOrdered n (items_numbers body) l.arrays) (sym f.kept.order) b.order;
   }
 
 -- the names of a header
@@ -268,24 +252,25 @@ header_named h ws n =
     (tail.0 refl, first_named (affine_words h.lower) _ tail.1.1, first_named (affine_words h.upper) _ bounds.1.1.1)
 
 mutual
-  unfolding item_means items_means begin end with_kind with_line
+  unfolding item_means items_means begin end with_kind
 
-  -- an item adds its lines
-  item_adds : (more depth b : ℕ) (t : item.Item) (i : Names) → depth + more ≡ LOOPS → AreNamed (item_words t) → State depth i → Writes depth i (item_means more b t i)
-  item_adds more depth b item.nothing i e n s = ok (adds_none depth s (kept_self i))
-  item_adds more depth (suc b) (item.block is) i e n s = items_add more depth b is i e (first_named (items_words is) (a_symbol (codes "}") ∷ []) n.1) s
-  item_adds (suc more) depth (suc b) (item.loop h t) i e n s =
-      let named = header_named h (item_words t) n in
+  -- an item is one more, or none
+  item_holds : (more depth b : ℕ) (s : Names) (before : Items) (t : item.Item) (i : Names) → depth + more ≡ LOOPS → AreNamed (item_words t) → Holds depth s before i → Gives (item_means more b before t i) (Holds depth s)
+  item_holds more depth b s before item.nothing i e n h = ok h
+  item_holds more depth (suc b) s before (item.block is) i e n h = items_hold more depth b s before is i e (first_named (items_words is) (a_symbol (codes "}") ∷ []) n.1) h
+  item_holds (suc more) depth (suc b) s before (item.loop header t) i e n h =
+      let named = header_named header (item_words t) n in
       let at_depth : most_loops - 1 - more ≡ depth = omega arith in
-      chained (header_means b h i) (header_in b h i named.0 named.1 named.2 s) (λ l j f.
+      chained (header_means b header i) (header_in b header i named.0 named.1 named.2 h.state) (λ l j f.
       rw at_depth (
-      chained (item_means more (suc b) t (opened_at depth l j)) (item_adds more (suc depth) (suc b) t (opened_at depth l j) (omega arith) (second_named (header_words h) (item_words t) n) (opened_state depth l j f.state f.closed)) (λ _ k a.
-      ok (loop_adds depth l i j k (omega arith) f a))))
-  item_adds more depth b (item.statement a) i e n s = statement_writes b a i (first_named (assign_words a) (a_symbol (codes ";") ∷ []) n) s
-  item_adds _ depth _ _ i e n s = nothing
+      let opened : Names = opened_at depth l j in
+      chained (item_means more (suc b) done t opened) (item_holds more (suc depth) (suc b) opened done t opened (omega arith) (second_named (header_words header) (item_words t) n) (holds_none (suc depth) opened (opened_state depth l j f.state f.closed))) (λ body k a.
+      ok (holds_more h (loop_adds depth l body i j k (omega arith) f a)))))
+  item_holds more depth b s before (item.statement a) i e n h = statement_holds b s before a i (first_named (assign_words a) (a_symbol (codes ";") ∷ []) n) h
+  item_holds _ depth _ s before _ i e n h = nothing
 
-  -- a row adds its lines
-  pub items_add : (more depth b : ℕ) (ts : item.Items) (i : Names) → depth + more ≡ LOOPS → AreNamed (items_words ts) → State depth i → Writes depth i (items_means more b ts i)
-  items_add more depth b item.item_end i e n s = ok (adds_none depth s (kept_self i))
-  items_add more depth b (item.item t ts) i e n s =
-      both (item_means more b t i) (item_adds more depth b t i e (first_named (item_words t) (items_words ts) n) s) (λ _ j u. items_add more depth b ts j e (second_named (item_words t) (items_words ts) n) u)
+  -- items are more, or none
+  pub items_hold : (more depth b : ℕ) (s : Names) (before : Items) (ts : item.Items) (i : Names) → depth + more ≡ LOOPS → AreNamed (items_words ts) → Holds depth s before i → Gives (items_means more b before ts i) (Holds depth s)
+  items_hold more depth b s before item.item_end i e n h = ok h
+  items_hold more depth b s before (item.item t ts) i e n h =
+      chained (item_means more b before t i) (item_holds more depth b s before t i e (first_named (item_words t) (items_words ts) n) h) (λ all j u. items_hold more depth b s all ts j e (second_named (item_words t) (items_words ts) n) u)

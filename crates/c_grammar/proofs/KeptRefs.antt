@@ -45,7 +45,7 @@ slot_by_there depth name None i e w s = either (is_short name && nat_lt i.parame
     let few : i.parameters < PARAMETERS = ltb-true _ _ both.1 in
     ok (record {
       state = new_state i name (Parameter i.parameters) (i.parameters + 1) i.arrays s (short_word name w both.0) e (omega arith) (omega arith) refl (omega arith) (append-nil (range_with_len 0 i.arrays)) s.few_arrays;
-      kept = record { grown = new_grown i name (Parameter i.parameters) (i.parameters + 1) i.arrays (omega arith) (omega arith); order = refl; lines = refl; statements = refl };
+      kept = record { grown = new_grown i name (Parameter i.parameters) (i.parameters + 1) i.arrays (omega arith) (omega arith); order = refl; statements = refl };
       value = parameter_there (i.parameters + 1) depth i.parameters (omega arith) (omega arith);
     }))
     (λ _. nothing)
@@ -145,7 +145,6 @@ record IsBehind (i k : Names) (more : List Kind) : Type 0 where
   pub parameters : i.parameters ≤ k.parameters
   pub names : length i.names ≤ length k.names
   pub arrays : k.arrays ≡ i.arrays + 1
-  pub lines : k.lines ≡ i.lines
   pub statements : k.statements ≡ i.statements
 
 module _ (depth : ℕ) (i k : Names) (more : List Kind) (rank : ℕ) (s : State depth i) (t : State depth k) (b : IsBehind i k more) (few : rank ≤ SUBSCRIPTS) where
@@ -163,7 +162,7 @@ module _ (depth : ℕ) (i k : Names) (more : List Kind) (rank : ℕ) (s : State 
   -- the state with the new array
   ranked_state : State depth (with_kind (length i.names) (Array i.arrays rank) k)
   unfolding with_kind
-  ranked_state = set_state k (length i.names) (Array i.arrays 0) (Array i.arrays rank) k.lines t there refl refl (All-set (KindFits k.parameters depth) k.kinds (length i.names) (Array i.arrays rank) few t.fit)
+  ranked_state = set_state k (length i.names) (Array i.arrays 0) (Array i.arrays rank) t there refl refl (All-set (KindFits k.parameters depth) k.kinds (length i.names) (Array i.arrays rank) few t.fit)
 
   -- only names were added
   ranked_kept : Kept i (i.arrays ∷ []) (with_kind (length i.names) (Array i.arrays rank) k)
@@ -177,7 +176,6 @@ module _ (depth : ℕ) (i k : Names) (more : List Kind) (rank : ℕ) (s : State 
       names = b.names;
     };
     order = (let above : nat_lt i.arrays i.arrays ≡ false = grind (arith, nat_tests) in (omega arith, rw above (omega (arith, b.arrays))));
-    lines = b.lines;
     statements = b.statements;
   }
 
@@ -220,7 +218,6 @@ reference_by depth b name ss None i e w n s = either_then (is_short name && nat_
       parameters = after.kept.grown.parameters;
       names = omega (arith, after.kept.grown.names, length-append i.names (name ∷ []));
       arrays = sym after.kept.order;
-      lines = after.kept.lines;
       statements = after.kept.statements;
     } in
     ok (record {
@@ -237,7 +234,7 @@ reference_by depth b name ss (Some (Array number r)) i e w n s =
     let seen : nat_lt number i.arrays ≡ true = grind (arith, nat_tests) in
     ok (record {
       state = after.state;
-      kept = record { grown = after.kept.grown; order = (omega arith, rw seen after.kept.order); lines = after.kept.lines; statements = after.kept.statements };
+      kept = record { grown = after.kept.grown; order = (omega arith, rw seen after.kept.order); statements = after.kept.statements };
       fits = record { rank = rank-grown number r after.kept.grown rank ∙ ap Some (sym (eqb-true _ _ same)); rows = after.value.each };
     })) (λ _. nothing))
 reference_by depth b name ss (Some _) i e w n s = nothing

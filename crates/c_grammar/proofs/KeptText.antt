@@ -8,8 +8,7 @@ use Rattle.c_tokens.specs.declared.token.Token.{Token}
 use Rattle.c_tokens.specs.Text.{tokens_of}
 use Rattle.c_reading.specs.declared.named.Kind.{Kind}
 use Rattle.c_reading.specs.declared.named.Kind.TheVariants.{Array}
-use Rattle.c_reading.specs.declared.lines.Line.{Line}
-use Rattle.c_reading.specs.declared.lines.Line.TheVariants.{Begin, Does, End}
+use Rattle.c_reading.specs.Tree.{Item, assign, loop, Items, done, next}
 use Rattle.c_reading.specs.Access.{Access}
 use Rattle.c_reading.specs.Numbers.{most_loops, combined}
 use Rattle.c_reading.specs.Compare.{Rows, most_brackets, most_rows}
@@ -25,7 +24,7 @@ use Rattle.c_grammar.specs.Text.{Text, compares_words, lines_words, text_words}
 use Rattle.c_grammar.specs.Meaning as mean
 use Rattle.c_grammar.specs.Meaning.{Names, affine_means, with_compare, row_count, compare_means, slot, items_means, parameters_mean, compares_mean, lines_mean, whole_means, text_means}
 use Rattle.affine_program.specs.Printable.{IsOrdered}
-use Rattle.c_grammar.specs.Well.{IsRowOver, parameters_of, arrays_of, IsAccessIn, AreLinesIn, statement_count, Nests, IsLoopLine, line_numbers, IsWellRead, ReadingsAreWellRead}
+use Rattle.c_grammar.specs.Well.{IsRowOver, parameters_of, arrays_of, IsAccessIn, IsItemIn, AreItemsIn, items_numbers, IsWellRead, ReadingsAreWellRead}
 use Rattle.c_grammar.proofs.Steps.{AreLexical, IsSpelled, all_spelled, class, word_spelled, if_holds}
 use Rattle.c_grammar.proofs.Lexical.{text_lexical}
 use Rattle.c_grammar.proofs.SoundItems.{accepted}
@@ -33,9 +32,9 @@ use Rattle.c_grammar.proofs.Forms.{IsWhereSome, IsRow, combined_row, stated_row,
 use Rattle.c_grammar.proofs.NameKinds.{KindFits, ranks, ranks-length, parameters-length}
 use Rattle.std.proofs.lemmas.Option.{slice_get-map}
 use Rattle.std.proofs.lemmas.List.{length-map}
-use Rattle.c_grammar.proofs.Kept.{IsNamed, AreNamed, first_named, second_named, State, Kept, kept-trans, rows-grown, AccessIn, Gives, nothing, ok, chained, Reads, bind, stays, Goes}
+use Rattle.c_grammar.proofs.Kept.{IsNamed, AreNamed, first_named, second_named, State, Kept, kept-trans, rows-grown, AccessIn, Gives, nothing, ok, chained, Reads, bind, stays, ItemIn, ItemsIn}
 use Rattle.c_grammar.proofs.KeptRefs.{slot_there, affine_form}
-use Rattle.c_grammar.proofs.KeptItems.{Adds, items_add}
+use Rattle.c_grammar.proofs.KeptItems.{Holds, holds_none, items_hold}
 
 -- ---- compares
 
@@ -154,42 +153,40 @@ few_ranks parameters depth (name ∷ names) (_ ∷ kinds) h = few_ranks paramete
 -- ---- what is read, as it is stated
 
 -- a reading of this state
-abbrev reading_at : Rows → Names → Reading
-reading_at rows i = record { names = i.names; kinds = i.kinds; assumptions = rows; lines = i.lines }
+abbrev reading_at : Rows → Items → Names → Reading
+reading_at rows items i = record { names = i.names; kinds = i.kinds; assumptions = rows; items = items }
 
-module _ (assumed : Rows) (i : Names) (s : State 0 i) where
+module _ (assumed : Rows) (all : Items) (i : Names) (s : State 0 i) where
   -- the parameters are as many as the state counts
-  parameters_are : length (parameters_of (reading_at assumed i)) ≡ i.parameters
+  parameters_are : length (parameters_of (reading_at assumed all i)) ≡ i.parameters
   parameters_are = parameters-length i.names i.kinds s.kinds ∙ s.parameters
 
   -- a row as it is stated
-  row_over : (depth : ℕ) (row : List ℤ) → IsRow i.parameters depth row → IsRowOver (length (parameters_of (reading_at assumed i))) depth row
+  row_over : (depth : ℕ) (row : List ℤ) → IsRow i.parameters depth row → IsRowOver (length (parameters_of (reading_at assumed all i))) depth row
   row_over depth row h = subst (λ (p : ℕ). IsRowOver p depth row) (sym parameters_are) (stated_row i.parameters depth row s.few_parameters h)
 
   -- rows as they are stated
-  rows_over : (depth : ℕ) (rows : Rows) → AllByRecursion (IsRow i.parameters depth) rows → AllByRecursion (IsRowOver (length (parameters_of (reading_at assumed i))) depth) rows
-  rows_over depth rows h = All-weaken (IsRow i.parameters depth) (IsRowOver (length (parameters_of (reading_at assumed i))) depth) rows (row_over depth) h
+  rows_over : (depth : ℕ) (rows : Rows) → AllByRecursion (IsRow i.parameters depth) rows → AllByRecursion (IsRowOver (length (parameters_of (reading_at assumed all i))) depth) rows
+  rows_over depth rows h = All-weaken (IsRow i.parameters depth) (IsRowOver (length (parameters_of (reading_at assumed all i))) depth) rows (row_over depth) h
 
   -- a reference as it is stated
-  access_over : (depth : ℕ) (access : Access) → AccessIn depth i access → IsAccessIn (reading_at assumed i) depth access
+  access_over : (depth : ℕ) (access : Access) → AccessIn depth i access → IsAccessIn (reading_at assumed all i) depth access
   access_over depth access h =
       record { rank = ranked i.names i.kinds access.array (length access.subscripts) s.kinds h.rank; rows = rows_over depth access.subscripts h.rows }
 
-  -- lines as they are stated
-  lines_over : (depth : ℕ) (lines : List Line) → Goes depth i lines 0 → AreLinesIn (reading_at assumed i) depth lines
-  lines_over depth [] h = h
-  lines_over depth (Begin l ∷ lines) h =
-      (h.0.name, h.0.few, row_over depth l.lower h.0.lower, row_over depth l.upper h.0.upper, lines_over (suc depth) lines h.1)
-  lines_over depth (Does statement ∷ lines) h = (
-    record {
-      writes = access_over depth statement.writes h.0.writes;
-      few = h.0.few;
-      reads = All-weaken (AccessIn depth i) (IsAccessIn (reading_at assumed i) depth) statement.reads (access_over depth) h.0.reads;
-    },
-    lines_over depth lines h.1,
-  )
-  lines_over zero (End ∷ lines) h = h
-  lines_over (suc depth) (End ∷ lines) h = lines_over depth lines h
+  -- items as they are stated
+  mutual
+    item_over : (depth : ℕ) (t : Item) → ItemIn depth i t → IsItemIn (reading_at assumed all i) depth t
+    item_over depth (assign statement) h = record {
+      writes = access_over depth statement.writes h.writes;
+      few = h.few;
+      reads = All-weaken (AccessIn depth i) (IsAccessIn (reading_at assumed all i) depth) statement.reads (access_over depth) h.reads;
+    }
+    item_over depth (loop l body) h = (h.0.name, h.0.few, row_over depth l.lower h.0.lower, row_over depth l.upper h.0.upper, items_over (suc depth) body h.1)
+
+    items_over : (depth : ℕ) (items : Items) → ItemsIn depth i items → AreItemsIn (reading_at assumed all i) depth items
+    items_over depth done h = tt
+    items_over depth (next t items) h = (item_over depth t h.0, items_over depth items h.1)
 
 -- ---- whole texts
 
@@ -206,49 +203,47 @@ assumed_few h i s e = if_holds (λ (rows : Rows). AreFew i.parameters ASSUMPTION
     (λ _. (record { few = omega (arith, rows-length i.parameters, s.few_parameters); each = all_rows i.parameters i.parameters (omega arith) s.few_parameters }, λ some. omega (arith, rows-length i.parameters)))
 
 -- what is meant is well read
-module _ (h : Head) (j k : Names) (g : IsHead h j) (lines : j.lines ≡ []) (counts : j.statements ≡ 0) (arrays : j.arrays ≡ 0) (a : Adds 0 j k) where
-  meant_well : IsWellRead (reading_at (assumptions_of h k) k)
+module _ (h : Head) (items : Items) (j k : Names) (g : IsHead h j) (counts : j.statements ≡ 0) (arrays : j.arrays ≡ 0) (a : Holds 0 j items k) where
+  meant_well : IsWellRead (reading_at (assumptions_of h k) items k)
   meant_well =
       let s : State 0 k = a.state in
       let rows : Rows = assumptions_of h k in
       let head : IsHead h k = record { few = record { few = g.few.few; each = rows-grown 0 h.rows a.grown g.few.each }; some = g.some } in
       let assumed = assumed_few h k s head in
-      let only : k.lines ≡ a.new = a.lines ∙ ap (λ (ls : List Line). ls ++ a.new) lines in
-      let params : length (parameters_of (reading_at rows k)) ≡ k.parameters = parameters_are rows k s in
-      let many : length (arrays_of (reading_at rows k)) ≡ k.arrays = sym (length-map (arrays_among k.names k.kinds) (λ (array : List ℕ × ℕ). array.1)) ∙ ap length (arrays_ranks k.names k.kinds s.kinds) ∙ ranks-length k.arrays k.kinds s.numbered in
+      let params : length (parameters_of (reading_at rows items k)) ≡ k.parameters = parameters_are rows items k s in
+      let many : length (arrays_of (reading_at rows items k)) ≡ k.arrays = sym (length-map (arrays_among k.names k.kinds) (λ (array : List ℕ × ℕ). array.1)) ∙ ap length (arrays_ranks k.names k.kinds s.kinds) ∙ ranks-length k.arrays k.kinds s.numbered in
       record {
         kinds = s.kinds;
         parameters = omega (arith, params, s.few_parameters);
         few_assumptions = assumed.0.few;
-        assumptions = rows_over rows k s 0 rows assumed.0.each;
+        assumptions = rows_over rows items k s 0 rows assumed.0.each;
         few_arrays = omega (arith, many, s.few_arrays);
         ranks = few_ranks k.parameters 0 k.names k.kinds s.fit;
-        statements = omega (arith, ap statement_count only, a.statements, s.few_statements);
-        lines = lines_over rows k s 0 k.lines (subst (λ (ls : List Line). Goes 0 k ls 0) (sym only) a.goes);
+        statements = omega (arith, a.statements, s.few_statements);
+        items = items_over rows items k s 0 items a.fit;
         names = s.names;
         distinct = s.distinct;
-        loops = subst (AllByRecursion (IsLoopLine k.kinds)) (sym only) a.loops;
-        nested = subst (λ (ls : List Line). Nests [] ls []) (sym only) (a.nested [] tt);
-        order = subst (λ (ls : List Line). IsOrdered 0 (line_numbers ls) (length (arrays_of (reading_at rows k)))) (sym only) (subst (λ n. IsOrdered 0 (line_numbers a.new) n) (sym many) (subst (λ n. IsOrdered n (line_numbers a.new) k.arrays) arrays a.order));
+        nested = a.nested [] tt;
+        order = subst (λ n. IsOrdered 0 (items_numbers items) n) (sym many) (subst (λ n. IsOrdered n (items_numbers items) k.arrays) arrays a.order);
         some_assumptions = λ some. assumed.1 (omega (arith, params));
       }
 
 -- what a text's tree means
-whole_well : (t : Text) → AreNamed (text_words t) → Gives (whole_means t (start_of [] [])) (λ h k. IsWellRead (reading_at (assumptions_of h k) k))
+whole_well : (t : Text) → AreNamed (text_words t) → Gives (whole_means t (start_of [] [])) (λ p k. IsWellRead (reading_at (assumptions_of p.0 k) p.1 k))
 unfolding whole_means
 whole_well t n =
     let ws = items_words t.items ++ (program_end ∷ []) in
     chained (lines_mean (record { assumed = false; rows = [] }) t.lines (start_of [] []))
     (lines_kept (record { assumed = false; rows = [] }) t.lines (start_of [] []) (first_named (lines_words t.lines) ws n) (record { kinds = refl; fit = tt; parameters = refl; few_parameters = omega arith; numbered = refl; few_arrays = omega arith; few_statements = omega arith; names = tt; distinct = λ a b name e f. cc }) (record { few = record { few = omega arith; each = tt }; some = λ e. cc })) (λ h j q.
-    chained (items_means most_loops most_brackets t.items j) (items_add most_loops 0 most_brackets t.items j refl (first_named (items_words t.items) (program_end ∷ []) (second_named (lines_words t.lines) ws n)) q.state) (λ _ k a.
-    ok (meant_well h j k q.value q.kept.lines q.kept.statements (sym q.kept.order) a)))
+    chained (items_means most_loops most_brackets done t.items j) (items_hold most_loops 0 most_brackets j done t.items j refl (first_named (items_words t.items) (program_end ∷ []) (second_named (lines_words t.lines) ws n)) (holds_none 0 j q.state)) (λ items k a.
+    ok (meant_well h items j k q.value q.kept.statements (sym q.kept.order) a)))
 
 -- a text's tree means what is well read
 text_well : (t : Text) (r : Reading) → AreNamed (text_words t) → text_means t ≡ Some r → IsWellRead r
 text_well t r n e = read (whole_means t (start_of [] [])) (whole_well t n) e where
-  read : (o : Option (Head × Names)) → Gives o (λ h k. IsWellRead (reading_at (assumptions_of h k) k)) → mean.reading_from o ≡ Some r → IsWellRead r
+  read : (o : Option ((Head × Items) × Names)) → Gives o (λ p k. IsWellRead (reading_at (assumptions_of p.0 k) p.1 k)) → mean.reading_from o ≡ Some r → IsWellRead r
   read None g f = cc
-  read (Some p) g f = let same : reading_at (assumptions_of p.0 p.1) p.1 ≡ r = cc in subst IsWellRead same g.holds
+  read (Some p) g f = let same : reading_at (assumptions_of p.0.0 p.1) p.0.1 p.1 ≡ r = cc in subst IsWellRead same g.holds
 
 -- every text that is read is well read
 pub readings_are_well_read : ReadingsAreWellRead

@@ -1,6 +1,6 @@
 -- Parts of lists: what holds of each of a list holds of each of its parts.
 use Rattle.std.proofs.Common.{◌≡◌, ap, ◌∙◌, ◌+◌, arith}
-use Rattle.std.specs.Prelude.{ℕ, zero, suc, List, [], ◌∷◌, ◌++◌}
+use Rattle.std.specs.Prelude.{ℕ, zero, suc, List, ◌∷◌, ◌++◌}
 use Rattle.std.specs.List.{range_with_len}
 
 -- numbers in order, and those in order behind them

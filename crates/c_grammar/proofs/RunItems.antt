@@ -20,10 +20,10 @@ use Rattle.c_grammar.proofs.Spelled.{At, at_kind, at_spelling, at_sees, at_next,
 use Rattle.c_grammar.proofs.RunAffine.{affine_read, closed_by_run, slot_run}
 use Rattle.c_grammar.proofs.RunValues.{expect_run, open_run, EndsValue, value_run, NoBracket, access_read, compare_from_run}
 use Rattle.std.proofs.lemmas.List.{length-append, append_assoc}
-use Rattle.c_reading.specs.declared.lines.Line.TheVariants.{Begin}
+use Rattle.c_reading.specs.Tree.{Items, done}
 use Rattle.c_reading.specs.Refs.{access, with_kind}
 use Rattle.c_reading.specs.Values.{Accesses, value}
-use Rattle.c_reading.specs.Items.{most_statements, first_reads, is_array, with_line}
+use Rattle.c_reading.specs.Items.{most_statements, first_reads, is_array}
 use Rattle.c_grammar.specs.Value.{value_words}
 use Rattle.std.specs.List.{AllByRecursion}
 use Rattle.c_tokens.specs.declared.token.Token.{Token}
@@ -159,13 +159,13 @@ assigner_no_bracket _ ws = refl
 
 -- an assignment is read
 assign_run : (b : ℕ) (a : tree.Assign) (rest : List Word) (i : Input) → At i (assign_words a ++ rest) → EndsValue rest → Runs (λ a. a) (rule.assign b i) rest (assign_means b a (bare i))
-unfolding rule.assign rule.add_statement assign_means with_line value next
+unfolding rule.assign assign_means value next
 assign_run b a rest i at ends =
     runs_then (access b i) _ (reference_means b a.target (bare i)) _
     (access_read b a.target (assigner_word a.assigner ∷ (value_words a.value ++ rest)) i (at_assoc (reference_words a.target) (assigner_word a.assigner ∷ value_words a.value) rest at) (assigner_no_bracket a.assigner (value_words a.value ++ rest))) (λ w at1.
     let before : Accesses = first_reads (mean.updates a.assigner) w.0 in
     rw (operator_run a.assigner w.1 _ at1) (
-    runs_then (value b before (next w.1)) _ (value_means b before a.value (bare w.1)) _ (value_run b before a.value rest (next w.1) (at_next at1) ends) (λ v at2. runs_end (at_as _ refl at2) refl)))
+    runs_then (value b before (next w.1)) _ (value_means b before a.value (bare w.1)) _ (value_run b before a.value rest (next w.1) (at_next at1) ends) (λ v at2. runs_end at2 refl)))
 
 -- two tests that fail, where else nothing is meant
 unless_either : {A V : Type 0} {view : A → V} {o : Outcome A} {rest : List Word} {m : Option (V × Names)} (c d : Bool) (x y : Outcome A) → Runs view o rest m → Runs view (if c then x else (if d then y else o)) rest (if c || d then None else m)
@@ -173,13 +173,13 @@ unless_either false false x y h = h
 unless_either _ _ x y h = none_meant
 
 -- a statement is read
-statement_run : (b : ℕ) (a : tree.Assign) (rest : List Word) (i : Input) → At i (assign_words a ++ (a_symbol (codes ";") ∷ rest)) → Runs (λ a. a) (rule.statement b i) rest (statement_means b a (bare i))
-unfolding rule.statement rule.count_statements statement_means kind_of next
-statement_run b a rest i at =
-    rw (at_spelling at) (unless_either (not (is_array (kind_of a.target.name i))) (nat_le most_statements i.statements) _ _ (runs_inside (rule.assign b i) _ _ (
+statement_run : (b : ℕ) (before : Items) (a : tree.Assign) (rest : List Word) (i : Input) → At i (assign_words a ++ (a_symbol (codes ";") ∷ rest)) → Runs (λ a. a) (rule.statement b before i) rest (statement_means b before a (bare i))
+unfolding rule.statement rule.counted rule.count_statements statement_means kind_of next
+statement_run b before a rest i at =
+    rw (at_spelling at) (unless_either (not (is_array (kind_of a.target.name i))) (nat_le most_statements i.statements) _ _ (
     runs_then (rule.assign b i) _ (assign_means b a (bare i)) _ (assign_run b a (a_symbol (codes ";") ∷ rest) i at (record { plus = refl; minus = refl; times = refl; slash = refl; percent = refl; last = record { bracket = refl; paren = refl } })) (λ w at1.
     let counted : At (record w.1 { statements = i.statements + 1 }) (a_symbol (codes ";") ∷ rest) = at_as _ refl at1 in
-    rw (expect_run (codes ";") (record w.1 { statements = i.statements + 1 }) (at_sees (codes ";") counted)) (runs_end (at_next counted) refl)))))
+    rw (expect_run (codes ";") (record w.1 { statements = i.statements + 1 }) (at_sees (codes ";") counted)) (runs_end (at_next counted) refl))))
 
 -- ---- loops and blocks
 
@@ -195,31 +195,31 @@ some_word tree.nothing = omega arith
 some_word _ = omega arith
 
 mutual
-  unfolding item_means items_means mean.begin mean.end rule.item rule.item_over rule.item_by rule.block rule.block_items rule.all_block_items rule.loops rule.for_loop rule.opened rule.closed with_kind with_line next spelled_kind
+  unfolding item_means items_means mean.begin mean.end rule.item rule.item_over rule.item_by rule.block rule.block_items rule.all_block_items rule.loops rule.for_loop rule.opened rule.closed with_kind next spelled_kind
 
-  item_run : (more b : ℕ) (t : tree.Item) (rest : List Word) (i : Input) → At i (item_words t ++ rest) → Runs (λ a. a) (rule.item more b i) rest (item_means more b t (bare i))
-  item_run more b tree.nothing rest i at = rw (at_sees (codes ";") at) (runs_end (at_next at) refl)
-  item_run more (suc b) (tree.block ts) rest i at =
-      rw (at_sees (codes ";") at, at_sees (codes "{") at) (block_run more b ts (left (next i)) rest (next i) (at_assoc (items_words ts) (a_symbol (codes "}") ∷ []) rest (at_next at)) (omega arith))
-  item_run (suc more) (suc b) (tree.loop h t) rest i at =
+  item_run : (more b : ℕ) (before : Items) (t : tree.Item) (rest : List Word) (i : Input) → At i (item_words t ++ rest) → Runs (λ a. a) (rule.item more b before i) rest (item_means more b before t (bare i))
+  item_run more b before tree.nothing rest i at = rw (at_sees (codes ";") at) (runs_end (at_next at) refl)
+  item_run more (suc b) before (tree.block ts) rest i at =
+      rw (at_sees (codes ";") at, at_sees (codes "{") at) (block_run more b before ts (left (next i)) rest (next i) (at_assoc (items_words ts) (a_symbol (codes "}") ∷ []) rest (at_next at)) (omega arith))
+  item_run (suc more) (suc b) before (tree.loop h t) rest i at =
       rw (at_sees (codes ";") at, at_sees (codes "{") at, at_sees (codes "for") at) (
       runs_then (rule.header (suc b) i) _ (header_means b h (bare i)) _ (header_run b h (item_words t ++ rest) i (at_assoc (header_words h) (item_words t) rest at)) (λ l at1.
-      let j : Input = with_kind l.0.name (OpenLoop (most_loops - 1 - more)) (with_line (Begin l.0) l.1) in
-      runs_then (rule.item more (suc b) j) _ (item_means more (suc b) t (bare j)) _ (item_run more (suc b) t rest j (at_as _ refl at1)) (λ u at2. runs_end (at_as _ refl at2) refl)))
-  item_run more b (tree.statement a) rest i at =
+      let j : Input = with_kind l.0.name (OpenLoop (most_loops - 1 - more)) l.1 in
+      runs_then (rule.item more (suc b) done j) _ (item_means more (suc b) done t (bare j)) _ (item_run more (suc b) done t rest j (at_as _ refl at1)) (λ u at2. runs_end (at_as _ refl at2) refl)))
+  item_run more b before (tree.statement a) rest i at =
       rw (name_not_symbol (codes ";") refl at, name_not_symbol (codes "{") refl at, name_not_keyword (codes "for") refl at, name_not_keyword (codes "if") refl at, at_kind at) (
-      statement_run b a rest i (at_assoc (assign_words a) (a_symbol (codes ";") ∷ []) rest at))
-  item_run _ _ _ rest i at = none_meant
+      statement_run b before a rest i (at_assoc (assign_words a) (a_symbol (codes ";") ∷ []) rest at))
+  item_run _ _ before _ rest i at = none_meant
 
-  block_run : (more b : ℕ) (ts : tree.Items) (n : ℕ) (rest : List Word) (i : Input) → At i (items_words ts ++ (a_symbol (codes "}") ∷ rest)) → left i ≤ n
-      → Runs (λ a. a) (rule.block_items (rule.item more b) n i) rest (items_means more b ts (bare i))
-  block_run more b ts zero rest i at few = let some = some_left at in absurd (omega arith)
-  block_run more b tree.item_end (suc n) rest i at few = rw (at_sees (codes "}") at) (runs_end (at_next at) refl)
-  block_run more b (tree.item t ts) (suc n) rest i at few =
+  block_run : (more b : ℕ) (before : Items) (ts : tree.Items) (n : ℕ) (rest : List Word) (i : Input) → At i (items_words ts ++ (a_symbol (codes "}") ∷ rest)) → left i ≤ n
+      → Runs (λ a. a) (rule.block_items (rule.item more b) n before i) rest (items_means more b before ts (bare i))
+  block_run more b before ts zero rest i at few = let some = some_left at in absurd (omega arith)
+  block_run more b before tree.item_end (suc n) rest i at few = rw (at_sees (codes "}") at) (runs_end (at_next at) refl)
+  block_run more b before (tree.item t ts) (suc n) rest i at few =
       let behind : List Word = items_words ts ++ (a_symbol (codes "}") ∷ rest) in
       let front = at_assoc (item_words t) (items_words ts) (a_symbol (codes "}") ∷ rest) at in
-      rw (opens_item i t _ front) (runs_then (rule.item more b i) _ (item_means more b t (bare i)) _ (item_run more b t behind i front) (λ u at1.
-      block_run more b ts n rest u.1 at1 (fewer front at1 few (omega (arith, length-append (item_words t) behind, some_word t)))))
+      rw (opens_item i t _ front) (runs_then (rule.item more b before i) _ (item_means more b before t (bare i)) _ (item_run more b before t behind i front) (λ u at1.
+      block_run more b u.0 ts n rest u.1 at1 (fewer front at1 few (omega (arith, length-append (item_words t) behind, some_word t)))))
 
 -- an item isn't the end
 not_end : (i : Input) (t : tree.Item) (rest : List Word) → At i (item_words t ++ rest) → rule.is_end (kind i) ≡ false
@@ -227,13 +227,13 @@ not_end i tree.nothing rest at = ap rule.is_end (at_kind at)
 not_end i _ rest at = ap rule.is_end (at_kind at)
 
 -- the items of a program are read
-items_run : (ts : tree.Items) (n : ℕ) (i : Input) → At i (items_words ts) → left i ≤ n → Runs (λ a. a) (rule.items n i) [] (items_means most_loops 64 ts (bare i))
+items_run : (before : Items) (ts : tree.Items) (n : ℕ) (i : Input) → At i (items_words ts) → left i ≤ n → Runs (λ a. a) (rule.items n before i) [] (items_means most_loops 64 before ts (bare i))
 unfolding items_means rule.items
-items_run ts zero i at few = let some = some_left at in absurd (omega arith)
-items_run tree.item_end (suc n) i at few = rw (ap rule.is_end (at_kind at)) (runs_end at refl)
-items_run (tree.item t ts) (suc n) i at few =
-    rw (not_end i t _ at) (runs_then (rule.item most_loops 64 i) _ (item_means most_loops 64 t (bare i)) _ (item_run most_loops 64 t (items_words ts) i at) (λ u at1.
-    items_run ts n u.1 at1 (fewer at at1 few (omega (arith, length-append (item_words t) (items_words ts), some_word t)))))
+items_run before ts zero i at few = let some = some_left at in absurd (omega arith)
+items_run before tree.item_end (suc n) i at few = rw (ap rule.is_end (at_kind at)) (runs_end at refl)
+items_run before (tree.item t ts) (suc n) i at few =
+    rw (not_end i t _ at) (runs_then (rule.item most_loops 64 before i) _ (item_means most_loops 64 before t (bare i)) _ (item_run most_loops 64 before t (items_words ts) i at) (λ u at1.
+    items_run u.0 ts n u.1 at1 (fewer at at1 few (omega (arith, length-append (item_words t) (items_words ts), some_word t)))))
 
 -- ---- lines that name parameters
 
@@ -293,7 +293,7 @@ unfolding whole.text_rule head_rule.head whole_means rule.all_items
 text_rule_run t i at =
     let h : Head = record { assumed = false; rows = [] } in
     runs_then (head_rule.directives (left i) h i) _ (lines_mean h t.lines (bare i)) _ (directives_run t.lines (left i) h (items_words t.items) i at (no_directive t.items) (omega arith)) (λ l at1.
-    runs_then (rule.items (left l.1) l.1) _ (items_means most_loops most_brackets t.items (bare l.1)) _ (items_run t.items (left l.1) l.1 at1 (omega arith)) (λ s at2. runs_end at2 refl))
+    runs_then (rule.items (left l.1) done l.1) _ (items_means most_loops most_brackets done t.items (bare l.1)) _ (items_run done t.items (left l.1) l.1 at1 (omega arith)) (λ s at2. runs_end at2 refl))
 
 -- what spells the grammar within the limits is accepted, where its words are lexical
 pub spelled : (bytes : List ℕ) (t : Text) (r : Reading) (o : Option (List Token)) → ((tokens : List Token) → o ≡ Some tokens → AreLexical (map (word_of bytes) tokens))
@@ -304,9 +304,9 @@ spelled bytes t r (Some tokens) lexical e f =
     let together : map (word_of bytes) tokens ≡ (lines_words t.lines ++ items_words t.items) ++ program_end ∷ [] = same_some e ∙ sym (append_assoc (lines_words t.lines) (items_words t.items) (program_end ∷ [])) in
     let all : AllByRecursion IsSpelled ((lines_words t.lines ++ items_words t.items) ++ program_end ∷ []) = subst (AllByRecursion IsSpelled) together (all_spelled _ (lexical tokens refl)) in
     read (whole_means t (start_of [] [])) refl f (record { are = together; spelled = All-left IsSpelled (lines_words t.lines ++ items_words t.items) (program_end ∷ []) all }) where
-      read : (o : Option (Head × Names)) → whole_means t (start_of [] []) ≡ o → mean.reading_from o ≡ Some r → At (start_of bytes tokens) (lines_words t.lines ++ items_words t.items) → whole.reading_from (whole.text_rule (start_of bytes tokens)) ≡ Ok r
+      read : (o : Option ((Head × Items) × Names)) → whole_means t (start_of [] []) ≡ o → mean.reading_from o ≡ Some r → At (start_of bytes tokens) (lines_words t.lines ++ items_words t.items) → whole.reading_from (whole.text_rule (start_of bytes tokens)) ≡ Ok r
       read None is f at = absurd cc
       read (Some x) is f at =
           let s = (text_rule_run t (start_of bytes tokens) at).run x is tt in
-          let reading : Head × Names → Reading = λ y. record { names = y.1.names; kinds = y.1.kinds; assumptions = whole.assumptions_of y.0 y.1; lines = y.1.lines } in
-          ap whole.reading_from s.1 ∙ ap (λ (y : Head × Names). Ok (reading y)) s.3 ∙ ap (λ (r : Reading). Ok r) (same_some f)
+          let reading : (Head × Items) × Names → Reading = λ y. record { names = y.1.names; kinds = y.1.kinds; assumptions = whole.assumptions_of y.0.0 y.1; items = y.0.1 } in
+          ap whole.reading_from s.1 ∙ ap (λ (y : (Head × Items) × Names). Ok (reading y)) s.3 ∙ ap (λ (r : Reading). Ok r) (same_some f)

@@ -5,7 +5,7 @@ use Rattle.c_tokens.specs.declared.token.TokenKind.{TokenKind}
 use Rattle.c_tokens.specs.declared.token.TokenKind.TheVariants as token
 use Rattle.c_reading.specs.declared.named.Kind.{Kind}
 use Rattle.c_reading.specs.declared.named.Kind.TheVariants.{OpenLoop, ClosedLoop}
-use Rattle.c_reading.specs.declared.lines.Loop.{Loop}
+use Rattle.c_reading.specs.declared.tree.Header.{Header}
 use Rattle.c_reading.specs.Input.{Input, and_then, kind, spelling, next, sees, place, is_name_kind, Rule, left, Outcome}
 use Rattle.std.proofs.lemmas.List.{append_assoc}
 use Rattle.c_reading.specs.Numbers.{combined, zeros, most_loops}
@@ -22,9 +22,10 @@ use Rattle.c_grammar.specs.Meaning.{Names, Form, affine_means, header_means, ass
 use Rattle.c_grammar.proofs.Steps.{Passed, one_less, words, bare, spelled_kind, AreLexical, Took, is_plain, took_then, took_symbol, took_word, took_name, took_as, kind_spelled, Reads, fails, gives, gives_if, reads_map, reads_then, reads_given, reads_if, bool_cases, means_then, means_given, class, Spells, SpellsUpTo, took_none, name_kind_is, kind_is, end_is, end_words, same_ok, took_line_end, took_kind, parameters_is, assumptions_is, NamedAs}
 use Rattle.c_grammar.proofs.SoundAffine.{form_of, affine_sound, closed_by_sound, slot_sound}
 use Rattle.c_grammar.proofs.SoundValues.{WordSound, word_sound, open_bracket_sound, value_sound, access_sound, compare_from_sound}
-use Rattle.c_reading.specs.declared.lines.Line.TheVariants.{Begin}
+use Rattle.c_reading.specs.Tree as read
+use Rattle.c_reading.specs.Tree.{Items, done, with_item}
 use Rattle.c_reading.specs.Refs.{access, with_kind}
-use Rattle.c_reading.specs.Items.{most_statements, first_reads, is_array, with_line, is_end, all_items}
+use Rattle.c_reading.specs.Items.{most_statements, first_reads, is_array, is_end, all_items}
 use Rattle.c_tokens.specs.declared.token.Token.{Token}
 use Rattle.c_reading.specs.Compare.{Rows, compare}
 use Rattle.c_reading.specs.Head as head_rule
@@ -135,7 +136,7 @@ upper_sound b name i named g =
     gives (c.0, (a.0, form_of p.0, took_then (took_then s.0 c.1) (took_then a.1 d.0), ap (affine_means b a.0) (sym s.1 ∙ sym c.2) ∙ a.2 ∙ ap (λ (s : Names). Some (form_of p.0, s)) (sym d.2), given_is)))))))
 
 -- a header was taken behind its bracket and its `int`
-HeaderOfSound : ℕ → Bool → Input → Loop × Input → Type 0
+HeaderOfSound : ℕ → Bool → Input → Header × Input → Type 0
 HeaderOfSound b has_int i q = (h : tree.Header) × (h.has_int ≡ has_int) × Took i (a_name h.name ∷ bounds_words h) q.1 × (header_means b h (bare i) ≡ Some (q.0, bare q.1))
 
 -- a header that was read is spelled, behind its bracket and its `int`
@@ -157,11 +158,11 @@ header_of_sound b has_int i g =
     ))))))
 
 -- a header was taken that means this loop, where one bracket more could be opened
-unfoldable pub HeaderSound : ℕ → Input → Loop × Input → Type 0
+unfoldable pub HeaderSound : ℕ → Input → Header × Input → Type 0
 HeaderSound b i q = (d : ℕ) × (b ≡ suc d) × (h : tree.Header) × Took i (header_words h) q.1 × (header_means d h (bare i) ≡ Some (q.0, bare q.1))
 
 -- `for`, its bracket and `int` stand in front of it
-header_joined : (b d : ℕ) (has_int : Bool) (i j : Input) (q : Loop × Input) → b ≡ suc d → Took i (a_keyword (codes "for") ∷ a_symbol (codes "(") ∷ tree.int_words has_int) j → bare j ≡ bare i → HeaderOfSound d has_int j q
+header_joined : (b d : ℕ) (has_int : Bool) (i j : Input) (q : Header × Input) → b ≡ suc d → Took i (a_keyword (codes "for") ∷ a_symbol (codes "(") ∷ tree.int_words has_int) j → bare j ≡ bare i → HeaderOfSound d has_int j q
     → HeaderSound b i q
 unfolding HeaderOfSound HeaderSound
 header_joined b d has_int i j q is t same h = (
@@ -199,98 +200,102 @@ operator_sound i g =
 
 -- an assignment that was read is spelled
 assign_sound : (b : ℕ) (i : Input) → AreLexical (words i) → is_name_kind (kind i) ≡ true
-    → Reads (rule.assign b i) (λ q. (a : tree.Assign) × Took i (assign_words a) q.1 × (assign_means b a (bare i) ≡ Some (tt, bare q.1)) × (a.target.name ≡ spelling i))
-unfolding rule.assign rule.add_statement with_line assign_means
+    → Reads (rule.assign b i) (λ q. (a : tree.Assign) × Took i (assign_words a) q.1 × (assign_means b a (bare i) ≡ Some (q.0, bare q.1)) × (a.target.name ≡ spelling i))
+unfolding rule.assign assign_means
 assign_sound b i g is =
     reads_then (access b i) _ (access_sound b i g is) (λ p w.
     reads_then (rule.operator p.1) _ (operator_sound p.1 w.1.lexical) (λ o t.
     reads_then (value b (first_reads o.0 p.0) o.1) _ (value_sound b (first_reads o.0 p.0) o.1 t.1.lexical) (λ r v. gives (
       record { target = w.0; assigner = t.0; value = v.0 },
-      took_as _ refl (took_then w.1 (took_then t.1 v.1)),
+      took_then w.1 (took_then t.1 v.1),
       means_then _ _ w.2 (means_then _ _ (ap (λ (u : Bool). mean.value_means b (first_reads u p.0) v.0 (bare p.1)) (sym t.3) ∙ ap (mean.value_means b (first_reads o.0 p.0) v.0) (sym t.2) ∙ v.2) refl),
       w.3,
     ))))
 
 -- a statement that was read is an item
-statement_sound : (more b : ℕ) (i : Input) → AreLexical (words i) → is_name_kind (kind i) ≡ true → Reads (rule.statement b i) (Spells item_words (item_means more b) i)
-unfolding rule.statement rule.count_statements item_means statement_means kind_of spelled_kind
-statement_sound more b i g is =
+statement_sound : (more b : ℕ) (before : Items) (i : Input) → AreLexical (words i) → is_name_kind (kind i) ≡ true → Reads (rule.statement b before i) (Spells item_words (item_means more b before) i)
+unfolding rule.statement rule.counted rule.count_statements item_means statement_means kind_of spelled_kind
+statement_sound more b before i g is =
     bool_cases (is_array (kind_of (spelling i) i)) (λ array. rw array (
     bool_cases (nat_le most_statements i.statements) (λ full. rw full fails) (λ few. rw few (
-    reads_then (and_then (rule.assign b i) (λ _. rule.count_statements (i.statements + 1))) _ {Q = λ (p : Unit {0} × Input). (a : tree.Assign) × Took i (assign_words a) p.1 × (statement_means b a (bare i) ≡ Some (tt, bare p.1))}
-    (reads_then (rule.assign b i) _ (assign_sound b i g is) (λ r a.
-    gives (a.0, took_as (record r.1 { statements = i.statements + 1 }) refl a.1, rw (ap (λ (n : List ℕ). is_array (kind_of n (bare i))) a.3 ∙ array, few) (means_then _ _ a.2 refl)))) (λ p a.
-    reads_map (word_sound token.Symbol refl (codes ";") refl p.1 a.1.lexical) (λ q c. (tree.statement a.0, took_then a.1 c.0, a.2 ∙ ap (λ (s : Names). Some (tt, s)) (sym c.1))))))))
+    reads_then (rule.assign b i) _ (assign_sound b i g is) (λ r a.
+    let j : Input = record r.1 { statements = i.statements + 1 } in
+    let front : Took i (assign_words a.0) j = took_as j refl a.1 in
+    reads_then (expect (codes ";") j) _ (word_sound token.Symbol refl (codes ";") refl j front.lexical) (λ q c. gives (
+      tree.statement a.0,
+      took_then front c.0,
+      rw (ap (λ (n : List ℕ). is_array (kind_of n (bare i))) a.3 ∙ array, few) (means_then _ _ a.2 (ap (λ (s : Names). Some (with_item before (read.assign r.0), s)) (sym c.1))),
+    )))))))
     (λ other. rw other fails)
 
 -- ---- loops and blocks
 
 -- a loop means its header and its item, where a bracket may be opened
-loop_is : (more b d : ℕ) (h : tree.Header) (t : tree.Item) (s : Names) (o : Option (Unit {0} × Names)) → b ≡ suc d
-    → mean.then_in (header_means d h s) (λ l. λ s. mean.then_in (mean.then_in (mean.begin (most_loops - 1 - more) l s) (λ _. item_means more b t)) (λ _. mean.end l.name)) ≡ o
-    → item_means (suc more) b (tree.loop h t) s ≡ o
+loop_is : (more b d : ℕ) (before : Items) (h : tree.Header) (t : tree.Item) (s : Names) (o : Option (Items × Names)) → b ≡ suc d
+    → mean.then_in (header_means d h s) (λ l. λ s. mean.then_in (mean.then_in (mean.begin (most_loops - 1 - more) l.name s) (λ _. item_means more b done t)) (λ body. λ s. mean.then_in (mean.end l.name s) (λ _. mean.pure (with_item before (read.loop l body))))) ≡ o
+    → item_means (suc more) b before (tree.loop h t) s ≡ o
 unfolding item_means
-loop_is more b d h t s o is e = let f = rw is at e in rw is f
+loop_is more b d before h t s o is e = let f = rw is at e in rw is f
 
 -- a loop that was read is an item
-for_loop_sound : (more b : ℕ) (item : Rule (Unit {0})) → ((i : Input) → AreLexical (words i) → Reads (item i) (Spells item_words (item_means more b) i))
-    → (i : Input) → AreLexical (words i) → sees (codes "for") i ≡ true → Reads (rule.for_loop item (most_loops - 1 - more) b i) (Spells item_words (item_means (suc more) b) i)
-unfolding rule.for_loop rule.opened rule.closed HeaderSound mean.begin mean.end with_kind with_line
-for_loop_sound more b item below i g seen =
+for_loop_sound : (more b : ℕ) (item : Items → Rule Items) → ((before : Items) (i : Input) → AreLexical (words i) → Reads (item before i) (Spells item_words (item_means more b before) i))
+    → (before : Items) (i : Input) → AreLexical (words i) → sees (codes "for") i ≡ true → Reads (rule.for_loop item (most_loops - 1 - more) b before i) (Spells item_words (item_means (suc more) b before) i)
+unfolding rule.for_loop rule.opened rule.closed HeaderSound mean.begin mean.end with_kind
+for_loop_sound more b item below before i g seen =
     reads_then (rule.header b i) _ (header_sound b i g seen) (λ p h.
-    let j : Input = with_kind p.0.name (OpenLoop (most_loops - 1 - more)) (with_line (Begin p.0) p.1) in
-    reads_then (item j) _ (below j h.3.lexical) (λ r t.
+    let j : Input = with_kind p.0.name (OpenLoop (most_loops - 1 - more)) p.1 in
+    reads_then (item done j) _ (below done j h.3.lexical) (λ r t.
     let inner : Took p.1 (item_words t.0) r.1 = record { spelled = t.1.spelled; lexical = t.1.lexical } in
-    gives (tree.loop h.2 t.0, took_as _ refl (took_then h.3 inner), loop_is more b h.0 h.2 t.0 (bare i) _ h.1 (means_then _ _ h.4 (means_then _ _ t.2 refl)))))
+    gives (tree.loop h.2 t.0, took_as _ refl (took_then h.3 inner), loop_is more b h.0 before h.2 t.0 (bare i) _ h.1 (means_then _ _ h.4 (means_then _ _ t.2 refl)))))
 
 -- items of a block that were read are spelled
-block_items_sound : (more b : ℕ) (item : Rule (Unit {0})) → ((i : Input) → AreLexical (words i) → Reads (item i) (Spells item_words (item_means more b) i))
-    → (n : ℕ) (i : Input) → AreLexical (words i) → Reads (rule.block_items item n i) (SpellsUpTo (a_symbol (codes "}")) items_words (items_means more b) i)
+block_items_sound : (more b : ℕ) (item : Items → Rule Items) → ((before : Items) (i : Input) → AreLexical (words i) → Reads (item before i) (Spells item_words (item_means more b before) i))
+    → (n : ℕ) (before : Items) (i : Input) → AreLexical (words i) → Reads (rule.block_items item n before i) (SpellsUpTo (a_symbol (codes "}")) items_words (items_means more b before) i)
 unfolding rule.block_items items_means next spelled_kind
-block_items_sound more b item below zero i g = fails
-block_items_sound more b item below (suc n) i g = reads_if (sees (codes "}") i) (λ is. gives (tree.item_end, i, took_none g, took_symbol (codes "}") refl i g is, refl)) (λ _.
-    reads_then (item i) _ (below i g) (λ p t.
-    reads_map (block_items_sound more b item below n p.1 t.1.lexical) (λ q r. (tree.item t.0 r.0, r.1, took_then t.1 r.2, r.3, means_then _ _ t.2 r.4))))
+block_items_sound more b item below zero before i g = fails
+block_items_sound more b item below (suc n) before i g = reads_if (sees (codes "}") i) (λ is. gives (tree.item_end, i, took_none g, took_symbol (codes "}") refl i g is, refl)) (λ _.
+    reads_then (item before i) _ (below before i g) (λ p t.
+    reads_map (block_items_sound more b item below n p.0 p.1 t.1.lexical) (λ q r. (tree.item t.0 r.0, r.1, took_then t.1 r.2, r.3, means_then _ _ t.2 r.4))))
 
-module _ (more : ℕ) (loop : ℕ → Rule (Unit {0}))
-    (loop_sound : (b : ℕ) (i : Input) → AreLexical (words i) → sees (codes "for") i ≡ true → Reads (loop b i) (Spells item_words (item_means more b) i)) where
+module _ (more : ℕ) (loop : ℕ → Items → Rule Items)
+    (loop_sound : (b : ℕ) (before : Items) (i : Input) → AreLexical (words i) → sees (codes "for") i ≡ true → Reads (loop b before i) (Spells item_words (item_means more b before) i)) where
   -- an item that was read is spelled, where blocks are
-  item_by_sound : (b : ℕ) (block : Rule (Unit {0})) → ((i : Input) → AreLexical (words i) → sees (codes "{") i ≡ true → Reads (block i) (Spells item_words (item_means more b) i))
-      → (i : Input) → AreLexical (words i) → Reads (rule.item_by block (loop b) b i) (Spells item_words (item_means more b) i)
+  item_by_sound : (b : ℕ) (block : Items → Rule Items) → ((before : Items) (i : Input) → AreLexical (words i) → sees (codes "{") i ≡ true → Reads (block before i) (Spells item_words (item_means more b before) i))
+      → (before : Items) (i : Input) → AreLexical (words i) → Reads (rule.item_by block (loop b) b before i) (Spells item_words (item_means more b before) i)
   unfolding rule.item_by item_means next spelled_kind
-  item_by_sound b block below i g = reads_if (sees (codes ";") i) (λ is. gives (tree.nothing, took_symbol (codes ";") refl i g is, refl)) (λ _.
-      reads_if (sees (codes "{") i) (λ is. below i g is) (λ _.
-      reads_if (sees (codes "for") i) (λ is. loop_sound b i g is) (λ _.
+  item_by_sound b block below before i g = reads_if (sees (codes ";") i) (λ is. gives (tree.nothing, took_symbol (codes ";") refl i g is, refl)) (λ _.
+      reads_if (sees (codes "{") i) (λ is. below before i g is) (λ _.
+      reads_if (sees (codes "for") i) (λ is. loop_sound b before i g is) (λ _.
       reads_if (sees (codes "if") i) (λ _. fails) (λ _.
-      reads_if (is_name_kind (kind i)) (λ is. statement_sound more b i g is) (λ _. fails)))))
+      reads_if (is_name_kind (kind i)) (λ is. statement_sound more b before i g is) (λ _. fails)))))
 
   -- a block that was read is an item
-  block_sound : (b : ℕ) (i : Input) → AreLexical (words i) → sees (codes "{") i ≡ true → Reads (rule.block loop b i) (Spells item_words (item_means more b) i)
+  block_sound : (b : ℕ) (before : Items) (i : Input) → AreLexical (words i) → sees (codes "{") i ≡ true → Reads (rule.block loop b before i) (Spells item_words (item_means more b before) i)
   unfolding rule.block rule.all_block_items item_means next spelled_kind
-  block_sound zero i g is = fails
-  block_sound (suc b) i g is =
+  block_sound zero before i g is = fails
+  block_sound (suc b) before i g is =
       let t = took_symbol (codes "{") refl i g is in
-      reads_map (block_items_sound more b (rule.item_by (rule.block loop b) (loop b) b) (item_by_sound b (rule.block loop b) (block_sound b)) (left (next i)) (next i) t.lexical) (λ q r. (tree.block r.0, took_then t (took_then r.2 r.3), r.4))
+      reads_map (block_items_sound more b (rule.item_by (rule.block loop b) (loop b) b) (item_by_sound b (rule.block loop b) (block_sound b)) (left (next i)) before (next i) t.lexical) (λ q r. (tree.block r.0, took_then t (took_then r.2 r.3), r.4))
 
   -- an item that was read is spelled
-  item_over_sound : (b : ℕ) (i : Input) → AreLexical (words i) → Reads (rule.item_over loop b i) (Spells item_words (item_means more b) i)
+  item_over_sound : (b : ℕ) (before : Items) (i : Input) → AreLexical (words i) → Reads (rule.item_over loop b before i) (Spells item_words (item_means more b before) i)
   unfolding rule.item_over
-  item_over_sound b i g = item_by_sound b (rule.block loop b) (block_sound b) i g
+  item_over_sound b before i g = item_by_sound b (rule.block loop b) (block_sound b) before i g
 
 -- a loop that was read is an item, where so many may be opened
-loops_sound : (more b : ℕ) (i : Input) → AreLexical (words i) → sees (codes "for") i ≡ true → Reads (rule.loops more b i) (Spells item_words (item_means more b) i)
+loops_sound : (more b : ℕ) (before : Items) (i : Input) → AreLexical (words i) → sees (codes "for") i ≡ true → Reads (rule.loops more b before i) (Spells item_words (item_means more b before) i)
 unfolding rule.loops
-loops_sound zero b i g is = fails
-loops_sound (suc more) b i g is = for_loop_sound more b (rule.item_over (rule.loops more) b) (item_over_sound more (rule.loops more) (loops_sound more) b) i g is
+loops_sound zero b before i g is = fails
+loops_sound (suc more) b before i g is = for_loop_sound more b (rule.item_over (rule.loops more) b) (item_over_sound more (rule.loops more) (loops_sound more) b) before i g is
 
 -- items that were read are spelled
-items_sound : (n : ℕ) (i : Input) → AreLexical (words i)
-    → Reads (rule.items n i) (λ q. (ts : tree.Items) × Took i (items_words ts) q.1 × (words q.1 ≡ program_end ∷ []) × (items_means most_loops 64 ts (bare i) ≡ Some (tt, bare q.1)))
+items_sound : (n : ℕ) (before : Items) (i : Input) → AreLexical (words i)
+    → Reads (rule.items n before i) (λ q. (ts : tree.Items) × Took i (items_words ts) q.1 × (words q.1 ≡ program_end ∷ []) × (items_means most_loops 64 before ts (bare i) ≡ Some (q.0, bare q.1)))
 unfolding rule.items rule.item items_means
-items_sound zero i g = fails
-items_sound (suc n) i g = reads_if (is_end (kind i)) (λ is. gives (tree.item_end, took_none g, end_words (words i) g (sym (kind_is i) ∙ end_is (kind i) is), refl)) (λ _.
-    reads_then (rule.item most_loops 64 i) _ (item_over_sound most_loops (rule.loops most_loops) (loops_sound most_loops) 64 i g) (λ p t.
-    reads_map (items_sound n p.1 t.1.lexical) (λ q r. (tree.item t.0 r.0, took_then t.1 r.1, r.2, means_then _ _ t.2 r.3))))
+items_sound zero before i g = fails
+items_sound (suc n) before i g = reads_if (is_end (kind i)) (λ is. gives (tree.item_end, took_none g, end_words (words i) g (sym (kind_is i) ∙ end_is (kind i) is), refl)) (λ _.
+    reads_then (rule.item most_loops 64 before i) _ (item_over_sound most_loops (rule.loops most_loops) (loops_sound most_loops) 64 before i g) (λ p t.
+    reads_map (items_sound n p.0 p.1 t.1.lexical) (λ q r. (tree.item t.0 r.0, took_then t.1 r.1, r.2, means_then _ _ t.2 r.3))))
 
 -- a line's names that were read are spelled
 parameter_names_sound : (n : ℕ) (i : Input) → AreLexical (words i) → Reads (head_rule.parameter_names n i) (SpellsUpTo line_end (map a_name) parameters_mean i)
@@ -333,14 +338,14 @@ unfolding whole.text_rule head_rule.head whole_means all_items
 text_rule_sound i g =
     let h : Head = record { assumed = false; rows = [] } in
     reads_then (head_rule.directives (left i) h i) _ (directives_sound (left i) h i g) (λ p ls.
-    reads_then (rule.items (left p.1) p.1) _ (items_sound (left p.1) p.1 ls.1.lexical) (λ r ts. gives (
+    reads_then (rule.items (left p.1) done p.1) _ (items_sound (left p.1) done p.1 ls.1.lexical) (λ r ts. gives (
       record { lines = ls.0; items = ts.0 },
       ls.1.spelled ∙ ap (λ (ws : List Word). lines_words ls.0 ++ ws) (ts.1.spelled ∙ ap (λ (ws : List Word). items_words ts.0 ++ ws) ts.2),
       means_then _ _ ls.2 (means_then _ _ ts.3 refl),
     )))
 
 -- a text that was read is spelled
-reading_sound : (bytes : List ℕ) (tokens : List Token) (r : Reading) (o : Outcome Head) → whole.text_rule (start_of bytes tokens) ≡ o → AreLexical (words (start_of bytes tokens)) → whole.reading_from o ≡ Ok r
+reading_sound : (bytes : List ℕ) (tokens : List Token) (r : Reading) (o : Outcome (Head × Items)) → whole.text_rule (start_of bytes tokens) ≡ o → AreLexical (words (start_of bytes tokens)) → whole.reading_from o ≡ Ok r
     → (t : Text) × (words (start_of bytes tokens) ≡ text_words t) × (text_means t ≡ Some r)
 unfolding whole.assumptions_of
 reading_sound bytes tokens r (Err x) is g e = absurd cc

@@ -22,7 +22,7 @@ use Rattle.c_grammar.proofs.NameKinds.{kind_of-lookup, lookup-other, lookup-new,
 use Rattle.std.proofs.lemmas.Option.{slice_get_within}
 use Rattle.c_grammar.proofs.Steps.{bool_cases}
 use Rattle.std.specs.List.{AllByRecursion}
-use Rattle.c_reading.specs.declared.lines.Loop.{Loop}
+use Rattle.c_reading.specs.declared.tree.Header.{Header as ReadHeader}
 use Rattle.c_reading.specs.Compare.{Rows, most_brackets, most_rows}
 
 -- ---- sums of rows
@@ -381,7 +381,7 @@ loops_take_values b h s r l k e =
     then_some (λ high m. then_in (given (upper_bound h.excludes high.numbers) m) (λ numbers. mean.pure (record { name = x.0; lower = y.0.numbers; upper = numbers }))) (affine_means b h.upper y.1) g2 (λ z f3 g3.
     let high = affine_valued b h.upper y.1 z.1 z.0 low.kinds f3 in
     given_some (upper_bound h.excludes z.0.numbers) (λ numbers. mean.pure (record { name = x.0; lower = y.0.numbers; upper = numbers })) z.1 g3 (λ numbers f4 g4.
-    subst (λ (w : Loop × Names). (at : Point) (ns : List ℤ) → AreNumbersAt w.1 at ns → (value : ℤ) → ((row_value w.0.lower ns ≤ℤ value) × (value ≤ℤ row_value w.0.upper ns)) ↔ IsTaken at h value) (same_some g4) (λ at ns m value.
+    subst (λ (w : ReadHeader × Names). (at : Point) (ns : List ℤ) → AreNumbersAt w.1 at ns → (value : ℤ) → ((row_value w.0.lower ns ≤ℤ value) × (value ≤ℤ row_value w.0.upper ns)) ↔ IsTaken at h value) (same_some g4) (λ at ns m value.
     let first = low.is at ns (high.back at ns m) in
     let last = high.is at ns m in
     let sum = combined_sum (pos 1) (excluded h.excludes) zeros z.0.numbers numbers refl high.size f4 in

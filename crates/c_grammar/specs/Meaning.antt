@@ -3,9 +3,9 @@
 use Rattle.std.specs.Prelude.{ℕ, zero, suc, ◌+◌, ◌-◌, ◌==◌, ◌&&◌, ◌||◌, nat_lt, nat_le, Bool, true, false, not, if◌then◌else◌, ℤ, pos, negsuc, List, [], ◌∷◌, ◌++◌, length, Option, Some, None, option_map, option_and_then}
 use Rattle.c_reading.specs.declared.named.Kind.{Kind}
 use Rattle.c_reading.specs.declared.named.Kind.TheVariants as kind
-use Rattle.c_reading.specs.declared.lines.Loop.{Loop}
-use Rattle.c_reading.specs.declared.lines.Line.TheVariants as line
-use Rattle.c_reading.specs.Access.{Access}
+use Rattle.c_reading.specs.declared.tree.Header.{Header}
+use Rattle.c_reading.specs.Access.{Access, Statement}
+use Rattle.c_reading.specs.Tree.{Items, assign, loop, done, with_item}
 use Rattle.c_reading.specs.Input.{Input}
 use Rattle.c_reading.specs.Numbers.{most_parameters, most_loops, single, parameter_slot, loop_slot, combined, zeros, constant_of, value_from, is_integer}
 use Rattle.c_reading.specs.Affine.{kind_of, number_of, with_name, is_short, sign_of}
@@ -13,7 +13,7 @@ use Rattle.c_reading.specs.Compare.{Rows, most_brackets, most_rows}
 use Rattle.c_reading.specs.Head.{Head}
 use Rattle.c_reading.specs.Refs.{most_arrays, most_subscripts, with_kind}
 use Rattle.c_reading.specs.Values.{Accesses, most_reads}
-use Rattle.c_reading.specs.Items.{most_statements, first_reads, is_array, with_line}
+use Rattle.c_reading.specs.Items.{most_statements, first_reads, is_array}
 use Rattle.c_reading.specs.Text.{Reading, assumptions_of, start_of}
 use Rattle.c_grammar.specs.Affine as tree
 use Rattle.c_grammar.specs.Value as value
@@ -21,8 +21,8 @@ use Rattle.c_grammar.specs.Item as item
 use Rattle.c_grammar.specs.Text as text
 use Rattle.iolb_model.specs.declared.limits.TheConstants.{NUMBER_SIZE}
 
--- The names so far in order of first sight with their kinds, how many are parameters and how many arrays, and the lines of
--- the program so far with how many of them are statements: an input, of which no text and no tokens are left.
+-- The names so far in order of first sight with their kinds, how many are parameters and how many arrays, and how many
+-- statements there are so far: an input, of which no text and no tokens are left.
 abbrev pub Names : Type 0
 Names = Input
 
@@ -265,25 +265,21 @@ updates item.subtracts = true
 updates item.multiplies = true
 updates item.divides = true
 
--- a statement's line
-abbrev pub with_statement : Access → Accesses → Meaning (Unit {0})
-with_statement writes reads s = Some (tt, with_line (line.Does (record { writes = writes; reads = reads })) s)
-
 -- so many statements
 abbrev pub with_count : ℕ → Meaning (Unit {0})
 with_count count s = Some (tt, record s { statements = count })
 
 -- an assignment: the reference that it writes, then those of its value
-unfoldable pub assign_means : ℕ → item.Assign → Meaning (Unit {0})
+unfoldable pub assign_means : ℕ → item.Assign → Meaning Statement
 assign_means brackets a =
     reference_means brackets a.target >>= (λ writes. value_means brackets (first_reads (updates a.assigner) writes) a.value >>= (λ reads.
-    with_statement writes reads))
+    pure (record { writes = writes; reads = reads })))
 
--- an assignment to an array or a new name, where statements aren't too many
-unfoldable pub statement_means : ℕ → item.Assign → Meaning (Unit {0})
-statement_means brackets a s =
+-- an assignment to an array or a new name behind these items, where statements aren't too many
+unfoldable pub statement_means : ℕ → Items → item.Assign → Meaning Items
+statement_means brackets items a s =
     if not (is_array (kind_of a.target.name s)) || nat_le most_statements s.statements then None
-    else (assign_means brackets a >> with_count (s.statements + 1)) s
+    else (assign_means brackets a >>= (λ statement. with_count (s.statements + 1) >> pure (with_item items (assign statement)))) s
 
 -- ---- loops
 
@@ -314,34 +310,35 @@ abbrev pub upper_bound : Bool → List ℤ → Option (List ℤ)
 upper_bound excludes numbers = combined (pos 1) (excluded excludes) zeros numbers
 
 -- a header, in whose bracket so many more may be opened
-unfoldable pub header_means : ℕ → item.Header → Meaning Loop
+unfoldable pub header_means : ℕ → item.Header → Meaning Header
 header_means brackets h =
     loop_name h.name >>= (λ at. affine_means brackets h.lower >>= (λ lower. affine_means brackets h.upper >>= (λ upper.
     given (upper_bound h.excludes upper.numbers) >>= (λ numbers. pure (record { name = at; lower = lower.numbers; upper = numbers })))))
 
--- a loop begins at this depth
-unfoldable pub begin : ℕ → Loop → Meaning (Unit {0})
-begin depth l s = Some (tt, with_kind l.name (kind.OpenLoop depth) (with_line (line.Begin l) s))
+-- the loop of this name begins at this depth
+unfoldable pub begin : ℕ → ℕ → Meaning (Unit {0})
+begin depth at s = Some (tt, with_kind at (kind.OpenLoop depth) s)
 
 -- it ends
 unfoldable pub end : ℕ → Meaning (Unit {0})
-end at s = Some (tt, with_kind at kind.ClosedLoop (with_line line.End s))
+end at s = Some (tt, with_kind at kind.ClosedLoop s)
 
--- items, where so many loops and so many brackets may still be opened
+-- items behind these, where so many loops and so many brackets may still be opened
 unfoldable mutual
-  pub item_means : ℕ → ℕ → item.Item → Meaning (Unit {0})
-  item_means more brackets item.nothing = pure tt
-  item_means more zero (item.block is) = none
-  item_means more (suc brackets) (item.block is) = items_means more brackets is
-  item_means zero brackets (item.loop h i) = none
-  item_means (suc more) zero (item.loop h i) = none
-  item_means (suc more) (suc brackets) (item.loop h i) =
-      header_means brackets h >>= (λ l. begin (most_loops - 1 - more) l >> item_means more (suc brackets) i >> end l.name)
-  item_means more brackets (item.statement a) = statement_means brackets a
+  pub item_means : ℕ → ℕ → Items → item.Item → Meaning Items
+  item_means more brackets items item.nothing = pure items
+  item_means more zero items (item.block is) = none
+  item_means more (suc brackets) items (item.block is) = items_means more brackets items is
+  item_means zero brackets items (item.loop h i) = none
+  item_means (suc more) zero items (item.loop h i) = none
+  item_means (suc more) (suc brackets) items (item.loop h i) =
+      header_means brackets h >>= (λ l. begin (most_loops - 1 - more) l.name >> item_means more (suc brackets) done i >>= (λ body.
+      end l.name >> pure (with_item items (loop l body))))
+  item_means more brackets items (item.statement a) = statement_means brackets items a
 
-  pub items_means : ℕ → ℕ → item.Items → Meaning (Unit {0})
-  items_means more brackets item.item_end = pure tt
-  items_means more brackets (item.item i is) = item_means more brackets i >> items_means more brackets is
+  pub items_means : ℕ → ℕ → Items → item.Items → Meaning Items
+  items_means more brackets items item.item_end = pure items
+  items_means more brackets items (item.item i is) = item_means more brackets items i >>= (λ all. items_means more brackets all is)
 
 -- ---- texts
 
@@ -362,13 +359,14 @@ lines_mean h (text.parameters head names ls) = parameters_mean names >> lines_me
 lines_mean h (text.assumptions head cs ls) = compares_mean h.rows cs >>= (λ rows. lines_mean (record { assumed = true; rows = rows }) ls)
 
 -- what is read, where something is meant
-abbrev pub reading_from : Option (Head × Names) → Option Reading
+abbrev pub reading_from : Option ((Head × Items) × Names) → Option Reading
 reading_from None = None
-reading_from (Some p) = Some (record { names = p.1.names; kinds = p.1.kinds; assumptions = assumptions_of p.0 p.1; lines = p.1.lines })
+reading_from (Some p) = Some (record { names = p.1.names; kinds = p.1.kinds; assumptions = assumptions_of p.0.0 p.1; items = p.0.1 })
 
 -- the lines in front of a program, then its items
-unfoldable pub whole_means : text.Text → Meaning Head
-whole_means t = lines_mean (record { assumed = false; rows = [] }) t.lines >>= (λ h. items_means most_loops most_brackets t.items >> pure h)
+unfoldable pub whole_means : text.Text → Meaning (Head × Items)
+whole_means t =
+    lines_mean (record { assumed = false; rows = [] }) t.lines >>= (λ h. items_means most_loops most_brackets done t.items >>= (λ items. pure (h, items)))
 
 -- what a text means, where it is within the limits
 abbrev pub text_means : text.Text → Option Reading

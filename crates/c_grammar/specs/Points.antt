@@ -4,7 +4,7 @@ use Rattle.std.specs.List.{AllByRecursion}
 use Rattle.iolb_model.specs.Form.{dot}
 use Rattle.iolb_model.specs.declared.limits.TheConstants.{LOOPS, PARAMETERS}
 use Rattle.c_reading.specs.declared.named.Kind.TheVariants.{Parameter, OpenLoop}
-use Rattle.c_reading.specs.declared.lines.Loop.{Loop}
+use Rattle.c_reading.specs.declared.tree.Header.{Header as ReadHeader}
 use Rattle.c_reading.specs.Affine.{kind_of}
 use Rattle.c_reading.specs.Compare.{Rows}
 use Rattle.c_grammar.specs.Affine.{Affine, sum, Sums, sum_end, plus, minus, Term, product, Products, product_end, times, Factor, integer, name, in_brackets, negative, positive, Comparison, at_least, above, at_most, below, equal, Compare}
@@ -95,5 +95,5 @@ RowsHoldSo = (c : Compare) (s r : Names) (rows all : Rows) → HaveKinds s → c
 
 -- the values of a loop are exactly those from its first value on for which its comparison holds
 abbrev pub LoopsTakeValues : Type 0
-LoopsTakeValues = (brackets : ℕ) (h : Header) (s r : Names) (l : Loop) → HaveKinds s → header_means brackets h s ≡ Some (l, r) → (at : Point) (numbers : List ℤ) → AreNumbersAt r at numbers
+LoopsTakeValues = (brackets : ℕ) (h : Header) (s r : Names) (l : ReadHeader) → HaveKinds s → header_means brackets h s ≡ Some (l, r) → (at : Point) (numbers : List ℤ) → AreNumbersAt r at numbers
     → (value : ℤ) → ((row_value l.lower numbers ≤ℤ value) × (value ≤ℤ row_value l.upper numbers)) ↔ IsTaken at h value

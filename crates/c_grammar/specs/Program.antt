@@ -1,15 +1,19 @@
--- Which affine program a C text means: its rows of numbers are forms, its lines a tree.
-use Rattle.std.specs.Prelude.{◌≡◌, ℕ, suc, ◌+◌, ◌-◌, List, [], ◌∷◌, ◌++◌, map, length, take, drop, ℤ, slice_index_or, Ok}
+-- Which affine program a C text means: its rows of numbers are forms over the parameters and the loops around them.
+use Rattle.std.specs.Prelude.{◌≡◌, ℕ, suc, ◌+◌, List, [], ◌∷◌, ◌++◌, map, length, take, drop, ℤ, slice_index_or, Some, option_map}
 use Rattle.iolb_model.specs.Form.{AffineForm}
-use Rattle.iolb_model.specs.Program.{Access, Statement, Item, assign, loop, Row, done, next, AffineProgram}
+use Rattle.iolb_model.specs.Program.{Access, Statement, Item, assign, loop, AffineProgram}
+use Rattle.c_reading.specs.Tree as read
 use Rattle.c_reading.specs.Access.{Access as ReadAccess, Statement as ReadStatement}
-use Rattle.c_reading.specs.declared.lines.Line.{Line}
-use Rattle.c_reading.specs.declared.lines.Line.TheVariants.{Begin, Does, End}
+use Rattle.c_reading.specs.Tree.{Item as ReadItem, Items as ReadItems}
 use Rattle.iolb_model.specs.declared.limits.TheConstants.{PARAMETERS}
 use Rattle.c_reading.specs.Numbers.{constant_of}
-use Rattle.c_reading.specs.Text.{Reading, reading_of}
+use Rattle.c_reading.specs.Text.{Reading}
 use Rattle.affine_program.specs.Parts.{array_of}
-use Rattle.c_grammar.specs.Well.{parameters_of, arrays_of}
+use Rattle.affine_program.specs.Tree.{row_from}
+use Rattle.c_grammar.specs.Words.{words_of}
+use Rattle.c_grammar.specs.Text.{Text, text_words}
+use Rattle.c_grammar.specs.Meaning.{text_means}
+use Rattle.c_grammar.specs.Well.{parameters_of, arrays_of, item_count}
 
 -- ---- rows
 
@@ -23,52 +27,47 @@ narrowed_access parameters depth access = record { array = access.array; subscri
 abbrev pub narrowed_statement : ℕ → ℕ → ReadStatement → Statement
 narrowed_statement parameters depth s = record { writes = narrowed_access parameters depth s.writes; reads = map (narrowed_access parameters depth) s.reads }
 
--- ---- lines
+-- ---- items
 
--- the statements among lines that stand inside so many loops
-abbrev pub statements_among : ℕ → ℕ → List Line → List Statement
-statements_among parameters depth [] = []
-statements_among parameters depth (Begin l ∷ lines) = statements_among parameters (suc depth) lines
-statements_among parameters depth (Does s ∷ lines) = narrowed_statement parameters depth s ∷ statements_among parameters depth lines
-statements_among parameters depth (End ∷ lines) = statements_among parameters (depth - 1) lines
-
--- A line of a tree: a loop begins, with its name and its bounds; a statement stands there, by its number; a loop ends.
-pub data TreeLine : Type 0 where
-  begins : List ℕ → AffineForm → AffineForm → TreeLine
-  does : ℕ → TreeLine
-  ends : TreeLine
-
--- the lines of an item and of a row
+-- the statements of items inside so many loops
 abbrev mutual
-  pub item_lines : Item → List TreeLine
-  item_lines (assign number) = does number ∷ []
-  item_lines (loop name lower upper body) = begins name lower upper ∷ (row_lines body ++ ends ∷ [])
+  pub statements_in_item : ℕ → ℕ → ReadItem → List Statement
+  statements_in_item parameters depth (read.assign s) = narrowed_statement parameters depth s ∷ []
+  statements_in_item parameters depth (read.loop h body) = statements_in parameters (suc depth) body
 
-  pub row_lines : Row → List TreeLine
-  row_lines done = []
-  row_lines (next item row) = item_lines item ++ row_lines row
+  pub statements_in : ℕ → ℕ → ReadItems → List Statement
+  statements_in parameters depth read.done = []
+  statements_in parameters depth (read.next i items) = statements_in_item parameters depth i ++ statements_in parameters depth items
 
--- the lines of the tree that a text's lines spell, inside so many loops, where the next statement has this number
-abbrev pub tree_lines : List (List ℕ) → ℕ → ℕ → ℕ → List Line → List TreeLine
-tree_lines names parameters depth number [] = []
-tree_lines names parameters depth number (Begin l ∷ lines) =
-    begins (slice_index_or names l.name []) (narrowed parameters depth l.lower) (narrowed parameters depth l.upper)
-    ∷ tree_lines names parameters (suc depth) number lines
-tree_lines names parameters depth number (Does s ∷ lines) = does number ∷ tree_lines names parameters depth (suc number) lines
-tree_lines names parameters depth number (End ∷ lines) = ends ∷ tree_lines names parameters (depth - 1) number lines
+-- the items of a program that items mean inside so many loops, where the next statement has this number
+abbrev mutual
+  pub item_meant : List (List ℕ) → ℕ → ℕ → ℕ → ReadItem → Item
+  item_meant names parameters depth number (read.assign s) = assign number
+  item_meant names parameters depth number (read.loop h body) =
+      loop (slice_index_or names h.name []) (narrowed parameters depth h.lower) (narrowed parameters depth h.upper)
+      (row_from (items_meant names parameters (suc depth) number body))
+
+  pub items_meant : List (List ℕ) → ℕ → ℕ → ℕ → ReadItems → List Item
+  items_meant names parameters depth number read.done = []
+  items_meant names parameters depth number (read.next i items) =
+      item_meant names parameters depth number i ∷ items_meant names parameters depth (number + item_count i) items
 
 -- ---- texts
 
--- what a reading says is this program
-pub record IsReadingOf (r : Reading) (program : AffineProgram) : Type 0 where
-  pub parameters : program.parameters ≡ parameters_of r
-  pub assumptions : program.assumptions ≡ map (narrowed (length (parameters_of r)) 0) r.assumptions
-  pub arrays : program.arrays ≡ map array_of (arrays_of r)
-  pub statements : program.statements ≡ statements_among (length (parameters_of r)) 0 r.lines
-  pub tree : row_lines program.tree ≡ tree_lines r.names (length (parameters_of r)) 0 0 r.lines
+-- the program that a reading says
+abbrev pub program_of : Reading → AffineProgram
+program_of r =
+    let p = length (parameters_of r) in
+    record {
+      parameters = parameters_of r;
+      assumptions = map (narrowed p 0) r.assumptions;
+      arrays = map array_of (arrays_of r);
+      statements = statements_in p 0 r.items;
+      tree = row_from (items_meant r.names p 0 0 r.items);
+    }
 
--- a text means this program
+-- a text means this program: its words are those of a syntax tree, whose meaning within the limits is the program
 pub record Means (bytes : List ℕ) (program : AffineProgram) : Type 0 where
-  pub reading : Reading
-  pub reads : reading_of bytes ≡ Ok reading
-  pub says : IsReadingOf reading program
+  pub tree : Text
+  pub spelled : words_of bytes ≡ Some (text_words tree)
+  pub meant : option_map program_of (text_means tree) ≡ Some program

@@ -1,14 +1,13 @@
 -- What every text that is read keeps: its names are C's and differ, its references fit their arrays, which are numbered as
--- references to them stand, its loops begin and end in turn, and all of it is within the limits.
-use Rattle.std.specs.Prelude.{◌≡◌, ℕ, zero, suc, ◌+◌, ◌-◌, ◌<◌, ◌≤◌, ℤ, pos, List, [], ◌∷◌, ◌++◌, length, take, drop, replicate, slice_get, IsSomeAnd, unsigned_abs, Some, Ok, ⊤}
+-- references to them stand, no loop has the name of one around it, and all of it is within the limits.
+use Rattle.std.specs.Prelude.{◌≡◌, ℕ, suc, ◌+◌, ◌-◌, ◌<◌, ◌≤◌, ℤ, pos, List, [], ◌∷◌, ◌++◌, length, take, drop, replicate, slice_get, IsSomeAnd, unsigned_abs, Some, Ok, ⊤}
 use Rattle.std.specs.List.{AllByRecursion}
 use Rattle.c_tokens.specs.Names.{IsName}
 use Rattle.affine_program.specs.Printable.{IsOrdered}
 use Rattle.c_reading.specs.declared.named.Kind.{Kind}
 use Rattle.c_reading.specs.declared.named.Kind.TheVariants.{Parameter, OpenLoop, ClosedLoop, Array}
 use Rattle.c_reading.specs.Access.{Access, Statement}
-use Rattle.c_reading.specs.declared.lines.Line.{Line}
-use Rattle.c_reading.specs.declared.lines.Line.TheVariants.{Begin, Does, End}
+use Rattle.c_reading.specs.Tree.{Item, assign, loop, Items, done, next}
 use Rattle.c_reading.specs.Names.{parameters_among, arrays_among}
 use Rattle.c_reading.specs.Text.{Reading, reading_of}
 use Rattle.iolb_model.specs.declared.limits.TheConstants.{LOOPS, PARAMETERS, STATEMENTS, ARRAYS, SUBSCRIPTS, READS, ASSUMPTIONS, NUMBER_SIZE}
@@ -43,23 +42,27 @@ pub record IsStatementIn (r : Reading) (depth : ℕ) (statement : Statement) : T
   pub few : length statement.reads ≤ READS
   pub reads : AllByRecursion (IsAccessIn r depth) statement.reads
 
--- Lines inside so many loops, up to the end: each loop that begins has a name that is there, fewer loops around it than may
--- be nested, and ends; no other loop ends.
-abbrev pub AreLinesIn : Reading → ℕ → List Line → Type 0
-AreLinesIn r depth [] = depth ≡ 0
-AreLinesIn r depth (Begin l ∷ lines) =
-    (l.name < length r.names) × (depth < LOOPS) × IsRowOver (length (parameters_of r)) depth l.lower × IsRowOver (length (parameters_of r)) depth l.upper
-    × AreLinesIn r (suc depth) lines
-AreLinesIn r depth (Does statement ∷ lines) = IsStatementIn r depth statement × AreLinesIn r depth lines
-AreLinesIn r zero (End ∷ lines) = ⊥
-AreLinesIn r (suc depth) (End ∷ lines) = AreLinesIn r depth lines
+-- items inside so many loops, of which each has a name that is there and fewer loops around it than may be nested
+abbrev mutual
+  pub IsItemIn : Reading → ℕ → Item → Type 0
+  IsItemIn r depth (assign statement) = IsStatementIn r depth statement
+  IsItemIn r depth (loop h body) =
+      (h.name < length r.names) × (depth < LOOPS) × IsRowOver (length (parameters_of r)) depth h.lower × IsRowOver (length (parameters_of r)) depth h.upper
+      × AreItemsIn r (suc depth) body
 
--- how many of the lines are statements
-abbrev pub statement_count : List Line → ℕ
-statement_count [] = 0
-statement_count (Begin l ∷ lines) = statement_count lines
-statement_count (Does statement ∷ lines) = suc (statement_count lines)
-statement_count (End ∷ lines) = statement_count lines
+  pub AreItemsIn : Reading → ℕ → Items → Type 0
+  AreItemsIn r depth done = ⊤
+  AreItemsIn r depth (next i items) = IsItemIn r depth i × AreItemsIn r depth items
+
+-- how many statements there are
+abbrev mutual
+  pub item_count : Item → ℕ
+  item_count (assign statement) = 1
+  item_count (loop h body) = statement_count body
+
+  pub statement_count : Items → ℕ
+  statement_count done = 0
+  statement_count (next i items) = item_count i + statement_count items
 
 -- ---- the order of arrays
 
@@ -68,22 +71,17 @@ abbrev pub numbers_of : List Access → List ℕ
 numbers_of [] = []
 numbers_of (a ∷ accesses) = a.array ∷ numbers_of accesses
 
--- the arrays of lines, in order
-abbrev pub line_numbers : List Line → List ℕ
-line_numbers [] = []
-line_numbers (Begin l ∷ lines) = line_numbers lines
-line_numbers (Does s ∷ lines) = s.writes.array ∷ (numbers_of s.reads ++ line_numbers lines)
-line_numbers (End ∷ lines) = line_numbers lines
+-- the arrays of items, in order
+abbrev mutual
+  pub item_numbers : Item → List ℕ
+  item_numbers (assign s) = s.writes.array ∷ numbers_of s.reads
+  item_numbers (loop h body) = items_numbers body
+
+  pub items_numbers : Items → List ℕ
+  items_numbers done = []
+  items_numbers (next i items) = item_numbers i ++ items_numbers items
 
 -- ---- the names of loops
-
--- Lines inside these open loops, innermost first, and those that are open behind them: no loop has the name of one around.
-abbrev pub Nests : List ℕ → List Line → List ℕ → Type 0
-Nests around [] last = around ≡ last
-Nests around (Begin l ∷ lines) last = AllByRecursion (λ n. n ≡ l.name → ⊥) around × Nests (l.name ∷ around) lines last
-Nests around (Does s ∷ lines) last = Nests around lines last
-Nests [] (End ∷ lines) last = ⊥
-Nests (n ∷ around) (End ∷ lines) last = Nests around lines last
 
 -- a loop, open or not
 abbrev pub IsLoop : Kind → Type 0
@@ -96,11 +94,16 @@ IsLoop (Array n s) = ⊥
 abbrev pub IsLoopAt : List Kind → ℕ → Type 0
 IsLoopAt kinds at = (k : Kind) × (slice_get kinds at ≡ Some k) × IsLoop k
 
--- a line that begins a loop has a loop's name
-abbrev pub IsLoopLine : List Kind → Line → Type 0
-IsLoopLine kinds (Begin l) = IsLoopAt kinds l.name
-IsLoopLine kinds (Does s) = ⊤
-IsLoopLine kinds End = ⊤
+-- items inside loops of these names: each loop has a loop's name, and not that of one around it
+abbrev mutual
+  pub IsNested : List Kind → List ℕ → Item → Type 0
+  IsNested kinds around (assign s) = ⊤
+  IsNested kinds around (loop h body) =
+      IsLoopAt kinds h.name × AllByRecursion (λ n. n ≡ h.name → ⊥) around × AreNested kinds (h.name ∷ around) body
+
+  pub AreNested : List Kind → List ℕ → Items → Type 0
+  AreNested kinds around done = ⊤
+  AreNested kinds around (next i items) = IsNested kinds around i × AreNested kinds around items
 
 -- ---- readings
 
@@ -112,13 +115,12 @@ pub record IsWellRead (r : Reading) : Type 0 where
   pub assumptions : AllByRecursion (IsRowOver (length (parameters_of r)) 0) r.assumptions
   pub few_arrays : length (arrays_of r) ≤ ARRAYS
   pub ranks : AllByRecursion (λ (array : List ℕ × ℕ). array.1 ≤ SUBSCRIPTS) (arrays_of r)
-  pub statements : statement_count r.lines ≤ STATEMENTS
-  pub lines : AreLinesIn r 0 r.lines
+  pub statements : statement_count r.items ≤ STATEMENTS
+  pub items : AreItemsIn r 0 r.items
   pub names : AllByRecursion IsName r.names
   pub distinct : AreDistinct r.names
-  pub loops : AllByRecursion (IsLoopLine r.kinds) r.lines
-  pub nested : Nests [] r.lines []
-  pub order : IsOrdered 0 (line_numbers r.lines) (length (arrays_of r))
+  pub nested : AreNested r.kinds [] r.items
+  pub order : IsOrdered 0 (items_numbers r.items) (length (arrays_of r))
   pub some_assumptions : 0 < length (parameters_of r) → 0 < length r.assumptions
 
 -- every text that is read is well read

@@ -4,13 +4,12 @@ use Rattle.c_tokens.specs.declared.token.Token.{Token}
 use Rattle.c_tokens.specs.declared.token.TokenKind.{TokenKind}
 use Rattle.c_tokens.specs.declared.token.TokenKind.TheVariants as token
 use Rattle.c_reading.specs.declared.named.Kind.{Kind}
-use Rattle.c_reading.specs.declared.lines.Line.{Line}
 use Rattle.c_reading.specs.declared.error.ReadFault.{ReadFault}
 use Rattle.c_reading.specs.declared.error.ReadError.{ReadError}
 use Rattle.c_reading.specs.declared.error.ReadError.TheVariants.{Fault, Memory}
 
 -- The text, its tokens that are left, the names so far in order of first sight with their kinds, how many of them are
--- parameters and how many arrays, and the lines of the program so far with how many of them are statements.
+-- parameters and how many arrays, and how many statements there are so far.
 pub record Input : Type 0 where
   pub text : List ℕ
   pub tokens : List Token
@@ -18,7 +17,6 @@ pub record Input : Type 0 where
   pub kinds : List Kind
   pub parameters : ℕ
   pub arrays : ℕ
-  pub lines : List Line
   pub statements : ℕ
 
 -- ---- the next token

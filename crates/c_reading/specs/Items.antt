@@ -1,14 +1,14 @@
--- Items: statements, loops and blocks. What they say is added to the program's lines.
-use Rattle.std.specs.Prelude.{ℕ, zero, suc, ◌+◌, ◌-◌, ◌||◌, nat_le, Bool, true, false, not, if◌then◌else◌, ℤ, pos, List, [], ◌∷◌, ◌++◌, length, Option, Some, None, Result, Ok, Err, codes}
+-- Items: statements, loops and blocks.
+use Rattle.std.specs.Prelude.{ℕ, zero, suc, ◌+◌, ◌-◌, ◌||◌, nat_le, Bool, true, false, not, if◌then◌else◌, ℤ, pos, List, [], ◌∷◌, length, Option, Some, None, Result, Ok, Err, codes}
 use Rattle.c_tokens.specs.declared.token.TokenKind.{TokenKind}
 use Rattle.c_tokens.specs.declared.token.TokenKind.TheVariants as token
 use Rattle.c_reading.specs.declared.named.Kind.{Kind}
 use Rattle.c_reading.specs.declared.named.Kind.TheVariants as kind
-use Rattle.c_reading.specs.declared.lines.Loop.{Loop}
-use Rattle.c_reading.specs.declared.lines.Line.{Line}
-use Rattle.c_reading.specs.declared.lines.Line.TheVariants as line
+use Rattle.c_reading.specs.declared.tree.Header.{Header}
 use Rattle.c_reading.specs.declared.error.ReadFault.{ReadFault}
-use Rattle.c_reading.specs.Access.{Access}
+use Rattle.c_reading.specs.Access.{Access, Statement}
+use Rattle.c_reading.specs.Tree.{Items, done, with_item}
+use Rattle.c_reading.specs.Tree as tree
 use Rattle.c_reading.specs.Input.{Input, Rule, ◌>>=◌, ◌>>◌, pure, given, fault, fault_at, pass, refuse, sees, spelling, place, next, left, is_name_kind}
 use Rattle.c_reading.specs.Input as input
 use Rattle.c_reading.specs.Numbers.{most_loops, combined, zeros}
@@ -20,13 +20,6 @@ use Rattle.iolb_model.specs.declared.limits.TheConstants.{STATEMENTS}
 -- how many statements there may be
 abbrev pub most_statements : ℕ
 most_statements = STATEMENTS
-
--- one line more
-unfoldable pub with_line : Line → Input → Input
-with_line l i = record i { lines = i.lines ++ l ∷ [] }
-
-abbrev pub add_line : Line → Rule (Unit {0})
-add_line l i = Ok (tt, with_line l i)
 
 -- ---- statements
 
@@ -41,20 +34,16 @@ abbrev pub first_reads : Bool → Access → Accesses
 first_reads true writes = writes ∷ []
 first_reads false writes = []
 
--- a statement's line
-unfoldable pub add_statement : Access → Accesses → Rule (Unit {0})
-add_statement writes reads i = Ok (tt, with_line (line.Does (record { writes = writes; reads = reads })) i)
-
 -- there are so many statements now
 unfoldable pub count_statements : ℕ → Rule (Unit {0})
 count_statements count i = Ok (tt, record i { statements = count })
 
-unfoldable pub assign : ℕ → Rule (Unit {0})
+unfoldable pub assign : ℕ → Rule Statement
 assign brackets = do
   writes ← access brackets
   updates ← operator
   reads ← value brackets (first_reads updates writes)
-  add_statement writes reads
+  pure (record { writes = writes; reads = reads })
 
 -- whether a name may be written: it is new, or an array
 abbrev pub is_array : Option Kind → Bool
@@ -64,12 +53,20 @@ is_array (Some (kind.OpenLoop depth)) = false
 is_array (Some kind.ClosedLoop) = false
 is_array (Some (kind.Array number subscripts)) = true
 
--- a statement, where there aren't too many
-unfoldable pub statement : ℕ → Rule (Unit {0})
-statement brackets i =
+-- a statement, of which there are so many then, behind these items
+unfoldable pub counted : ℕ → ℕ → Items → Rule Items
+counted brackets count items = do
+  s ← assign brackets
+  count_statements count
+  expect (codes ";")
+  pure (with_item items (tree.assign s))
+
+-- the same, where there aren't too many
+unfoldable pub statement : ℕ → Items → Rule Items
+statement brackets items i =
     if not (is_array (kind_of (spelling i) i)) then fault 6 i
     else (if nat_le most_statements i.statements then fault 10 i
-    else (assign brackets >> count_statements (i.statements + 1) >> expect (codes ";")) i)
+    else counted brackets (i.statements + 1) items i)
 
 -- ---- headers
 
@@ -162,7 +159,7 @@ upper_bound brackets name = do
   λ i. upper_from brackets (place i) less i
 
 -- a header behind its bracket, of the loop of this name
-unfoldable pub header_of : ℕ → List ℕ → Rule Loop
+unfoldable pub header_of : ℕ → List ℕ → Rule Header
 header_of brackets name = do
   at ← loop_name
   lower ← lower_bound brackets
@@ -175,60 +172,61 @@ header_of brackets name = do
 unfoldable pub for_bracket : ℕ → Rule (Unit {0})
 for_bracket brackets i = if sees (codes "(") (next i) then open_bracket brackets (next i) else refuse (next i)
 
-unfoldable pub header : ℕ → Rule Loop
+unfoldable pub header : ℕ → Rule Header
 header brackets = for_bracket brackets >> (λ i. header_of (brackets - 1) (spelling (skip_int i)) (skip_int i))
 
 -- ---- loops and blocks
 
--- the loop of this header begins at this depth, and ends
-unfoldable pub opened : ℕ → Loop → Rule (Unit {0})
-opened depth h i = Ok (tt, with_kind h.name (kind.OpenLoop depth) (with_line (line.Begin h) i))
+-- the loop of this name begins at this depth, and ends
+unfoldable pub opened : ℕ → ℕ → Rule (Unit {0})
+opened depth at i = Ok (tt, with_kind at (kind.OpenLoop depth) i)
 
 unfoldable pub closed : ℕ → Rule (Unit {0})
-closed at i = Ok (tt, with_kind at kind.ClosedLoop (with_line line.End i))
+closed at i = Ok (tt, with_kind at kind.ClosedLoop i)
 
--- a loop at this depth over this item
-unfoldable pub for_loop : Rule (Unit {0}) → ℕ → ℕ → Rule (Unit {0})
-for_loop item depth brackets = do
+-- a loop at this depth over such an item, behind these items
+unfoldable pub for_loop : (Items → Rule Items) → ℕ → ℕ → Items → Rule Items
+for_loop item depth brackets items = do
   h ← header brackets
-  opened depth h
-  item
+  opened depth h.name
+  body ← item done
   closed h.name
+  pure (with_item items (tree.loop h body))
 
 -- items up to the bracket that closes the block. The number bounds the turns, and each turn takes a token.
-unfoldable pub block_items : Rule (Unit {0}) → ℕ → Rule (Unit {0})
-block_items item zero i = refuse i
-block_items item (suc turns) i =
-    if sees (codes "}") i then Ok (tt, next i) else (item >> block_items item turns) i
+unfoldable pub block_items : (Items → Rule Items) → ℕ → Items → Rule Items
+block_items item zero items i = refuse i
+block_items item (suc turns) items i =
+    if sees (codes "}") i then Ok (items, next i) else (item items >>= block_items item turns) i
 
-unfoldable pub all_block_items : Rule (Unit {0}) → Rule (Unit {0})
-all_block_items item i = block_items item (left i) i
+unfoldable pub all_block_items : (Items → Rule Items) → Items → Rule Items
+all_block_items item items i = block_items item (left i) items i
 
--- an item, over what a block and a loop are
-unfoldable pub item_by : Rule (Unit {0}) → Rule (Unit {0}) → ℕ → Rule (Unit {0})
-item_by block loop brackets i =
-    if sees (codes ";") i then Ok (tt, next i)
-    else (if sees (codes "{") i then block i
-    else (if sees (codes "for") i then loop i
+-- an item, over what a block and a loop are, behind these items
+unfoldable pub item_by : (Items → Rule Items) → (Items → Rule Items) → ℕ → Items → Rule Items
+item_by block loop brackets items i =
+    if sees (codes ";") i then Ok (items, next i)
+    else (if sees (codes "{") i then block items i
+    else (if sees (codes "for") i then loop items i
     else (if sees (codes "if") i then fault 12 i
-    else (if is_name_kind (input.kind i) then statement brackets i
+    else (if is_name_kind (input.kind i) then statement brackets items i
     else refuse i))))
 
 -- a block, over what a loop is, where so many brackets may still be opened
-unfoldable pub block : (ℕ → Rule (Unit {0})) → ℕ → Rule (Unit {0})
-block loop zero i = fault 9 i
-block loop (suc brackets) i = all_block_items (item_by (block loop brackets) (loop brackets) brackets) (next i)
+unfoldable pub block : (ℕ → Items → Rule Items) → ℕ → Items → Rule Items
+block loop zero items i = fault 9 i
+block loop (suc brackets) items i = all_block_items (item_by (block loop brackets) (loop brackets) brackets) items (next i)
 
-unfoldable pub item_over : (ℕ → Rule (Unit {0})) → ℕ → Rule (Unit {0})
+unfoldable pub item_over : (ℕ → Items → Rule Items) → ℕ → Items → Rule Items
 item_over loop brackets = item_by (block loop brackets) (loop brackets) brackets
 
 -- a loop, where so many loops and brackets may still be opened
-unfoldable pub loops : ℕ → ℕ → Rule (Unit {0})
-loops zero brackets i = fault 9 i
-loops (suc more) brackets i = for_loop (item_over (loops more) brackets) (most_loops - 1 - more) brackets i
+unfoldable pub loops : ℕ → ℕ → Items → Rule Items
+loops zero brackets items i = fault 9 i
+loops (suc more) brackets items i = for_loop (item_over (loops more) brackets) (most_loops - 1 - more) brackets items i
 
 -- an item, where so many loops and brackets may still be opened
-unfoldable pub item : ℕ → ℕ → Rule (Unit {0})
+unfoldable pub item : ℕ → ℕ → Items → Rule Items
 item more brackets = item_over (loops more) brackets
 
 abbrev pub is_end : TokenKind → Bool
@@ -236,9 +234,9 @@ is_end token.End = true
 is_end _ = false
 
 -- items up to the closing line
-unfoldable pub items : ℕ → Rule (Unit {0})
-items zero i = refuse i
-items (suc turns) i = if is_end (input.kind i) then Ok (tt, i) else (item most_loops 64 >> items turns) i
+unfoldable pub items : ℕ → Items → Rule Items
+items zero all i = refuse i
+items (suc turns) all i = if is_end (input.kind i) then Ok (all, i) else (item most_loops 64 all >>= items turns) i
 
-unfoldable pub all_items : Rule (Unit {0})
-all_items i = items (left i) i
+unfoldable pub all_items : Rule Items
+all_items i = items (left i) done i

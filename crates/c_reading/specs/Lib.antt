@@ -1,4 +1,6 @@
 pub mod Access
+pub mod Tree
+pub mod Marks
 pub mod Input
 pub mod Numbers
 pub mod Affine

@@ -3,20 +3,20 @@ use Rattle.std.specs.Prelude.{ℕ, zero, suc, if◌then◌else◌, ℤ, pos, neg
 use Rattle.c_tokens.specs.declared.token.Token.{Token}
 use Rattle.c_tokens.specs.Text.{tokens_of}
 use Rattle.c_reading.specs.declared.named.Kind.{Kind}
-use Rattle.c_reading.specs.declared.lines.Line.{Line}
+use Rattle.c_reading.specs.Tree.{Items}
 use Rattle.c_reading.specs.declared.error.ReadFault.{ReadFault}
-use Rattle.c_reading.specs.Input.{Input, Rule, Outcome, ◌>>=◌, ◌>>◌, pure}
+use Rattle.c_reading.specs.Input.{Input, Rule, Outcome, ◌>>=◌, pure}
 use Rattle.c_reading.specs.Numbers.{single, parameter_slot}
 use Rattle.c_reading.specs.Compare.{Rows}
 use Rattle.c_reading.specs.Head.{Head, head}
 use Rattle.c_reading.specs.Items.{all_items}
 
--- What a text says: its names in order of first sight, with their kinds; the rows that are assumed; and its lines.
+-- What a text says: its names in order of first sight, with their kinds; the rows that are assumed; and its items.
 pub record Reading : Type 0 where
   pub names : List (List ℕ)
   pub kinds : List Kind
   pub assumptions : Rows
-  pub lines : List Line
+  pub items : Items
 
 -- the row of a parameter less 1
 abbrev pub at_least_one : ℕ → List ℤ
@@ -32,18 +32,18 @@ unfoldable pub assumptions_of : Head → Input → Rows
 assumptions_of h i = if h.assumed then h.rows else all_at_least_one i.parameters
 
 -- the directives, then the items up to the closing line
-unfoldable pub text_rule : Rule Head
+unfoldable pub text_rule : Rule (Head × Items)
 text_rule = do
   h ← head
-  all_items
-  pure h
+  items ← all_items
+  pure (h, items)
 
 -- what a text is read from
 abbrev pub start_of : List ℕ → List Token → Input
-start_of text tokens = record { text = text; tokens = tokens; names = []; kinds = []; parameters = 0; arrays = 0; lines = []; statements = 0 }
+start_of text tokens = record { text = text; tokens = tokens; names = []; kinds = []; parameters = 0; arrays = 0; statements = 0 }
 
-abbrev pub reading_from : Outcome Head → Result Reading ReadFault
-reading_from (Ok p) = Ok (record { names = p.1.names; kinds = p.1.kinds; assumptions = assumptions_of p.0 p.1; lines = p.1.lines })
+abbrev pub reading_from : Outcome (Head × Items) → Result Reading ReadFault
+reading_from (Ok p) = Ok (record { names = p.1.names; kinds = p.1.kinds; assumptions = assumptions_of p.0.0 p.1; items = p.0.1 })
 reading_from (Err f) = Err f
 
 abbrev pub reading_by : List ℕ → Option (List Token) → Result Reading ReadFault

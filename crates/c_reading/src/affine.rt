@@ -5,9 +5,9 @@ ghost use Rattle.c_reading.specs.Input.{Reads, Gives};
 ghost use Rattle.c_reading.specs.Numbers as number;
 ghost use Rattle.c_reading.specs.Affine as spec;
 
+use crate::access::Row;
 use crate::error::{ReadError, ReadFault};
 use crate::input::Reader;
-use crate::lines::Row;
 use crate::named::Kind;
 use crate::numbers::{combined, constant_of, is_integer, single, value, zeros};
 use c_tokens::TokenKind;

@@ -4,10 +4,10 @@ ghost use Rattle.std.specs.Prelude.{◌≡◌, ◌≤◌};
 ghost use Rattle.c_reading.specs.Input.{Reads, Gives};
 ghost use Rattle.c_reading.specs.Compare as spec;
 
+use crate::access::Row;
 use crate::affine::Affine;
 use crate::error::{ReadError, ReadFault};
 use crate::input::Reader;
-use crate::lines::Row;
 use crate::numbers::combined;
 use crate::rows::Rows;
 use iolb_model::limits::{ASSUMPTIONS, BRACKETS};

@@ -5,11 +5,12 @@ ghost use Rattle.c_reading.specs.Input.{Reads, Gives, and_then};
 ghost use Rattle.c_reading.specs.Affine.{number_of};
 ghost use Rattle.c_reading.specs.Items as spec;
 
+use crate::access::Row;
 use crate::error::{ReadError, ReadFault};
 use crate::input::{Reader, is_short};
-use crate::lines::{Loop, Row};
 use crate::named::Kind;
 use crate::numbers::{combined, zeros};
+use crate::tree::Header;
 use c_tokens::TokenKind;
 use std::alloc::Global;
 
@@ -197,7 +198,7 @@ impl<'a> Reader<'a> {
 
     /// A header behind its bracket, of the loop of this name.
     #[tactic(auto, unfolding(crate::specs::Items::header_of))]
-    pub fn header_of(&mut self, brackets: u8, name: &[u8]) -> Result<Loop, ReadError>
+    pub fn header_of(&mut self, brackets: u8, name: &[u8]) -> Result<Header, ReadError>
         ensures { Reads (spec.header_of brackets name.now self.old) result self.new }
     {
         let at = self.loop_name()?;
@@ -205,7 +206,7 @@ impl<'a> Reader<'a> {
         let upper = self.upper_bound(brackets, name)?;
         self.step(name)?;
         self.expect(b")")?;
-        Ok(Loop {
+        Ok(Header {
             name: at,
             lower,
             upper,

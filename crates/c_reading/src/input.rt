@@ -4,17 +4,14 @@ ghost use Rattle.std.specs.Prelude.{◌≡◌, if◌then◌else◌, length, take
 ghost use Rattle.c_reading.specs.Input as spec;
 ghost use Rattle.c_reading.specs.Input.{Reads};
 ghost use Rattle.c_reading.specs.Refs.{with_kind};
-ghost use Rattle.c_reading.specs.Items.{with_line};
 ghost use Rattle.c_reading.specs.Text.{start_of};
 ghost use Rattle.c_reading.specs.Affine.{number_of, kind_of, with_name, is_short, new_parameter, slot};
 ghost use Rattle.iolb_model.specs.declared.limits.TheConstants.{NAME_BYTES};
 
 use crate::error::{ReadError, ReadFault};
-use crate::lines::Line;
 use crate::named::Kind;
-use crate::rows::Rows;
 use crate::seen::Names;
-use crate::text::Reading;
+use affine_form::Name;
 use c_tokens::{Token, TokenKind};
 use iolb_model::limits::{NAME_BYTES, PARAMETERS};
 use std::alloc::Global;
@@ -30,7 +27,6 @@ pub(crate) struct Reader<'a> {
     kinds: Vec<Kind>,
     parameters: u8,
     arrays: u16,
-    lines: Vec<Line>,
     statements: u8,
 }
 
@@ -39,7 +35,7 @@ impl<'a> Model for Reader<'a> {
 
     ghost Value = { Input };
 
-    ghost view = { λ r. record { text = r.text.now; tokens = r.tokens.now; names = r.names; kinds = r.kinds.items; parameters = r.parameters; arrays = r.arrays; lines = r.lines.items; statements = r.statements } };
+    ghost view = { λ r. record { text = r.text.now; tokens = r.tokens.now; names = r.names; kinds = r.kinds.items; parameters = r.parameters; arrays = r.arrays; statements = r.statements } };
 }
 
 /// The first token, or an end where none is left.
@@ -90,16 +86,16 @@ impl<'a> Reader<'a> {
             kinds: Vec::new(alloc),
             parameters: 0,
             arrays: 0,
-            lines: Vec::new(alloc),
             statements: 0,
         }
     }
 
-    /// What was read, with these assumptions.
-    pub fn into_reading(self, assumptions: Rows) -> Reading
-        ensures { result ≡ record { names = self.entry.names; kinds = self.entry.kinds; assumptions = assumptions; lines = self.entry.lines } }
+    /// The names, and the kind of each.
+    pub fn into_names(self) -> (Vec<Name>, Vec<Kind>)
+        ensures names { result.0.items ≡ self.entry.names }
+        ensures kinds { result.1.items ≡ self.entry.kinds }
     {
-        Reading::new(self.names.into_list(), self.kinds, assumptions, self.lines)
+        (self.names.into_list(), self.kinds)
     }
 
     /// How many of the names are parameters.
@@ -267,16 +263,6 @@ impl<'a> Reader<'a> {
         ensures { self.new ≡ record self.old { statements = statements } }
     {
         self.statements = statements;
-    }
-
-    /// One line more of the program.
-    #[tactic(auto, unfolding(crate::specs::Items::with_line))]
-    pub fn add_line(&mut self, line: Line) -> Result<(), ReadError>
-        ensures added { OnOk result (self.new ≡ with_line line self.old) }
-        ensures memory { IfErr result (λ e. e ≡ ReadError.Memory) }
-    {
-        self.lines.push(line)?;
-        Ok(())
     }
 
     /// How many names were seen.

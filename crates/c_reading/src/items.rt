@@ -5,11 +5,12 @@ ghost use Rattle.c_reading.specs.Input.{Reads};
 ghost use Rattle.c_reading.specs.Items as spec;
 ghost use Rattle.iolb_model.specs.declared.limits.TheConstants.{LOOPS};
 
+use crate::access::{Access, Statement};
 use crate::compare::MOST_BRACKETS;
 use crate::error::ReadError;
 use crate::input::Reader;
-use crate::lines::{Access, Line, Loop, Statement};
 use crate::named::Kind;
+use crate::tree::{Header, Items};
 use crate::values::Accesses;
 use c_tokens::TokenKind;
 use iolb_model::limits::{LOOPS, STATEMENTS};
@@ -62,30 +63,35 @@ impl<'a> Reader<'a> {
         Ok(reads)
     }
 
-    /// One statement more.
-    #[tactic(auto, unfolding(crate::specs::Items::add_statement, crate::specs::Items::with_line))]
-    fn add_statement(&mut self, writes: Access, reads: Accesses) -> Result<(), ReadError>
-        ensures { Reads (spec.add_statement writes reads self.old) result self.new }
-    {
-        self.add_line(Line::Does(Statement::new(writes, reads.into_vec())))
-    }
-
     /// An assignment.
     #[tactic(auto, unfolding(crate::specs::Items::assign))]
-    fn assign(&mut self, brackets: u8) -> Result<(), ReadError>
+    fn assign(&mut self, brackets: u8) -> Result<Statement, ReadError>
         ensures { Reads (spec.assign brackets self.old) result self.new }
     {
         let writes = self.access(brackets)?;
         let updates = self.operator()?;
         let reads = self.first_reads(updates, &writes)?;
         let reads = self.value(brackets, reads)?;
-        self.add_statement(writes, reads)
+        Ok(Statement::new(writes, reads.into_vec()))
+    }
+
+    /// A statement, of which there are so many then.
+    #[tactic(auto, unfolding(crate::specs::Items::counted, crate::specs::Items::count_statements))]
+    fn counted(&mut self, brackets: u8, count: u8, items: Items) -> Result<Items, ReadError>
+        ensures { Reads (spec.counted brackets count items self.old) result self.new }
+    {
+        let statement = self.assign(brackets)?;
+        self.set_statements(count);
+        self.expect(b";")?;
+        let mut items = items;
+        items.push_statement(statement)?;
+        Ok(items)
     }
 
     /// A statement, where there aren't too many.
-    #[tactic(auto, unfolding(crate::specs::Items::statement, crate::specs::Items::count_statements))]
-    fn statement(&mut self, brackets: u8) -> Result<(), ReadError>
-        ensures { Reads (spec.statement brackets self.old) result self.new }
+    #[tactic(auto, unfolding(crate::specs::Items::statement))]
+    fn statement(&mut self, brackets: u8, items: Items) -> Result<Items, ReadError>
+        ensures { Reads (spec.statement brackets items self.old) result self.new }
     {
         if !is_array(self.kind_of(self.spelling())) {
             return Err(self.fault(6));
@@ -94,14 +100,12 @@ impl<'a> Reader<'a> {
         if usize::from(count) >= STATEMENTS {
             return Err(self.fault(10));
         }
-        self.assign(brackets)?;
-        self.set_statements(count + 1);
-        self.expect(b";")
+        self.counted(brackets, count + 1, items)
     }
 
     /// A loop's header.
     #[tactic(auto, unfolding(crate::specs::Items::header))]
-    fn header(&mut self, brackets: u8) -> Result<Loop, ReadError>
+    fn header(&mut self, brackets: u8) -> Result<Header, ReadError>
         ensures { Reads (spec.header brackets self.old) result self.new }
     {
         self.for_bracket(brackets)?;
@@ -109,33 +113,12 @@ impl<'a> Reader<'a> {
         self.header_of(brackets - 1, self.spelling())
     }
 
-    /// A loop begins at this depth.
-    #[tactic(auto, unfolding(crate::specs::Items::opened))]
-    fn opened(&mut self, depth: u8, header: Loop) -> Result<(), ReadError>
-        ensures { Reads (spec.opened depth header self.old) result self.new }
-    {
-        let at = header.name;
-        self.add_line(Line::Begin(header))?;
-        self.set_kind(at, Kind::OpenLoop(depth));
-        Ok(())
-    }
-
-    /// The loop of this name ends.
-    #[tactic(auto, unfolding(crate::specs::Items::closed))]
-    fn closed(&mut self, at: usize) -> Result<(), ReadError>
-        ensures { Reads (spec.closed at self.old) result self.new }
-    {
-        self.add_line(Line::End)?;
-        self.set_kind(at, Kind::ClosedLoop);
-        Ok(())
-    }
-
     /// A loop, where so many loops and brackets may still be opened.
     #[cycle(item)]
-    #[tactic(auto, using(crate::proofs::Turns::loops_none, crate::proofs::Turns::loops_some), unfolding(crate::specs::Items::loops, crate::specs::Items::for_loop, crate::specs::Items::item))]
-    fn for_loop(&mut self, loops: u8, brackets: u8) -> Result<(), ReadError>
+    #[tactic(auto, using(crate::proofs::Turns::loops_none, crate::proofs::Turns::loops_some), unfolding(crate::specs::Items::loops))]
+    fn for_loop(&mut self, loops: u8, brackets: u8, items: Items) -> Result<Items, ReadError>
         requires { loops ≤ LOOPS }
-        ensures { Reads (spec.loops loops brackets self.old) result self.new }
+        ensures { Reads (spec.loops loops brackets items self.old) result self.new }
     {
         if loops == 0 {
             return Err(self.fault(9));
@@ -143,23 +126,27 @@ impl<'a> Reader<'a> {
         let header = self.header(brackets)?;
         let at = header.name;
         let inner = loops - 1;
-        self.opened(MOST_LOOPS - 1 - inner, header)?;
-        self.item(inner, brackets)?;
-        self.closed(at)
+        self.set_kind(at, Kind::OpenLoop(MOST_LOOPS - 1 - inner));
+        let body = self.item(inner, brackets, Items::new(self.alloc()))?;
+        self.set_kind(at, Kind::ClosedLoop);
+        let mut items = items;
+        items.push_loop(header, body)?;
+        Ok(items)
     }
 
     /// Items up to the bracket that closes their block, behind the one that opens it.
     #[cycle(item)]
     #[tactic(auto, using(crate::proofs::Turns::turns), unfolding(crate::specs::Items::block_items, crate::specs::Items::all_block_items))]
-    fn block_items(&mut self, loops: u8, brackets: u8) -> Result<(), ReadError>
+    fn block_items(&mut self, loops: u8, brackets: u8, items: Items) -> Result<Items, ReadError>
         requires { loops ≤ LOOPS }
-        ensures { Reads (spec.all_block_items (spec.item loops brackets) self.old) result self.new }
+        ensures { Reads (spec.all_block_items (spec.item loops brackets) items self.old) result self.new }
     {
+        let mut items = items;
         for _turn in 0..self.left() {
             if self.takes(b"}") {
-                return Ok(());
+                return Ok(items);
             }
-            self.item(loops, brackets)?;
+            items = self.item(loops, brackets, items)?;
         }
         Err(ReadError::Fault(self.refusal()))
     }
@@ -167,52 +154,53 @@ impl<'a> Reader<'a> {
     /// A block, where so many loops and brackets may still be opened.
     #[cycle(item)]
     #[tactic(auto, using(crate::proofs::Turns::block_none, crate::proofs::Turns::block_some), unfolding(crate::specs::Items::block, crate::specs::Items::item, crate::specs::Items::item_over))]
-    fn block(&mut self, loops: u8, brackets: u8) -> Result<(), ReadError>
+    fn block(&mut self, loops: u8, brackets: u8, items: Items) -> Result<Items, ReadError>
         requires { loops ≤ LOOPS }
-        ensures { Reads (spec.block (spec.loops loops) brackets self.old) result self.new }
+        ensures { Reads (spec.block (spec.loops loops) brackets items self.old) result self.new }
     {
         if brackets == 0 {
             return Err(self.fault(9));
         }
         self.pass();
-        self.block_items(loops, brackets - 1)
+        self.block_items(loops, brackets - 1, items)
     }
 
-    /// An item, where so many loops and brackets may still be opened.
+    /// An item behind these, where so many loops and brackets may still be opened.
     #[cycle(item)]
     #[tactic(auto, unfolding(crate::specs::Items::item, crate::specs::Items::item_over, crate::specs::Items::item_by))]
-    fn item(&mut self, loops: u8, brackets: u8) -> Result<(), ReadError>
+    fn item(&mut self, loops: u8, brackets: u8, items: Items) -> Result<Items, ReadError>
         requires { loops ≤ LOOPS }
-        ensures { Reads (spec.item loops brackets self.old) result self.new }
+        ensures { Reads (spec.item loops brackets items self.old) result self.new }
     {
         if self.takes(b";") {
-            return Ok(());
+            return Ok(items);
         }
         if self.sees(b"{") {
-            return self.block(loops, brackets);
+            return self.block(loops, brackets, items);
         }
         if self.sees(b"for") {
-            return self.for_loop(loops, brackets);
+            return self.for_loop(loops, brackets, items);
         }
         if self.sees(b"if") {
             return Err(self.fault(12));
         }
         match self.kind() {
-            TokenKind::Name => self.statement(brackets),
+            TokenKind::Name => self.statement(brackets, items),
             _ => Err(ReadError::Fault(self.refusal())),
         }
     }
 
     /// Items up to the closing line.
     #[tactic(auto, using(crate::proofs::Turns::turns), unfolding(crate::specs::Items::items, crate::specs::Items::all_items))]
-    pub fn items(&mut self) -> Result<(), ReadError>
+    pub fn items(&mut self) -> Result<Items, ReadError>
         ensures { Reads (spec.all_items self.old) result self.new }
     {
+        let mut items = Items::new(self.alloc());
         for _turn in 0..self.left() {
             if is_end(self.kind()) {
-                return Ok(());
+                return Ok(items);
             }
-            self.item(MOST_LOOPS, MOST_BRACKETS)?;
+            items = self.item(MOST_LOOPS, MOST_BRACKETS, items)?;
         }
         Err(ReadError::Fault(self.refusal()))
     }

@@ -4,9 +4,9 @@ ghost use Rattle.std.specs.Prelude.{◌≡◌, ◌≤◌, length};
 ghost use Rattle.c_reading.specs.Input.{Reads};
 ghost use Rattle.c_reading.specs.Refs as spec;
 
+use crate::access::{Access, Row};
 use crate::error::{ReadError, ReadFault};
 use crate::input::{Reader, is_short};
-use crate::lines::{Access, Row};
 use crate::named::Kind;
 use crate::rows::Rows;
 use iolb_model::limits::{ARRAYS, SUBSCRIPTS};

@@ -2,7 +2,7 @@
 
 ghost use Rattle.std.specs.Prelude.{◌≡◌, [], ◌++◌, ◌∷◌, length, OnOk, IfOk};
 
-use crate::lines::Row;
+use crate::access::Row;
 use std::alloc::{AllocError, Global};
 use std::marker::Model;
 

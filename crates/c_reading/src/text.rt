@@ -4,55 +4,44 @@ ghost use Rattle.std.specs.Prelude.{◌≡◌, IfOk};
 ghost use Rattle.c_reading.specs.Input.{Reads, Gives};
 ghost use Rattle.c_reading.specs.Names.{parameters_among, arrays_among};
 ghost use Rattle.c_reading.specs.Text as spec;
+ghost use Rattle.c_reading.specs.Tree.{items_of};
 
+use crate::access::Row;
 use crate::among::{arrays_among, parameters_among};
 use crate::error::{ReadError, ReadFault};
 use crate::head::Head;
 use crate::input::Reader;
-use crate::lines::{Line, Row};
 use crate::named::Kind;
 use crate::numbers::single;
 use crate::rows::Rows;
+use crate::tree::{Item, Items};
 use affine_form::{Memory, Name};
 use c_tokens::{Token, TokensError, tokens};
 use std::alloc::{AllocError, Global};
 use std::marker::Model;
 
-/// What a text says: its names in order of first sight, with their kinds; the rows that are assumed; and its lines.
+/// What a text says: its names in order of first sight, with their kinds; the rows that are assumed; and its items.
 #[derive(Drop)]
 pub struct Reading {
     names: Vec<Name>,
     kinds: Vec<Kind>,
     assumptions: Rows,
-    lines: Vec<Line>,
+    items: Items,
 }
 
 impl Model for Reading {
+    ghost use Rattle.std.specs.Coded.{codes};
+    ghost use Rattle.c_reading.specs.Marks.{items_code};
     ghost use Rattle.c_reading.specs.Text.{Reading as SpecReading};
 
     ghost Value = { SpecReading };
 
-    ghost view = { λ r. record { names = r.names.items; kinds = r.kinds.items; assumptions = r.assumptions; lines = r.lines.items } };
+    ghost coded = { Prim.hlevel (codes, items_code (Prim.hlevel (codes))) };
+
+    ghost view = { λ r. record { names = r.names.items; kinds = r.kinds.items; assumptions = r.assumptions; items = r.items } };
 }
 
 impl Reading {
-    /// What was read.
-    pub(crate) fn new(
-        names: Vec<Name>,
-        kinds: Vec<Kind>,
-        assumptions: Rows,
-        lines: Vec<Line>,
-    ) -> Reading
-        ensures { result ≡ record { names = names.items; kinds = kinds.items; assumptions = assumptions; lines = lines.items } }
-    {
-        Reading {
-            names,
-            kinds,
-            assumptions,
-            lines,
-        }
-    }
-
     /// The names, in order of first sight.
     pub fn names(&self) -> &[Name]
         ensures { result.now ≡ self.now.names }
@@ -88,11 +77,11 @@ impl Reading {
         self.assumptions.as_slice()
     }
 
-    /// The lines.
-    pub fn lines(&self) -> &[Line]
-        ensures { result.now ≡ self.now.lines }
+    /// The items.
+    pub fn items(&self) -> &[Item]
+        ensures { items_of result.now ≡ self.now.items }
     {
-        self.lines.as_slice()
+        self.items.as_slice()
     }
 }
 
@@ -134,12 +123,12 @@ impl<'a> Reader<'a> {
 
     /// The directives, then the items up to the closing line.
     #[tactic(auto, unfolding(crate::specs::Text::text_rule))]
-    fn text(&mut self) -> Result<Head, ReadError>
+    fn text(&mut self) -> Result<(Head, Items), ReadError>
         ensures { Reads (spec.text_rule self.old) result self.new }
     {
         let head = self.head()?;
-        self.items()?;
-        Ok(head)
+        let items = self.items()?;
+        Ok((head, items))
     }
 }
 
@@ -148,9 +137,15 @@ fn read_tokens(alloc: Global, bytes: &[u8], tokens: &[Token]) -> Result<Reading,
     ensures { Gives (spec.reading_from (spec.text_rule (spec.start_of bytes.now tokens.now))) result }
 {
     let mut reader = Reader::new(alloc, bytes, tokens);
-    let head = reader.text()?;
+    let (head, items) = reader.text()?;
     let assumptions = reader.assumptions(head)?;
-    Ok(reader.into_reading(assumptions))
+    let (names, kinds) = reader.into_names();
+    Ok(Reading {
+        names,
+        kinds,
+        assumptions,
+        items,
+    })
 }
 
 /// Reads a whole C text: what it says, or the first fault that it has, with its number and its place. The lines before

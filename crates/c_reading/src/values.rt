@@ -5,9 +5,9 @@ ghost use Rattle.c_reading.specs.Input.{Reads, and_then, pure, spelling};
 ghost use Rattle.c_reading.specs.Affine.{kind_of};
 ghost use Rattle.c_reading.specs.Values as spec;
 
+use crate::access::Access;
 use crate::error::ReadError;
 use crate::input::{Reader, is_short};
-use crate::lines::Access;
 use crate::named::Kind;
 use c_tokens::TokenKind;
 use iolb_model::limits::READS;

@@ -1,13 +1,7 @@
-pub mod Lists
-pub mod Keys
-pub mod Loop
 pub mod FormNumbers
 pub mod Weights
 pub mod MatrixRows
 pub mod TermLoop
-pub mod LoopBy
-pub mod Members
 pub mod Nested
 pub mod ApartLists
 pub mod NestedWalks
-pub mod Texts

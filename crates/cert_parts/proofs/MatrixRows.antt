@@ -1,5 +1,5 @@
 -- Matrices by their rows.
-use Rattle.std.proofs.Common.{◌≡◌, ℕ, suc, ◌+◌, ◌*◌, ◌≤◌, List, [], ◌∷◌, ◌++◌, length, map, Ok, Err, Vec, Global, refl, sym, ap, ◌∙◌, arith}
+use Rattle.std.proofs.Common.{◌≡◌, ℕ, suc, ◌+◌, ◌*◌, ◌≤◌, List, [], ◌∷◌, length, map, Ok, Err, Vec, Global, refl, sym, ap, ◌∙◌, arith}
 use Rattle.std.specs.Prelude.{ℤ}
 use Rattle.std.specs.List.{AllByRecursion}
 use Rattle.std.proofs.lemmas.List.{length-append, nil_from_length}
@@ -8,8 +8,8 @@ use Rattle.affine_form.specs.Form.{IsSmall}
 use Rattle.affine_form.specs.Matrix.{HasShape}
 use Rattle.claims.specs.declared.place.Step.TheVariants.{Index}
 use Rattle.serde_json.specs.Data.{Data}
-use Rattle.cert_parts.specs.Outcome.{Outcome, ◌>>=◌, under}
-use Rattle.cert_parts.specs.Json.{each}
+use Rattle.json_parts.specs.Outcome.{Outcome, ◌>>=◌, under}
+use Rattle.json_parts.specs.Json.{each}
 use Rattle.cert_parts.specs.Parts.{all_entries, columns_of}
 use Rattle.cert_parts.specs.Rows.{row_items, IsRow}
 use Rattle.iolb_model.specs.declared.limits.TheConstants.{NUMBER_SIZE}

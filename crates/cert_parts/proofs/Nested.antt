@@ -1,8 +1,8 @@
 -- Source trees by how many tests may be nested in them.
 use Rattle.std.proofs.Common.{◌≡◌, ℕ, zero, suc, ◌-◌, true, false, refl, arith}
 use Rattle.serde_json.specs.Data.{Data}
-use Rattle.cert_parts.specs.Outcome.{fault}
-use Rattle.cert_parts.specs.Json.{has_keys}
+use Rattle.json_parts.specs.Outcome.{fault}
+use Rattle.json_parts.specs.Json.{has_keys}
 use Rattle.cert_parts.specs.Trees.{test_keys, reads_test, reads_tree_leaf, reads_nested}
 
 pub nested_leaf : (n : ℕ) (d : Data) → has_keys test_keys d ≡ false → reads_nested n d ≡ reads_tree_leaf d

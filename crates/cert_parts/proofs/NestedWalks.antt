@@ -1,8 +1,8 @@
 -- Walks by how many tests may be nested in them.
 use Rattle.std.proofs.Common.{◌≡◌, ℕ, zero, suc, ◌-◌, true, false, refl, arith}
 use Rattle.serde_json.specs.Data.{Data}
-use Rattle.cert_parts.specs.Outcome.{fault}
-use Rattle.cert_parts.specs.Json.{has_keys}
+use Rattle.json_parts.specs.Outcome.{fault}
+use Rattle.json_parts.specs.Json.{has_keys}
 use Rattle.cert_parts.specs.Trees.{test_keys}
 use Rattle.cert_parts.specs.Walks.{reads_walk_test, reads_take, reads_nested_walk}
 

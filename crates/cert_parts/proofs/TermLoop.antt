@@ -13,11 +13,11 @@ use Rattle.poly_tree.specs.Terms.{AreApart}
 use Rattle.serde_json.specs.Data.{Data}
 use Rattle.serde_json.specs.View.{view}
 use Rattle.serde_json.specs.declared.value.Value.{Value}
-use Rattle.cert_parts.specs.declared.error.CertError.{CertError}
-use Rattle.cert_parts.specs.declared.error.CertError.TheVariants.{Fault, Memory}
-use Rattle.cert_parts.specs.Outcome.{Outcome, behind, Fails, IsUnder}
+use Rattle.json_parts.specs.declared.error.CertError.{CertError}
+use Rattle.json_parts.specs.declared.error.CertError.TheVariants.{Fault, Memory}
+use Rattle.json_parts.specs.Outcome.{Outcome, behind, Fails, IsUnder}
 use Rattle.cert_parts.specs.Polynomials.{reads_term_behind, terms_from, stands_apart}
-use Rattle.cert_parts.proofs.Loop.{with_front, regroup, next}
+use Rattle.json_parts.proofs.Loop.{with_front, regroup, next}
 
 abbrev pub left : List Term → List Value → ℕ → Outcome (List Term)
 left front values i = with_front front (terms_from i front (map view (drop i values)))

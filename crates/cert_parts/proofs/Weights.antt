@@ -3,7 +3,7 @@ use Rattle.std.proofs.Common.{◌≡◌, ℕ, suc, ◌+◌, ◌-◌, ◌<◌, �
 use Rattle.std.proofs.Math.ListN.{drop_of_length-le}
 use Rattle.std.proofs.lemmas.List.{append-nil, length-map, length-drop}
 use Rattle.std.proofs.lemmas.Bool.{and_parts, leb-true}
-use Rattle.std.specs.Prelude.{◌&&◌, Bool, true, false}
+use Rattle.std.specs.Prelude.{true}
 use Rattle.std.specs.List.{AllByRecursion}
 use Rattle.base_laws.proofs.Lists.{All-weaken}
 use Rattle.affine_form.specs.Multipliers.{RowsRise}
@@ -11,12 +11,12 @@ use Rattle.claims.specs.declared.place.Step.TheVariants.{Index}
 use Rattle.serde_json.specs.Data.{Data}
 use Rattle.serde_json.specs.View.{view}
 use Rattle.serde_json.specs.declared.value.Value.{Value}
-use Rattle.cert_parts.specs.declared.error.CertError.{CertError}
-use Rattle.cert_parts.specs.declared.error.CertError.TheVariants.{Fault, Memory}
-use Rattle.cert_parts.specs.Outcome.{Outcome, under, Fails}
-use Rattle.cert_parts.specs.Json.{reads_natural}
+use Rattle.json_parts.specs.declared.error.CertError.{CertError}
+use Rattle.json_parts.specs.declared.error.CertError.TheVariants.{Fault, Memory}
+use Rattle.json_parts.specs.Outcome.{Outcome, under, Fails}
+use Rattle.json_parts.specs.Json.{reads_natural}
 use Rattle.cert_parts.specs.Parts.{reads_weights, rise_from}
-use Rattle.cert_parts.proofs.Loop.{with_front, regroup, next}
+use Rattle.json_parts.proofs.Loop.{with_front, regroup, next}
 use Rattle.iolb_model.specs.declared.limits.TheConstants.{MULTIPLIER_SIZE}
 
 abbrev Weights : Type 0

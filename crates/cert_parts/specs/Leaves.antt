@@ -3,8 +3,8 @@ use Rattle.std.specs.Prelude.{List, [], ◌∷◌, if◌then◌else◌, codes, O
 use Rattle.claims.specs.declared.key.TheConstants.{ARRIVE, CREDIT, EMPTY, LABEL, ROWS, STOP}
 use Rattle.reuse_paths.specs.LeafClaims.{LeafClaim, no_point, stops, is_credited, goes_on, arrives}
 use Rattle.serde_json.specs.Data.{Data}
-use Rattle.cert_parts.specs.Outcome.{Outcome, ◌>>=◌, fault}
-use Rattle.cert_parts.specs.Json.{has_keys, part, reads_list, each, reads_natural}
+use Rattle.json_parts.specs.Outcome.{Outcome, ◌>>=◌, fault}
+use Rattle.json_parts.specs.Json.{has_keys, part, reads_list, each, reads_natural}
 use Rattle.cert_parts.specs.Parts.{reads_multipliers, reads_all_multipliers}
 
 unfoldable pub reads_no_point : Data → Outcome LeafClaim

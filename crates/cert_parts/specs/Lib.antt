@@ -1,5 +1,3 @@
-pub mod Outcome
-pub mod Json
 pub mod Parts
 pub mod Rows
 pub mod Polynomials
@@ -9,7 +7,3 @@ pub mod Trees
 pub mod Leaves
 pub mod Read
 pub mod Walks
-pub mod Reaches
-pub mod Families
-pub mod Credits
-pub mod Texts

@@ -3,8 +3,8 @@ use Rattle.std.specs.Prelude.{List, [], ◌∷◌, Ok}
 use Rattle.iolb_model.specs.Form.{AffineForm}
 use Rattle.claims.specs.declared.place.Step.TheVariants.{Index}
 use Rattle.serde_json.specs.Data.{Data}
-use Rattle.cert_parts.specs.Outcome.{Outcome, ◌>>=◌, fault, under}
-use Rattle.cert_parts.specs.Json.{reads_list, reads_short_list, each}
+use Rattle.json_parts.specs.Outcome.{Outcome, ◌>>=◌, fault, under}
+use Rattle.json_parts.specs.Json.{reads_list, reads_short_list, each}
 use Rattle.cert_parts.specs.Parts.{reads_form}
 
 abbrev pub pair_in : List Data → Outcome (AffineForm × AffineForm)

@@ -5,8 +5,8 @@ use Rattle.affine_form.specs.Matrix.{IntegerMatrix}
 use Rattle.affine_form.specs.Multipliers.{FarkasMultipliers}
 use Rattle.claims.specs.declared.place.Step.TheVariants.{Index}
 use Rattle.serde_json.specs.Data.{Data}
-use Rattle.cert_parts.specs.Outcome.{Outcome, ◌>>=◌, fault, under}
-use Rattle.cert_parts.specs.Json.{reads_list, reads_short_list, each, reads_integer, reads_natural, elements_of}
+use Rattle.json_parts.specs.Outcome.{Outcome, ◌>>=◌, fault, under}
+use Rattle.json_parts.specs.Json.{reads_list, reads_short_list, each, reads_integer, reads_natural, elements_of}
 use Rattle.iolb_model.specs.declared.limits.TheConstants.{NUMBER_SIZE, MULTIPLIER_SIZE}
 
 -- ---- forms: the coefficients, then the constant

@@ -5,8 +5,8 @@ use Rattle.claims.specs.declared.place.Step.TheVariants.{Index}
 use Rattle.claims.specs.declared.key.TheConstants.{DEN, TERMS}
 use Rattle.poly_tree.specs.Terms.{terms_size}
 use Rattle.serde_json.specs.Data.{Data}
-use Rattle.cert_parts.specs.Outcome.{Outcome, ◌>>=◌, fault, under}
-use Rattle.cert_parts.specs.Json.{with_keys, part, reads_list, reads_short_list, each, reads_integer, reads_natural}
+use Rattle.json_parts.specs.Outcome.{Outcome, ◌>>=◌, fault, under}
+use Rattle.json_parts.specs.Json.{with_keys, part, reads_list, reads_short_list, each, reads_all, reads_integer, reads_natural}
 use Rattle.iolb_model.specs.declared.limits.TheConstants.{COEFFICIENT_SIZE, MEASURE}
 
 -- A coefficient: a whole number of size below 2^62, and not 0.
@@ -63,5 +63,5 @@ reads_polynomial d = do
   quotient ← reads_quotient d
   if nat_lt (terms_size quotient.terms quotient.denominator) MEASURE then Ok quotient else fault 3
 
-unfoldable pub reads_polynomials : Data → Outcome (List Polynomial)
-reads_polynomials d = reads_list d >>= each reads_polynomial 0
+abbrev pub reads_polynomials : Data → Outcome (List Polynomial)
+reads_polynomials = reads_all reads_polynomial

@@ -1,12 +1,12 @@
 -- The texts of source trees.
-use Rattle.std.specs.Prelude.{ℕ, zero, suc, ◌+◌, List, [], ◌∷◌, Bool, false, nat_le, if◌then◌else◌, codes, Option, None, Some, Ok}
+use Rattle.std.specs.Prelude.{ℕ, zero, suc, List, [], ◌∷◌, Bool, false, nat_le, if◌then◌else◌, codes, Option, None, Some, Ok}
 use Rattle.claims.specs.declared.key.TheConstants.{BEFORE, BETWEEN, BLANK, CELL, DOMAIN, EMPTY, FORM, INPUT, LEVEL, NO, POINT, STATEMENT, YES}
 use Rattle.iolb_model.specs.declared.limits.TheConstants.{TREE_LEAVES}
 use Rattle.dep_quast.specs.Tree.{SelectionTree, leaf, test, leaf_count, source, input, empty, blank}
 use Rattle.serde_json.specs.Data.{Data}
 use Rattle.serde_json.specs.Find.{as_bool}
-use Rattle.cert_parts.specs.Outcome.{Outcome, ◌>>=◌, fault}
-use Rattle.cert_parts.specs.Json.{has_keys, part, reads_list, each, reads_natural}
+use Rattle.json_parts.specs.Outcome.{Outcome, ◌>>=◌, fault}
+use Rattle.json_parts.specs.Json.{has_keys, part, reads_list, each, reads_natural}
 use Rattle.cert_parts.specs.Parts.{reads_form, reads_forms, reads_multipliers, reads_all_multipliers}
 
 abbrev pub source_keys : List (List ℕ)

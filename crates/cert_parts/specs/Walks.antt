@@ -4,8 +4,8 @@ use Rattle.iolb_model.specs.declared.limits.TheConstants.{TREE_LEAVES}
 use Rattle.claims.specs.declared.key.TheConstants.{FORM, LEAVES, NO, READ, YES}
 use Rattle.reuse_paths.specs.Walks.{WalkTree, take, test, entry_count}
 use Rattle.serde_json.specs.Data.{Data}
-use Rattle.cert_parts.specs.Outcome.{Outcome, ◌>>=◌, fault}
-use Rattle.cert_parts.specs.Json.{has_keys, part, reads_natural}
+use Rattle.json_parts.specs.Outcome.{Outcome, ◌>>=◌, fault}
+use Rattle.json_parts.specs.Json.{has_keys, part, reads_natural}
 use Rattle.cert_parts.specs.Leaves.{reads_leaves}
 use Rattle.cert_parts.specs.Parts.{reads_form}
 use Rattle.cert_parts.specs.Trees.{test_keys}

@@ -4,16 +4,15 @@ ghost use Rattle.std.specs.Prelude.{◌≡◌, ◌<◌, ◌≤◌, length, map, 
 ghost use Rattle.std.specs.List.{AllByRecursion};
 ghost use Rattle.affine_form.specs.Form.{IsSmall, IsSmallForm};
 ghost use Rattle.serde_json.specs.View.{view};
-ghost use Rattle.cert_parts.specs.Outcome.{Gives};
-ghost use Rattle.cert_parts.specs.Json.{each, reads_integer};
+ghost use Rattle.json_parts.specs.Outcome.{Gives};
+ghost use Rattle.json_parts.specs.Json.{each, reads_integer};
 ghost use Rattle.cert_parts.specs.Parts.{reads_form, reads_forms};
 ghost use Rattle.iolb_model.specs.declared.limits.TheConstants.{NUMBER_SIZE};
 
-use crate::error::{CertError, fault, under};
-use crate::json::{integer, list, short_list};
 use affine_form::Form;
 use claims::Step;
 use iolb_model::limits;
+use json_parts::{CertError, fault, integer, list, short_list, under};
 use serde_json::Value;
 use std::alloc::Global;
 

@@ -2,14 +2,13 @@
 
 ghost use Rattle.std.specs.Prelude.{◌≡◌, map};
 ghost use Rattle.serde_json.specs.View.{view};
-ghost use Rattle.cert_parts.specs.Outcome.{Gives};
+ghost use Rattle.json_parts.specs.Outcome.{Gives};
 ghost use Rattle.reuse_paths.specs.LeafClaims.{claim_of};
 ghost use Rattle.cert_parts.specs.Leaves.{reads_no_point, reads_stop, reads_credit, reads_go, reads_arrive, reads_leaf, reads_leaves};
 
-use crate::error::{CertError, fault, under};
-use crate::json::{has_keys, list};
 use crate::parts::{all_shown_part, natural_part, shown_part};
 use claims::{Step, key};
+use json_parts::{CertError, fault, has_keys, list, under};
 use reuse_paths::Leaf;
 use serde_json::Value;
 use std::alloc::Global;

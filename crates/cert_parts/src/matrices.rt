@@ -4,17 +4,16 @@ ghost use Rattle.std.specs.Prelude.{◌≡◌, ◌<◌, ◌≤◌, length, map, 
 ghost use Rattle.std.specs.List.{AllByRecursion};
 ghost use Rattle.affine_form.specs.Form.{IsSmall};
 ghost use Rattle.serde_json.specs.View.{view};
-ghost use Rattle.cert_parts.specs.Outcome.{Gives};
-ghost use Rattle.cert_parts.specs.Json.{each, reads_integer};
+ghost use Rattle.json_parts.specs.Outcome.{Gives};
+ghost use Rattle.json_parts.specs.Json.{each, reads_integer};
 ghost use Rattle.cert_parts.specs.Parts.{reads_row, columns_of as first_count, reads_matrix, all_entries};
 ghost use Rattle.cert_parts.specs.Rows.{IsRow, row_items};
 ghost use Rattle.iolb_model.specs.declared.limits.TheConstants.{NUMBER_SIZE};
 
-use crate::error::{CertError, fault, under};
-use crate::json::{elements, integer, short_list};
 use affine_form::{Matrix, Memory};
 use claims::Step;
 use iolb_model::limits;
+use json_parts::{CertError, elements, fault, integer, short_list, under};
 use serde_json::Value;
 use std::alloc::Global;
 

@@ -5,15 +5,14 @@ ghost use Rattle.std.specs.List.{AllByRecursion};
 ghost use Rattle.claims.specs.declared.place.Step.TheVariants.{Index};
 ghost use Rattle.affine_form.specs.Multipliers.{IsWeight, RowsRise};
 ghost use Rattle.serde_json.specs.View.{view};
-ghost use Rattle.cert_parts.specs.Outcome.{Gives, under as seen_under};
-ghost use Rattle.cert_parts.specs.Json.{reads_natural};
+ghost use Rattle.json_parts.specs.Outcome.{Gives, under as seen_under};
+ghost use Rattle.json_parts.specs.Json.{reads_natural};
 ghost use Rattle.cert_parts.specs.Parts.{rise_from, reads_weights, multipliers_of as multipliers_from, reads_multipliers, reads_all_multipliers};
 
-use crate::error::{CertError, fault, under};
-use crate::json::{list, natural};
 use affine_form::Multipliers;
 use claims::Step;
 use iolb_model::limits;
+use json_parts::{CertError, fault, list, natural, under};
 use serde_json::Value;
 use std::alloc::Global;
 
@@ -86,7 +85,7 @@ fn multipliers_of(
 
 /// Multipliers: the scale, the number beside the rows, then the rows, each with its multiplier.
 #[tactic(auto, unfolding(crate::specs::Parts::reads_multipliers, crate::specs::Parts::multipliers_in))]
-pub fn multipliers(alloc: Global, value: &Value) -> Result<Multipliers, CertError>
+pub fn some_multipliers(alloc: Global, value: &Value) -> Result<Multipliers, CertError>
     ensures { Gives (λ shown. shown) result (reads_multipliers (view value.now)) }
 {
     let values = list(alloc, value)?;
@@ -104,7 +103,7 @@ pub fn all_multipliers(alloc: Global, value: &Value) -> Result<Vec<Multipliers>,
     let values = list(alloc, value)?;
     let mut all = Vec::new(alloc);
     for (i, value) in values.iter().enumerate() {
-        match multipliers(alloc, value) {
+        match some_multipliers(alloc, value) {
             Ok(shown) => all.push(shown)?,
             Err(error) => return Err(under(alloc, Step::Index(i as u64), error)),
         }

@@ -5,15 +5,14 @@ ghost use Rattle.std.specs.List.{AllByRecursion};
 ghost use Rattle.iolb_model.specs.Form.{AffineForm};
 ghost use Rattle.affine_form.specs.Form.{IsSmallForm};
 ghost use Rattle.serde_json.specs.View.{view};
-ghost use Rattle.cert_parts.specs.Outcome.{Gives};
+ghost use Rattle.json_parts.specs.Outcome.{Gives};
 ghost use Rattle.cert_parts.specs.Nests.{reads_pair, reads_nest};
 
-use crate::error::{CertError, fault, under};
 use crate::forms::form;
-use crate::json::{list, short_list};
 use affine_form::Form;
 use claims::Step;
 use domain_count::Nest;
+use json_parts::{CertError, fault, list, short_list, under};
 use serde_json::Value;
 use std::alloc::Global;
 

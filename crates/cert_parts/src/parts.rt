@@ -1,29 +1,20 @@
 //! Members of objects that many parts of a certificate have.
 
-ghost use Rattle.std.specs.Prelude.{◌≡◌, ◌≤◌, codes, map, IfOk};
-ghost use Rattle.claims.specs.declared.key.TheConstants.{NEST};
+ghost use Rattle.std.specs.Prelude.{◌≡◌, ◌≤◌, map, IfOk};
 ghost use Rattle.reuse_paths.specs.LeafClaims.{claim_of};
 ghost use Rattle.serde_json.specs.View.{view};
-ghost use Rattle.cert_parts.specs.Outcome.{Gives, GivesBy};
-ghost use Rattle.cert_parts.specs.Json.{part, reads_natural};
+ghost use Rattle.json_parts.specs.Outcome.{Gives};
+ghost use Rattle.json_parts.specs.Json.{part, reads_natural};
 ghost use Rattle.cert_parts.specs.Leaves.{reads_leaves};
-ghost use Rattle.cert_parts.specs.Nests.{reads_nest};
 ghost use Rattle.cert_parts.specs.Parts.{reads_form, reads_forms, reads_multipliers, reads_all_multipliers, reads_matrix};
-ghost use Rattle.cert_parts.specs.Polynomials.{reads_polynomials};
-ghost use Rattle.cert_parts.specs.Read.{ArePolynomials};
 
-use crate::error::{CertError, fault, under};
 use crate::forms::{form, form_list};
-use crate::json::natural;
 use crate::leaves::leaf_list;
 use crate::matrices::matrix;
-use crate::multipliers::{all_multipliers, multipliers};
-use crate::nests::nest;
-use crate::polynomials::polynomial_list;
+use crate::multipliers::{all_multipliers, some_multipliers};
 use affine_form::{Form, Matrix, Multipliers};
-use claims::{Step, key};
-use domain_count::Nest;
-use poly_tree::Poly;
+use claims::Step;
+use json_parts::{CertError, fault, natural, under};
 use reuse_paths::Leaf;
 use serde_json::Value;
 use std::alloc::Global;
@@ -91,7 +82,7 @@ pub fn shown_part(
     ensures { Gives (λ shown. shown) result (part name.now number reads_multipliers (view value.now)) }
 {
     match value.get(name) {
-        Some(member) => match multipliers(alloc, member) {
+        Some(member) => match some_multipliers(alloc, member) {
             Ok(found) => Ok(found),
             Err(error) => Err(under(alloc, Step::Key(number), error)),
         },
@@ -146,37 +137,6 @@ pub fn matrix_part(
 {
     match value.get(name) {
         Some(member) => match matrix(alloc, member) {
-            Ok(found) => Ok(found),
-            Err(error) => Err(under(alloc, Step::Key(number), error)),
-        },
-        None => Err(fault(alloc, 2)),
-    }
-}
-
-/// The member `nest`.
-pub fn nest_part(alloc: Global, value: &Value) -> Result<Nest, CertError>
-    ensures { Gives (λ nest. nest) result (part (codes "nest") NEST reads_nest (view value.now)) }
-{
-    match value.get("nest") {
-        Some(member) => match nest(alloc, member) {
-            Ok(found) => Ok(found),
-            Err(error) => Err(under(alloc, Step::Key(key::NEST), error)),
-        },
-        None => Err(fault(alloc, 2)),
-    }
-}
-
-/// The member with this name, whose key has this number: an array of polynomials.
-pub fn polynomials_part(
-    alloc: Global,
-    value: &Value,
-    name: &str,
-    number: u8,
-) -> Result<Vec<Poly>, CertError>
-    ensures { GivesBy (λ said found. ArePolynomials said found.items) result (part name.now number reads_polynomials (view value.now)) }
-{
-    match value.get(name) {
-        Some(member) => match polynomial_list(alloc, member) {
             Ok(found) => Ok(found),
             Err(error) => Err(under(alloc, Step::Key(number), error)),
         },

@@ -4,18 +4,17 @@ ghost use Rattle.std.specs.Prelude.{◌≡◌, ◌<◌, ◌≤◌, ◌∷◌, []
 ghost use Rattle.std.specs.List.{AllByRecursion};
 ghost use Rattle.poly_tree.specs.Terms.{term_of, terms_of, HasExponents, AreApart};
 ghost use Rattle.serde_json.specs.View.{view};
-ghost use Rattle.cert_parts.specs.Outcome.{Gives, GivesBy};
+ghost use Rattle.json_parts.specs.Outcome.{Gives, GivesBy};
 ghost use Rattle.cert_parts.specs.Apart.{HasLists, exponent_lists};
-ghost use Rattle.cert_parts.specs.Json.{each, reads_natural};
-ghost use Rattle.cert_parts.specs.Polynomials.{reads_coefficient, reads_term, stands_apart as do_stand_apart, reads_term_behind, reads_terms, reads_quotient, reads_polynomial, reads_polynomials};
-ghost use Rattle.cert_parts.specs.Read.{IsPolynomial, ArePolynomials};
+ghost use Rattle.json_parts.specs.Json.{each, reads_natural};
+ghost use Rattle.cert_parts.specs.Polynomials.{reads_coefficient, reads_term, stands_apart as do_stand_apart, reads_term_behind, reads_terms, reads_quotient, reads_polynomial};
+ghost use Rattle.cert_parts.specs.Read.{IsPolynomial};
 ghost use Rattle.iolb_model.specs.declared.limits.TheConstants.{COEFFICIENT_SIZE, EXPONENT};
 
 use crate::apart::stands_apart;
-use crate::error::{CertError, fault, under};
-use crate::json::{has_keys, integer, list, natural, short_list};
 use claims::{Step, key};
 use iolb_model::limits;
+use json_parts::{CertError, fault, has_keys, integer, list, natural, short_list, under};
 use poly_tree::{Poly, PolyFault};
 use serde_json::Value;
 use std::alloc::Global;
@@ -110,7 +109,7 @@ fn terms(alloc: Global, value: &Value) -> Result<Vec<(i128, Vec<u8>)>, CertError
 }
 
 /// The denominator of a polynomial, and its terms.
-#[tactic(auto, unfolding(crate::specs::Polynomials::reads_quotient, crate::specs::Json::with_keys))]
+#[tactic(auto, unfolding(crate::specs::Polynomials::reads_quotient, json_parts::specs::Json::with_keys))]
 fn quotient(alloc: Global, value: &Value) -> Result<(u64, Vec<(i128, Vec<u8>)>), CertError>
     ensures read { Gives (λ quotient. record { terms = terms_of quotient.1.items; denominator = quotient.0 }) result (reads_quotient (view value.now)) }
     ensures fit { IfOk result (λ quotient. AllByRecursion HasExponents (terms_of quotient.1.items)) }
@@ -139,7 +138,7 @@ fn quotient(alloc: Global, value: &Value) -> Result<(u64, Vec<(i128, Vec<u8>)>),
 
 /// A polynomial.
 #[tactic(auto, unfolding(crate::specs::Polynomials::reads_polynomial))]
-fn polynomial(alloc: Global, value: &Value) -> Result<Poly, CertError>
+pub fn polynomial(alloc: Global, value: &Value) -> Result<Poly, CertError>
     ensures { GivesBy IsPolynomial result (reads_polynomial (view value.now)) }
 {
     let (den, terms) = quotient(alloc, value)?;
@@ -148,20 +147,4 @@ fn polynomial(alloc: Global, value: &Value) -> Result<Poly, CertError>
         Err(PolyFault::Wide) => Err(fault(alloc, 3)),
         Err(PolyFault::Memory) => Err(CertError::Memory),
     }
-}
-
-/// An array of polynomials.
-#[tactic(auto, unfolding(crate::specs::Polynomials::reads_polynomials))]
-pub fn polynomial_list(alloc: Global, value: &Value) -> Result<Vec<Poly>, CertError>
-    ensures { GivesBy (λ said found. ArePolynomials said found.items) result (reads_polynomials (view value.now)) }
-{
-    let values = list(alloc, value)?;
-    let mut found = Vec::new(alloc);
-    for (i, value) in values.iter().enumerate() {
-        match polynomial(alloc, value) {
-            Ok(poly) => found.push(poly)?,
-            Err(error) => return Err(under(alloc, Step::Index(i as u64), error)),
-        }
-    }
-    Ok(found)
 }

@@ -4,17 +4,16 @@ ghost use Rattle.std.specs.Prelude.{map, codes};
 ghost use Rattle.claims.specs.declared.key.TheConstants.{BLANK};
 ghost use Rattle.dep_quast.specs.Tree.{tree_of};
 ghost use Rattle.serde_json.specs.View.{view};
-ghost use Rattle.cert_parts.specs.Outcome.{Gives};
-ghost use Rattle.cert_parts.specs.Json.{part};
+ghost use Rattle.json_parts.specs.Outcome.{Gives};
+ghost use Rattle.json_parts.specs.Json.{part};
 ghost use Rattle.cert_parts.specs.Trees.{reads_source, reads_input, reads_empty, reads_true, reads_tree_leaf, reads_nested, reads_tree, reads_trees, reads_all_trees};
 ghost use Rattle.reuse_paths.specs.Quasts.{row_trees};
 
-use crate::error::{CertError, fault, under};
-use crate::json::{has_keys, list};
 use crate::parts::{all_shown_part, form_part, forms_part, natural_part, shown_part};
 use claims::{Step, key};
 use dep_quast::{Quast, leaf_count};
 use iolb_model::limits;
+use json_parts::{CertError, fault, has_keys, list, under};
 use serde_json::Value;
 use std::alloc::Global;
 

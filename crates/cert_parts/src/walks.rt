@@ -2,11 +2,12 @@
 
 ghost use Rattle.serde_json.specs.View.{view};
 ghost use Rattle.reuse_paths.specs.Walks.{tree_of_walk};
-ghost use Rattle.cert_parts.specs.Outcome.{Gives};
+ghost use Rattle.json_parts.specs.Outcome.{Gives};
 ghost use Rattle.cert_parts.specs.Walks.{reads_taken, reads_take, reads_nested_walk, reads_walk};
 ghost use Rattle.iolb_model.specs.declared.limits.TheConstants.{TREE_LEAVES};
 
-use crate::{CertError, fault, form_part, has_keys, leaves_part, natural_part, under};
+use crate::parts::form_part;
+use crate::{CertError, fault, has_keys, leaves_part, natural_part, under};
 use claims::{Step, key};
 use iolb_model::limits;
 use reuse_paths::{Walk, entry_count};

@@ -8,11 +8,12 @@ use Rattle.affine_form.specs.Matrix.{IntegerMatrix}
 use Rattle.affine_form.specs.Multipliers.{FarkasMultipliers}
 use Rattle.dep_quast.specs.Tree.{Leaf, source, input, empty, blank, SelectionTree, leaf, test, tree_of}
 use Rattle.dep_quast.specs.declared.quast.Quast.{Quast}
-use Rattle.part_fit.specs.Limits.{IsNestedTree, IsSmallTree}
+use Rattle.certificate_fit.specs.Limits.{IsNestedTree, IsSmallTree}
 use Rattle.serde_json.specs.Data.{Data, Members, no_members, member, object, depth, members_depth}
 use Rattle.serde_json.specs.Written.{has_float, members_have_float}
 use Rattle.reuse_paths.specs.LeafClaims.{LeafClaim, no_point, stops, is_credited, goes_on, arrives}
-use Rattle.cert_written.specs.Parts.{list, whole, natural, form_data, forms_data, weights_data, multipliers_data, all_multipliers_data, rows_of, row_data, matrix_data, pair_data, nest_data}
+use Rattle.json_parts.specs.Written.{list, whole, natural}
+use Rattle.cert_written.specs.Parts.{form_data, forms_data, weights_data, multipliers_data, all_multipliers_data, rows_of, row_data, matrix_data, pair_data, nest_data}
 use Rattle.cert_written.specs.Polynomials.{term_data, polynomial_data}
 use Rattle.cert_written.specs.Leaves.{leaf_data}
 use Rattle.cert_written.specs.Trees.{tree_leaf_data, tree_data, trees_data}

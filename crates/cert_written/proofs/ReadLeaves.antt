@@ -4,14 +4,14 @@ use Rattle.std.specs.List.{AllByRecursion}
 use Rattle.affine_form.specs.Multipliers.{FarkasMultipliers}
 use Rattle.reuse_paths.specs.declared.leaf.Leaf.{Leaf}
 use Rattle.reuse_paths.specs.declared.leaf.Leaf.TheVariants.{Empty, Stop, Credit, Go, Arrive}
-use Rattle.part_fit.specs.Limits.{IsSmallEntry, IsSmallLeaf}
+use Rattle.certificate_fit.specs.Limits.{IsSmallEntry, IsSmallLeaf}
 use Rattle.base_laws.proofs.Lists.{All-map}
-use Rattle.cert_parts.specs.Json.{has_keys}
+use Rattle.json_parts.specs.Json.{has_keys}
 use Rattle.reuse_paths.specs.LeafClaims.{LeafClaim, claim_of}
 use Rattle.cert_parts.specs.Leaves.{reads_no_point, reads_stop, reads_credit, reads_go, reads_arrive, reads_leaf, reads_leaves}
 use Rattle.cert_written.specs.Leaves.{leaf_data, leaves_data}
 use Rattle.cert_written.specs.ReadBack.{AreMultipliersRead, LeafIsRead}
-use Rattle.cert_written.proofs.ReadLists.{natural-read, list-of-read, all-both}
+use Rattle.json_parts.proofs.Back.{natural_read, list-of-read, all-both}
 use Rattle.cert_written.proofs.ReadParts.{all_multipliers-read}
 
 pub empty-read : (shown : FarkasMultipliers) → AreMultipliersRead shown → LeafIsRead (Empty shown)
@@ -26,7 +26,7 @@ pub credit-read : (credit : ℕ) (rows label : Vec FarkasMultipliers Global) →
     → LeafIsRead (Credit credit rows label)
 unfolding reads_leaf has_keys reads_credit
 credit-read credit rows label few h k small =
-    rw (natural-read 0 255 credit (omega arith) few, all_multipliers-read rows.items h small.0, all_multipliers-read label.items k small.1) refl
+    rw (natural_read 0 255 credit (omega arith) few, all_multipliers-read rows.items h small.0, all_multipliers-read label.items k small.1) refl
 
 pub go-read : (rows label : Vec FarkasMultipliers Global) → AllByRecursion AreMultipliersRead rows.items → AllByRecursion AreMultipliersRead label.items → LeafIsRead (Go rows label)
 unfolding reads_leaf has_keys reads_go

@@ -10,15 +10,16 @@ use Rattle.affine_form.proofs.ShownLemmas.{above_zero}
 use Rattle.affine_form.specs.Form.{IsSmall, IsSmallForm, IsLegalForm}
 use Rattle.affine_form.specs.Matrix.{IntegerMatrix, HasShape}
 use Rattle.affine_form.specs.Multipliers.{FarkasMultipliers, IsWeight, RowsRise}
-use Rattle.part_fit.specs.Limits.{NamesRows, NameRows, AreSmall}
-use Rattle.cert_parts.specs.Json.{reads_integer}
+use Rattle.certificate_fit.specs.Limits.{NamesRows, NameRows, AreSmall}
+use Rattle.json_parts.specs.Json.{reads_integer}
 use Rattle.cert_parts.specs.Nests.{reads_pair, reads_nest}
 use Rattle.cert_parts.specs.Parts.{reads_form, reads_forms, rise_from, reads_weights, multipliers_of, multipliers_in, reads_multipliers, reads_all_multipliers, reads_row, all_entries, columns_of, reads_matrix}
 use Rattle.cert_parts.proofs.FormNumbers.{form_in-last}
-use Rattle.cert_parts.proofs.Lists.{list_of-items_of}
-use Rattle.cert_written.specs.Parts.{whole, natural, form_data, forms_data, weights_data, multipliers_data, all_multipliers_data, rows_of, row_data, pair_data, nest_data}
+use Rattle.json_parts.proofs.Items.{list_of-items_of}
+use Rattle.json_parts.specs.Written.{whole, natural}
+use Rattle.cert_written.specs.Parts.{form_data, forms_data, weights_data, multipliers_data, all_multipliers_data, rows_of, row_data, pair_data, nest_data}
 use Rattle.cert_written.specs.ReadBack.{FormIsRead, AreMultipliersRead, MatrixIsRead, PairIsRead}
-use Rattle.cert_written.proofs.ReadLists.{integer-read, natural-read, list-read, short_list-read, each-read, list-of-read, all-both}
+use Rattle.json_parts.proofs.Back.{integer-read, natural_read, list-read, short_list-read, each-read, list-of-read, all-both}
 use Rattle.iolb_model.specs.declared.limits.TheConstants.{NUMBER_SIZE, MULTIPLIER_SIZE}
 
 -- ---- forms
@@ -54,7 +55,7 @@ weights-read : (i : ℕ) (weights : List (ℕ × ℕ)) → AllByRecursion IsWeig
 unfolding reads_weights
 weights-read i [] h k = refl
 weights-read i (w ∷ weights) h k =
-    rw (natural-read 0 127 w.0 (omega arith) (omega (arith, k.0)), natural-read 1 (MULTIPLIER_SIZE - 1) w.1 h.0.0 (omega (arith, h.0.1)), weights-read (i + 2) weights h.1 k.1) refl
+    rw (natural_read 0 127 w.0 (omega arith) (omega (arith, k.0)), natural_read 1 (MULTIPLIER_SIZE - 1) w.1 h.0.0 (omega (arith, h.0.1)), weights-read (i + 2) weights h.1 k.1) refl
 
 least-of : (w : ℕ × ℕ) (weights : List (ℕ × ℕ)) → AllByRecursion (λ (later : ℕ × ℕ). w.0 < later.0) weights → AllByRecursion (λ (later : ℕ × ℕ). w.0 + 1 ≤ later.0) weights
 least-of w [] h = tt
@@ -79,8 +80,8 @@ multipliers-read shown some scale rest weights rising rows =
     rw (
       list-read (natural shown.scale ∷ natural shown.rest ∷ weights_data shown.weights),
       even-test shown.weights,
-      natural-read 1 (MULTIPLIER_SIZE - 1) shown.scale some (omega (arith, scale)),
-      natural-read 0 (MULTIPLIER_SIZE - 1) shown.rest (omega arith) (omega (arith, rest)),
+      natural_read 1 (MULTIPLIER_SIZE - 1) shown.scale some (omega (arith, scale)),
+      natural_read 0 (MULTIPLIER_SIZE - 1) shown.rest (omega arith) (omega (arith, rest)),
       weights-read 2 shown.weights weights rows,
       rise-from 0 shown.weights (above_zero shown.weights) rising,
     ) refl

@@ -6,21 +6,19 @@ use Rattle.std.specs.List.{AllByRecursion}
 use Rattle.std.proofs.lemmas.Bool.{lt-ltb, ne_eqb, false_from_ne_true}
 use Rattle.std.proofs.lemmas.List.{length-map}
 use Rattle.std.proofs.lemmas.Slice.Eq.{bytes_eq-Decides}
-use Rattle.base_laws.proofs.Lists.{All-map, All-weaken}
-use Rattle.iolb_model.specs.Polynomial.{Term, Polynomial}
+use Rattle.iolb_model.specs.Polynomial.{Term}
 use Rattle.affine_form.specs.Form.{IsSmall}
 use Rattle.poly_tree.specs.Poly.{Quotient, IsLegal}
 use Rattle.poly_tree.specs.Terms.{HasExponents, AreApart, terms_size}
 use Rattle.poly_tree.specs.Printed.{AreNonzero, AreWritten, written_terms}
-use Rattle.part_fit.specs.Limits.{IsSmallPolynomial}
-use Rattle.cert_parts.specs.Json.{has_keys, with_keys, reads_natural}
-use Rattle.cert_parts.specs.Polynomials.{reads_coefficient, term_in, reads_term, stands_apart, reads_term_behind, terms_from, reads_terms, reads_quotient, reads_polynomial, reads_polynomials}
-use Rattle.cert_parts.specs.Read.{ArePolynomials}
-use Rattle.cert_written.specs.Parts.{whole, natural}
-use Rattle.cert_written.specs.Polynomials.{term_data, polynomial_data, polynomials_data}
+use Rattle.certificate_fit.specs.Limits.{IsSmallPolynomial}
+use Rattle.json_parts.specs.Json.{has_keys, with_keys, reads_natural}
+use Rattle.cert_parts.specs.Polynomials.{reads_coefficient, term_in, reads_term, stands_apart, reads_term_behind, terms_from, reads_terms, reads_quotient, reads_polynomial}
+use Rattle.json_parts.specs.Written.{whole, natural}
+use Rattle.cert_written.specs.Polynomials.{term_data, polynomial_data}
 use Rattle.cert_written.specs.ReadBack.{PolynomialIsRead}
 use Rattle.cert_written.specs.Polynomials.{written_polynomial}
-use Rattle.cert_written.proofs.ReadLists.{integer-read, natural-read, list-read, short_list-read, each-read, list-of-read}
+use Rattle.json_parts.proofs.Back.{integer-read, natural_read, list-read, short_list-read, each-read}
 use Rattle.iolb_model.specs.declared.limits.TheConstants.{COEFFICIENT_SIZE, MEASURE}
 
 some-size : (z : ℤ) → z ≢ pos 0 → (unsigned_abs z == 0) ≡ false
@@ -35,7 +33,7 @@ coefficient-read z small some = rw (integer-read COEFFICIENT_SIZE z small, some-
 
 exponents-read : (es : List ℕ) → AllByRecursion (λ e. e ≤ 8) es → AllByRecursion (λ e. reads_natural 0 8 (natural e) ≡ Ok e) es
 exponents-read [] h = tt
-exponents-read (e ∷ es) h = (natural-read 0 8 e (omega arith) h.0, exponents-read es h.1)
+exponents-read (e ∷ es) h = (natural_read 0 8 e (omega arith) h.0, exponents-read es h.1)
 
 term-read : (term : Term) → IsSmall COEFFICIENT_SIZE term.coefficient → term.coefficient ≢ pos 0 → HasExponents term → reads_term (term_data term) ≡ Ok term
 unfolding reads_term term_in
@@ -82,7 +80,7 @@ polynomial-reads q small some written =
     let coefficients = written.small COEFFICIENT_SIZE small.numbers in
     let light : terms_size terms q.denominator < MEASURE = omega (arith, written.light, small.light) in
     rw (
-      natural-read 1 (COEFFICIENT_SIZE - 1) q.denominator some (omega (arith, small.over)),
+      natural_read 1 (COEFFICIENT_SIZE - 1) q.denominator some (omega (arith, small.over)),
       list-read (map term_data terms),
       terms-behind 0 [] terms coefficients written.nonzero (written.fit small.variables) written.apart,
       lt-ltb (terms_size terms q.denominator) MEASURE light,
@@ -97,16 +95,3 @@ polynomial-read q small legal written = record {
     within = written.within small.variables;
   };
 }
-
-abbrev IsReadBack : Polynomial → Type 0
-IsReadBack p = reads_polynomial (polynomial_data p) ≡ Ok p
-
-pub are-polynomials : (qs : List Quotient) → AllByRecursion PolynomialIsRead qs → ArePolynomials (map written_polynomial qs) qs
-are-polynomials [] h = tt
-are-polynomials (q ∷ qs) h = (h.0.is, are-polynomials qs h.1)
-
-pub polynomials-read : (qs : List Quotient) → AllByRecursion PolynomialIsRead qs → reads_polynomials (polynomials_data (map written_polynomial qs)) ≡ Ok (map written_polynomial qs)
-unfolding reads_polynomials
-polynomials-read qs h =
-    list-of-read reads_polynomial polynomial_data (map written_polynomial qs)
-    (All-map IsReadBack written_polynomial qs (All-weaken PolynomialIsRead (λ q. IsReadBack (written_polynomial q)) qs (λ q k. k.says) h))

@@ -6,14 +6,14 @@ use Rattle.iolb_model.specs.Form.{AffineForm}
 use Rattle.affine_form.specs.Multipliers.{FarkasMultipliers}
 use Rattle.dep_quast.specs.Tree.{SourceClaim, SelectionTree, leaf, test, leaf_count, source, input, empty, blank, tree_of}
 use Rattle.dep_quast.specs.declared.quast.Quast.{Quast}
-use Rattle.part_fit.specs.Limits.{NamesRows, NameRows, IsSmallSource, IsNestedTree, IsSmallTree}
+use Rattle.certificate_fit.specs.Limits.{NamesRows, NameRows, IsSmallSource, IsNestedTree, IsSmallTree}
 use Rattle.base_laws.proofs.Lists.{All-map}
-use Rattle.cert_parts.specs.Json.{has_keys}
+use Rattle.json_parts.specs.Json.{has_keys}
 use Rattle.reuse_paths.specs.Quasts.{row_trees}
 use Rattle.cert_parts.specs.Trees.{reads_source, reads_input, reads_empty, reads_true, reads_tree_leaf, reads_test, reads_nested, reads_tree, reads_trees, reads_all_trees}
 use Rattle.cert_written.specs.Trees.{tree_data, trees_data, all_trees_data}
 use Rattle.cert_written.specs.ReadBack.{FormIsRead, AreMultipliersRead, TreeIsRead, TreesAreRead}
-use Rattle.cert_written.proofs.ReadLists.{natural-read, list-of-read, all-both}
+use Rattle.json_parts.proofs.Back.{natural_read, list-of-read, all-both}
 use Rattle.cert_written.proofs.ReadParts.{forms-read, all_multipliers-read}
 
 -- a tree that is read where so many tests may be nested
@@ -31,9 +31,9 @@ source-leaf claim small statement level point inside cell before between =
       all_multipliers-read claim.between between small.between,
       all_multipliers-read claim.cell cell small.cell,
       all_multipliers-read claim.inside inside small.inside,
-      natural-read 0 255 claim.level (omega arith) level,
+      natural_read 0 255 claim.level (omega arith) level,
       forms-read claim.point point small.point,
-      natural-read 0 65535 claim.statement (omega arith) statement,
+      natural_read 0 65535 claim.statement (omega arith) statement,
     ) refl
 
 pub source-read : (claim : SourceClaim) → claim.statement ≤ 65535 → claim.level ≤ 255 → AllByRecursion FormIsRead claim.point → AllByRecursion AreMultipliersRead claim.inside

@@ -8,16 +8,16 @@ use Rattle.claims.specs.declared.key.TheConstants.{BEFORE, BETWEEN, BLANK, CELL,
 use Rattle.dep_quast.specs.declared.quast.Quast.{Quast}
 use Rattle.dep_quast.specs.Tree.{SelectionTree, leaf, test, leaf_count, blank, tree_of}
 use Rattle.reuse_paths.specs.declared.quasts.Quasts.{Quasts}
-use Rattle.part_fit.specs.Limits.{AreSmall, NamesRows, NameRows, IsSmallTreeLeaf, IsNestedTree, IsSmallTree}
+use Rattle.certificate_fit.specs.Limits.{AreSmall, NamesRows, NameRows, IsSmallTreeLeaf, IsNestedTree, IsSmallTree}
 use Rattle.serde_json.specs.Data.{Data}
 use Rattle.serde_json.specs.Find.{as_bool}
-use Rattle.cert_parts.specs.Outcome.{Outcome, fault}
-use Rattle.cert_parts.specs.Json.{has_keys, part, reads_natural}
+use Rattle.json_parts.specs.Outcome.{Outcome, fault}
+use Rattle.json_parts.specs.Json.{has_keys, part, reads_natural}
 use Rattle.cert_parts.specs.Parts.{reads_form, reads_forms, reads_multipliers, reads_all_multipliers}
 use Rattle.reuse_paths.specs.Quasts.{row_trees}
 use Rattle.cert_parts.specs.Trees.{source_keys, test_keys, is_true, reads_source, reads_input, reads_empty, reads_true, reads_tree_leaf, reads_test, reads_nested, reads_tree, reads_trees, reads_all_trees}
-use Rattle.cert_written.proofs.Given.{given_then, given_behind, given_if, given_part, given_list}
-use Rattle.cert_written.proofs.PartLimits.{form_small, forms_small, multipliers_small, all_multipliers_small}
+use Rattle.json_parts.specs.Given.{given_then, given_behind, given_if, given_part, given_list}
+use Rattle.cert_written.specs.PartLimits.{form_small, forms_small, multipliers_small, all_multipliers_small}
 use Rattle.iolb_model.specs.declared.limits.TheConstants.{NUMBER_SIZE}
 
 -- a tree without tests, whose leaf is within its limits

@@ -2,7 +2,8 @@
 use Rattle.std.specs.Prelude.{List, map, codes}
 use Rattle.serde_json.specs.Data.{Data, object, no_members, member}
 use Rattle.reuse_paths.specs.LeafClaims.{LeafClaim, no_point, stops, is_credited, goes_on, arrives}
-use Rattle.cert_written.specs.Parts.{list, natural, multipliers_data, all_multipliers_data}
+use Rattle.json_parts.specs.Written.{list, natural}
+use Rattle.cert_written.specs.Parts.{multipliers_data, all_multipliers_data}
 
 abbrev pub leaf_data : LeafClaim → Data
 leaf_data (no_point shown) = object (member (codes "empty") (multipliers_data shown) no_members)

@@ -3,8 +3,13 @@ pub mod Leaves
 pub mod Polynomials
 pub mod Trees
 pub mod Walks
+pub mod PartLimits
+pub mod EntryLimits
+pub mod PolynomialLimits
+pub mod WalkLimits
 pub mod ReadBack
 pub mod WalkReadBack
+pub mod Shapes
+pub mod Reaches
 pub mod Families
 pub mod Credits
-pub mod FamilyReadBack

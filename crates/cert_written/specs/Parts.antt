@@ -3,21 +3,8 @@ use Rattle.std.specs.Prelude.{ℕ, zero, suc, ℤ, List, [], ◌∷◌, ◌++◌
 use Rattle.iolb_model.specs.Form.{AffineForm}
 use Rattle.affine_form.specs.Matrix.{IntegerMatrix}
 use Rattle.affine_form.specs.Multipliers.{FarkasMultipliers}
-use Rattle.serde_json.specs.Data.{Data, number, unsigned, array}
-use Rattle.serde_json.specs.Find.{of_integer}
-use Rattle.serde_json.specs.View.{items_of}
-
--- an array
-abbrev pub list : List Data → Data
-list ds = array (items_of ds)
-
--- a whole number
-abbrev pub whole : ℤ → Data
-whole z = number (of_integer z)
-
--- a whole number that isn't below 0
-abbrev pub natural : ℕ → Data
-natural n = number (unsigned n)
+use Rattle.serde_json.specs.Data.{Data}
+use Rattle.json_parts.specs.Written.{list, whole, natural}
 
 -- ---- forms: the coefficients, then the constant
 

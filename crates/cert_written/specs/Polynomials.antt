@@ -4,7 +4,7 @@ use Rattle.iolb_model.specs.Polynomial.{Term, Polynomial}
 use Rattle.poly_tree.specs.Poly.{Quotient}
 use Rattle.poly_tree.specs.Printed.{written_terms}
 use Rattle.serde_json.specs.Data.{Data, object, no_members, member}
-use Rattle.cert_written.specs.Parts.{list, whole, natural}
+use Rattle.json_parts.specs.Written.{list, whole, natural}
 
 -- a term: its coefficient, then its exponents
 abbrev pub term_data : Term → Data

@@ -11,7 +11,7 @@ use Rattle.dep_quast.specs.declared.quast.Quast.{Quast}
 use Rattle.dep_quast.specs.Tree.{tree_of}
 use Rattle.reuse_paths.specs.declared.leaf.Leaf.{Leaf}
 use Rattle.reuse_paths.specs.LeafClaims.{claim_of}
-use Rattle.part_fit.specs.Limits.{NamesRows, IsNestedTree, IsSmallLeaf}
+use Rattle.certificate_fit.specs.Limits.{NamesRows, IsNestedTree, IsSmallLeaf}
 use Rattle.cert_parts.specs.Leaves.{reads_leaf}
 use Rattle.cert_parts.specs.Nests.{reads_pair}
 use Rattle.cert_parts.specs.Parts.{reads_form, reads_multipliers, reads_matrix}

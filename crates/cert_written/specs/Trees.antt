@@ -3,7 +3,8 @@ use Rattle.std.specs.Prelude.{List, map, codes, true}
 use Rattle.iolb_model.specs.Form.{AffineForm}
 use Rattle.dep_quast.specs.Tree.{SourceClaim, Leaf, source, input, empty, blank, SelectionTree, leaf, test}
 use Rattle.serde_json.specs.Data.{Data, boolean, object, no_members, member}
-use Rattle.cert_written.specs.Parts.{list, natural, form_data, forms_data, multipliers_data, all_multipliers_data}
+use Rattle.json_parts.specs.Written.{list, natural}
+use Rattle.cert_written.specs.Parts.{form_data, forms_data, multipliers_data, all_multipliers_data}
 
 -- a leaf that names a source
 abbrev pub source_data : SourceClaim → Data

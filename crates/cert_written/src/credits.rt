@@ -1,41 +1,66 @@
 //! Credited nests.
 
-ghost use Rattle.std.specs.Prelude.{◌≡◌, map, IfOk};
 ghost use Rattle.std.specs.List.{AllByRecursion};
-ghost use Rattle.serde_json.specs.View.{view};
-ghost use Rattle.cert_written.specs.Credits.{credit_data, credits_data, written_credit};
-ghost use Rattle.cert_written.specs.FamilyReadBack.{CreditIsRead, HasSmallSums};
+ghost use Rattle.certificate_fit.specs.Limits.{NameRows, IsSmallPolynomial};
+ghost use Rattle.json_parts.specs.Related.{other_link};
+ghost use Rattle.cert_written.specs.Credits.{WrittenCredit, credit_shape, IsCredit, written_credit};
+ghost use Rattle.cert_written.specs.EntryLimits.{IsSmallNest};
 
-use crate::multipliers::all_multipliers;
-use crate::nests::nest;
-use crate::objects::credited_object;
-use crate::polynomials::all_polynomials;
+use crate::multipliers::OfMultipliers;
+use crate::nests::OfNest;
+use crate::polynomials::OfPolynomial;
 use affine_form::Memory;
+use claims::key;
+use domain_count::Sums;
+use json_parts::{
+    Any16, CertError, End, ListOf, Part, put_list, put_part, read_object, write_object,
+};
 use reuse_paths::Credit;
 use serde_json::Value;
 use std::alloc::Global;
 
-/// A credited nest.
-fn credit(alloc: Global, credit: &Credit) -> Result<Value, Memory>
-    requires { HasSmallSums credit.now }
-    ensures value { IfOk result (λ value. view value ≡ credit_data (written_credit credit.now)) }
-    ensures read { IfOk result (λ _. CreditIsRead credit.now) }
-{
-    let nest = nest(alloc, &credit.nest)?;
-    let shown = all_multipliers(alloc, credit.sums.shown())?;
-    let sums = all_polynomials(alloc, credit.sums.sums())?;
-    Ok(credited_object(alloc, nest, shown, credit.statement, sums)?)
-}
+/// A credited nest, and what is claimed of how many points it has.
+pub struct OfCredit {}
 
-/// An array of credited nests.
-pub fn all_credits(alloc: Global, credits: &[Credit]) -> Result<Value, Memory>
-    requires { AllByRecursion HasSmallSums credits.now }
-    ensures value { IfOk result (λ value. view value ≡ credits_data (map written_credit credits.now)) }
-    ensures read { IfOk result (λ _. AllByRecursion CreditIsRead credits.now) }
-{
-    let mut items = Vec::new(alloc);
-    for one in credits {
-        items.push(credit(alloc, one)?)?;
+type Members = (
+    OfNest,
+    (ListOf<OfMultipliers>, (Any16, (ListOf<OfPolynomial>, End))),
+);
+
+impl Part for OfCredit {
+    type Value = Credit;
+
+    ghost Said = { WrittenCredit };
+
+    ghost shape = { credit_shape };
+
+    ghost link = { other_link written_credit IsCredit };
+
+    ghost Fits = { λ credit. IsSmallNest credit.nest × NameRows credit.sums.shown × AllByRecursion IsSmallPolynomial credit.sums.sums };
+
+    #[tactic(auto, unfolding(crate::specs::Credits::credit_shape))]
+    fn read(alloc: Global, value: &Value) -> Result<Credit, CertError> {
+        let names = ["nest", "shown", "statement", "sums"];
+        let numbers = [key::NEST, key::SHOWN, key::STATEMENT, key::SUMS];
+        let (nest, (shown, (statement, (sums, ())))) = read_object::<Members>(
+            alloc, value, &names, &numbers,
+        )?;
+        Ok(Credit {
+            statement,
+            nest,
+            sums: Sums::new(shown, sums),
+        })
     }
-    Ok(Value::Array(items))
+
+    #[tactic(auto, using(crate::proofs::ReadRecords::credit_read), unfolding(crate::specs::Credits::credit_shape))]
+    fn write(alloc: Global, part: &Credit) -> Result<Value, Memory> {
+        let names = ["nest", "shown", "statement", "sums"];
+        let numbers = [key::NEST, key::SHOWN, key::STATEMENT, key::SUMS];
+        let rest = put_list::<OfPolynomial, _>(part.sums.sums(), End {});
+        let rest = put_part::<Any16, _>(&part.statement, rest);
+        let rest = put_list::<OfMultipliers, _>(part.sums.shown(), rest);
+        let all = put_part::<OfNest, _>(&part.nest, rest);
+        let value = write_object(alloc, &names, &numbers, &all)?;
+        Ok(value)
+    }
 }

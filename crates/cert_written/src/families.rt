@@ -1,130 +1,267 @@
 //! Families of walks.
 
-ghost use Rattle.std.specs.Prelude.{◌≡◌, map, option_map, IfOk};
-ghost use Rattle.std.specs.List.{AllByRecursion};
-ghost use Rattle.reuse_paths.specs.Families.{family_of, forms_of, node_of};
-ghost use Rattle.reuse_paths.specs.Walks.{tree_of_walk};
+ghost use Rattle.std.specs.Prelude.{◌≡◌, suc, List, [], map, min, IfOk};
 ghost use Rattle.serde_json.specs.View.{view};
-ghost use Rattle.cert_written.specs.Families.{families_data, family_data, labels_data, node_data, nodes_data, set_data, start_data};
-ghost use Rattle.cert_written.specs.FamilyReadBack.{FamilyIsRead, FamilyNodeIsRead, IsCoordinate, LabelIsRead, NodeFormsAreRead, StartIsRead};
-ghost use Rattle.cert_written.specs.Parts.{forms_data};
-ghost use Rattle.cert_written.specs.Walks.{or_null};
+ghost use Rattle.iolb_model.specs.Form.{AffineForm};
+ghost use Rattle.certificate_fit.specs.Limits.{AreSmall, IsSmallWalk, IsSmallFamily};
+ghost use Rattle.reuse_paths.specs.Families.{NodeForms, FamilyForms, node_of, family_of};
+ghost use Rattle.reuse_paths.specs.Walks.{WalkTree, tree_of_walk};
+ghost use Rattle.json_parts.specs.Fields.{field};
+ghost use Rattle.json_parts.specs.Names.{first_of, more_of, one-more-name};
+ghost use Rattle.json_parts.specs.Related.{plain_link};
+ghost use Rattle.json_parts.specs.Shape.{IsReadBack};
+ghost use Rattle.cert_written.specs.Families.{node_shape, IsSmallForms, start_shape, family_shape, families_shape, AreSmallFamilies, weights_of};
 
-use crate::forms::all_forms;
-use crate::objects::{family_object, node_object, start_object};
-use crate::reaches::node as region;
-use crate::walks::walk;
+use crate::forms::OfForm;
+use crate::reaches::OfRegion;
+use crate::walks::OfWalk;
 use affine_form::{Form, Memory};
+use claims::key;
+use cover_lp::CoordSet;
+use iolb_model::limits;
+use json_parts::{
+    Any8, CertError, End, Few, ListOf, Number8, Number32, OrNull, Part, Puts, fault, put_list,
+    put_part, read_object, write_list, write_object,
+};
 use reuse_paths::{Family, FamilyNode, Walk};
-use serde_json::Value;
+use serde_json::{Map, Value, put};
 use std::alloc::Global;
 
-/// A set of coordinates.
-fn set(alloc: Global, coordinates: &[u8]) -> Result<Value, Memory>
-    ensures value { IfOk result (λ value. view value ≡ set_data coordinates.now) }
-    ensures read { IfOk result (λ _. AllByRecursion IsCoordinate coordinates.now) }
-{
-    let mut items = Vec::new(alloc);
-    for one in coordinates {
-        items.push(Value::from(*one))?;
-    }
-    Ok(Value::Array(items))
-}
+type Label = ListOf<OfForm>;
 
-/// An array's label, or null.
-fn label(alloc: Global, label: &Option<Vec<Form>>) -> Result<Value, Memory>
-    ensures value { IfOk result (λ value. view value ≡ or_null forms_data (option_map forms_of label.now)) }
-    ensures read { IfOk result (λ _. LabelIsRead label.now) }
-{
-    match label {
-        Some(one) => all_forms(alloc, one.as_slice()),
-        None => Ok(Value::Null),
-    }
-}
+/// What is said of a statement: the label of an instance, and a region or null.
+struct OfNode {}
 
-/// The labels of all arrays.
-fn labels(alloc: Global, labels: &[Option<Vec<Form>>]) -> Result<Value, Memory>
-    ensures value { IfOk result (λ value. view value ≡ labels_data (map (option_map forms_of) labels.now)) }
-    ensures read { IfOk result (λ _. AllByRecursion LabelIsRead labels.now) }
-{
-    let mut items = Vec::new(alloc);
-    for one in labels {
-        items.push(label(alloc, one)?)?;
-    }
-    Ok(Value::Array(items))
-}
+impl Part for OfNode {
+    type Value = FamilyNode;
 
-/// What is said of a statement.
-fn node(alloc: Global, node: &FamilyNode) -> Result<Value, Memory>
-    ensures value { IfOk result (λ value. view value ≡ node_data (node_of node.now)) }
-    ensures read { IfOk result (λ _. NodeFormsAreRead node.now) }
-{
-    let label = all_forms(alloc, node.label.as_slice())?;
-    let region = region(alloc, &node.region)?;
-    Ok(node_object(alloc, label, region)?)
-}
+    ghost Said = { NodeForms };
 
-/// What is said of a statement, or null.
-fn some_node(alloc: Global, some: &Option<FamilyNode>) -> Result<Value, Memory>
-    ensures value { IfOk result (λ value. view value ≡ or_null node_data (option_map node_of some.now)) }
-    ensures read { IfOk result (λ _. FamilyNodeIsRead some.now) }
-{
-    match some {
-        Some(one) => node(alloc, one),
-        None => Ok(Value::Null),
-    }
-}
+    ghost shape = { node_shape };
 
-/// What is said of all statements.
-fn nodes(alloc: Global, nodes: &[Option<FamilyNode>]) -> Result<Value, Memory>
-    ensures value { IfOk result (λ value. view value ≡ nodes_data (map (option_map node_of) nodes.now)) }
-    ensures read { IfOk result (λ _. AllByRecursion FamilyNodeIsRead nodes.now) }
-{
-    let mut items = Vec::new(alloc);
-    for one in nodes {
-        items.push(some_node(alloc, one)?)?;
+    ghost link = { plain_link node_of };
+
+    ghost Fits = { λ node. IsSmallForms (node_of node) };
+
+    #[tactic(auto, unfolding(crate::specs::Families::node_shape))]
+    fn read(alloc: Global, value: &Value) -> Result<FamilyNode, CertError> {
+        let numbers = [key::LABEL, key::REGION];
+        let (label, (region, ())) = read_object::<(Label, (OrNull<OfRegion>, End))>(
+            alloc,
+            value,
+            &["label", "region"],
+            &numbers,
+        )?;
+        Ok(FamilyNode { label, region })
     }
-    Ok(Value::Array(items))
+
+    #[tactic(auto, using(crate::proofs::ReadReaches::node_fits), unfolding(crate::specs::Families::node_shape))]
+    fn write(alloc: Global, part: &FamilyNode) -> Result<Value, Memory> {
+        let rest = put_part::<OrNull<OfRegion>, _>(&part.region, End {});
+        let all = put_part::<Label, _>(&part.label, rest);
+        let numbers = [key::LABEL, key::REGION];
+        let value = write_object(alloc, &["label", "region"], &numbers, &all)?;
+        Ok(value)
+    }
 }
 
 /// The label of an instance that is counted, and its walk.
-fn start(alloc: Global, label: &[Form], tree: &Walk) -> Result<Value, Memory>
-    ensures value { IfOk result (λ value. view value ≡ start_data label.now (tree_of_walk tree.now)) }
-    ensures read { IfOk result (λ _. StartIsRead label.now tree.now) }
-{
-    let label = all_forms(alloc, label)?;
-    let tree = walk(alloc, tree)?;
-    Ok(start_object(alloc, label, tree)?)
-}
+struct OfStart {}
 
-/// A family.
-fn family(alloc: Global, family: &Family) -> Result<Value, Memory>
-    ensures value { IfOk result (λ value. view value ≡ family_data (family_of family.now)) }
-    ensures read { IfOk result (λ _. FamilyIsRead family.now) }
-{
-    let inputs = labels(alloc, family.inputs.as_slice())?;
-    let nodes = nodes(alloc, family.nodes.as_slice())?;
-    let set = set(alloc, family.set.coords())?;
-    let start = start(alloc, family.start_label.as_slice(), &family.start)?;
-    Ok(family_object(
-        alloc,
-        inputs,
-        nodes,
-        family.scale,
-        set,
-        start,
-        family.weight,
-    )?)
-}
+impl Part for OfStart {
+    type Value = (Vec<Form>, Walk);
 
-/// An array of families.
-pub fn all_families(alloc: Global, families: &[Family]) -> Result<Value, Memory>
-    ensures value { IfOk result (λ value. view value ≡ families_data (map family_of families.now)) }
-    ensures read { IfOk result (λ _. AllByRecursion FamilyIsRead families.now) }
-{
-    let mut items = Vec::new(alloc);
-    for one in families {
-        items.push(family(alloc, one)?)?;
+    ghost Said = { List AffineForm × WalkTree };
+
+    ghost shape = { start_shape };
+
+    ghost link = { plain_link (λ start. (start.0.items, tree_of_walk start.1)) };
+
+    ghost Fits = { λ start. AreSmall start.0.items × IsSmallWalk (tree_of_walk start.1) };
+
+    #[tactic(auto, unfolding(crate::specs::Families::start_shape))]
+    fn read(alloc: Global, value: &Value) -> Result<(Vec<Form>, Walk), CertError> {
+        let numbers = [key::LABEL, key::TREE];
+        let (label, (tree, ())) = read_object::<(Label, (OfWalk, End))>(
+            alloc,
+            value,
+            &["label", "tree"],
+            &numbers,
+        )?;
+        Ok((label, tree))
     }
-    Ok(Value::Array(items))
+
+    #[tactic(auto, unfolding(crate::specs::Families::start_shape))]
+    fn write(alloc: Global, part: &(Vec<Form>, Walk)) -> Result<Value, Memory> {
+        write_start(alloc, part.0.as_slice(), &part.1)
+    }
+}
+
+/// The label of an instance that is counted, and its walk, as an object.
+#[tactic(auto, unfolding(crate::specs::Families::start_shape))]
+fn write_start(alloc: Global, label: &[Form], tree: &Walk) -> Result<Value, Memory>
+    requires { AreSmall label.now × IsSmallWalk (tree_of_walk tree.now) }
+    ensures value { IfOk result (λ value. view value ≡ start_shape.data_of (label.now, tree_of_walk tree.now)) }
+    ensures read { IfOk result (λ _. IsReadBack start_shape (label.now, tree_of_walk tree.now)) }
+{
+    let rest = put_part::<OfWalk, _>(tree, End {});
+    let all = put_list::<OfForm, _>(label, rest);
+    let numbers = [key::LABEL, key::TREE];
+    let value = write_object(alloc, &["label", "tree"], &numbers, &all)?;
+    Ok(value)
+}
+
+/// A start that is to be written, and the members behind it.
+#[derive(Drop)]
+struct PutStart<'a, R> {
+    label: &'a [Form],
+    tree: &'a Walk,
+    rest: R,
+}
+
+impl<'a, R: Puts> Puts for PutStart<'a, R> {
+    ghost Said = { (List AffineForm × WalkTree) × R.Said };
+
+    ghost COUNT = { suc R.COUNT };
+
+    ghost fields = { λ names numbers. field (first_of [] names) (first_of 0 numbers) start_shape (R.fields (more_of names) (more_of numbers)) };
+
+    ghost said = { λ puts. ((puts.label.now, tree_of_walk puts.tree.now), R.said puts.rest) };
+
+    ghost Fit = { λ puts. (AreSmall puts.label.now × IsSmallWalk (tree_of_walk puts.tree.now)) × R.Fit puts.rest };
+
+    ghost Are = { λ puts. R.Are puts.rest };
+
+    fn write(
+        &self,
+        alloc: Global,
+        names: &[&str],
+        numbers: &[u8],
+    ) -> Result<Map<String, Value>, Memory> {
+        let mut members = self.rest.write(alloc, &names[1..], &numbers[1..])?;
+        let value = write_start(alloc, self.label, self.tree)?;
+        put(&mut members, alloc, names[0], value)?;
+        Ok(members)
+    }
+
+    ghost names_are = { λ names numbers so_many. one-more-name R.COUNT (λ more. (R.fields more (more_of numbers)).names) (λ more some. R.names_are more (more_of numbers) some) names so_many };
+}
+
+/// A family: a scale from 1 to 2^20, and a weight from 1 to 12.
+struct OfFamily {}
+
+type Members = (
+    ListOf<OrNull<Label>>,
+    (
+        ListOf<OrNull<OfNode>>,
+        (Scale, (ListOf<Any8>, (OfStart, (Weight, End)))),
+    ),
+);
+
+type Scale = Number32<1, 1048576>;
+
+type Weight = Number8<1, 12>;
+
+impl Part for OfFamily {
+    type Value = Family;
+
+    ghost Said = { FamilyForms };
+
+    ghost shape = { family_shape };
+
+    ghost link = { plain_link family_of };
+
+    ghost Fits = { λ family. IsSmallFamily (family_of family) };
+
+    #[tactic(auto, unfolding(crate::specs::Families::family_shape))]
+    fn read(alloc: Global, value: &Value) -> Result<Family, CertError> {
+        let names = ["inputs", "nodes", "scale", "set", "start", "weight"];
+        let numbers = [
+            key::INPUTS,
+            key::NODES,
+            key::SCALE,
+            key::SET,
+            key::START,
+            key::WEIGHT,
+        ];
+        let (inputs, (nodes, (scale, (set, (start, (weight, ())))))) = read_object::<Members>(
+            alloc, value, &names, &numbers,
+        )?;
+        let (start_label, start) = start;
+        Ok(Family {
+            scale,
+            set: CoordSet::new(set),
+            weight,
+            start_label,
+            start,
+            nodes,
+            inputs,
+        })
+    }
+
+    #[tactic(auto, unfolding(crate::specs::Families::family_shape))]
+    fn write(alloc: Global, part: &Family) -> Result<Value, Memory> {
+        let names = ["inputs", "nodes", "scale", "set", "start", "weight"];
+        let numbers = [
+            key::INPUTS,
+            key::NODES,
+            key::SCALE,
+            key::SET,
+            key::START,
+            key::WEIGHT,
+        ];
+        let rest = PutStart {
+            label: part.start_label.as_slice(),
+            tree: &part.start,
+            rest: put_part::<Weight, _>(&part.weight, End {}),
+        };
+        let rest = put_list::<Any8, _>(part.set.coords(), rest);
+        let rest = put_part::<Scale, _>(&part.scale, rest);
+        let rest = put_part::<ListOf<OrNull<OfNode>>, _>(&part.nodes, rest);
+        let all = put_part::<ListOf<OrNull<Label>>, _>(&part.inputs, rest);
+        let value = write_object(alloc, &names, &numbers, &all)?;
+        Ok(value)
+    }
+}
+
+/// The weights of families together, or 255 if they are more.
+fn weight_of(families: &[Family]) -> u8
+    ensures { result ≡ min (weights_of (map family_of families.now)) 255 }
+{
+    let mut sum: u8 = 0;
+    for family in families {
+        sum = sum.saturating_add(family.weight);
+    }
+    sum
+}
+
+/// One to six families, whose weights are 24 together at most.
+pub struct OfFamilies {}
+
+impl Part for OfFamilies {
+    type Value = Vec<Family>;
+
+    ghost Said = { List FamilyForms };
+
+    ghost shape = { families_shape };
+
+    ghost link = { plain_link (λ families. map family_of families.items) };
+
+    ghost Fits = { λ families. AreSmallFamilies (map family_of families.items) };
+
+    #[tactic(auto, unfolding(crate::specs::Families::families_shape))]
+    fn read(alloc: Global, value: &Value) -> Result<Vec<Family>, CertError> {
+        let families = <Few<OfFamily, 6> as Part>::read(alloc, value)?;
+        if !families.is_empty() && weight_of(families.as_slice()) <= limits::WEIGHTS {
+            Ok(families)
+        } else {
+            Err(fault(alloc, 3))
+        }
+    }
+
+    #[tactic(auto, unfolding(crate::specs::Families::families_shape))]
+    fn write(alloc: Global, part: &Vec<Family>) -> Result<Value, Memory> {
+        let value = write_list::<OfFamily>(alloc, part.as_slice())?;
+        Ok(value)
+    }
 }

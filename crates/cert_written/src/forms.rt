@@ -5,9 +5,16 @@ ghost use Rattle.std.specs.List.{AllByRecursion};
 ghost use Rattle.serde_json.specs.View.{view};
 ghost use Rattle.cert_written.specs.Parts.{form_data, forms_data};
 ghost use Rattle.cert_written.specs.ReadBack.{FormIsRead};
+ghost use Rattle.affine_form.specs.Form.{IsSmallForm};
+ghost use Rattle.iolb_model.specs.Form.{AffineForm};
+ghost use Rattle.iolb_model.specs.declared.limits.TheConstants.{NUMBER_SIZE};
+ghost use Rattle.json_parts.specs.Related.{same_link};
+ghost use Rattle.cert_written.specs.Shapes.{form_shape};
 
 use crate::numbers::{narrowed, numbers};
 use affine_form::{Form, Memory};
+use cert_parts::form as read_form;
+use json_parts::{CertError, Part};
 use serde_json::Value;
 use std::alloc::Global;
 
@@ -43,4 +50,29 @@ pub fn all_forms(alloc: Global, forms: &[Form]) -> Result<Value, Memory>
         items.push(form(alloc, one)?)?;
     }
     Ok(Value::Array(items))
+}
+
+/// A form whose numbers are of size below 2^20.
+pub struct OfForm {}
+
+impl Part for OfForm {
+    type Value = Form;
+
+    ghost Said = { AffineForm };
+
+    ghost shape = { form_shape };
+
+    ghost link = { same_link };
+
+    ghost Fits = { IsSmallForm NUMBER_SIZE };
+
+    fn read(alloc: Global, value: &Value) -> Result<Form, CertError> {
+        let form = read_form(alloc, value)?;
+        Ok(form)
+    }
+
+    fn write(alloc: Global, part: &Form) -> Result<Value, Memory> {
+        let value = form(alloc, part)?;
+        Ok(value)
+    }
 }

@@ -2,7 +2,8 @@
 
 ghost use Rattle.std.specs.Prelude.{◌≡◌, ◌*◌, ◌≤◌, length, map, IfOk};
 ghost use Rattle.serde_json.specs.View.{view};
-ghost use Rattle.cert_written.specs.Parts.{rows_of, row_data, matrix_data, list};
+ghost use Rattle.cert_written.specs.Parts.{rows_of, row_data, matrix_data};
+ghost use Rattle.json_parts.specs.Written.{list};
 ghost use Rattle.cert_written.specs.ReadBack.{MatrixIsRead};
 
 use affine_form::{Matrix, Memory};

@@ -5,8 +5,14 @@ ghost use Rattle.std.specs.List.{AllByRecursion};
 ghost use Rattle.serde_json.specs.View.{view};
 ghost use Rattle.cert_written.specs.Parts.{weights_data, multipliers_data, all_multipliers_data};
 ghost use Rattle.cert_written.specs.ReadBack.{AreMultipliersRead};
+ghost use Rattle.affine_form.specs.Multipliers.{FarkasMultipliers};
+ghost use Rattle.certificate_fit.specs.Limits.{NamesRows};
+ghost use Rattle.json_parts.specs.Related.{same_link};
+ghost use Rattle.cert_written.specs.Shapes.{multipliers_shape};
 
 use affine_form::{Memory, Multipliers};
+use cert_parts::some_multipliers;
+use json_parts::{CertError, Part};
 use serde_json::Value;
 use std::alloc::Global;
 
@@ -46,4 +52,29 @@ pub fn all_multipliers(alloc: Global, all: &[Multipliers]) -> Result<Value, Memo
         items.push(multipliers(alloc, shown)?)?;
     }
     Ok(Value::Array(items))
+}
+
+/// Multipliers of rows below 128.
+pub struct OfMultipliers {}
+
+impl Part for OfMultipliers {
+    type Value = Multipliers;
+
+    ghost Said = { FarkasMultipliers };
+
+    ghost shape = { multipliers_shape };
+
+    ghost link = { same_link };
+
+    ghost Fits = { NamesRows };
+
+    fn read(alloc: Global, value: &Value) -> Result<Multipliers, CertError> {
+        let shown = some_multipliers(alloc, value)?;
+        Ok(shown)
+    }
+
+    fn write(alloc: Global, part: &Multipliers) -> Result<Value, Memory> {
+        let value = multipliers(alloc, part)?;
+        Ok(value)
+    }
 }

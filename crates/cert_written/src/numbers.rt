@@ -3,7 +3,7 @@
 ghost use Rattle.std.specs.Prelude.{◌≡◌, map, IfOk};
 ghost use Rattle.affine_form.specs.Form.{IsSmall};
 ghost use Rattle.serde_json.specs.View.{view};
-ghost use Rattle.cert_written.specs.Parts.{list, whole};
+ghost use Rattle.json_parts.specs.Written.{list, whole};
 ghost use Rattle.iolb_model.specs.declared.limits.TheConstants.{COEFFICIENT_SIZE};
 
 use affine_form::Memory;

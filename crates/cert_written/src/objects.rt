@@ -3,7 +3,7 @@
 ghost use Rattle.std.specs.Prelude.{◌≡◌, codes, true, IfOk};
 ghost use Rattle.serde_json.specs.Data.{boolean, member, no_members, object};
 ghost use Rattle.serde_json.specs.View.{view};
-ghost use Rattle.cert_written.specs.Parts.{natural};
+ghost use Rattle.json_parts.specs.Written.{natural};
 
 use serde_json::{Value, json};
 use std::alloc::{AllocError, Global};
@@ -123,98 +123,4 @@ pub(crate) fn take_object(alloc: Global, leaves: Value, read: u16) -> Result<Val
         ≡ object (member (codes "leaves") (view leaves) (member (codes "read") (natural read) no_members))) }
 {
     json!(in alloc; {"leaves": leaves, "read": read})
-}
-
-/// A region.
-pub(crate) fn region_object(alloc: Global, rows: Value, tree: Value) -> Result<Value, AllocError>
-    ensures { IfOk result (λ value. view value
-        ≡ object (member (codes "rows") (view rows) (member (codes "tree") (view tree) no_members))) }
-{
-    json!(in alloc; {"rows": rows, "tree": tree})
-}
-
-/// A spot.
-pub(crate) fn spot_object(alloc: Global, point: Value, statement: u16) -> Result<Value, AllocError>
-    ensures { IfOk result (λ value. view value
-        ≡ object (member (codes "point") (view point) (member (codes "statement") (natural statement) no_members))) }
-{
-    json!(in alloc; {"point": point, "statement": statement})
-}
-
-/// That two spots are the same.
-pub(crate) fn same_object(alloc: Global, equal: Value) -> Result<Value, AllocError>
-    ensures { IfOk result (λ value. view value ≡ object (member (codes "same") (view equal) no_members)) }
-{
-    json!(in alloc; {"same": equal})
-}
-
-/// A walk through regions.
-pub(crate) fn walked_object(alloc: Global, nodes: Value, start: Value) -> Result<Value, AllocError>
-    ensures { IfOk result (λ value. view value
-        ≡ object (member (codes "nodes") (view nodes) (member (codes "start") (view start) no_members))) }
-{
-    json!(in alloc; {"nodes": nodes, "start": start})
-}
-
-/// What is said of a statement.
-pub(crate) fn node_object(alloc: Global, label: Value, region: Value) -> Result<Value, AllocError>
-    ensures { IfOk result (λ value. view value
-        ≡ object (member (codes "label") (view label) (member (codes "region") (view region) no_members))) }
-{
-    json!(in alloc; {"label": label, "region": region})
-}
-
-/// The label of an instance that is counted, and its walk.
-pub(crate) fn start_object(alloc: Global, label: Value, tree: Value) -> Result<Value, AllocError>
-    ensures { IfOk result (λ value. view value
-        ≡ object (member (codes "label") (view label) (member (codes "tree") (view tree) no_members))) }
-{
-    json!(in alloc; {"label": label, "tree": tree})
-}
-
-/// A family.
-pub(crate) fn family_object(
-    alloc: Global,
-    inputs: Value,
-    nodes: Value,
-    scale: u32,
-    set: Value,
-    start: Value,
-    weight: u8,
-) -> Result<Value, AllocError>
-    ensures { IfOk result (λ value. view value ≡ object
-        (member (codes "inputs") (view inputs)
-        (member (codes "nodes") (view nodes)
-        (member (codes "scale") (natural scale)
-        (member (codes "set") (view set)
-        (member (codes "start") (view start)
-        (member (codes "weight") (natural weight)
-        no_members))))))) }
-{
-    json!(in alloc; {
-        "inputs": inputs,
-        "nodes": nodes,
-        "scale": scale,
-        "set": set,
-        "start": start,
-        "weight": weight,
-    })
-}
-
-/// A credited nest.
-pub(crate) fn credited_object(
-    alloc: Global,
-    nest: Value,
-    shown: Value,
-    statement: u16,
-    sums: Value,
-) -> Result<Value, AllocError>
-    ensures { IfOk result (λ value. view value ≡ object
-        (member (codes "nest") (view nest)
-        (member (codes "shown") (view shown)
-        (member (codes "statement") (natural statement)
-        (member (codes "sums") (view sums)
-        no_members))))) }
-{
-    json!(in alloc; {"nest": nest, "shown": shown, "statement": statement, "sums": sums})
 }

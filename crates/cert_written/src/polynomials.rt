@@ -5,17 +5,23 @@ ghost use Rattle.std.specs.List.{AllByRecursion};
 ghost use Rattle.iolb_model.specs.Polynomial.{Term};
 ghost use Rattle.affine_form.specs.Form.{IsSmall};
 ghost use Rattle.poly_tree.specs.Terms.{term_of, terms_of};
-ghost use Rattle.part_fit.specs.Limits.{IsSmallPolynomial};
+ghost use Rattle.certificate_fit.specs.Limits.{IsSmallPolynomial};
 ghost use Rattle.serde_json.specs.View.{view};
-ghost use Rattle.cert_written.specs.Parts.{list, natural, whole};
-ghost use Rattle.cert_written.specs.Polynomials.{term_data, polynomial_data, polynomials_data};
+ghost use Rattle.json_parts.specs.Written.{list, natural, whole};
+ghost use Rattle.cert_written.specs.Polynomials.{term_data, polynomial_data};
 ghost use Rattle.cert_written.specs.ReadBack.{PolynomialIsRead};
 ghost use Rattle.cert_written.specs.Polynomials.{written_polynomial};
+ghost use Rattle.iolb_model.specs.Polynomial.{Polynomial};
+ghost use Rattle.json_parts.specs.Related.{other_link};
+ghost use Rattle.cert_parts.specs.Read.{IsPolynomial};
+ghost use Rattle.cert_written.specs.Shapes.{polynomial_shape};
 ghost use Rattle.iolb_model.specs.declared.limits.TheConstants.{COEFFICIENT_SIZE};
 
 use crate::numbers::narrowed;
 use crate::objects::polynomial_object;
 use affine_form::Memory;
+use cert_parts::polynomial as read_polynomial;
+use json_parts::{CertError, Part};
 use poly_tree::Poly;
 use serde_json::Value;
 use std::alloc::Global;
@@ -57,15 +63,27 @@ fn polynomial(alloc: Global, polynomial: &Poly) -> Result<Value, Memory>
     Ok(polynomial_object(alloc, den, terms)?)
 }
 
-/// An array of polynomials.
-pub fn all_polynomials(alloc: Global, polynomials: &[Poly]) -> Result<Value, Memory>
-    requires { AllByRecursion IsSmallPolynomial polynomials.now }
-    ensures value { IfOk result (λ value. view value ≡ polynomials_data (map written_polynomial polynomials.now)) }
-    ensures read { IfOk result (λ _. AllByRecursion PolynomialIsRead polynomials.now) }
-{
-    let mut items = Vec::new(alloc);
-    for one in polynomials {
-        items.push(polynomial(alloc, one)?)?;
+/// A polynomial, read as it is written, and held without common factors.
+pub struct OfPolynomial {}
+
+impl Part for OfPolynomial {
+    type Value = Poly;
+
+    ghost Said = { Polynomial };
+
+    ghost shape = { polynomial_shape };
+
+    ghost link = { other_link written_polynomial IsPolynomial };
+
+    ghost Fits = { IsSmallPolynomial };
+
+    fn read(alloc: Global, value: &Value) -> Result<Poly, CertError> {
+        let found = read_polynomial(alloc, value)?;
+        Ok(found)
     }
-    Ok(Value::Array(items))
+
+    fn write(alloc: Global, part: &Poly) -> Result<Value, Memory> {
+        let value = polynomial(alloc, part)?;
+        Ok(value)
+    }
 }

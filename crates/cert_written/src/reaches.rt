@@ -1,100 +1,144 @@
-//! Spots, and what shows that walks arrive.
+//! Regions, spots, and what shows that walks arrive.
 
-ghost use Rattle.std.specs.Prelude.{◌≡◌, map, option_map, IfOk};
-ghost use Rattle.std.specs.List.{AllByRecursion};
-ghost use Rattle.reuse_paths.specs.Walks.{reach_of, region_of, spot_of};
-ghost use Rattle.serde_json.specs.View.{view};
-ghost use Rattle.cert_written.specs.Parts.{list};
-ghost use Rattle.cert_written.specs.WalkReadBack.{NodeIsRead, ReachIsRead, RegionIsRead, SourceIsRead, SpotIsRead, WayIsRead};
-ghost use Rattle.cert_written.specs.Walks.{or_null, reach_data, region_data, spot_data};
+ghost use Rattle.certificate_fit.specs.Limits.{AreSmall, IsSmallRegion, IsSmallReach};
+ghost use Rattle.reuse_paths.specs.Walks.{WalkRegion, SpotForms, ReachClaim, region_of, spot_of, reach_of};
+ghost use Rattle.json_parts.specs.Related.{plain_link};
+ghost use Rattle.cert_written.specs.Reaches.{region_shape, spot_shape, reach_shape};
 
-use crate::forms::all_forms;
-use crate::multipliers::all_multipliers;
-use crate::objects::{region_object, same_object, spot_object, walked_object};
-use crate::walks::walk;
+use crate::forms::OfForm;
+use crate::multipliers::OfMultipliers;
+use crate::walks::OfWalk;
 use affine_form::Memory;
+use claims::key;
+use json_parts::{
+    Any16, CertError, End, Few, ListOf, OrNull, Part, has_keys, put_part, read_object, write_object,
+};
 use reuse_paths::{Reach, Region, Spot};
 use serde_json::Value;
 use std::alloc::Global;
 
-/// A region.
-fn region(alloc: Global, region: &Region) -> Result<Value, Memory>
-    ensures value { IfOk result (λ value. view value ≡ region_data (region_of region.now)) }
-    ensures read { IfOk result (λ _. RegionIsRead region.now) }
-{
-    let rows = all_forms(alloc, region.rows.as_slice())?;
-    let tree = walk(alloc, &region.tree)?;
-    Ok(region_object(alloc, rows, tree)?)
-}
+/// A region: at most 16 rows, and a walk.
+pub struct OfRegion {}
 
-/// A statement's region, if it has one.
-pub(crate) fn node(alloc: Global, node: &Option<Region>) -> Result<Value, Memory>
-    ensures value { IfOk result (λ value. view value ≡ or_null region_data (option_map region_of node.now)) }
-    ensures read { IfOk result (λ _. NodeIsRead node.now) }
-{
-    match node {
-        Some(one) => region(alloc, one),
-        None => Ok(Value::Null),
+type Rows = Few<OfForm, 16>;
+
+impl Part for OfRegion {
+    type Value = Region;
+
+    ghost Said = { WalkRegion };
+
+    ghost shape = { region_shape };
+
+    ghost link = { plain_link region_of };
+
+    ghost Fits = { λ region. IsSmallRegion (region_of region) };
+
+    #[tactic(auto, unfolding(crate::specs::Reaches::region_shape))]
+    fn read(alloc: Global, value: &Value) -> Result<Region, CertError> {
+        let numbers = [key::ROWS, key::TREE];
+        let (rows, (tree, ())) = read_object::<(Rows, (OfWalk, End))>(
+            alloc,
+            value,
+            &["rows", "tree"],
+            &numbers,
+        )?;
+        Ok(Region { rows, tree })
+    }
+
+    #[tactic(auto, unfolding(crate::specs::Reaches::region_shape))]
+    fn write(alloc: Global, part: &Region) -> Result<Value, Memory> {
+        let rest = put_part::<OfWalk, _>(&part.tree, End {});
+        let all = put_part::<Rows, _>(&part.rows, rest);
+        let numbers = [key::ROWS, key::TREE];
+        let value = write_object(alloc, &["rows", "tree"], &numbers, &all)?;
+        Ok(value)
     }
 }
 
-/// The regions of all statements.
-fn nodes(alloc: Global, nodes: &[Option<Region>]) -> Result<Value, Memory>
-    ensures value { IfOk result (λ value. view value ≡ list (map (or_null region_data) (map (option_map region_of) nodes.now))) }
-    ensures read { IfOk result (λ _. AllByRecursion NodeIsRead nodes.now) }
-{
-    let mut items = Vec::new(alloc);
-    for one in nodes {
-        items.push(node(alloc, one)?)?;
+/// A spot: an instance for each point of a nest.
+pub struct OfSpot {}
+
+impl Part for OfSpot {
+    type Value = Spot;
+
+    ghost Said = { SpotForms };
+
+    ghost shape = { spot_shape };
+
+    ghost link = { plain_link spot_of };
+
+    ghost Fits = { λ spot. AreSmall spot.point.items };
+
+    #[tactic(auto, unfolding(crate::specs::Reaches::spot_shape))]
+    fn read(alloc: Global, value: &Value) -> Result<Spot, CertError> {
+        let names = ["point", "statement"];
+        let numbers = [key::POINT, key::STATEMENT];
+        let (point, (statement, ())) = read_object::<(ListOf<OfForm>, (Any16, End))>(
+            alloc, value, &names, &numbers,
+        )?;
+        Ok(Spot { statement, point })
     }
-    Ok(Value::Array(items))
+
+    #[tactic(auto, unfolding(crate::specs::Reaches::spot_shape))]
+    fn write(alloc: Global, part: &Spot) -> Result<Value, Memory> {
+        let rest = put_part::<Any16, _>(&part.statement, End {});
+        let all = put_part::<ListOf<OfForm>, _>(&part.point, rest);
+        let numbers = [key::POINT, key::STATEMENT];
+        let value = write_object(alloc, &["point", "statement"], &numbers, &all)?;
+        Ok(value)
+    }
 }
 
-/// What shows that a walk arrives.
-pub fn reach(alloc: Global, reach: &Reach) -> Result<Value, Memory>
-    ensures value { IfOk result (λ value. view value ≡ reach_data (reach_of reach.now)) }
-    ensures read { IfOk result (λ _. ReachIsRead reach.now) }
-{
-    match reach {
-        Reach::Same(equal) => {
-            let equal = all_multipliers(alloc, equal.as_slice())?;
-            Ok(same_object(alloc, equal)?)
+/// What shows that a walk back from one spot arrives at another: that they are the same, or the regions of all
+/// statements.
+pub struct OfReach {}
+
+type Shown = ListOf<OfMultipliers>;
+
+type Nodes = ListOf<OrNull<OfRegion>>;
+
+impl Part for OfReach {
+    type Value = Reach;
+
+    ghost Said = { ReachClaim };
+
+    ghost shape = { reach_shape };
+
+    ghost link = { plain_link reach_of };
+
+    ghost Fits = { λ reach. IsSmallReach (reach_of reach) };
+
+    #[tactic(auto, unfolding(crate::specs::Reaches::reads_reach))]
+    fn read(alloc: Global, value: &Value) -> Result<Reach, CertError> {
+        if has_keys(value, &["same"]) {
+            let (equal, ()) = read_object::<(Shown, End)>(alloc, value, &["same"], &[key::SAME])?;
+            return Ok(Reach::Same(equal));
         }
-        Reach::Walked { start, nodes: all } => {
-            let nodes = nodes(alloc, all.as_slice())?;
-            let start = all_multipliers(alloc, start.as_slice())?;
-            Ok(walked_object(alloc, nodes, start)?)
+        let numbers = [key::NODES, key::START];
+        let (nodes, (start, ())) = read_object::<(Nodes, (Shown, End))>(
+            alloc,
+            value,
+            &["nodes", "start"],
+            &numbers,
+        )?;
+        Ok(Reach::Walked { start, nodes })
+    }
+
+    #[tactic(auto, unfolding(crate::specs::Reaches::reads_reach))]
+    fn write(alloc: Global, part: &Reach) -> Result<Value, Memory> {
+        match part {
+            Reach::Same(equal) => {
+                let all = put_part::<Shown, _>(equal, End {});
+                let value = write_object(alloc, &["same"], &[key::SAME], &all)?;
+                Ok(value)
+            }
+            Reach::Walked { start, nodes } => {
+                let rest = put_part::<Shown, _>(start, End {});
+                let all = put_part::<Nodes, _>(nodes, rest);
+                let numbers = [key::NODES, key::START];
+                let value = write_object(alloc, &["nodes", "start"], &numbers, &all)?;
+                Ok(value)
+            }
         }
-    }
-}
-
-/// What shows that a walk arrives, or null.
-pub fn way(alloc: Global, way: &Option<Reach>) -> Result<Value, Memory>
-    ensures value { IfOk result (λ value. view value ≡ or_null reach_data (option_map reach_of way.now)) }
-    ensures read { IfOk result (λ _. WayIsRead way.now) }
-{
-    match way {
-        Some(one) => reach(alloc, one),
-        None => Ok(Value::Null),
-    }
-}
-
-/// A spot.
-pub fn spot(alloc: Global, spot: &Spot) -> Result<Value, Memory>
-    ensures value { IfOk result (λ value. view value ≡ spot_data (spot_of spot.now)) }
-    ensures read { IfOk result (λ _. SpotIsRead spot.now) }
-{
-    let point = all_forms(alloc, spot.point.as_slice())?;
-    Ok(spot_object(alloc, point, spot.statement)?)
-}
-
-/// A spot, or null.
-pub fn source(alloc: Global, source: &Option<Spot>) -> Result<Value, Memory>
-    ensures value { IfOk result (λ value. view value ≡ or_null spot_data (option_map spot_of source.now)) }
-    ensures read { IfOk result (λ _. SourceIsRead source.now) }
-{
-    match source {
-        Some(one) => spot(alloc, one),
-        None => Ok(Value::Null),
     }
 }

@@ -1,12 +1,14 @@
 -- What is found in the claims about the members of a list, member by member.
 use Rattle.std.proofs.Common.{◌≡◌, sym, ◌∙◌, ap, subst, ℕ, zero, suc, ◌+◌, ◌<◌, List, [], ◌∷◌, ◌++◌, length, get_or, drop, arith, zero-add}
-use Rattle.std.specs.Prelude.{Option}
+use Rattle.std.specs.Prelude.{Result}
 use Rattle.std.proofs.Math.Nat.{add-zero}
 use Rattle.base_laws.proofs.Lists.{rest_at, add-one}
 use Rattle.claims.specs.declared.refused.No.{No}
-use Rattle.claims.specs.Claims.{Claim, AllHold, FirstFails, Finds, numbered, counted}
+use Rattle.claims.specs.declared.refused.Refused.{Refused}
+use Rattle.claims.specs.declared.refused.Refused.TheVariants.{No as not_so, Memory}
+use Rattle.claims.specs.Claims.{Claim, AllHold, Decides, FirstFails, IsRefusal, numbered, counted}
 use Rattle.claims.proofs.Laws.{first-fails, later-fails, AllHold-append, AllHold-left, AllHold-right}
-use Rattle.claims.proofs.Found.{Finds-go}
+use Rattle.claims.proofs.Found.{refused-first, decides-later}
 
 -- so many behind the next number are one more behind this one
 pub suc-moved : (first k : ℕ) → suc first + k ≡ first + suc k
@@ -20,14 +22,14 @@ module _ {X : Type 0} (each : ℕ → X → List Claim) (xs : List X) (i : ℕ) 
       ∙ ap (λ (n : ℕ). each i x ++ numbered each n (drop (i + 1) xs)) (add-one i)
 
   -- a claim about the member there fails
-  pub numbered-stop : (n : No) → FirstFails (each i x) n → FirstFails (numbered each i (drop i xs)) n
-  numbered-stop n f =
-      subst (λ (claims : List Claim). FirstFails claims n) (sym numbered-from) (first-fails (each i x) (numbered each (i + 1) (drop (i + 1) xs)) n f)
+  pub numbered-stop : (r : Refused) → IsRefusal (each i x) r → IsRefusal (numbered each i (drop i xs)) r
+  numbered-stop r f =
+      subst (λ (claims : List Claim). IsRefusal claims r) (sym numbered-from) (refused-first (each i x) (numbered each (i + 1) (drop (i + 1) xs)) r f)
 
   -- all of them hold
-  pub numbered-next : (found : Option No) → AllHold (each i x) → Finds (numbered each (i + 1) (drop (i + 1) xs)) found → Finds (numbered each i (drop i xs)) found
-  numbered-next found h g =
-      subst (λ (claims : List Claim). Finds claims found) (sym numbered-from) (Finds-go (each i x) (numbered each (i + 1) (drop (i + 1) xs)) found h g)
+  pub numbered-next : {A : Type 0} (answer : Result A Refused) → AllHold (each i x) → Decides (numbered each (i + 1) (drop (i + 1) xs)) answer → Decides (numbered each i (drop i xs)) answer
+  numbered-next answer h g =
+      subst (λ (claims : List Claim). Decides claims answer) (sym numbered-from) (decides-later (each i x) (numbered each (i + 1) (drop (i + 1) xs)) answer h g)
 
 -- no member is left
 pub numbered-ended : {X : Type 0} (each : ℕ → X → List Claim) (xs : List X) (i : ℕ) → drop i xs ≡ [] → AllHold (numbered each i (drop i xs))
@@ -97,7 +99,8 @@ counts-hold each n h = counted-hold each 0 n (λ k below. subst (λ (m : ℕ). A
 pub counts-each : (each : ℕ → List Claim) (n k : ℕ) → k < n → AllHold (counted each 0 n) → AllHold (each k)
 counts-each each n k below h = subst (λ (m : ℕ). AllHold (each m)) (zero-add k) (counted-each each 0 n k below h)
 
-pub counts-fail : (each : ℕ → List Claim) (n k : ℕ) (failed : No) → k < n → ((j : ℕ) → j < k → AllHold (each j)) → FirstFails (each k) failed → FirstFails (counted each 0 n) failed
-counts-fail each n k failed below before h =
+pub counts-refused : (each : ℕ → List Claim) (n k : ℕ) (r : Refused) → k < n → ((j : ℕ) → j < k → AllHold (each j)) → IsRefusal (each k) r → IsRefusal (counted each 0 n) r
+counts-refused each n k Memory below before h = tt
+counts-refused each n k (not_so failed) below before h =
     counted-fail each 0 n k failed below (λ j less. subst (λ (m : ℕ). AllHold (each m)) (sym (zero-add j)) (before j less))
     (subst (λ (m : ℕ). FirstFails (each m) failed) (sym (zero-add k)) h)

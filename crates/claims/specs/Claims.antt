@@ -1,5 +1,5 @@
 -- Claims, in the order in which they are tested. (What a proof-carrying answer has to show: Necula 1997.)
-use Rattle.std.specs.Prelude.{◌≡◌, ◌⊎◌, ⊤, ℕ, zero, suc, List, [], ◌∷◌, ◌++◌, Option, Some, None}
+use Rattle.std.specs.Prelude.{◌≡◌, ◌⊎◌, ⊤, ℕ, zero, suc, List, [], ◌∷◌, ◌++◌, Result, Ok, Err}
 use Rattle.claims.specs.declared.place.Step.{Step}
 use Rattle.claims.specs.declared.refused.No.{No}
 use Rattle.claims.specs.declared.refused.Refused.{Refused}
@@ -22,15 +22,20 @@ FirstFails [] failed = ⊥
 FirstFails (claim ∷ later) failed =
     ((¬ claim.statement) × (claim.condition ≡ failed.condition) × (claim.place ≡ failed.place)) ⊎ (claim.statement × FirstFails later failed)
 
--- What a test of claims finds: nothing where all of them hold; else the first that doesn't.
-abbrev pub Finds : List Claim → Option No → Type 0
-Finds claims None = AllHold claims
-Finds claims (Some failed) = FirstFails claims failed
-
 -- A refusal names the first claim that doesn't hold. One for want of memory says nothing of the claims.
 abbrev pub IsRefusal : List Claim → Refused → Type 0
 IsRefusal claims (not_so failed) = FirstFails claims failed
 IsRefusal claims Memory = ⊤
+
+-- What a test answers decides claims: Ok where all of them hold, else a refusal.
+abbrev pub Decides : {A : Type 0} → List Claim → Result A Refused → Type 0
+Decides claims (Ok a) = AllHold claims
+Decides claims (Err refused) = IsRefusal claims refused
+
+-- a refusal by this condition at this place, or one for want of memory
+abbrev pub IsRefusalAt : ℕ → List Step → Refused → Type 0
+IsRefusalAt condition place (not_so failed) = (failed.condition ≡ condition) × (failed.place ≡ place)
+IsRefusalAt condition place Memory = ⊤
 
 -- the claims about the members of a list, each with its index, from an index on
 abbrev pub numbered : {X : Type 0} → (ℕ → X → List Claim) → ℕ → List X → List Claim

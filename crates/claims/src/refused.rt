@@ -1,6 +1,6 @@
 //! Refusals of what a certificate claims.
 
-ghost use Rattle.std.specs.Prelude.{◌≡◌, IfOk, Some};
+ghost use Rattle.claims.specs.Claims.{IsRefusalAt};
 
 use crate::place::Place;
 use affine_form::Memory;
@@ -35,10 +35,12 @@ impl From<Memory> for Refused {
     }
 }
 
-/// What a test of claims finds where this condition fails at this place.
-pub fn refusal(alloc: Global, condition: u8, place: &Place) -> Result<Option<No>, Memory>
-    ensures { IfOk result (λ found. found ≡ Some (record { condition = condition; place = place.now })) }
+/// The refusal of a claim: this condition doesn't hold at this place. Where there is no memory for the place, it says that.
+pub fn refusal(alloc: Global, condition: u8, place: &Place) -> Refused
+    ensures { IsRefusalAt condition place.now result }
 {
-    let place = place.try_clone(alloc)?;
-    Ok(Some(No { condition, place }))
+    match place.try_clone(alloc) {
+        Ok(place) => Refused::No(No { condition, place }),
+        Err(Memory) => Refused::Memory,
+    }
 }

@@ -16,10 +16,10 @@ use Rattle.claims.proofs.Laws.{AllHold-append}
 use Rattle.dep_quast.specs.Claims.{IsFew, pointless_claims}
 use Rattle.dep_quast.specs.Context.{reference_of}
 use Rattle.dep_quast.specs.Tree.{SelectionTree}
-use Rattle.part_fit.specs.EntryFit.{entry_at}
-use Rattle.part_fit.specs.PartFit.{bounds_fit, sums_fit}
-use Rattle.part_fit.proofs.ReadTrees.{open-many, leaves-many}
-use Rattle.part_fit.proofs.FormsFit.{bounds-hold, forms-hold}
+use Rattle.certificate_fit.specs.EntryFit.{entry_at}
+use Rattle.certificate_fit.specs.PartFit.{bounds_fit, sums_fit}
+use Rattle.certificate_fit.proofs.ReadTrees.{open-many, leaves-many}
+use Rattle.certificate_fit.proofs.FormsFit.{bounds-hold, forms-hold}
 use Rattle.reuse_paths.specs.declared.piece.Target.{Target}
 use Rattle.reuse_paths.specs.declared.piece.Target.TheVariants.{Cell}
 use Rattle.reuse_paths.specs.DisjointClaims.{pairwise_systems, same_target}

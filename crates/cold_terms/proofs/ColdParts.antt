@@ -38,8 +38,8 @@ use Rattle.cold_terms.specs.Outline.{ColdOutline, OutlineFits, bare, outline_in}
 use Rattle.cold_terms.proofs.EntryLaws.{closed-entries, closed-hold, closed-many, closed-small}
 use Rattle.domain_count.specs.Count.{IsCount}
 use Rattle.poly_tree.specs.Poly.{Quotient}
-use Rattle.part_fit.specs.Limits.{NameRows}
-use Rattle.part_fit.proofs.FormsFit.{bounds-small}
+use Rattle.certificate_fit.specs.Limits.{NameRows}
+use Rattle.certificate_fit.proofs.FormsFit.{bounds-small}
 use Rattle.cold_terms.specs.Held.{ArePolynomials, IsHeldCold}
 
 -- ---- a term's claims, part by part

@@ -7,8 +7,8 @@ use Rattle.claims.specs.Claims.{AllHold}
 use Rattle.claims.specs.declared.place.Step.{Step}
 use Rattle.dep_quast.specs.Context.{ReadOf, reference_of}
 use Rattle.dep_quast.specs.Tree.{SelectionTree}
-use Rattle.part_fit.specs.Limits.{IsSmallPolynomial}
-use Rattle.part_fit.specs.PartFit.{polynomials_fit}
+use Rattle.certificate_fit.specs.Limits.{IsSmallPolynomial}
+use Rattle.certificate_fit.specs.PartFit.{polynomials_fit}
 use Rattle.poly_tree.specs.Poly.{Quotient}
 use Rattle.reuse_paths.specs.LeafClaims.{claim_of}
 use Rattle.reuse_paths.specs.Quasts.{tree_at, tree_for}

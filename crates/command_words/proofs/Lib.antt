@@ -1,3 +1,4 @@
 pub mod Splits
 pub mod Digits
 pub mod ReadSizes
+pub mod SizedWords

@@ -1,49 +1,63 @@
 //! What the words ask for.
 
-ghost use Rattle.std.specs.Prelude.{◌≡◌, ◌≤◌, ◌<◌, ◌^◌, map, option_map, unsigned_abs, string_bytes, IfOk, IfSome};
-ghost use Rattle.std.specs.List.{AllByRecursion, list_any};
-ghost use Rattle.command_words.specs.Requests.{asked, begins_with_dash, bound_in, check_in, eval_in, replay_in, request_of, sized_in, sized_of, IsSmallSetting, IsSmallWork};
+ghost use Rattle.std.specs.Prelude.{◌≡◌, map, option_map, string_bytes, IfOk, IfSome};
+ghost use Rattle.std.specs.List.{list_any};
+ghost use Rattle.command_words.specs.Requests.{asked, begins_with_dash, bytes_of, evaluation, file_at as name_at, replay, request_of, setting_in, sized_in, sized_of, work_of, work_on as work_on_words, IsSmallSetting, IsSmallWork};
 
 use crate::number::memory_of;
 use crate::size::{Size, sizes_of};
 use affine_form::Memory;
 use std::alloc::Global;
 
+/// So many red pebbles, and sizes of a program's parameters.
+#[derive(Debug, Drop)]
+pub struct Setting {
+    pub memory: u64,
+    pub sizes: Vec<Size>,
+}
+
 /// What is to be done with a program and a certificate.
 #[derive(Debug, Drop)]
 pub enum Job {
     /// Check the certificate.
     Check,
-    /// Check it, and value its bound with this many red pebbles at these sizes.
-    Eval { memory: u64, sizes: Vec<Size> },
+    /// Check it, and value its bound at this setting.
+    Eval(Setting),
 }
 
-/// What is to be done with a program, and with a second file where there is one.
+/// What is to be done with a program, and with the other files.
 #[derive(Debug, Drop)]
 pub enum Work {
     /// The second file holds a certificate.
     Judge(Job),
-    /// The second file holds a schedule: play it with this many red pebbles at these sizes.
-    Replay { memory: u64, sizes: Vec<Size> },
+    /// The second file holds a schedule: play it at this setting.
+    Replay(Setting),
     /// There is no second file: make a certificate.
     Bound,
 }
 
-/// Work on the program and what else is in two files, by their names. The second name is empty where there is no such file.
+/// Work on files, by their names in the order of the words. The first is the program's.
 #[derive(Debug, Drop)]
 pub struct Command<'a> {
-    pub program: &'a str,
-    pub second: &'a str,
+    pub files: &'a [String],
     pub work: Work,
 }
 
-/// Words PROGRAM SECOND S NAME=NUMBER...
+/// Words FILE... S NAME=NUMBER...
 #[derive(Drop)]
 pub(crate) struct SizedCall<'a> {
-    pub(crate) program: &'a str,
-    pub(crate) second: &'a str,
-    pub(crate) memory: u64,
-    pub(crate) sizes: Vec<Size>,
+    pub(crate) files: &'a [String],
+    pub(crate) setting: Setting,
+}
+
+/// The name at a place, from 0 on, and none where there is no such place.
+pub fn file_at(names: &[String], place: usize) -> &str
+    ensures { result.now ≡ name_at (bytes_of names.now) place }
+{
+    match names.get(place) {
+        Some(name) => name.as_str(),
+        None => "",
+    }
 }
 
 /// Whether a word begins with `-`.
@@ -69,12 +83,16 @@ fn has_option(words: &[String]) -> bool
     false
 }
 
-/// What words PROGRAM SECOND S NAME=NUMBER... say.
-fn sized_words(alloc: Global, words: &[String]) -> Result<Option<SizedCall<'_>>, Memory>
-    ensures words { IfOk result (λ found. option_map sized_of found ≡ sized_in (map (λ word. string_bytes word) words.now)) }
-    ensures small { IfOk result (λ found. IfSome found (λ said. IsSmallSetting said.memory said.sizes.items)) }
+/// What words S NAME=NUMBER... say behind the names of files.
+fn setting_words<'a>(
+    alloc: Global,
+    files: &'a [String],
+    words: &[String],
+) -> Result<Option<SizedCall<'a>>, Memory>
+    ensures words { IfOk result (λ found. option_map sized_of found ≡ setting_in (bytes_of files.now) (bytes_of words.now)) }
+    ensures small { IfOk result (λ found. IfSome found (λ said. IsSmallSetting said.setting)) }
 {
-    let [program, second, memory, sizes @ ..] = words else {
+    let [memory, sizes @ ..] = words else {
         return Ok(None);
     };
     let Some(memory) = memory_of(memory.as_bytes()) else {
@@ -82,13 +100,26 @@ fn sized_words(alloc: Global, words: &[String]) -> Result<Option<SizedCall<'_>>,
     };
     match sizes_of(alloc, sizes)? {
         Some(sizes) => Ok(Some(SizedCall {
-            program: program.as_str(),
-            second: second.as_str(),
-            memory,
-            sizes,
+            files,
+            setting: Setting { memory, sizes },
         })),
         None => Ok(None),
     }
+}
+
+/// What words say of which so many name files, and the others are S NAME=NUMBER...
+fn sized_words(
+    alloc: Global,
+    count: usize,
+    words: &[String],
+) -> Result<Option<SizedCall<'_>>, Memory>
+    ensures words { IfOk result (λ found. option_map sized_of found ≡ sized_in count (bytes_of words.now)) }
+    ensures small { IfOk result (λ found. IfSome found (λ said. IsSmallSetting said.setting)) }
+{
+    if words.len() < count {
+        return Ok(None);
+    }
+    setting_words(alloc, &words[..count], &words[count..])
 }
 
 /// What the words behind the program's name ask for: `check PROGRAM CERTIFICATE`, `bound PROGRAM`,
@@ -106,10 +137,10 @@ pub fn command_of(alloc: Global, words: &[String]) -> Result<Option<Command<'_>>
         return Ok(None);
     };
     if command.as_str() == "check" {
-        return Ok(check_command(arguments));
+        return Ok(work_on(2, Work::Judge(Job::Check), arguments));
     }
     if command.as_str() == "bound" {
-        return Ok(bound_command(arguments));
+        return Ok(work_on(1, Work::Bound, arguments));
     }
     if command.as_str() == "eval" {
         return eval_command(alloc, arguments);
@@ -120,53 +151,28 @@ pub fn command_of(alloc: Global, words: &[String]) -> Result<Option<Command<'_>>
     Ok(None)
 }
 
-/// The check that words PROGRAM CERTIFICATE ask for.
-fn check_command(words: &[String]) -> Option<Command<'_>>
-    ensures command { option_map asked result ≡ check_in (map (λ word. string_bytes word) words.now) }
+/// This work on so many files, which all words name.
+fn work_on(count: usize, work: Work, words: &[String]) -> Option<Command<'_>>
+    requires small { IsSmallWork work }
+    ensures command { option_map asked result ≡ work_on_words count (work_of work) (bytes_of words.now) }
     ensures small { IfSome result (λ command. IsSmallWork command.work) }
 {
-    match words {
-        [program, certificate] => Some(Command {
-            program: program.as_str(),
-            second: certificate.as_str(),
-            work: Work::Judge(Job::Check),
-        }),
-        _ => None,
-    }
-}
-
-/// The making of a certificate that words PROGRAM ask for.
-fn bound_command(words: &[String]) -> Option<Command<'_>>
-    ensures command { option_map asked result ≡ bound_in (map (λ word. string_bytes word) words.now) }
-    ensures small { IfSome result (λ command. IsSmallWork command.work) }
-{
-    match words {
-        [program] => Some(Command {
-            program: program.as_str(),
-            second: "",
-            work: Work::Bound,
-        }),
-        _ => None,
+    if words.len() == count {
+        Some(Command { files: words, work })
+    } else {
+        None
     }
 }
 
 /// The evaluation that words PROGRAM CERTIFICATE S NAME=NUMBER... ask for.
 fn eval_command(alloc: Global, words: &[String]) -> Result<Option<Command<'_>>, Memory>
-    ensures command { IfOk result (λ command. option_map asked command ≡ eval_in (map (λ word. string_bytes word) words.now)) }
+    ensures command { IfOk result (λ command. option_map asked command ≡ option_map evaluation (sized_in 2 (bytes_of words.now))) }
     ensures small { IfOk result (λ found. IfSome found (λ command. IsSmallWork command.work)) }
 {
-    match sized_words(alloc, words)? {
-        Some(
-            SizedCall {
-                program,
-                second,
-                memory,
-                sizes,
-            },
-        ) => Ok(Some(Command {
-            program,
-            second,
-            work: Work::Judge(Job::Eval { memory, sizes }),
+    match sized_words(alloc, 2, words)? {
+        Some(SizedCall { files, setting }) => Ok(Some(Command {
+            files,
+            work: Work::Judge(Job::Eval(setting)),
         })),
         None => Ok(None),
     }
@@ -174,21 +180,13 @@ fn eval_command(alloc: Global, words: &[String]) -> Result<Option<Command<'_>>, 
 
 /// The replay that words PROGRAM SCHEDULE S NAME=NUMBER... ask for.
 fn replay_command(alloc: Global, words: &[String]) -> Result<Option<Command<'_>>, Memory>
-    ensures command { IfOk result (λ command. option_map asked command ≡ replay_in (map (λ word. string_bytes word) words.now)) }
+    ensures command { IfOk result (λ command. option_map asked command ≡ option_map replay (sized_in 2 (bytes_of words.now))) }
     ensures small { IfOk result (λ found. IfSome found (λ command. IsSmallWork command.work)) }
 {
-    match sized_words(alloc, words)? {
-        Some(
-            SizedCall {
-                program,
-                second,
-                memory,
-                sizes,
-            },
-        ) => Ok(Some(Command {
-            program,
-            second,
-            work: Work::Replay { memory, sizes },
+    match sized_words(alloc, 2, words)? {
+        Some(SizedCall { files, setting }) => Ok(Some(Command {
+            files,
+            work: Work::Replay(setting),
         })),
         None => Ok(None),
     }

@@ -6,6 +6,6 @@ mod number;
 mod size;
 mod values;
 
-pub use command::{Command, Job, Work, command_of};
+pub use command::{Command, Job, Setting, Work, command_of, file_at};
 pub use size::Size;
 pub use values::values_for;

@@ -1,5 +1,5 @@
 -- The last write of a cell before a place.
-use Rattle.std.proofs.Common.{◌≡◌, refl, sym, ◌∙◌, ap, subst, inl, inr, ℕ, zero, suc, ◌<◌, ◌≤◌, Bool, true, false, List, arith}
+use Rattle.std.proofs.Common.{◌≡◌, refl, sym, ◌∙◌, ap, subst, inl, inr, ℕ, zero, suc, ◌<◌, Bool, true, false, List, arith}
 use Rattle.std.specs.Prelude.{◌⊎◌, if◌then◌else◌, ℤ, Option, Some, None, slice_get}
 use Rattle.std.specs.Option.{option_map_or}
 use Rattle.std.proofs.Math.Nat.{eq-or-lt_of_le}

@@ -3,7 +3,6 @@ pub mod Shown
 pub mod Fits
 pub mod Found
 pub mod Chunks
-pub mod Sides
 pub mod Counts
 pub mod LastSources
 pub mod Truths

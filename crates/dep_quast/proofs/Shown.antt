@@ -11,7 +11,7 @@ use Rattle.affine_form.specs.System.{AffineSystem, IsMet}
 use Rattle.affine_form.proofs.ShownLemmas.{Shows-follows, Shows-none}
 use Rattle.affine_form.specs.Rows.{within_rows, equality_rows}
 use Rattle.dep_quast.specs.Claims.{follow_claims, pointless_claims}
-use Rattle.claims.specs.Claims.{AllHold, Claim}
+use Rattle.claims.specs.Claims.{AllHold}
 
 -- goals that are shown are met where the rows are
 pub goals-met : (condition : ℕ) (place : List Step) (system : AffineSystem) (index : ℕ) (goals : List AffineForm) (shown : List FarkasMultipliers) (point : List ℤ)

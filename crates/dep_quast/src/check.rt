@@ -1,11 +1,12 @@
 //! The check of a source tree.
+#![tactic(auto, using(claims::proofs::Found::in_a_row))]
 
-ghost use Rattle.std.specs.Prelude.{◌≡◌, [], IfOk, OnOk, IfErr};
+ghost use Rattle.std.specs.Prelude.{◌≡◌, [], OnOk, IfErr};
 ghost use Rattle.affine_form.specs.System.{AllOver};
 ghost use Rattle.affine_program.specs.Parts.{meaning};
 ghost use Rattle.dep_quast.specs.Claims.{claims, IsValid};
 ghost use Rattle.dep_quast.specs.Context.{variables_at};
-ghost use Rattle.claims.specs.Claims.{Finds, IsRefusal};
+ghost use Rattle.claims.specs.Claims.{Decides, IsRefusal};
 ghost use Rattle.dep_quast.specs.Tree.{tree_of};
 ghost use Rattle.dep_quast.specs.Truth.{ReadFits, FitsUnder, TreeFits, IsTrueTree};
 ghost use Rattle.dep_quast.specs.Views.{read_of};
@@ -16,13 +17,13 @@ use crate::leaves::{blank_shown, empty_shown, input_shown, source_shown};
 use crate::quast::Quast;
 use crate::reader::Reader;
 use crate::truth::valid_trees_are_true;
-use affine_form::{Form, Memory};
+use affine_form::Form;
 use affine_program::Program;
 use claims::key::{NO, YES};
-use claims::{No, Place, Refused, Step};
+use claims::{Place, Refused, Step};
 use std::alloc::Global;
 
-/// What isn't shown of a tree under these tests: the first claim that doesn't hold, leaf by leaf, `yes` before `no`.
+/// Whether a tree is shown under these tests, leaf by leaf, `yes` before `no`.
 fn tree_shown(
     alloc: Global,
     program: &Program,
@@ -30,22 +31,21 @@ fn tree_shown(
     tests: &[Form],
     place: &Place,
     quast: &Quast,
-) -> Result<Option<No>, Memory>
+) -> Result<(), Refused>
     requires read { ReadFits (meaning program.now) (read_of reader) }
     requires tests_over { AllOver (variables_at (meaning program.now) (read_of reader)) tests.now }
     requires fits { FitsUnder (meaning program.now) (read_of reader) tests.now (tree_of quast.now) }
-    ensures { IfOk result (λ found. Finds (claims (meaning program.now) (read_of reader) tests.now place.now (tree_of quast.now)) found) }
+    ensures { Decides (claims (meaning program.now) (read_of reader) tests.now place.now (tree_of quast.now)) result }
 {
     match quast {
         Quast::Test { form, yes, no } => {
             let above = tests_of_yes(alloc, tests, form)?;
             let side = place.within(alloc, Step::Key(YES))?;
-            if let Some(found) = tree_shown(alloc, program, reader, above.as_slice(), &side, yes)? {
-                return Ok(Some(found));
-            }
+            tree_shown(alloc, program, reader, above.as_slice(), &side, yes)?;
             let below = tests_of_no(alloc, program, reader, tests, form)?;
             let side = place.within(alloc, Step::Key(NO))?;
-            tree_shown(alloc, program, reader, below.as_slice(), &side, no)
+            tree_shown(alloc, program, reader, below.as_slice(), &side, no)?;
+            Ok(())
         }
         Quast::Source {
             statement,
@@ -100,9 +100,5 @@ pub fn check_quast(
     let _params = program.params();
     valid_trees_are_true();
     let reader = Reader { statement, read };
-    match tree_shown(alloc, program, reader, &[], place, quast) {
-        Ok(None) => Ok(()),
-        Ok(Some(no)) => Err(Refused::No(no)),
-        Err(Memory) => Err(Refused::Memory),
-    }
+    tree_shown(alloc, program, reader, &[], place, quast)
 }

@@ -1,13 +1,14 @@
 //! Whether multipliers show what a leaf claims.
+#![tactic(auto, using(claims::proofs::Found::in_a_row))]
 
-ghost use Rattle.std.specs.Prelude.{◌≡◌, ◌≤◌, [], ◌∷◌, length, IfOk, IsTrue, ◌↔◌};
+ghost use Rattle.std.specs.Prelude.{◌≡◌, ◌≤◌, [], ◌∷◌, length, IsTrue, ◌↔◌};
 ghost use Rattle.affine_form.specs.System.{AllOver};
 ghost use Rattle.dep_quast.specs.Claims.{IsFew, Follows, IsPointless, follow_claims};
-ghost use Rattle.claims.specs.Claims.{Finds};
+ghost use Rattle.claims.specs.Claims.{Decides};
 ghost use Rattle.iolb_model.specs.declared.limits.TheConstants.{VARIABLES};
 
-use affine_form::{Form, Memory, Multipliers, System, empty, entails, system_of};
-use claims::{No, Place, Step, refusal};
+use affine_form::{Form, Multipliers, System, empty, entails, system_of};
+use claims::{Place, Refused, Step, refusal};
 use iolb_model::limits;
 use std::alloc::Global;
 
@@ -35,17 +36,17 @@ pub fn goals_shown(
     system: &System,
     goals: &[Form],
     shown: &[Multipliers],
-) -> Result<Option<No>, Memory>
+) -> Result<(), Refused>
     requires { length shown.now ≡ length goals.now }
-    ensures { IfOk result (λ found. Finds (follow_claims condition place.now system.now 0 goals.now shown.now) found) }
+    ensures { Decides (follow_claims condition place.now system.now 0 goals.now shown.now) result }
 {
     for (i, goal) in goals.iter().enumerate() {
         if !is_followed(system, goal, &shown[i]) {
             let place = place.within(alloc, Step::Index(i as u64))?;
-            return refusal(alloc, condition, &place);
+            return Err(refusal(alloc, condition, &place));
         }
     }
-    Ok(None)
+    Ok(())
 }
 
 /// Whether the rows are few, and the multipliers show that no point meets them all: else the condition that doesn't
@@ -57,18 +58,18 @@ pub fn system_shown(
     vars: usize,
     rows: &[Form],
     shown: &Multipliers,
-) -> Result<Option<No>, Memory>
+) -> Result<(), Refused>
     requires few { vars ≤ VARIABLES }
     requires over { AllOver vars rows.now }
-    ensures { IfOk result (λ found. Finds (record { condition = 2; place = place.now; statement = IsFew (length rows.now) }
-        ∷ record { condition = condition; place = place.now; statement = IsPointless (record { vars = vars; rows = rows.now }) shown.now } ∷ []) found) }
+    ensures { Decides (record { condition = 2; place = place.now; statement = IsFew (length rows.now) }
+        ∷ record { condition = condition; place = place.now; statement = IsPointless (record { vars = vars; rows = rows.now }) shown.now } ∷ []) result }
 {
     if rows.len() > limits::ROWS {
-        return refusal(alloc, 2, place);
+        return Err(refusal(alloc, 2, place));
     }
     let system = system_of(alloc, vars, rows)?;
     if !is_pointless(&system, shown) {
-        return refusal(alloc, condition, place);
+        return Err(refusal(alloc, condition, place));
     }
-    Ok(None)
+    Ok(())
 }

@@ -1,4 +1,5 @@
 //! What a leaf claims of a source, but for the writes between.
+#![tactic(auto, using(claims::proofs::Found::in_a_row))]
 
 ghost use Rattle.std.specs.Prelude.{◌≡◌, ◌<◌, ◌*◌, ◌++◌, ◌∷◌, [], length, IfOk, IsTrue, ◌↔◌};
 ghost use Rattle.std.specs.List.{AllByRecursion};
@@ -9,7 +10,7 @@ ghost use Rattle.affine_program.specs.Parts.{meaning};
 ghost use Rattle.claims.specs.declared.place.Step.TheVariants.{Key, Index};
 ghost use Rattle.dep_quast.specs.Claims.{point_claims, follow_claims, first_shown, inside_goals, cell_goals, before_goals};
 ghost use Rattle.dep_quast.specs.Context.{reference_of, variables_at};
-ghost use Rattle.claims.specs.Claims.{Finds};
+ghost use Rattle.claims.specs.Claims.{Decides};
 ghost use Rattle.dep_quast.specs.Truth.{ReadFits, IsLevel};
 ghost use Rattle.dep_quast.specs.Views.{read_of, claim_of};
 
@@ -21,7 +22,7 @@ use crate::writes::values_of_reader;
 use affine_form::{Memory, Multipliers, System};
 use affine_program::Program;
 use claims::key::{BEFORE, CELL, DOMAIN, STATEMENT};
-use claims::{No, Place, Step, refusal};
+use claims::{Place, Refused, Step, refusal};
 use std::alloc::Global;
 
 /// The first member of the lists of a source, and the leaf itself if they have none.
@@ -55,13 +56,13 @@ pub(crate) fn domain_shown(
     place: &Place,
     system: &System,
     claimed: &Claimed,
-) -> Result<Option<No>, Memory>
+) -> Result<(), Refused>
     requires read { ReadFits (meaning program.now) (read_of reader) }
     requires there { claimed.now.statement < length program.now.statements }
     requires point { length claimed.now.point.now ≡ depth_of (meaning program.now) claimed.now.statement }
     requires forms { AllByRecursion (IsSmallOver (variables_at (meaning program.now) (read_of reader))) claimed.now.point.now }
     requires each { length claimed.now.domain.now ≡ 2 * depth_of (meaning program.now) claimed.now.statement }
-    ensures { IfOk result (λ found. Finds (follow_claims 3 (place.now ++ Key DOMAIN ∷ []) system.now 0 (inside_goals (meaning program.now) (read_of reader) (claim_of claimed.now)) claimed.now.domain.now) found) }
+    ensures { Decides (follow_claims 3 (place.now ++ Key DOMAIN ∷ []) system.now 0 (inside_goals (meaning program.now) (read_of reader) (claim_of claimed.now)) claimed.now.domain.now) result }
 {
     let vars = variables(program, reader);
     let goals = domain_rows(alloc, program, vars, claimed.statement, claimed.point)?;
@@ -86,14 +87,14 @@ pub(crate) fn cell_shown(
     place: &Place,
     system: &System,
     claimed: &Claimed,
-) -> Result<Option<No>, Memory>
+) -> Result<(), Refused>
     requires read { ReadFits (meaning program.now) (read_of reader) }
     requires there { claimed.now.statement < length program.now.statements }
     requires one_array { (statement_at (meaning program.now) claimed.now.statement).writes.array ≡ (reference_of (meaning program.now) (read_of reader)).array }
     requires point { length claimed.now.point.now ≡ depth_of (meaning program.now) claimed.now.statement }
     requires forms { AllByRecursion (IsSmallOver (variables_at (meaning program.now) (read_of reader))) claimed.now.point.now }
     requires each { length claimed.now.cell.now ≡ 2 * length (reference_of (meaning program.now) (read_of reader)).subscripts }
-    ensures { IfOk result (λ found. Finds (follow_claims 4 (place.now ++ Key CELL ∷ []) system.now 0 (cell_goals (meaning program.now) (read_of reader) (claim_of claimed.now)) claimed.now.cell.now) found) }
+    ensures { Decides (follow_claims 4 (place.now ++ Key CELL ∷ []) system.now 0 (cell_goals (meaning program.now) (read_of reader) (claim_of claimed.now)) claimed.now.cell.now) result }
 {
     let vars = variables(program, reader);
     let goals = written_rows(
@@ -116,14 +117,14 @@ pub(crate) fn before_shown(
     place: &Place,
     system: &System,
     claimed: &Claimed,
-) -> Result<Option<No>, Memory>
+) -> Result<(), Refused>
     requires read { ReadFits (meaning program.now) (read_of reader) }
     requires there { claimed.now.statement < length program.now.statements }
     requires level { IsLevel (meaning program.now) claimed.now.statement reader.statement claimed.now.level }
     requires point { length claimed.now.point.now ≡ depth_of (meaning program.now) claimed.now.statement }
     requires forms { AllByRecursion (IsSmallOver (variables_at (meaning program.now) (read_of reader))) claimed.now.point.now }
     requires each { length claimed.now.before.now ≡ length (before_goals (meaning program.now) (read_of reader) (claim_of claimed.now)) }
-    ensures { IfOk result (λ found. Finds (follow_claims 5 (place.now ++ Key BEFORE ∷ []) system.now 0 (before_goals (meaning program.now) (read_of reader) (claim_of claimed.now)) claimed.now.before.now) found) }
+    ensures { Decides (follow_claims 5 (place.now ++ Key BEFORE ∷ []) system.now 0 (before_goals (meaning program.now) (read_of reader) (claim_of claimed.now)) claimed.now.before.now) result }
 {
     let vars = variables(program, reader);
     let xs = values_of_reader(alloc, program, reader, vars)?;
@@ -149,7 +150,7 @@ pub(crate) fn point_shown(
     place: &Place,
     system: &System,
     claimed: &Claimed,
-) -> Result<Option<No>, Memory>
+) -> Result<(), Refused>
     requires read { ReadFits (meaning program.now) (read_of reader) }
     requires there { claimed.now.statement < length program.now.statements }
     requires level { IsLevel (meaning program.now) claimed.now.statement reader.statement claimed.now.level }
@@ -158,17 +159,14 @@ pub(crate) fn point_shown(
     requires domain { length claimed.now.domain.now ≡ 2 * depth_of (meaning program.now) claimed.now.statement }
     requires cell { length claimed.now.cell.now ≡ 2 * length (reference_of (meaning program.now) (read_of reader)).subscripts }
     requires before { length claimed.now.before.now ≡ length (before_goals (meaning program.now) (read_of reader) (claim_of claimed.now)) }
-    ensures { IfOk result (λ found. Finds (point_claims (meaning program.now) (read_of reader) system.now place.now (claim_of claimed.now)) found) }
+    ensures { Decides (point_claims (meaning program.now) (read_of reader) system.now place.now (claim_of claimed.now)) result }
 {
-    if let Some(no) = domain_shown(alloc, program, reader, place, system, claimed)? {
-        return Ok(Some(no));
-    }
+    domain_shown(alloc, program, reader, place, system, claimed)?;
     if !writes_array(program, reader, claimed.statement) {
         let key = place.within(alloc, Step::Key(STATEMENT))?;
-        return refusal(alloc, 4, &key);
+        return Err(refusal(alloc, 4, &key));
     }
-    if let Some(no) = cell_shown(alloc, program, reader, place, system, claimed)? {
-        return Ok(Some(no));
-    }
-    before_shown(alloc, program, reader, place, system, claimed)
+    cell_shown(alloc, program, reader, place, system, claimed)?;
+    before_shown(alloc, program, reader, place, system, claimed)?;
+    Ok(())
 }

@@ -1,6 +1,7 @@
 //! Whether writes of the cell that is read are shown not to be.
+#![tactic(auto, using(claims::proofs::Found::in_a_row))]
 
-ghost use Rattle.std.specs.Prelude.{◌≡◌, ◌<◌, ◌≤◌, ◌+◌, ◌*◌, length, map, flat_map, drop, IfOk, suc};
+ghost use Rattle.std.specs.Prelude.{◌≡◌, ◌<◌, ◌≤◌, ◌+◌, ◌*◌, length, map, flat_map, drop, suc};
 ghost use Rattle.std.specs.List.{AllByRecursion};
 ghost use Rattle.affine_form.specs.System.{AllOver};
 ghost use Rattle.affine_form.specs.Rows.{IsSmallOver};
@@ -8,7 +9,7 @@ ghost use Rattle.affine_program.specs.Domain.{depth_of};
 ghost use Rattle.affine_program.specs.Parts.{meaning};
 ghost use Rattle.dep_quast.specs.Claims.{pointless_claims};
 ghost use Rattle.dep_quast.specs.Context.{reference_of, variables_at, variables_with, before_reader, after_source, earlier_writes, writes_between};
-ghost use Rattle.claims.specs.Claims.{Finds};
+ghost use Rattle.claims.specs.Claims.{Decides};
 ghost use Rattle.dep_quast.specs.Levels.{levels, level_count};
 ghost use Rattle.dep_quast.specs.Truth.{ReadFits};
 ghost use Rattle.dep_quast.specs.Views.{read_of, claim_of};
@@ -19,9 +20,9 @@ use crate::claims_shown::system_shown;
 use crate::levels::{level_count, writers};
 use crate::reader::{Reader, reference};
 use crate::writes::{rows_after_source, rows_before_reader, rows_of_write, variables_beside};
-use affine_form::{Form, Memory, Multipliers};
+use affine_form::{Form, Multipliers};
 use affine_program::Program;
-use claims::{No, Place, Step};
+use claims::{Place, Refused, Step};
 use std::alloc::Global;
 
 /// Whether the systems of rows about a writer at each level before the reader are shown to have no point, by the
@@ -35,24 +36,22 @@ fn levels_shown(
     rows: &[Form],
     shown: &[Multipliers],
     first: usize,
-) -> Result<Option<No>, Memory>
+) -> Result<(), Refused>
     requires read { reader.statement < length program.now.statements }
     requires writer { writer < length program.now.statements }
     requires rows_over { AllOver (variables_with (meaning program.now) (read_of reader) writer) rows.now }
     requires enough { first + level_count (meaning program.now) writer reader.statement ≤ length shown.now }
-    ensures { IfOk result (λ found. Finds (pointless_claims 6 place.now first
-        (map (before_reader (meaning program.now) (read_of reader) writer rows.now) (levels (meaning program.now) writer reader.statement)) (drop first shown.now)) found) }
+    ensures { Decides (pointless_claims 6 place.now first
+        (map (before_reader (meaning program.now) (read_of reader) writer rows.now) (levels (meaning program.now) writer reader.statement)) (drop first shown.now)) result }
 {
     let vars = variables_beside(program, reader, writer);
     for level in 0..level_count(program, writer, reader.statement) {
         let at = first + level;
         let system = rows_before_reader(alloc, program, reader, writer, rows, level)?;
         let member = place.within(alloc, Step::Index(at as u64))?;
-        if let Some(no) = system_shown(alloc, 6, &member, vars, system.as_slice(), &shown[at])? {
-            return Ok(Some(no));
-        }
+        system_shown(alloc, 6, &member, vars, system.as_slice(), &shown[at])?;
     }
-    Ok(None)
+    Ok(())
 }
 
 /// Whether the systems of rows about a writer at each level after the source and each before the reader are shown to have
@@ -66,7 +65,7 @@ fn levels_between_shown(
     rows: &[Form],
     claimed: &Claimed,
     first: usize,
-) -> Result<Option<No>, Memory>
+) -> Result<(), Refused>
     requires read { reader.statement < length program.now.statements }
     requires writer { writer < length program.now.statements }
     requires source { claimed.now.statement < length program.now.statements }
@@ -74,15 +73,15 @@ fn levels_between_shown(
     requires forms { AllByRecursion (IsSmallOver (variables_at (meaning program.now) (read_of reader))) claimed.now.point.now }
     requires rows_over { AllOver (variables_with (meaning program.now) (read_of reader) writer) rows.now }
     requires enough { first + level_count (meaning program.now) claimed.now.statement writer * level_count (meaning program.now) writer reader.statement ≤ length claimed.now.between.now }
-    ensures { IfOk result (λ found. Finds (pointless_claims 6 place.now first
+    ensures { Decides (pointless_claims 6 place.now first
         (flat_map (λ after. map (before_reader (meaning program.now) (read_of reader) writer (after_source (meaning program.now) (read_of reader) writer rows.now (claim_of claimed.now) after))
-        (levels (meaning program.now) writer reader.statement)) (levels (meaning program.now) claimed.now.statement writer)) (drop first claimed.now.between.now)) found) }
+        (levels (meaning program.now) writer reader.statement)) (levels (meaning program.now) claimed.now.statement writer)) (drop first claimed.now.between.now)) result }
 {
     let many = level_count(program, writer, reader.statement);
     let mut at = first;
     for after in 0..level_count(program, claimed.statement, writer) {
         let rows = rows_after_source(alloc, program, reader, writer, rows, claimed, after)?;
-        if let Some(no) = levels_shown(
+        levels_shown(
             alloc,
             program,
             reader,
@@ -91,12 +90,10 @@ fn levels_between_shown(
             rows.as_slice(),
             claimed.between,
             at,
-        )? {
-            return Ok(Some(no));
-        }
+        )?;
         at += many;
     }
-    Ok(None)
+    Ok(())
 }
 
 /// Whether no write of the cell is shown to be earlier, by the multipliers of the list at this place.
@@ -107,18 +104,18 @@ pub(crate) fn earlier_shown(
     place: &Place,
     rows: &[Form],
     shown: &[Multipliers],
-) -> Result<Option<No>, Memory>
+) -> Result<(), Refused>
     requires read { ReadFits (meaning program.now) (read_of reader) }
     requires rows_over { AllOver (variables_at (meaning program.now) (read_of reader)) rows.now }
     requires each { length shown.now ≡ length (earlier_writes (meaning program.now) (read_of reader) rows.now) }
-    ensures { IfOk result (λ found. Finds (pointless_claims 6 place.now 0 (earlier_writes (meaning program.now) (read_of reader) rows.now) shown.now) found) }
+    ensures { Decides (pointless_claims 6 place.now 0 (earlier_writes (meaning program.now) (read_of reader) rows.now) shown.now) result }
 {
     let array = reference(program, reader).array;
     let all = writers(alloc, program, array)?;
     let mut at = 0;
     for writer in all.as_slice() {
         let written = rows_of_write(alloc, program, reader, rows, *writer)?;
-        let found = levels_shown(
+        levels_shown(
             alloc,
             program,
             reader,
@@ -128,12 +125,9 @@ pub(crate) fn earlier_shown(
             shown,
             at,
         )?;
-        if let Some(no) = found {
-            return Ok(Some(no));
-        }
         at += level_count(program, *writer, reader.statement);
     }
-    Ok(None)
+    Ok(())
 }
 
 /// Whether no write of the cell is shown to lie between the source and the reader, by the source's multipliers.
@@ -144,21 +138,21 @@ pub(crate) fn between_shown(
     place: &Place,
     rows: &[Form],
     claimed: &Claimed,
-) -> Result<Option<No>, Memory>
+) -> Result<(), Refused>
     requires read { ReadFits (meaning program.now) (read_of reader) }
     requires source { claimed.now.statement < length program.now.statements }
     requires point { length claimed.now.point.now ≡ depth_of (meaning program.now) claimed.now.statement }
     requires forms { AllByRecursion (IsSmallOver (variables_at (meaning program.now) (read_of reader))) claimed.now.point.now }
     requires rows_over { AllOver (variables_at (meaning program.now) (read_of reader)) rows.now }
     requires each { length claimed.now.between.now ≡ length (writes_between (meaning program.now) (read_of reader) rows.now (claim_of claimed.now)) }
-    ensures { IfOk result (λ found. Finds (pointless_claims 6 place.now 0 (writes_between (meaning program.now) (read_of reader) rows.now (claim_of claimed.now)) claimed.now.between.now) found) }
+    ensures { Decides (pointless_claims 6 place.now 0 (writes_between (meaning program.now) (read_of reader) rows.now (claim_of claimed.now)) claimed.now.between.now) result }
 {
     let array = reference(program, reader).array;
     let all = writers(alloc, program, array)?;
     let mut at = 0;
     for writer in all.as_slice() {
         let written = rows_of_write(alloc, program, reader, rows, *writer)?;
-        let found = levels_between_shown(
+        levels_between_shown(
             alloc,
             program,
             reader,
@@ -168,12 +162,9 @@ pub(crate) fn between_shown(
             claimed,
             at,
         )?;
-        if let Some(no) = found {
-            return Ok(Some(no));
-        }
         at += levels_between(program, claimed.statement, *writer, reader.statement);
     }
-    Ok(None)
+    Ok(())
 }
 
 /// At how many pairs of levels a writer may come after the source and before the reader.

@@ -1,15 +1,14 @@
 -- From one summation to the next, and to the refusals.
 use Rattle.std.proofs.Common.{◌≡◌, sym, ◌∙◌, subst, ap, ℕ, suc, ◌+◌, ◌<◌, ◌≤◌, List, [], ◌∷◌, length, drop, get_or, drop-cons, arith}
-use Rattle.std.specs.Prelude.{Option, Some, None, Result, Ok, Err, IfErr, IsErrAnd}
+use Rattle.std.specs.Prelude.{Result, Ok, Err, IfErr, IsErrAnd}
 use Rattle.std.proofs.lemmas.List.{get_or_default}
 use Rattle.std.proofs.Math.Nat.{add-suc, add-zero}
 use Rattle.iolb_model.specs.Form.{AffineForm}
-use Rattle.claims.specs.Claims.{AllHold, FirstFails, Finds, IsRefusal}
+use Rattle.claims.specs.Claims.{AllHold, Decides, FirstFails, IsRefusal}
 use Rattle.claims.specs.declared.place.Step.{Step}
-use Rattle.claims.specs.declared.refused.No.{No as FailedCondition}
 use Rattle.claims.specs.declared.refused.Refused.{Refused}
 use Rattle.claims.specs.declared.refused.Refused.TheVariants.{No, Memory}
-use Rattle.claims.proofs.Found.{Finds-go}
+use Rattle.claims.proofs.Found.{decides-later}
 use Rattle.claims.proofs.Laws.{first-fails}
 use Rattle.poly_tree.specs.Poly.{Quotient, IsLegal}
 use Rattle.domain_count.specs.declared.summation.SumFault.{SumFault}
@@ -41,19 +40,19 @@ sum-step params j k nest sums b s summand total e within same here there h is =
           (subst (λ (ss : List Quotient). IsSumFrom (params + j) (b ∷ drop (suc j) nest) ss total) (sym polys) (summand, (moved, is))),
     )
 
--- One variable further out: its claims hold, and what is found in the claims of those before it is found in all.
+-- One variable further out: its claims hold, and what decides the claims of those before it decides all.
 pub sums-further : (params j k many : ℕ) (nest : List (AffineForm × AffineForm)) (sums : List Quotient) (place : List Step) (key : ℕ) (total : Quotient) → k ≡ suc j → k ≤ length nest
     → IsSumFrom (params + j) (drop j nest) (drop j sums) total
-    → ((found : Option FailedCondition) → Finds (sums_down params nest sums place key k) found → Finds (sums_down params nest sums place key many) found)
-    → (found : Option FailedCondition) → Finds (sums_down params nest sums place key j) found → Finds (sums_down params nest sums place key many) found
-sums-further params j k many nest sums place key total e within is whole found h =
-    whole found (subst (λ (n : ℕ). Finds (sums_down params nest sums place key n) found) (sym e)
-    (Finds-go (sum_claims params nest sums place key j) (sums_down params nest sums place key j) found (sum-holds params nest sums place key j total (omega arith) is) h))
+    → ((answer : Result (Unit {0}) Refused) → Decides (sums_down params nest sums place key k) answer → Decides (sums_down params nest sums place key many) answer)
+    → (answer : Result (Unit {0}) Refused) → Decides (sums_down params nest sums place key j) answer → Decides (sums_down params nest sums place key many) answer
+sums-further params j k many nest sums place key total e within is whole answer h =
+    whole answer (subst (λ (n : ℕ). Decides (sums_down params nest sums place key n) answer) (sym e)
+    (decides-later (sum_claims params nest sums place key j) (sums_down params nest sums place key j) answer (sum-holds params nest sums place key j total (omega arith) is) h))
 
 -- the first claim of a sum that fails
 pub sum-refused : (params j k many : ℕ) (nest : List (AffineForm × AffineForm)) (sums : List Quotient) (place : List Step) (key : ℕ) (b : AffineForm × AffineForm) (s summand : Quotient) (fault : SumFault)
     (refused : Refused) → k ≡ suc j → k ≤ length nest → length sums ≡ length nest → b ≡ get_or nest j b → s ≡ get_or sums j s → IsSumFrom (params + k) (drop k nest) (drop k sums) summand
-    → ((found : Option FailedCondition) → Finds (sums_down params nest sums place key k) found → Finds (sums_down params nest sums place key many) found)
+    → ((answer : Result (Unit {0}) Refused) → Decides (sums_down params nest sums place key k) answer → Decides (sums_down params nest sums place key many) answer)
     → IsLegal s → FailsAs (params + j) b summand s fault → IsFaultRefusal (member_place place key j) fault refused → IsRefusal (sums_down params nest sums place key many) refused
 sum-refused params j k many nest sums place key b s summand fault Memory e within same here there behind whole legal fails is = tt
 sum-refused params j k many nest sums place key b s summand fault (No failed) e within same here there behind whole legal fails is =
@@ -67,15 +66,15 @@ sum-refused params j k many nest sums place key b s summand fault (No failed) e 
     = subst (λ (x : AffineForm × AffineForm). FailsAs (params + j) x summand (sum_at sums j) fault) bounds
     (subst (λ (q : Quotient). FailsAs (params + j) b summand q fault) poly fails) in
     let first = sum-fails params nest sums place key j summand fault below from (subst IsLegal poly legal) is.0 breaks in
-    whole (Some failed) (subst (λ (n : ℕ). FirstFails (sums_down params nest sums place key n) failed) (sym e)
+    whole (Err (No failed)) (subst (λ (n : ℕ). FirstFails (sums_down params nest sums place key n) failed) (sym e)
     (first-fails (sum_claims params nest sums place key j) (sums_down params nest sums place key j) failed
     (subst (FirstFails (sum_claims params nest sums place key j)) (sym is.1) first)))
 
 -- all claims hold where none is left
 pub sums-ended : (params k many : ℕ) (nest : List (AffineForm × AffineForm)) (sums : List Quotient) (place : List Step) (key : ℕ) → k ≡ 0
-    → ((found : Option FailedCondition) → Finds (sums_down params nest sums place key k) found → Finds (sums_down params nest sums place key many) found)
+    → ((answer : Result (Unit {0}) Refused) → Decides (sums_down params nest sums place key k) answer → Decides (sums_down params nest sums place key many) answer)
     → AllHold (sums_down params nest sums place key many)
-sums-ended params k many nest sums place key e whole = whole None (subst (λ (n : ℕ). AllHold (sums_down params nest sums place key n)) (sym e) tt)
+sums-ended params k many nest sums place key e whole = whole (Ok tt) (subst (λ (n : ℕ). AllHold (sums_down params nest sums place key n)) (sym e) tt)
 
 pub sum-ended : (params k : ℕ) (nest : List (AffineForm × AffineForm)) (sums : List Quotient) (total : Quotient) → k ≡ 0
     → IsSumFrom (params + k) (drop k nest) (drop k sums) total → IsSumFrom params nest sums total

@@ -1,19 +1,17 @@
 -- A check of a count, from its two parts.
 use Rattle.std.proofs.Common.{◌≡◌, ℕ, List, length}
 use Rattle.std.proofs.Math.Path.{transport}
-use Rattle.std.specs.Prelude.{Option, Some, None, Result, Ok, Err, IfOk, IfErr, OnOk}
+use Rattle.std.specs.Prelude.{Result, Ok, Err, IfOk, IfErr, OnOk}
 use Rattle.iolb_model.specs.Form.{AffineForm}
 use Rattle.iolb_model.specs.Program.{AffineProgram, IsWellFormed}
 use Rattle.affine_form.specs.Multipliers.{FarkasMultipliers}
 use Rattle.affine_form.specs.Rows.{BoundsFit}
-use Rattle.claims.specs.Claims.{Claim, AllHold, FirstFails, Finds, IsRefusal, numbered}
+use Rattle.claims.specs.Claims.{Claim, AllHold, IsRefusal, numbered}
 use Rattle.claims.specs.declared.key.TheConstants.{SUMS}
 use Rattle.claims.specs.declared.place.Step.{Step}
-use Rattle.claims.specs.declared.refused.No.{No as FailedCondition}
 use Rattle.claims.specs.declared.refused.Refused.{Refused}
-use Rattle.claims.specs.declared.refused.Refused.TheVariants.{No, Memory}
-use Rattle.claims.proofs.Found.{found-is}
-use Rattle.claims.proofs.Laws.{AllHold-append, first-fails, later-fails}
+use Rattle.claims.proofs.Found.{refused-first, refused-later}
+use Rattle.claims.proofs.Laws.{AllHold-append}
 use Rattle.poly_tree.specs.Poly.{Quotient}
 use Rattle.domain_count.specs.Claims.{SumClaims}
 use Rattle.domain_count.specs.Count.{CountsPoints, IsCount, IsSumFrom}
@@ -22,47 +20,44 @@ use Rattle.domain_count.proofs.Claimed.{ranges-shown}
 use Rattle.domain_count.proofs.Counting.{right-claims-count}
 
 -- the ranges' part, of what was read of a nest and its claims
-module _ (program : AffineProgram) (nest bounds : List (AffineForm × AffineForm)) (claims : SumClaims) (shown : List FarkasMultipliers) (place : List Step) (found : Option FailedCondition)
-    (same : bounds ≡ nest) (same_shown : shown ≡ claims.shown) (finds : Finds (numbered (range_claim program bounds shown place) 0 bounds) found) where
-  pub ranges-found : Finds (numbered (range_claim program nest claims.shown place) 0 nest) found
-  ranges-found = transport (λ i. Finds (numbered (range_claim program (same i) (same_shown i) place) 0 (same i)) found) finds
+module _ (program : AffineProgram) (nest bounds : List (AffineForm × AffineForm)) (claims : SumClaims) (shown : List FarkasMultipliers) (place : List Step) (same : bounds ≡ nest) (same_shown : shown ≡ claims.shown) where
+  abbrev of_nest : List Claim
+  of_nest = numbered (range_claim program nest claims.shown place) 0 nest
 
-  pub ranges-stop : (failed : FailedCondition) → found ≡ Some failed → FirstFails (count_claims program nest claims place) failed
-  ranges-stop failed is =
-      let ranges = numbered (range_claim program nest claims.shown place) 0 nest in
-      first-fails ranges (sums_down (length program.parameters) nest claims.sums place SUMS (length nest)) failed (found-is ranges found (Some failed) is ranges-found)
+  pub ranges-hold : AllHold (numbered (range_claim program bounds shown place) 0 bounds) → AllHold of_nest
+  ranges-hold h = transport (λ i. AllHold (numbered (range_claim program (same i) (same_shown i) place) 0 (same i))) h
+
+  pub ranges-refused : (r : Refused) → IsRefusal (numbered (range_claim program bounds shown place) 0 bounds) r → IsRefusal (count_claims program nest claims place) r
+  ranges-refused r h =
+      refused-first of_nest (sums_down (length program.parameters) nest claims.sums place SUMS (length nest)) r
+      (transport (λ i. IsRefusal (numbered (range_claim program (same i) (same_shown i) place) 0 (same i)) r) h)
 
 -- what is known of the sums' part where the ranges hold
-module _ (program : AffineProgram) (nest others : List (AffineForm × AffineForm)) (claims : SumClaims) (sums : List Quotient) (params : ℕ) (place : List Step) (found : Option FailedCondition)
+module _ (program : AffineProgram) (nest others : List (AffineForm × AffineForm)) (claims : SumClaims) (sums : List Quotient) (params : ℕ) (place : List Step)
     (same : others ≡ nest) (same_sums : sums ≡ claims.sums) (many : params ≡ length program.parameters)
-    (finds : Finds (numbered (range_claim program nest claims.shown place) 0 nest) found) (is : found ≡ None) where
+    (holding : AllHold (numbered (range_claim program nest claims.shown place) 0 nest)) where
   abbrev ranges : List Claim
   ranges = numbered (range_claim program nest claims.shown place) 0 nest
 
   abbrev summed : List Claim
   summed = sums_down (length program.parameters) nest claims.sums place SUMS (length nest)
 
-  ranges-hold : AllHold ranges
-  ranges-hold = found-is ranges found None is finds
-
   pub count-right : (r : Result Quotient Refused) → IfOk r (λ total. IsSumFrom params others sums total) → IfOk r (λ total. IsCount program nest claims total)
   count-right (Ok total) h = record {
-    shown = ranges-shown program nest claims.shown place ranges-hold;
+    shown = ranges-shown program nest claims.shown place holding;
     sums = transport (λ i. IsSumFrom (many i) (same i) (same_sums i) total) h;
   }
   count-right (Err refused) h = tt
 
   pub count-holds : (r : Result Quotient Refused) → OnOk r (AllHold (sums_down params others sums place SUMS (length others))) → OnOk r (AllHold (count_claims program nest claims place))
   count-holds (Ok total) h =
-      AllHold-append ranges summed ranges-hold (transport (λ i. AllHold (sums_down (many i) (same i) (same_sums i) place SUMS (length (same i)))) h)
+      AllHold-append ranges summed holding (transport (λ i. AllHold (sums_down (many i) (same i) (same_sums i) place SUMS (length (same i)))) h)
   count-holds (Err refused) h = tt
 
   pub count-refused : (r : Result Quotient Refused) → IfErr r (λ refused. IsRefusal (sums_down params others sums place SUMS (length others)) refused)
       → IfErr r (λ refused. IsRefusal (count_claims program nest claims place) refused)
   count-refused (Ok total) h = tt
-  count-refused (Err Memory) h = tt
-  count-refused (Err (No failed)) h =
-      later-fails ranges summed failed ranges-hold (transport (λ i. FirstFails (sums_down (many i) (same i) (same_sums i) place SUMS (length (same i))) failed) h)
+  count-refused (Err r) h = refused-later ranges summed r holding (transport (λ i. IsRefusal (sums_down (many i) (same i) (same_sums i) place SUMS (length (same i))) r) h)
 
 -- what is right counts the points
 pub count-counts : (program : AffineProgram) (nest : List (AffineForm × AffineForm)) (claims : SumClaims) (r : Result Quotient Refused) → IsWellFormed program

@@ -7,7 +7,6 @@ use Rattle.iolb_model.specs.Program.{AffineProgram}
 use Rattle.claims.specs.Claims.{AllHold, numbered}
 use Rattle.claims.specs.declared.key.TheConstants.{SUMS}
 use Rattle.claims.proofs.Laws.{AllHold-right, accepted-stand}
-use Rattle.poly_tree.specs.Expansion.{value}
 use Rattle.poly_tree.specs.Poly.{Quotient, IsLegal}
 use Rattle.poly_tree.specs.Printed.{written_terms}
 use Rattle.domain_count.specs.Antidifference.{BetweenPasses}

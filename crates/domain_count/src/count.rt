@@ -12,7 +12,7 @@ ghost use Rattle.domain_count.specs.Faults.{IsFaultRefusal};
 ghost use Rattle.iolb_model.specs.declared.limits.TheConstants.{NEST_VARIABLES, VARIABLES};
 
 use crate::nest::Nest;
-use crate::ranges::{first_not_shown, member_place};
+use crate::ranges::{member_place, ranges_shown};
 use crate::summation::{SumFault, summed};
 use crate::sums::Sums;
 use affine_form::{Form, Memory};
@@ -48,10 +48,7 @@ pub fn check_count(
     ensures holds { OnOk result (AllHold (count_claims (meaning program.now) nest.now sums.now place.now)) }
     ensures refused { IfErr result (λ refused. IsRefusal (count_claims (meaning program.now) nest.now sums.now place.now) refused) }
 {
-    let found = first_not_shown(alloc, program, nest.bounds(), sums.shown(), place)?;
-    if let Some(no) = found {
-        return Err(Refused::No(no));
-    }
+    ranges_shown(alloc, program, nest.bounds(), sums.shown(), place)?;
     let params = program.params().len();
     sum_up(alloc, params, nest.bounds(), sums.sums(), place, key::SUMS)
 }

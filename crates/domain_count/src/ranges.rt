@@ -4,7 +4,7 @@ ghost use Rattle.std.specs.Prelude.{◌≡◌, ◌+◌, ◌<◌, ◌≤◌, ◌�
 ghost use Rattle.affine_form.specs.System.{AllOver};
 ghost use Rattle.affine_form.specs.Rows.{BoundsFit, IsSmallOver, widened};
 ghost use Rattle.affine_program.specs.Parts.{meaning};
-ghost use Rattle.claims.specs.Claims.{Finds, numbered};
+ghost use Rattle.claims.specs.Claims.{Decides, numbered};
 ghost use Rattle.domain_count.specs.Count.{ShowsRange, rows_before};
 ghost use Rattle.domain_count.specs.CountClaims.{member_place, range_claim};
 ghost use Rattle.iolb_model.specs.declared.limits.TheConstants.{VARIABLES, NEST_VARIABLES};
@@ -14,30 +14,29 @@ use affine_form::{
     within_rows,
 };
 use affine_program::Program;
-use claims::{No, Place, Step, key, refusal};
+use claims::{Place, Refused, Step, key, refusal};
 use std::alloc::Global;
 
-/// The refusal of the first variable whose multipliers don't show that its range is whole: that its upper form is at
-/// least its lower form less 1.
-pub(crate) fn first_not_shown(
+/// Whether each variable's multipliers show that its range is whole: that its upper form is at least its lower form less 1.
+pub(crate) fn ranges_shown(
     alloc: Global,
     program: &Program,
     bounds: &[(Form, Form)],
     shown: &[Multipliers],
     place: &Place,
-) -> Result<Option<No>, Memory>
+) -> Result<(), Refused>
     requires few { length bounds.now ≤ NEST_VARIABLES }
     requires fit { BoundsFit (length program.now.params) bounds.now }
     requires one_each { length shown.now ≡ length bounds.now }
-    ensures { IfOk result (λ found. Finds (numbered (range_claim (meaning program.now) bounds.now shown.now place.now) 0 bounds.now) found) }
+    ensures { Decides (numbered (range_claim (meaning program.now) bounds.now shown.now place.now) 0 bounds.now) result }
 {
     for k in 0..bounds.len() {
         if !is_shown(alloc, program, &bounds[..k], &bounds[k], &shown[k])? {
             let place = member_place(alloc, place, key::SHOWN, k)?;
-            return refusal(alloc, 8, &place);
+            return Err(refusal(alloc, 8, &place));
         }
     }
-    Ok(None)
+    Ok(())
 }
 
 /// Whether the multipliers of a variable behind others show that its range is whole.

@@ -15,7 +15,7 @@ use Rattle.claims.proofs.Laws.{AllHold-append}
 use Rattle.dep_quast.specs.Context.{ReadOf}
 use Rattle.dep_quast.specs.Tree.{SelectionTree}
 use Rattle.flow_deps.specs.Plain.{IsPlain}
-use Rattle.part_fit.specs.TreeFit.{trees_fit}
+use Rattle.certificate_fit.specs.TreeFit.{trees_fit}
 use Rattle.reuse_paths.specs.Quasts.{tree_at, tree_for, tree_or_blank}
 use Rattle.reuse_paths.specs.Trees.{rows_claims}
 use Rattle.wavefront.specs.declared.cold.Cold.{Cold}

@@ -20,8 +20,8 @@ use Rattle.domain_count.specs.Claims.{SumClaims}
 use Rattle.domain_count.proofs.RangeLemmas.{shown-more}
 use Rattle.domain_count.proofs.WithinLimits.{count-stays, made-one}
 use Rattle.poly_tree.specs.Poly.{Quotient}
-use Rattle.part_fit.specs.Limits.{NamesRows}
-use Rattle.part_fit.specs.PartFit.{polynomials_fit, sum_at}
+use Rattle.certificate_fit.specs.Limits.{NamesRows}
+use Rattle.certificate_fit.specs.PartFit.{polynomials_fit, sum_at}
 use Rattle.domain_count.specs.Made.{AreMade, CheckPasses}
 use Rattle.domain_count.specs.Ranges.{AreRight, IsFirstNotShown}
 use Rattle.find_terms.specs.Counted.{AreCounted, AreRanges, FindsRanges, HasShortRange}

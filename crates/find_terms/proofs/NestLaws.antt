@@ -13,7 +13,7 @@ use Rattle.reuse_paths.proofs.EntryClaims.{all-widened-small}
 use Rattle.affine_form.specs.Form.{variables, IsSmall, IsSmallForm}
 use Rattle.affine_form.specs.Rows.{BoundsFit, IsSmallOver, step_of, variable, widened}
 use Rattle.flow_deps.proofs.SmallForms.{variable-small}
-use Rattle.part_fit.specs.Limits.{AreSmall}
+use Rattle.certificate_fit.specs.Limits.{AreSmall}
 use Rattle.find_terms.specs.Found.{FarFits, IsSmallNest}
 use Rattle.find_terms.specs.Openings.{NestSoFar, at_values, into_loop, is_named, nest_along, same_loop, width, with_first, with_variable}
 

@@ -5,7 +5,7 @@ use Rattle.claims.specs.Claims.{AllHold, FirstFails}
 use Rattle.claims.specs.declared.refused.No.{No as FailedCondition}
 use Rattle.claims.proofs.Laws.{AllHold-append, accepted-stand}
 use Rattle.dep_quast.specs.Tree.{SelectionTree}
-use Rattle.part_fit.specs.TreeFit.{trees_fit}
+use Rattle.certificate_fit.specs.TreeFit.{trees_fit}
 use Rattle.reuse_paths.specs.Trees.{read_of, rows_claims}
 use Rattle.flow_deps.specs.Standing.{AllStand, AreStanding, AreStandingRows}
 use Rattle.flow_deps.proofs.StandingTrees.{trees-fit, trees-valid}

@@ -6,8 +6,8 @@ use Rattle.affine_program.specs.Parts.{ProgramParts, IsProgram, meaning}
 use Rattle.claims.specs.Claims.{AllHold}
 use Rattle.dep_quast.specs.Tree.{SelectionTree, tree_of}
 use Rattle.flow_deps.specs.Plain.{IsPlain}
-use Rattle.part_fit.specs.Limits.{IsSmallTree}
-use Rattle.part_fit.specs.TreeFit.{trees_fit}
+use Rattle.certificate_fit.specs.Limits.{IsSmallTree}
+use Rattle.certificate_fit.specs.TreeFit.{trees_fit}
 use Rattle.reuse_paths.specs.declared.quasts.Quasts.{Quasts}
 use Rattle.reuse_paths.specs.Quasts.{tree_for}
 use Rattle.reuse_paths.specs.Trees.{rows_claims}

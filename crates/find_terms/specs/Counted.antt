@@ -15,7 +15,7 @@ use Rattle.domain_count.specs.Made.{AreMade}
 use Rattle.domain_count.specs.Claims.{SumClaims}
 use Rattle.domain_count.specs.Count.{AreShownBelow, IsCount, bounds_at, range_goal, rows_before}
 use Rattle.poly_tree.specs.Poly.{Quotient}
-use Rattle.part_fit.specs.Limits.{NameRows}
+use Rattle.certificate_fit.specs.Limits.{NameRows}
 
 -- ---- ranges
 

@@ -8,7 +8,7 @@ use Rattle.affine_form.specs.Rows.{BoundsFit, IsSmallOver}
 use Rattle.affine_program.specs.Domain.{depth_of}
 use Rattle.dep_quast.specs.Context.{ReadOf, reference_of}
 use Rattle.flow_deps.specs.Candidates.{loop_variable}
-use Rattle.part_fit.specs.Limits.{AreSmall, AreSmallBounds}
+use Rattle.certificate_fit.specs.Limits.{AreSmall, AreSmallBounds}
 use Rattle.wavefront.specs.declared.cold.Cold.{Cold}
 use Rattle.find_terms.specs.declared.nests.SoFar.{SoFar}
 use Rattle.cold_terms.specs.declared.outline.Outline.{Outline}

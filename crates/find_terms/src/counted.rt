@@ -12,11 +12,11 @@ ghost use Rattle.iolb_model.specs.declared.limits.TheConstants.{NEST_VARIABLES, 
 
 use affine_form::{Form, Memory, Multipliers, difference};
 use affine_program::Program;
-use claims::{Place, key};
+use certificate_fit::lists::polynomials_fits;
+use certificate_fit::part_limits::are_small_polynomials;
+use claims::{Place, Refused, key};
 use domain_count::{CountFault, Nest, Sums, make_count, rows_before};
 use flow_deps::{Wanted, goals_answered, with_answers};
-use part_fit::lists::polynomials_misfit;
-use part_fit::part_limits::are_small_polynomials;
 use poly_tree::Poly;
 use std::alloc::Global;
 
@@ -58,10 +58,10 @@ fn are_polynomials(alloc: Global, params: usize, nest: &Nest, sums: &[Poly]) -> 
 {
     let place = Place::new(Vec::new(alloc));
     let called = nest.bounds().len();
-    let misfit = polynomials_misfit(alloc, &place, key::SUMS, params, sums, called)?;
-    match misfit {
-        Some(_) => Ok(false),
-        None => Ok(are_small_polynomials(sums)),
+    match polynomials_fits(alloc, &place, key::SUMS, params, sums, called) {
+        Ok(()) => Ok(are_small_polynomials(sums)),
+        Err(Refused::No(_)) => Ok(false),
+        Err(Refused::Memory) => Err(Memory),
     }
 }
 

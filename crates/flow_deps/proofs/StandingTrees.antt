@@ -21,11 +21,11 @@ use Rattle.dep_quast.specs.Tree.{SourceClaim, Leaf as TreeLeaf, source, input, e
 use Rattle.dep_quast.specs.Truth.{ReadFits, IsLevel, LeafFits, FitsUnder}
 use Rattle.dep_quast.proofs.Counts.{earlier-many, between-many, order-many, level-within}
 use Rattle.dep_quast.proofs.Fits.{common-first, common-second}
-use Rattle.part_fit.specs.FitClaims.{names, so_many}
-use Rattle.part_fit.specs.Limits.{IsSmallTree}
-use Rattle.part_fit.specs.PartFit.{forms_fit}
-use Rattle.part_fit.specs.TreeFit.{order_rows_at, source_lists_fit, leaf_fit, tree_fit, tree_at, row_at, trees_fit}
-use Rattle.part_fit.proofs.FormsFit.{forms-hold}
+use Rattle.certificate_fit.specs.FitClaims.{names, so_many}
+use Rattle.certificate_fit.specs.Limits.{IsSmallTree}
+use Rattle.certificate_fit.specs.PartFit.{forms_fit}
+use Rattle.certificate_fit.specs.TreeFit.{order_rows_at, source_lists_fit, leaf_fit, tree_fit, tree_at, row_at, trees_fit}
+use Rattle.certificate_fit.proofs.FormsFit.{forms-hold}
 use Rattle.reuse_paths.specs.declared.quasts.Quasts.{Quasts}
 use Rattle.reuse_paths.specs.Quasts.{row_trees, trees_of}
 use Rattle.reuse_paths.specs.Trees.{read_of, row_claims, rows_claims, tree_place}

@@ -11,7 +11,7 @@ use Rattle.dep_quast.specs.Context.{ReadOf}
 use Rattle.dep_quast.specs.Tree.{SelectionTree, leaf, test, source, input, empty, blank, Leaf, tree_of, leaf_count}
 use Rattle.dep_quast.specs.declared.quast.Quast.{Quast}
 use Rattle.dep_quast.specs.Truth.{FitsUnder}
-use Rattle.part_fit.specs.Limits.{IsNestedTree}
+use Rattle.certificate_fit.specs.Limits.{IsNestedTree}
 use Rattle.flow_deps.specs.declared.wanted.Wanted.{Wanted}
 use Rattle.flow_deps.specs.declared.wanted.Wanted.TheVariants.{Short}
 use Rattle.flow_deps.specs.Answers.{IsAsShort}

@@ -9,11 +9,11 @@ use Rattle.iolb_check.specs.declared.term.Term.{Term}
 use Rattle.iolb_check.specs.declared.term.Term.TheVariants as terms
 use Rattle.iolb_check.specs.declared.term.Branch.{Branch}
 use Rattle.iolb_check.specs.Claims.{claim_of_term, claim_of_branch, claim_of_certificate}
-use Rattle.part_fit.specs.Limits.{NameRows, IsSmallTree}
+use Rattle.certificate_fit.specs.Limits.{NameRows, IsSmallTree}
 use Rattle.iolb_check.specs.Limits.{IsSmallTerm, IsSmallBranch, CertificateParts, IsWithinLimits}
 use Rattle.serde_json.specs.Data.{Data}
-use Rattle.cert_parts.specs.Outcome.{fault}
-use Rattle.cert_parts.specs.Json.{has_keys, part}
+use Rattle.json_parts.specs.Outcome.{fault}
+use Rattle.json_parts.specs.Json.{has_keys, part}
 use Rattle.cert_parts.specs.Parts.{reads_all_multipliers}
 use Rattle.cert_parts.specs.Trees.{reads_all_trees}
 use Rattle.iolb_cert.specs.ColdTexts.{reads_cold}
@@ -22,8 +22,8 @@ use Rattle.iolb_cert.specs.PartitionTexts.{reads_partition}
 use Rattle.iolb_cert.specs.Terms.{reads_cold_term, reads_partition_term, reads_front_term, reads_term, reads_terms}
 use Rattle.iolb_cert.specs.Certificates.{reads_branch, reads_branches, reads_version, reads_certificate}
 use Rattle.iolb_cert.specs.Read.{WrittenTerm, as_cold, as_partition, as_front, WrittenBranch, WrittenCertificate, IsTerm, IsBranch, IsCertificate}
-use Rattle.cert_written.proofs.Given.{given_then, given_behind, given_if, given_part, given_short_list, given_keys}
-use Rattle.cert_written.proofs.PartLimits.{all_multipliers_small}
+use Rattle.json_parts.specs.Given.{given_then, given_behind, given_if, given_part, given_short_list, given_keys}
+use Rattle.cert_written.specs.PartLimits.{all_multipliers_small}
 use Rattle.cert_written.proofs.TreeLimits.{all_trees_small, quasts_small}
 use Rattle.iolb_model.specs.declared.limits.TheConstants.{BRANCHES as MOST_BRANCHES, TERMS as MOST}
 use Rattle.iolb_cert.proofs.ColdLimits.{IsSmallWrittenCold, cold_small, read_cold_small}

@@ -5,10 +5,10 @@ use Rattle.std.specs.List.{AllByRecursion}
 use Rattle.affine_form.specs.Matrix.{IntegerMatrix}
 use Rattle.claims.specs.declared.key.TheConstants.{INSIDE, INVERSE, LEAVES, MATRIX, NEST, POINT, READ, SCALE, SHOWN, STATEMENT, SUMS}
 use Rattle.wavefront.specs.declared.cold.Cold.{Cold}
-use Rattle.part_fit.specs.Limits.{AreSmall, NameRows, IsSmallEntry}
+use Rattle.certificate_fit.specs.Limits.{AreSmall, NameRows, IsSmallEntry}
 use Rattle.iolb_check.specs.Limits.{IsSmallCold}
 use Rattle.serde_json.specs.Data.{Data}
-use Rattle.cert_parts.specs.Json.{part, reads_natural}
+use Rattle.json_parts.specs.Json.{part, reads_natural}
 use Rattle.cert_parts.specs.Leaves.{reads_leaves}
 use Rattle.cert_parts.specs.Nests.{reads_nest}
 use Rattle.cert_parts.specs.Parts.{reads_forms, reads_all_multipliers, reads_matrix}
@@ -16,10 +16,10 @@ use Rattle.cert_parts.specs.Polynomials.{reads_polynomials}
 use Rattle.iolb_cert.specs.ColdTexts.{reads_inverse, cold_keys, ColdHead, reads_cold_head, ColdMiddle, reads_cold_middle, reads_cold_members, reads_cold}
 use Rattle.iolb_check.specs.Claims.{ColdClaim, claim_of_cold}
 use Rattle.iolb_cert.specs.Read.{WrittenCold, IsCold}
-use Rattle.cert_written.proofs.EntryLimits.{leaves_small, IsSmallNest, nest_small}
-use Rattle.cert_written.proofs.Given.{given_then, given_behind, given_part, given_keys}
-use Rattle.cert_written.proofs.PartLimits.{natural_small, forms_small, all_multipliers_small}
-use Rattle.cert_written.proofs.PolynomialLimits.{IsSmallWritten, polynomials_small, all_read_small}
+use Rattle.cert_written.specs.EntryLimits.{leaves_small, IsSmallNest, nest_small}
+use Rattle.json_parts.specs.Given.{given_natural, given_then, given_behind, given_part, given_keys}
+use Rattle.cert_written.specs.PartLimits.{forms_small, all_multipliers_small}
+use Rattle.cert_written.specs.PolynomialLimits.{IsSmallWritten, polynomials_small, all_read_small}
 use Rattle.iolb_model.specs.declared.limits.TheConstants.{SCALE as MOST}
 
 -- ---- matrices with their scales
@@ -35,7 +35,7 @@ unfolding reads_inverse
 inverse_small d =
     given_keys (codes "matrix" ∷ codes "scale" ∷ []) d _ HasScale (given_behind (part (codes "matrix") MATRIX reads_matrix d) _ HasScale
     (λ matrix. given_then (part (codes "scale") SCALE (reads_natural 1 MOST) d) _ IsScale HasScale
-    (given_part (codes "scale") SCALE (reads_natural 1 MOST) IsScale d (natural_small 1 MOST)) (λ scale small. small)))
+    (given_part (codes "scale") SCALE (reads_natural 1 MOST) IsScale d (given_natural 1 MOST)) (λ scale small. small)))
 
 -- ---- cold terms
 

@@ -4,7 +4,7 @@ use Rattle.std.proofs.lemmas.Bool.{ne_eqb}
 use Rattle.std.specs.Prelude.{◌==◌, ◌&&◌}
 use Rattle.claims.specs.declared.key.TheConstants.{A}
 use Rattle.claims.specs.declared.place.Step.TheVariants.{Key}
-use Rattle.cert_parts.specs.Outcome.{fault, under}
+use Rattle.json_parts.specs.Outcome.{fault, under}
 use Rattle.iolb_cert.specs.PartitionTexts.{with_events}
 use Rattle.iolb_cert.specs.Read.{WrittenPartition}
 

@@ -4,24 +4,24 @@ use Rattle.std.specs.Prelude.{IfOk}
 use Rattle.std.specs.List.{AllByRecursion}
 use Rattle.claims.specs.declared.key.TheConstants.{BACK, EDGE, INSIDE, INVERSE, NEST, OUTER, OUTER_SUMS, REACH, READ, SHOWN, SOURCE, SUMS, USER, VERTEX}
 use Rattle.wavefront.specs.declared.front.Wavefront.{Wavefront}
-use Rattle.part_fit.specs.Limits.{NameRows, IsSmallEntry, IsSmallReach, IsSmallWay, IsSmallSpot}
+use Rattle.certificate_fit.specs.Limits.{NameRows, IsSmallEntry, IsSmallReach, IsSmallWay, IsSmallSpot}
 use Rattle.iolb_check.specs.Limits.{IsSmallFront}
 use Rattle.iolb_check.specs.Claims.{FrontClaim, claim_of_front}
 use Rattle.serde_json.specs.Data.{Data}
-use Rattle.cert_parts.specs.Json.{part, reads_natural}
+use Rattle.json_parts.specs.Json.{part, reads_natural, reads_or_null}
 use Rattle.cert_parts.specs.Leaves.{reads_leaves}
 use Rattle.cert_parts.specs.Nests.{reads_nest}
 use Rattle.cert_parts.specs.Parts.{reads_all_multipliers}
 use Rattle.cert_parts.specs.Polynomials.{reads_polynomials}
-use Rattle.cert_parts.specs.Reaches.{reads_or_null, reads_spot, reads_reach}
+use Rattle.cert_written.specs.Reaches.{reads_spot, reads_reach}
 use Rattle.iolb_cert.specs.ColdTexts.{reads_inverse}
 use Rattle.iolb_cert.specs.FrontTexts.{front_keys, FrontHead, reads_front_head, FrontMiddle, reads_front_middle, FrontSpots, reads_front_spots, FrontRest, reads_front_rest, reads_front_members, reads_front}
 use Rattle.iolb_cert.specs.Read.{WrittenFront, IsFront}
-use Rattle.cert_written.proofs.EntryLimits.{leaves_small, IsSmallNest, nest_small}
-use Rattle.cert_written.proofs.Given.{given_then, given_behind, given_part, given_keys}
-use Rattle.cert_written.proofs.PartLimits.{all_multipliers_small}
-use Rattle.cert_written.proofs.PolynomialLimits.{IsSmallWritten, polynomials_small, all_read_small}
-use Rattle.cert_written.proofs.WalkLimits.{reach_small, way_small, HasSmallPoint, spot_small, source_small}
+use Rattle.cert_written.specs.EntryLimits.{leaves_small, IsSmallNest, nest_small}
+use Rattle.json_parts.specs.Given.{given_then, given_behind, given_part, given_keys}
+use Rattle.cert_written.specs.PartLimits.{all_multipliers_small}
+use Rattle.cert_written.specs.PolynomialLimits.{IsSmallWritten, polynomials_small, all_read_small}
+use Rattle.cert_written.specs.Reaches.{reach-kept, way_small, HasSmallPoint, spot_small, source_small}
 use Rattle.iolb_cert.proofs.ColdLimits.{HasScale, IsScale, inverse_small}
 
 record IsSmallHead (head : FrontHead) : Type 0 where
@@ -67,7 +67,7 @@ pub record IsSmallWrittenFront (written : WrittenFront) : Type 0 where
 head_small : (d : Data) → IfOk (reads_front_head d) IsSmallHead
 unfolding reads_front_head
 head_small d =
-    given_then (part (codes "back") BACK reads_reach d) _ IsSmallReach IsSmallHead (given_part (codes "back") BACK reads_reach IsSmallReach d reach_small)
+    given_then (part (codes "back") BACK reads_reach d) _ IsSmallReach IsSmallHead (given_part (codes "back") BACK reads_reach IsSmallReach d reach-kept)
     (λ back small_back. given_then (part (codes "edge") EDGE reads_leaves d) _ (AllByRecursion IsSmallEntry) IsSmallHead (given_part (codes "edge") EDGE reads_leaves (AllByRecursion IsSmallEntry) d leaves_small)
     (λ edge small_edge. given_then (part (codes "inside") INSIDE reads_all_multipliers d) _ NameRows IsSmallHead (given_part (codes "inside") INSIDE reads_all_multipliers NameRows d all_multipliers_small)
     (λ inside small_inside. given_then (part (codes "inverse") INVERSE reads_inverse d) _ HasScale IsSmallHead (given_part (codes "inverse") INVERSE reads_inverse HasScale d inverse_small)

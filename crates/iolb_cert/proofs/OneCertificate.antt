@@ -1,8 +1,8 @@
 -- A text has one certificate, or one fault.
 use Rattle.std.proofs.Common.{◌≡◌, ℕ, ◌≤◌, List, [], ◌∷◌, Ok, Err, inl, inr, refl, sym, subst, ◌∙◌, ap, arith}
 use Rattle.iolb_model.specs.Polynomial.{Polynomial, terms_value}
-use Rattle.cert_parts.proofs.Texts.{same-value}
-use Rattle.cert_parts.specs.Texts.{HasValue}
+use Rattle.json_parts.proofs.Texts.{same-value}
+use Rattle.json_parts.specs.Texts.{HasValue}
 use Rattle.claims.specs.declared.place.Step.{Step}
 use Rattle.affine_form.specs.Multipliers.{FarkasMultipliers}
 use Rattle.poly_tree.specs.Poly.{Quotient, SameValues, numerator_at}
@@ -14,10 +14,11 @@ use Rattle.k_partition.specs.Term.{CreditTerm, PartitionTerm}
 use Rattle.reuse_paths.specs.Families.{CreditedNest}
 use Rattle.iolb_check.specs.Claims.{ColdClaim, FrontClaim, TermClaim, cold, partition, front, BranchClaim, CertificateClaim}
 use Rattle.serde_json.specs.Data.{Data}
-use Rattle.cert_parts.specs.declared.error.CertFault.{CertFault}
-use Rattle.cert_parts.specs.Outcome.{Outcome}
-use Rattle.cert_parts.specs.Credits.{WrittenCredit}
-use Rattle.cert_parts.specs.Read.{AreAll, IsPolynomial, ArePolynomials}
+use Rattle.json_parts.specs.declared.error.CertFault.{CertFault}
+use Rattle.json_parts.specs.Outcome.{Outcome}
+use Rattle.cert_written.specs.Credits.{WrittenCredit}
+use Rattle.json_parts.specs.Related.{AreAll}
+use Rattle.cert_parts.specs.Read.{IsPolynomial, ArePolynomials}
 use Rattle.iolb_cert.specs.Certificates.{reads_certificate}
 use Rattle.iolb_cert.specs.OneCertificate.{HasCertificate, TextsHaveOneCertificate, TextsHaveOneAnswer}
 use Rattle.iolb_cert.specs.Texts.{IsTextOf, IsTextFault}

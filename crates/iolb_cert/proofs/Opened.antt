@@ -4,7 +4,7 @@ use Rattle.affine_form.specs.Multipliers.{FarkasMultipliers}
 use Rattle.claims.specs.declared.key.TheConstants.{BRANCHES, DISJOINT, QUASTS, TERMS, VERSION}
 use Rattle.dep_quast.specs.Tree.{SelectionTree}
 use Rattle.serde_json.specs.Data.{Data}
-use Rattle.cert_parts.specs.Json.{has_keys, with_keys, part}
+use Rattle.json_parts.specs.Json.{has_keys, with_keys, part}
 use Rattle.cert_parts.specs.Parts.{reads_all_multipliers}
 use Rattle.cert_parts.specs.Trees.{reads_all_trees}
 use Rattle.iolb_cert.specs.Read.{WrittenTerm, WrittenBranch}

@@ -8,23 +8,23 @@ use Rattle.k_partition.specs.declared.term.Partition.{Partition}
 use Rattle.k_partition.specs.View.{credit_term_of, partition_of}
 use Rattle.reuse_paths.specs.declared.family.Credit.{Credit}
 use Rattle.reuse_paths.specs.Families.{CreditedNest, family_of}
-use Rattle.part_fit.specs.Limits.{NameRows}
+use Rattle.certificate_fit.specs.Limits.{NameRows}
 use Rattle.iolb_check.specs.Limits.{IsSmallCredit, IsSmallPartition}
 use Rattle.serde_json.specs.Data.{Data}
-use Rattle.cert_parts.specs.Credits.{WrittenCredit, reads_all_credited}
-use Rattle.cert_parts.specs.Families.{reads_families}
-use Rattle.cert_parts.specs.Json.{part, reads_natural}
+use Rattle.cert_written.specs.Credits.{WrittenCredit, reads_all_credited}
+use Rattle.cert_written.specs.Families.{reads_families}
+use Rattle.json_parts.specs.Json.{part, reads_natural}
 use Rattle.cert_parts.specs.Nests.{reads_nest}
 use Rattle.cert_parts.specs.Parts.{reads_all_multipliers, reads_matrix}
 use Rattle.cert_parts.specs.Polynomials.{reads_polynomials}
 use Rattle.iolb_cert.specs.PartitionTexts.{partition_keys, reads_shape, PartitionHead, reads_partition_head, PartitionWalks, reads_partition_walks, PartitionCover, reads_partition_cover, PartitionRest, reads_partition_rest, reads_partition_members, with_events, reads_whole_partition, reads_partition}
 use Rattle.iolb_cert.specs.Read.{PartitionClaim, WrittenPartition, IsCreditTerm, IsPartition, claim_of_partition}
-use Rattle.cert_written.proofs.CreditLimits.{IsSmallWrittenCredit, AreSmallCredits, credits_small}
-use Rattle.cert_written.proofs.EntryLimits.{IsSmallNest, nest_small}
-use Rattle.cert_written.proofs.FamilyLimits.{AreSmallFamilies, IsUpTo, families_small}
-use Rattle.cert_written.proofs.Given.{given_then, given_behind, given_part, given_keys}
-use Rattle.cert_written.proofs.PartLimits.{natural_small, all_multipliers_small}
-use Rattle.cert_written.proofs.PolynomialLimits.{IsSmallWritten, polynomials_small, all_read_small}
+use Rattle.cert_written.specs.Credits.{IsSmallWrittenCredit, AreSmallCredits, credits_small}
+use Rattle.cert_written.specs.EntryLimits.{IsSmallNest, nest_small}
+use Rattle.cert_written.specs.Families.{AreSmallFamilies, families_small}
+use Rattle.json_parts.specs.Given.{given_natural, given_then, given_behind, given_part, given_keys}
+use Rattle.cert_written.specs.PartLimits.{all_multipliers_small}
+use Rattle.cert_written.specs.PolynomialLimits.{IsSmallWritten, polynomials_small, all_read_small}
 use Rattle.iolb_cert.proofs.Events.{first-counts, second-counts, no-events, some-events}
 use Rattle.iolb_cert.proofs.Related.{all_related, as_many}
 use Rattle.iolb_model.specs.declared.limits.TheConstants.{STRETCH, STRETCH_MORE, WEIGHT}
@@ -41,6 +41,10 @@ record AreSmallWalks (walks : PartitionWalks) : Type 0 where
   families : AreSmallFamilies walks.families
   inside : NameRows walks.inside
   nest : IsSmallNest walks.nest
+
+-- a number from 1 to a greatest one
+abbrev IsUpTo : ℕ → ℕ → Type 0
+IsUpTo most n = (1 ≤ n) × (n ≤ most)
 
 record IsSmallCover (cover : PartitionCover) : Type 0 where
   q : IsUpTo WEIGHT cover.q
@@ -75,10 +79,10 @@ pub record IsSmallWrittenPartition (written : WrittenPartition) : Type 0 where
 head_small : (d : Data) → IfOk (reads_partition_head d) IsSmallHead
 unfolding reads_partition_head
 head_small d =
-    given_then (part (codes "a") A (reads_natural 0 STRETCH) d) _ (IsBelow STRETCH) IsSmallHead (given_part (codes "a") A (reads_natural 0 STRETCH) (IsBelow STRETCH) d (natural_small 0 STRETCH))
+    given_then (part (codes "a") A (reads_natural 0 STRETCH) d) _ (IsBelow STRETCH) IsSmallHead (given_part (codes "a") A (reads_natural 0 STRETCH) (IsBelow STRETCH) d (given_natural 0 STRETCH))
     (λ a small_a. given_then (part (codes "apart") APART reads_all_multipliers d) _ NameRows IsSmallHead (given_part (codes "apart") APART reads_all_multipliers NameRows d all_multipliers_small)
     (λ apart small_apart. given_then (part (codes "b") B (reads_natural 0 STRETCH_MORE) d) _ (IsBelow STRETCH_MORE) IsSmallHead
-    (given_part (codes "b") B (reads_natural 0 STRETCH_MORE) (IsBelow STRETCH_MORE) d (natural_small 0 STRETCH_MORE))
+    (given_part (codes "b") B (reads_natural 0 STRETCH_MORE) (IsBelow STRETCH_MORE) d (given_natural 0 STRETCH_MORE))
     (λ b small_b. record { a = small_a.1; apart = small_apart; b = small_b.1 })))
 
 walks_small : (d : Data) → IfOk (reads_partition_walks d) AreSmallWalks
@@ -94,7 +98,7 @@ walks_small d =
 cover_small : (d : Data) → IfOk (reads_partition_cover d) IsSmallCover
 unfolding reads_partition_cover
 cover_small d =
-    given_then (part (codes "q") Q (reads_natural 1 WEIGHT) d) _ (IsUpTo WEIGHT) IsSmallCover (given_part (codes "q") Q (reads_natural 1 WEIGHT) (IsUpTo WEIGHT) d (natural_small 1 WEIGHT))
+    given_then (part (codes "q") Q (reads_natural 1 WEIGHT) d) _ (IsUpTo WEIGHT) IsSmallCover (given_part (codes "q") Q (reads_natural 1 WEIGHT) (IsUpTo WEIGHT) d (given_natural 1 WEIGHT))
     (λ q small_q. given_behind (part (codes "shape") SHAPE reads_shape d) _ IsSmallCover
     (λ shape. given_then (part (codes "shown") SHOWN reads_all_multipliers d) _ NameRows IsSmallCover (given_part (codes "shown") SHOWN reads_all_multipliers NameRows d all_multipliers_small)
     (λ shown small_shown. given_behind (part (codes "statement") STATEMENT (reads_natural 0 65535) d) _ IsSmallCover

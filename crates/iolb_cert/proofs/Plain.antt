@@ -4,7 +4,7 @@ use Rattle.std.specs.List.{AllByRecursion}
 use Rattle.affine_form.specs.Matrix.{IntegerMatrix}
 use Rattle.dep_quast.specs.Tree.{tree_of}
 use Rattle.dep_quast.specs.declared.quast.Quast.{Quast}
-use Rattle.part_fit.specs.Limits.{IsSmallTree, IsSmallReach, IsSmallWay, IsSmallFamily}
+use Rattle.certificate_fit.specs.Limits.{IsSmallTree, IsSmallReach, IsSmallWay, IsSmallFamily}
 use Rattle.iolb_check.specs.Limits.{IsSmallTerm, IsSmallBranch, CertificateParts, IsWithinLimits}
 use Rattle.iolb_check.specs.declared.term.Term.{Term}
 use Rattle.iolb_check.specs.declared.term.Term.TheVariants as terms

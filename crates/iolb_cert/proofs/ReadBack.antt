@@ -1,7 +1,7 @@
 -- Texts of certificates are read back.
 use Rattle.std.proofs.Common.{Ok, Err}
 use Rattle.iolb_check.specs.Claims.{claim_of_certificate}
-use Rattle.cert_parts.specs.declared.error.CertError.TheVariants.{Fault, Memory}
+use Rattle.json_parts.specs.declared.error.CertError.TheVariants.{Fault, Memory}
 use Rattle.iolb_cert.proofs.OneCertificate.{one_answer, one_certificate}
 use Rattle.iolb_cert.specs.ReadBackLaw.{CertificatesAreReadBack}
 

@@ -6,18 +6,18 @@ use Rattle.iolb_check.specs.Limits.{IsSmallBranch, CertificateParts, IsWithinLim
 use Rattle.iolb_check.specs.declared.term.Term.{Term}
 use Rattle.iolb_check.specs.declared.term.Branch.{Branch}
 use Rattle.base_laws.proofs.Lists.{All-map, All-weaken}
-use Rattle.cert_parts.specs.Json.{has_keys, with_keys}
+use Rattle.json_parts.specs.Json.{has_keys, with_keys}
 use Rattle.iolb_cert.specs.Read.{WrittenTerm, WrittenBranch, IsTerm, IsBranch}
-use Rattle.cert_parts.specs.Read.{AreAll}
+use Rattle.json_parts.specs.Related.{AreAll}
 use Rattle.iolb_check.specs.Claims.{claim_of_term, claim_of_branch}
 use Rattle.iolb_cert.specs.Terms.{reads_term, reads_terms}
 use Rattle.iolb_cert.specs.Certificates.{reads_branch, reads_branches, reads_version, reads_certificate}
 use Rattle.iolb_cert.specs.WrittenCertificates.{term_data, branch_data, branches_data}
-use Rattle.cert_written.specs.Parts.{list}
+use Rattle.json_parts.specs.Written.{list}
 use Rattle.cert_written.specs.ReadBack.{AreMultipliersRead, TreesAreRead}
 use Rattle.iolb_cert.specs.ReadBack.{TermIsRead, BranchIsRead, CertificateIsRead}
 use Rattle.iolb_cert.specs.Written.{written_term, written_branch}
-use Rattle.cert_written.proofs.ReadLists.{short_list-read, each-read}
+use Rattle.json_parts.proofs.Back.{short_list-read, each-read}
 use Rattle.cert_written.proofs.ReadParts.{all_multipliers-read}
 use Rattle.cert_written.proofs.ReadTrees.{all_trees-read}
 use Rattle.iolb_model.specs.declared.limits.TheConstants.{BRANCHES, TERMS}

@@ -2,30 +2,32 @@
 use Rattle.std.proofs.Common.{◌≡◌, ℕ, zero, suc, ◌+◌, ◌≤◌, false, Ok, refl, subst, arith}
 use Rattle.std.specs.Prelude.{◌==◌, ◌&&◌}
 use Rattle.std.specs.List.{AllByRecursion}
-use Rattle.base_laws.proofs.Lists.{All-weaken}
 use Rattle.k_partition.specs.declared.term.Partition.{Partition}
 use Rattle.k_partition.specs.declared.term.Shape.{Shape}
 use Rattle.k_partition.specs.declared.term.Shape.TheVariants.{Each, Sum}
 use Rattle.k_partition.specs.View.{credit_term_of}
-use Rattle.reuse_paths.specs.declared.family.Credit.{Credit}
-use Rattle.iolb_check.specs.Limits.{IsSmallCredit, IsSmallPartition}
+use Rattle.iolb_check.specs.Limits.{IsSmallPartition}
 use Rattle.iolb_check.specs.declared.term.Term.{Term}
 use Rattle.iolb_check.specs.declared.term.Term.TheVariants as terms
 use Rattle.serde_json.specs.Data.{string}
-use Rattle.cert_parts.specs.Json.{has_keys, with_keys}
-use Rattle.cert_written.specs.FamilyReadBack.{HasSmallNest, CreditIsRead, FamilyIsRead}
-use Rattle.cert_written.specs.ReadBack.{AreMultipliersRead, MatrixIsRead, PairIsRead, PolynomialIsRead}
+use Rattle.json_parts.specs.Json.{has_keys, with_keys}
+use Rattle.cert_written.specs.Credits.{AreCredits, credits_shape, written_credit}
+use Rattle.cert_written.specs.Families.{families_shape}
+use Rattle.json_parts.specs.Shape.{IsReadBack}
+use Rattle.std.specs.Prelude.{map}
+use Rattle.reuse_paths.specs.Families.{family_of}
+use Rattle.cert_written.specs.ReadBack.{AreMultipliersRead, MatrixIsRead, PairIsRead}
 use Rattle.iolb_cert.specs.PartitionTexts.{reads_shape, reads_partition_head, reads_partition_walks, reads_partition_cover, reads_partition_rest, reads_partition_members, with_events, reads_whole_partition, reads_partition}
 use Rattle.iolb_cert.specs.Read.{WrittenPartition, IsCreditTerm}
 use Rattle.iolb_cert.specs.Terms.{reads_partition_term, reads_term}
 use Rattle.iolb_cert.specs.WrittenCertificates.{shape_name, partition_data}
 use Rattle.iolb_cert.specs.Written.{written_partition}
 use Rattle.iolb_cert.specs.ReadBack.{PartitionIsRead, TermIsRead}
-use Rattle.cert_written.proofs.ReadCredits.{CreditsAreRead, credits-read}
-use Rattle.cert_written.proofs.ReadFamilies.{all_families-read}
-use Rattle.cert_written.proofs.ReadLists.{natural-read}
+use Rattle.json_parts.proofs.Back.{natural_read, all_read}
 use Rattle.cert_written.proofs.ReadParts.{all_multipliers-read, nest-read}
-use Rattle.cert_written.proofs.ReadPolynomials.{are-polynomials, polynomials-read}
+use Rattle.cert_parts.specs.Polynomials.{reads_polynomial}
+use Rattle.cert_written.specs.Polynomials.{polynomial_data, written_polynomial}
+use Rattle.iolb_cert.proofs.ReadTerms.{ArePolynomialsRead}
 use Rattle.iolb_cert.proofs.Events.{first-counts, second-counts, some-events}
 use Rattle.iolb_cert.proofs.Related.{all-mapped}
 use Rattle.iolb_model.specs.declared.limits.TheConstants.{STRETCH, STRETCH_MORE, WEIGHT}
@@ -38,40 +40,35 @@ shape-read Sum = refl
 -- the members of a partition term are read
 pub record ArePartitionMembersRead (partition : Partition) : Type 0 where
   pub apart : AllByRecursion AreMultipliersRead partition.apart.items
-  pub credits : AllByRecursion CreditIsRead partition.credits.items
-  pub families : AllByRecursion FamilyIsRead partition.families.items
+  pub credits : IsReadBack credits_shape (map written_credit partition.credits.items)
+  pub are_credits : AreCredits (map written_credit partition.credits.items) partition.credits.items
+  pub families : IsReadBack families_shape (map family_of partition.families.items)
   pub inside : AllByRecursion AreMultipliersRead partition.inside.items
   pub inverse : MatrixIsRead partition.inverse
   pub matrix : MatrixIsRead partition.matrix
   pub nest : AllByRecursion PairIsRead partition.nest
   pub shown : AllByRecursion AreMultipliersRead partition.sums.shown
   pub statement : partition.statement ≤ 65535
-  pub sums : AllByRecursion PolynomialIsRead partition.sums.sums
-
-has-nest : (credit : Credit) → IsSmallCredit credit → HasSmallNest credit
-has-nest credit small = record { variables = small.variables; bounds = small.bounds; shown = small.shown }
-
-credits-back : (partition : Partition) → IsSmallPartition partition → AllByRecursion CreditIsRead partition.credits.items → CreditsAreRead partition.credits.items
-credits-back partition small h = credits-read partition.credits.items h (All-weaken IsSmallCredit HasSmallNest partition.credits.items has-nest small.credits) small.few_credits
+  pub sums : ArePolynomialsRead partition.sums.sums
 
 members-read : (partition : Partition) → IsSmallPartition partition → ArePartitionMembersRead partition → reads_partition_members (partition_data (written_partition partition)) ≡ Ok (written_partition partition)
 unfolding reads_partition_members reads_partition_head reads_partition_rest reads_partition_walks reads_partition_cover
 members-read partition small h =
     rw (
-      natural-read 0 STRETCH partition.a (omega arith) small.a,
+      natural_read 0 STRETCH partition.a (omega arith) small.a,
       all_multipliers-read partition.apart.items h.apart small.apart,
-      natural-read 0 STRETCH_MORE partition.b (omega arith) small.b,
-      (credits-back partition small h.credits).says,
-      all_families-read partition.families.items h.families small.families small.some_families small.few_families small.weights,
+      natural_read 0 STRETCH_MORE partition.b (omega arith) small.b,
+      h.credits,
+      h.families,
       all_multipliers-read partition.inside.items h.inside small.inside,
       h.inverse,
       h.matrix,
       nest-read partition.nest h.nest small.variables small.bounds,
-      natural-read 1 WEIGHT partition.q small.some_q small.q,
+      natural_read 1 WEIGHT partition.q small.some_q small.q,
       shape-read partition.shape,
       all_multipliers-read partition.sums.shown h.shown small.shown,
-      natural-read 0 65535 partition.statement (omega arith) h.statement,
-      polynomials-read partition.sums.sums h.sums,
+      natural_read 0 65535 partition.statement (omega arith) h.statement,
+      all_read reads_polynomial polynomial_data (map written_polynomial partition.sums.sums) h.sums.read,
     ) refl
 
 events-read : (written : WrittenPartition) → 1 ≤ written.claim.a + written.claim.b → with_events written ≡ Ok written
@@ -86,8 +83,8 @@ partition-read partition small h = record {
   says = rw (members-read partition small h) (events-read (written_partition partition) small.some_events);
   is = record {
     claims = refl;
-    sums = are-polynomials partition.sums.sums h.sums;
-    credits = all-mapped IsCreditTerm credit_term_of _ partition.credits.items (credits-back partition small h.credits).are;
+    sums = h.sums.are;
+    credits = all-mapped IsCreditTerm credit_term_of _ partition.credits.items h.are_credits;
   };
 }
 

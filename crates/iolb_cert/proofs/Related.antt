@@ -1,7 +1,7 @@
 -- Lists whose members are related, one by one.
 use Rattle.std.proofs.Common.{◌≡◌, suc, List, [], ◌∷◌, length, map, refl, ap}
 use Rattle.std.specs.List.{AllByRecursion}
-use Rattle.cert_parts.specs.Read.{AreAll}
+use Rattle.json_parts.specs.Related.{AreAll}
 
 -- what holds of each that is written holds of each that was read
 pub all_related : {A B X : Type 0} (R : A → X → Type 0) (claim : B → X) (P : A → Type 0) (Q : B → Type 0) → ((a : A) (b : B) → R a (claim b) → P a → Q b)

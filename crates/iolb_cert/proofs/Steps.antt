@@ -1,8 +1,8 @@
 -- Three steps of reading, one after the other.
 use Rattle.std.proofs.Common.{◌≡◌, Ok, ap, ◌∙◌}
-use Rattle.cert_parts.specs.declared.error.CertError.{CertError}
-use Rattle.cert_parts.specs.declared.error.CertError.TheVariants.{Fault, Memory}
-use Rattle.cert_parts.specs.Outcome.{Outcome, ◌>>=◌, Fails}
+use Rattle.json_parts.specs.declared.error.CertError.{CertError}
+use Rattle.json_parts.specs.declared.error.CertError.TheVariants.{Fault, Memory}
+use Rattle.json_parts.specs.Outcome.{Outcome, ◌>>=◌, Fails}
 
 pub first_fails : {A B C D : Type 0} (a : Outcome A) (b : Outcome B) (c : Outcome C) (f : A → B → C → Outcome D) (e : CertError)
     → Fails e a → Fails e (a >>= λ x. b >>= λ y. c >>= λ z. f x y z)

@@ -2,8 +2,8 @@
 use Rattle.std.specs.Prelude.{◌==◌, ℤ, pos, negsuc, List, [], ◌∷◌, Bool, false, if◌then◌else◌, codes, Option, None, Some, Ok}
 use Rattle.claims.specs.declared.key.TheConstants.{BRANCHES, DISJOINT, QUASTS, TERMS, VERSION}
 use Rattle.serde_json.specs.Data.{Data}
-use Rattle.cert_parts.specs.Outcome.{Outcome, ◌>>=◌, fault}
-use Rattle.cert_parts.specs.Json.{with_keys, part, reads_short_list, each, integer_of}
+use Rattle.json_parts.specs.Outcome.{Outcome, ◌>>=◌, fault}
+use Rattle.json_parts.specs.Json.{with_keys, part, reads_short_list, each, integer_of}
 use Rattle.cert_parts.specs.Parts.{reads_all_multipliers}
 use Rattle.cert_parts.specs.Trees.{reads_all_trees}
 use Rattle.iolb_cert.specs.Read.{WrittenBranch, WrittenCertificate}

@@ -5,8 +5,8 @@ use Rattle.affine_form.specs.Matrix.{IntegerMatrix}
 use Rattle.affine_form.specs.Multipliers.{FarkasMultipliers}
 use Rattle.claims.specs.declared.key.TheConstants.{INSIDE, INVERSE, LEAVES, MATRIX, NEST, POINT, READ, SCALE, SHOWN, STATEMENT, SUMS}
 use Rattle.serde_json.specs.Data.{Data}
-use Rattle.cert_parts.specs.Outcome.{Outcome, ◌>>=◌}
-use Rattle.cert_parts.specs.Json.{with_keys, part, reads_natural}
+use Rattle.json_parts.specs.Outcome.{Outcome, ◌>>=◌}
+use Rattle.json_parts.specs.Json.{with_keys, part, reads_natural}
 use Rattle.reuse_paths.specs.LeafClaims.{LeafClaim}
 use Rattle.cert_parts.specs.Leaves.{reads_leaves}
 use Rattle.cert_parts.specs.Nests.{reads_nest}

@@ -8,13 +8,13 @@ use Rattle.claims.specs.declared.key.TheConstants.{BACK, EDGE, INSIDE, INVERSE, 
 use Rattle.reuse_paths.specs.LeafClaims.{LeafClaim}
 use Rattle.reuse_paths.specs.Walks.{SpotForms, ReachClaim}
 use Rattle.serde_json.specs.Data.{Data}
-use Rattle.cert_parts.specs.Outcome.{Outcome, ◌>>=◌}
-use Rattle.cert_parts.specs.Json.{with_keys, part, reads_natural}
+use Rattle.json_parts.specs.Outcome.{Outcome, ◌>>=◌}
+use Rattle.json_parts.specs.Json.{with_keys, part, reads_natural, reads_or_null}
 use Rattle.cert_parts.specs.Leaves.{reads_leaves}
 use Rattle.cert_parts.specs.Nests.{reads_nest}
 use Rattle.cert_parts.specs.Parts.{reads_all_multipliers}
 use Rattle.cert_parts.specs.Polynomials.{reads_polynomials}
-use Rattle.cert_parts.specs.Reaches.{reads_or_null, reads_spot, reads_reach}
+use Rattle.cert_written.specs.Reaches.{reads_spot, reads_reach}
 use Rattle.iolb_check.specs.Claims.{FrontClaim}
 use Rattle.iolb_cert.specs.ColdTexts.{reads_inverse}
 use Rattle.iolb_cert.specs.Read.{WrittenFront}

@@ -1,7 +1,7 @@
 -- A text has one certificate, or one fault.
 use Rattle.std.specs.Prelude.{◌≡◌, ℕ, List}
 use Rattle.iolb_check.specs.Claims.{CertificateClaim}
-use Rattle.cert_parts.specs.declared.error.CertFault.{CertFault}
+use Rattle.json_parts.specs.declared.error.CertFault.{CertFault}
 use Rattle.iolb_cert.specs.Texts.{IsTextOf, IsTextFault}
 use Rattle.iolb_cert.specs.Read.{WrittenCertificate, IsCertificate}
 

@@ -11,10 +11,10 @@ use Rattle.k_partition.specs.declared.term.Shape.TheVariants.{Each, Sum}
 use Rattle.reuse_paths.specs.Families.{FamilyForms}
 use Rattle.serde_json.specs.Data.{Data}
 use Rattle.serde_json.specs.Find.{as_str}
-use Rattle.cert_parts.specs.Outcome.{Outcome, ◌>>=◌, fault, under}
-use Rattle.cert_parts.specs.Credits.{reads_all_credited}
-use Rattle.cert_parts.specs.Families.{reads_families}
-use Rattle.cert_parts.specs.Json.{with_keys, part, reads_natural}
+use Rattle.json_parts.specs.Outcome.{Outcome, ◌>>=◌, fault, under}
+use Rattle.cert_written.specs.Credits.{reads_all_credited}
+use Rattle.cert_written.specs.Families.{reads_families}
+use Rattle.json_parts.specs.Json.{with_keys, part, reads_natural}
 use Rattle.cert_parts.specs.Nests.{reads_nest}
 use Rattle.cert_parts.specs.Parts.{reads_all_multipliers, reads_matrix}
 use Rattle.cert_parts.specs.Polynomials.{reads_polynomials}

@@ -2,8 +2,8 @@
 use Rattle.std.specs.Prelude.{◌≡◌, ⊤, ℕ, List, Result, Ok, Err}
 use Rattle.iolb_check.specs.Claims.{CertificateClaim, claim_of_certificate}
 use Rattle.iolb_check.specs.Limits.{CertificateParts}
-use Rattle.cert_parts.specs.declared.error.CertError.{CertError}
-use Rattle.cert_parts.specs.declared.error.CertError.TheVariants.{Fault, Memory}
+use Rattle.json_parts.specs.declared.error.CertError.{CertError}
+use Rattle.json_parts.specs.declared.error.CertError.TheVariants.{Fault, Memory}
 use Rattle.iolb_cert.specs.OneCertificate.{HasCertificate}
 use Rattle.iolb_cert.specs.Texts.{ReadsText}
 use Rattle.iolb_cert.specs.Read.{IsCertificate}

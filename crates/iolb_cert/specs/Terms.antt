@@ -2,8 +2,8 @@
 use Rattle.std.specs.Prelude.{List, [], ◌∷◌, if◌then◌else◌, codes, Ok}
 use Rattle.claims.specs.declared.key.TheConstants.{COLD, PARTITION, WAVEFRONT}
 use Rattle.serde_json.specs.Data.{Data}
-use Rattle.cert_parts.specs.Outcome.{Outcome, ◌>>=◌, fault}
-use Rattle.cert_parts.specs.Json.{has_keys, part, reads_short_list, each}
+use Rattle.json_parts.specs.Outcome.{Outcome, ◌>>=◌, fault}
+use Rattle.json_parts.specs.Json.{has_keys, part, reads_short_list, each}
 use Rattle.iolb_cert.specs.ColdTexts.{reads_cold}
 use Rattle.iolb_cert.specs.FrontTexts.{reads_front}
 use Rattle.iolb_cert.specs.PartitionTexts.{reads_partition}

@@ -1,11 +1,10 @@
 -- Which certificate a text has, or which fault.
 use Rattle.std.specs.Prelude.{◌≡◌, ⊤, ◌⊎◌, ℕ, List, [], Result, Ok, Err}
 use Rattle.serde_json.specs.Data.{Data}
-use Rattle.serde_json.specs.Read.{read}
-use Rattle.cert_parts.specs.Texts.{HasValue}
-use Rattle.cert_parts.specs.declared.error.CertFault.{CertFault}
-use Rattle.cert_parts.specs.declared.error.CertError.{CertError}
-use Rattle.cert_parts.specs.declared.error.CertError.TheVariants.{Fault, Memory}
+use Rattle.json_parts.specs.Texts.{HasValue}
+use Rattle.json_parts.specs.declared.error.CertFault.{CertFault}
+use Rattle.json_parts.specs.declared.error.CertError.{CertError}
+use Rattle.json_parts.specs.declared.error.CertError.TheVariants.{Fault, Memory}
 use Rattle.iolb_cert.specs.Read.{WrittenCertificate}
 use Rattle.iolb_cert.specs.Certificates.{reads_certificate}
 

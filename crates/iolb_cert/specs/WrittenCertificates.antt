@@ -7,11 +7,12 @@ use Rattle.serde_json.specs.Data.{Data, string, object, no_members, member}
 use Rattle.iolb_cert.specs.Read.{WrittenCold, WrittenPartition, WrittenFront, WrittenTerm, as_cold, as_partition, as_front, WrittenBranch, WrittenCertificate}
 use Rattle.cert_written.specs.Credits.{credits_data}
 use Rattle.cert_written.specs.Families.{families_data}
-use Rattle.cert_written.specs.Parts.{list, natural, forms_data, all_multipliers_data, matrix_data, nest_data}
+use Rattle.json_parts.specs.Written.{list, natural, or_null}
+use Rattle.cert_written.specs.Parts.{forms_data, all_multipliers_data, matrix_data, nest_data}
 use Rattle.cert_written.specs.Polynomials.{polynomials_data}
 use Rattle.cert_written.specs.Leaves.{leaves_data}
 use Rattle.cert_written.specs.Trees.{all_trees_data}
-use Rattle.cert_written.specs.Walks.{or_null, spot_data, reach_data}
+use Rattle.cert_written.specs.Reaches.{spot_data, reach_data}
 
 -- a matrix and its scale
 abbrev pub inverse_data : IntegerMatrix → ℕ → Data

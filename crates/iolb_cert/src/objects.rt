@@ -3,7 +3,7 @@
 ghost use Rattle.std.specs.Prelude.{◌≡◌, codes, IfOk};
 ghost use Rattle.serde_json.specs.Data.{member, no_members, object};
 ghost use Rattle.serde_json.specs.View.{members_view, view};
-ghost use Rattle.cert_written.specs.Parts.{natural};
+ghost use Rattle.json_parts.specs.Written.{natural};
 
 use serde_json::{Map, Value, json, put};
 use std::alloc::{AllocError, Global};

@@ -4,9 +4,9 @@ ghost use Rattle.std.specs.Prelude.{◌≡◌, codes, map};
 ghost use Rattle.claims.specs.declared.key.TheConstants.{TERMS};
 ghost use Rattle.serde_json.specs.View.{view};
 ghost use Rattle.iolb_check.specs.Claims.{claim_of_branch, claim_of_term};
-ghost use Rattle.cert_parts.specs.Outcome.{GivesBy};
-ghost use Rattle.cert_parts.specs.Json.{part};
-ghost use Rattle.cert_parts.specs.Read.{AreAll};
+ghost use Rattle.json_parts.specs.Outcome.{GivesBy};
+ghost use Rattle.json_parts.specs.Json.{part};
+ghost use Rattle.json_parts.specs.Related.{AreAll};
 ghost use Rattle.iolb_cert.specs.Certificates.{reads_branch, reads_branches};
 ghost use Rattle.iolb_cert.specs.Terms.{reads_terms};
 ghost use Rattle.iolb_cert.specs.Read.{IsTerm, IsBranch};
@@ -33,7 +33,7 @@ fn terms_part(alloc: Global, value: &Value) -> Result<Vec<Term>, CertError>
 }
 
 /// A branch.
-#[tactic(auto, unfolding(crate::specs::Certificates::reads_branch, cert_parts::specs::Json::with_keys))]
+#[tactic(auto, unfolding(crate::specs::Certificates::reads_branch, json_parts::specs::Json::with_keys))]
 fn one_branch(alloc: Global, value: &Value) -> Result<Branch, CertError>
     ensures { GivesBy (λ said found. IsBranch said (claim_of_branch found)) result (reads_branch (view value.now)) }
 {

@@ -3,7 +3,7 @@
 ghost use Rattle.std.specs.Prelude.{◌≡◌, map};
 ghost use Rattle.serde_json.specs.View.{view};
 ghost use Rattle.iolb_check.specs.Claims.{claim_of_cold};
-ghost use Rattle.cert_parts.specs.Outcome.{Gives, GivesBy};
+ghost use Rattle.json_parts.specs.Outcome.{Gives, GivesBy};
 ghost use Rattle.reuse_paths.specs.LeafClaims.{claim_of};
 ghost use Rattle.iolb_cert.specs.ColdTexts.{reads_cold_head, reads_cold_middle, reads_cold_members, reads_cold, cold_claim};
 ghost use Rattle.iolb_cert.specs.Views.{head_of, middle_of};
@@ -12,11 +12,12 @@ ghost use Rattle.iolb_cert.specs.Read.{IsCold};
 use crate::members::inverse_part;
 use affine_form::{Form, Multipliers};
 use cert_parts::{
-    CertError, all_shown_part, fault, forms_part, has_keys, leaves_part, natural_part, nest_part,
-    polynomials_part,
+    CertError, all_shown_part, fault, forms_part, has_keys, leaves_part, natural_part,
 };
+use cert_written::{OfNest, OfPolynomial};
 use claims::key;
 use domain_count::{Nest, Sums};
+use json_parts::{ListOf, member, said_member};
 use poly_tree::Poly;
 use reuse_paths::Leaf;
 use serde_json::Value;
@@ -40,7 +41,7 @@ fn head(alloc: Global, value: &Value) -> Result<ColdParts, CertError>
     let inside = all_shown_part(alloc, value, "inside", key::INSIDE)?;
     let inverse = inverse_part(alloc, value)?;
     let leaves = leaves_part(alloc, value, "leaves", key::LEAVES)?;
-    let nest = nest_part(alloc, value)?;
+    let nest = said_member::<OfNest>(alloc, value, "nest", key::NEST)?;
     Ok(ColdParts {
         inside,
         inverse,
@@ -98,7 +99,7 @@ fn members(alloc: Global, value: &Value) -> Result<Cold, CertError>
 {
     let head = head(alloc, value)?;
     let middle = middle(alloc, value)?;
-    let sums = polynomials_part(alloc, value, "sums", key::SUMS)?;
+    let sums = member::<ListOf<OfPolynomial>>(alloc, value, "sums", key::SUMS)?;
     Ok(made(head, middle, sums))
 }
 

@@ -3,21 +3,20 @@
 ghost use Rattle.std.specs.Prelude.{◌≡◌, map, option_map};
 ghost use Rattle.serde_json.specs.View.{view};
 ghost use Rattle.iolb_check.specs.Claims.{claim_of_front};
-ghost use Rattle.cert_parts.specs.Outcome.{Gives, GivesBy};
+ghost use Rattle.json_parts.specs.Outcome.{Gives, GivesBy};
 ghost use Rattle.reuse_paths.specs.LeafClaims.{claim_of};
 ghost use Rattle.reuse_paths.specs.Walks.{reach_of, spot_of};
 ghost use Rattle.iolb_cert.specs.FrontTexts.{reads_front_head, reads_front_middle, reads_front_spots, reads_front_rest, reads_front_members, reads_front, front_claim};
 ghost use Rattle.iolb_cert.specs.Views.{front_head_of, front_middle_of, spots_of, IsRest};
 ghost use Rattle.iolb_cert.specs.Read.{IsFront};
 
-use crate::members::{back_part, inverse_part, source_part, spot_part, way_part};
+use crate::members::inverse_part;
 use affine_form::Multipliers;
-use cert_parts::{
-    CertError, all_shown_part, fault, has_keys, leaves_part, natural_part, nest_part,
-    polynomials_part,
-};
+use cert_parts::{CertError, all_shown_part, fault, has_keys, leaves_part, natural_part};
+use cert_written::{OfNest, OfPolynomial, OfReach, OfSpot};
 use claims::key;
 use domain_count::{Nest, Sums};
+use json_parts::{ListOf, OrNull, member, said_member};
 use poly_tree::Poly;
 use reuse_paths::{Leaf, Reach, Spot};
 use serde_json::Value;
@@ -40,11 +39,11 @@ pub(crate) struct FrontParts {
 fn head(alloc: Global, value: &Value) -> Result<FrontParts, CertError>
     ensures { Gives front_head_of result (reads_front_head (view value.now)) }
 {
-    let back = back_part(alloc, value)?;
+    let back = said_member::<OfReach>(alloc, value, "back", key::BACK)?;
     let edge = leaves_part(alloc, value, "edge", key::EDGE)?;
     let inside = all_shown_part(alloc, value, "inside", key::INSIDE)?;
     let inverse = inverse_part(alloc, value)?;
-    let nest = nest_part(alloc, value)?;
+    let nest = said_member::<OfNest>(alloc, value, "nest", key::NEST)?;
     let outer = natural_part(alloc, value, "outer", key::OUTER, 0, 255)? as u8;
     Ok(FrontParts {
         back,
@@ -70,10 +69,10 @@ pub(crate) struct FrontWays {
 fn middle(alloc: Global, value: &Value) -> Result<FrontWays, CertError>
     ensures { Gives front_middle_of result (reads_front_middle (view value.now)) }
 {
-    let reach = way_part(alloc, value)?;
+    let reach = said_member::<OrNull<OfReach>>(alloc, value, "reach", key::REACH)?;
     let read = natural_part(alloc, value, "read", key::READ, 0, 65535)? as u16;
     let shown = all_shown_part(alloc, value, "shown", key::SHOWN)?;
-    let source = source_part(alloc, value)?;
+    let source = said_member::<OrNull<OfSpot>>(alloc, value, "source", key::SOURCE)?;
     Ok(FrontWays {
         reach,
         read,
@@ -94,8 +93,8 @@ pub(crate) struct FrontEnds {
 fn spots(alloc: Global, value: &Value) -> Result<FrontEnds, CertError>
     ensures { Gives spots_of result (reads_front_spots (view value.now)) }
 {
-    let user = spot_part(alloc, value, "user", key::USER)?;
-    let vertex = spot_part(alloc, value, "vertex", key::VERTEX)?;
+    let user = said_member::<OfSpot>(alloc, value, "user", key::USER)?;
+    let vertex = said_member::<OfSpot>(alloc, value, "vertex", key::VERTEX)?;
     Ok(FrontEnds { user, vertex })
 }
 
@@ -112,7 +111,7 @@ fn rest(alloc: Global, value: &Value) -> Result<FrontBehind, CertError>
     ensures { GivesBy IsRest result (reads_front_rest (view value.now)) }
 {
     let middle = middle(alloc, value)?;
-    let sums = polynomials_part(alloc, value, "sums", key::SUMS)?;
+    let sums = member::<ListOf<OfPolynomial>>(alloc, value, "sums", key::SUMS)?;
     let spots = spots(alloc, value)?;
     Ok(FrontBehind {
         middle,
@@ -155,7 +154,7 @@ fn members(alloc: Global, value: &Value) -> Result<Wavefront, CertError>
     ensures { GivesBy (λ said found. IsFront said (claim_of_front found) found.sums.sums found.outer_sums.items) result (reads_front_members (view value.now)) }
 {
     let head = head(alloc, value)?;
-    let outer_sums = polynomials_part(alloc, value, "outer_sums", key::OUTER_SUMS)?;
+    let outer_sums = member::<ListOf<OfPolynomial>>(alloc, value, "outer_sums", key::OUTER_SUMS)?;
     let rest = rest(alloc, value)?;
     Ok(made(head, outer_sums, rest.middle, rest.sums, rest.spots))
 }

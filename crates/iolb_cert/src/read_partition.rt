@@ -3,20 +3,19 @@
 ghost use Rattle.std.specs.Prelude.{◌≡◌, map};
 ghost use Rattle.serde_json.specs.View.{view};
 ghost use Rattle.k_partition.specs.View.{partition_of};
-ghost use Rattle.cert_parts.specs.Outcome.{Gives, GivesBy};
+ghost use Rattle.json_parts.specs.Outcome.{Gives, GivesBy};
 ghost use Rattle.iolb_cert.specs.PartitionTexts.{reads_partition_head, reads_partition_walks, reads_partition_cover, reads_partition_rest, reads_partition_members, reads_whole_partition, reads_partition, claim_in};
 ghost use Rattle.iolb_cert.specs.Views.{partition_head_of, partition_walks_of, partition_cover_of, IsPartitionRest};
 ghost use Rattle.iolb_cert.specs.Read.{IsPartition, claim_of_partition};
 
-use crate::members::{credits_part, families_part, shape_part};
+use crate::members::shape_part;
 use affine_form::{Matrix, Multipliers};
-use cert_parts::{
-    CertError, all_shown_part, fault, has_keys, matrix_part, natural_part, nest_part,
-    polynomials_part, under,
-};
+use cert_parts::{CertError, all_shown_part, fault, has_keys, matrix_part, natural_part, under};
+use cert_written::{OfCredit, OfFamilies, OfNest, OfPolynomial};
 use claims::{Step, key};
 use domain_count::{Nest, Sums};
 use iolb_model::limits;
+use json_parts::{Few, ListOf, member, said_member};
 use k_partition::{Partition, Shape};
 use poly_tree::Poly;
 use reuse_paths::{Credit, Family};
@@ -59,11 +58,11 @@ pub(crate) struct PartitionPaths {
 fn walks(alloc: Global, value: &Value) -> Result<PartitionPaths, CertError>
     ensures { Gives partition_walks_of result (reads_partition_walks (view value.now)) }
 {
-    let families = families_part(alloc, value)?;
+    let families = said_member::<OfFamilies>(alloc, value, "families", key::FAMILIES)?;
     let inside = all_shown_part(alloc, value, "inside", key::INSIDE)?;
     let inverse = matrix_part(alloc, value, "inverse", key::INVERSE)?;
     let matrix = matrix_part(alloc, value, "matrix", key::MATRIX)?;
-    let nest = nest_part(alloc, value)?;
+    let nest = said_member::<OfNest>(alloc, value, "nest", key::NEST)?;
     Ok(PartitionPaths {
         families,
         inside,
@@ -114,7 +113,7 @@ fn rest(alloc: Global, value: &Value) -> Result<PartitionBehind, CertError>
 {
     let walks = walks(alloc, value)?;
     let cover = cover(alloc, value)?;
-    let sums = polynomials_part(alloc, value, "sums", key::SUMS)?;
+    let sums = member::<ListOf<OfPolynomial>>(alloc, value, "sums", key::SUMS)?;
     Ok(PartitionBehind { walks, cover, sums })
 }
 
@@ -152,7 +151,7 @@ fn members(alloc: Global, value: &Value) -> Result<Partition, CertError>
     ensures { GivesBy (λ said found. IsPartition said (partition_of found)) result (reads_partition_members (view value.now)) }
 {
     let head = head(alloc, value)?;
-    let credits = credits_part(alloc, value)?;
+    let credits = member::<Few<OfCredit, 4>>(alloc, value, "credits", key::CREDITS)?;
     let rest = rest(alloc, value)?;
     Ok(made(head, credits, rest.walks, rest.cover, rest.sums))
 }

@@ -4,10 +4,10 @@ ghost use Rattle.std.specs.Prelude.{◌≡◌, map, codes};
 ghost use Rattle.claims.specs.declared.key.TheConstants.{BRANCHES, QUASTS, VERSION};
 ghost use Rattle.serde_json.specs.View.{view};
 ghost use Rattle.iolb_check.specs.Claims.{claim_of_branch, claim_of_certificate};
-ghost use Rattle.cert_parts.specs.Outcome.{Gives, GivesBy};
-ghost use Rattle.cert_parts.specs.Json.{part};
+ghost use Rattle.json_parts.specs.Outcome.{Gives, GivesBy};
+ghost use Rattle.json_parts.specs.Json.{part};
 ghost use Rattle.reuse_paths.specs.Quasts.{row_trees};
-ghost use Rattle.cert_parts.specs.Read.{AreAll};
+ghost use Rattle.json_parts.specs.Related.{AreAll};
 ghost use Rattle.cert_parts.specs.Trees.{reads_all_trees};
 ghost use Rattle.iolb_cert.specs.Certificates.{reads_branches, reads_version, reads_certificate};
 ghost use Rattle.iolb_cert.specs.Views.{claim_of_parts};
@@ -64,7 +64,7 @@ fn version_part(alloc: Global, value: &Value) -> Result<(), CertError>
 }
 
 /// The parts of a certificate: the source trees, and the branches.
-#[tactic(auto, unfolding(crate::specs::Certificates::reads_certificate, cert_parts::specs::Json::with_keys))]
+#[tactic(auto, unfolding(crate::specs::Certificates::reads_certificate, json_parts::specs::Json::with_keys))]
 fn parts(alloc: Global, value: &Value) -> Result<(Quasts, Vec<Branch>), CertError>
     ensures { GivesBy (λ said parts. IsCertificate said (claim_of_parts parts)) result (reads_certificate (view value.now)) }
 {

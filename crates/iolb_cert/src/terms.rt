@@ -5,9 +5,9 @@ ghost use Rattle.claims.specs.declared.key.TheConstants.{COLD, PARTITION, WAVEFR
 ghost use Rattle.serde_json.specs.View.{view};
 ghost use Rattle.k_partition.specs.View.{partition_of};
 ghost use Rattle.iolb_check.specs.Claims.{claim_of_cold, claim_of_front, claim_of_term};
-ghost use Rattle.cert_parts.specs.Outcome.{GivesBy};
-ghost use Rattle.cert_parts.specs.Json.{part};
-ghost use Rattle.cert_parts.specs.Read.{AreAll};
+ghost use Rattle.json_parts.specs.Outcome.{GivesBy};
+ghost use Rattle.json_parts.specs.Json.{part};
+ghost use Rattle.json_parts.specs.Related.{AreAll};
 ghost use Rattle.iolb_cert.specs.ColdTexts.{reads_cold};
 ghost use Rattle.iolb_cert.specs.FrontTexts.{reads_front};
 ghost use Rattle.iolb_cert.specs.PartitionTexts.{reads_partition};

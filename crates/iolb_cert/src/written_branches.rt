@@ -5,7 +5,7 @@ ghost use Rattle.std.specs.List.{AllByRecursion};
 ghost use Rattle.iolb_check.specs.Limits.{IsSmallTerm, IsSmallBranch, IsWithinLimits};
 ghost use Rattle.serde_json.specs.View.{view};
 ghost use Rattle.iolb_cert.specs.WrittenCertificates.{term_data, branch_data, branches_data, certificate_data};
-ghost use Rattle.cert_written.specs.Parts.{list};
+ghost use Rattle.json_parts.specs.Written.{list};
 ghost use Rattle.iolb_cert.specs.ReadBack.{TermIsRead, BranchIsRead, CertificateIsRead};
 ghost use Rattle.iolb_cert.specs.Written.{written_term, written_branch, written_of};
 

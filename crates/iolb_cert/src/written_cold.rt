@@ -10,7 +10,8 @@ ghost use Rattle.iolb_cert.specs.Written.{written_cold};
 
 use crate::objects::{cold_object, inverse_object};
 use affine_form::Memory;
-use cert_written::{all_forms, all_leaves, all_multipliers, all_polynomials, matrix, nest};
+use cert_written::{OfPolynomial, all_forms, all_leaves, all_multipliers, matrix, nest};
+use json_parts::write_list;
 use serde_json::Value;
 use std::alloc::Global;
 use wavefront::{Cold, Inverse};
@@ -36,7 +37,7 @@ pub(crate) fn cold(alloc: Global, cold: &Cold) -> Result<Value, Memory>
     let nest = nest(alloc, &cold.nest)?;
     let point = all_forms(alloc, cold.point.as_slice())?;
     let shown = all_multipliers(alloc, cold.sums.shown())?;
-    let sums = all_polynomials(alloc, cold.sums.sums())?;
+    let sums = write_list::<OfPolynomial>(alloc, cold.sums.sums())?;
     Ok(cold_object(
         alloc,
         inside,

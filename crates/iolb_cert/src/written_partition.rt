@@ -10,7 +10,8 @@ ghost use Rattle.iolb_cert.specs.Written.{written_partition};
 
 use crate::objects::partition_object;
 use affine_form::Memory;
-use cert_written::{all_credits, all_families, all_multipliers, all_polynomials, matrix, nest};
+use cert_written::{OfCredit, OfFamilies, OfPolynomial, all_multipliers, matrix, nest};
+use json_parts::{Few, Part, write_list};
 use k_partition::{Partition, Shape};
 use serde_json::Value;
 use std::alloc::Global;
@@ -32,15 +33,15 @@ pub(crate) fn partition(alloc: Global, partition: &Partition) -> Result<Value, M
     ensures read { IfOk result (λ _. PartitionIsRead partition.now) }
 {
     let apart = all_multipliers(alloc, partition.apart.as_slice())?;
-    let credits = all_credits(alloc, partition.credits.as_slice())?;
-    let families = all_families(alloc, partition.families.as_slice())?;
+    let credits = <Few<OfCredit, 4> as Part>::write(alloc, &partition.credits)?;
+    let families = OfFamilies::write(alloc, &partition.families)?;
     let inside = all_multipliers(alloc, partition.inside.as_slice())?;
     let inverse = matrix(alloc, &partition.inverse)?;
     let matrix = matrix(alloc, &partition.matrix)?;
     let nest = nest(alloc, &partition.nest)?;
     let shape = shape(alloc, partition.shape)?;
     let shown = all_multipliers(alloc, partition.sums.shown())?;
-    let sums = all_polynomials(alloc, partition.sums.sums())?;
+    let sums = write_list::<OfPolynomial>(alloc, partition.sums.sums())?;
     Ok(partition_object(
         alloc,
         partition.a,

@@ -31,13 +31,13 @@ use Rattle.wavefront.specs.FrontClaims.{front_variables, spot_goals, source_goal
 use Rattle.wavefront.specs.FrontFits.{source_depth, EdgeFits, EdgesFit, SourceFits, PartsFit, ReachesFit}
 use Rattle.wavefront.specs.FrontTerm.{WavefrontTerm, user_read}
 use Rattle.wavefront.specs.View.{front_of}
-use Rattle.part_fit.specs.EntryFit.{entry_at}
-use Rattle.part_fit.specs.Limits.{IsSmallReach, IsSmallSpot, IsSmallWay}
-use Rattle.part_fit.specs.PartFit.{bounds_fit, polynomials_fit}
-use Rattle.part_fit.specs.TreeFit.{trees_fit}
-use Rattle.part_fit.specs.WalkFit.{spot_fit}
-use Rattle.part_fit.proofs.ReadTrees.{open-many, bounds-fit, columns-many, tree-of, leaves-many}
-use Rattle.part_fit.proofs.WalkParts.{spot-fits, reach-fits}
+use Rattle.certificate_fit.specs.EntryFit.{entry_at}
+use Rattle.certificate_fit.specs.Limits.{IsSmallReach, IsSmallSpot, IsSmallWay}
+use Rattle.certificate_fit.specs.PartFit.{bounds_fit, polynomials_fit}
+use Rattle.certificate_fit.specs.TreeFit.{trees_fit}
+use Rattle.certificate_fit.specs.WalkFit.{spot_fit}
+use Rattle.certificate_fit.proofs.ReadTrees.{open-many, bounds-fit, columns-many, tree-of, leaves-many}
+use Rattle.certificate_fit.proofs.WalkParts.{spot-fits, reach-fits}
 use Rattle.iolb_check.specs.Fit.{FrontTermFits}
 use Rattle.iolb_check.specs.FrontFit.{way_fit, back_fit, edge_fit, words_fit, outer_fit, reach_fit, source_way, read_fit, source_fit, inside_count, word_count, front_fit}
 use Rattle.iolb_check.specs.Limits.{IsSmallFront}

@@ -27,12 +27,12 @@ use Rattle.iolb_check.specs.Claims.{claim_of_term, claim_of_branch, claim_of_cer
 use Rattle.iolb_check.specs.Limits.{CertificateParts, IsWithinLimits, IsSmallCold, IsSmallTerm, IsSmallBranch}
 use Rattle.iolb_check.specs.Fit.{PartsFit, ColdTermFits, TermFits, BranchesFit}
 use Rattle.claims.specs.Claims.{Claim, AllHold, numbered}
-use Rattle.part_fit.specs.TreeFit.{trees_fit}
-use Rattle.part_fit.specs.PartFit.{bounds_fit, sums_fit}
+use Rattle.certificate_fit.specs.TreeFit.{trees_fit}
+use Rattle.certificate_fit.specs.PartFit.{bounds_fit, sums_fit}
 use Rattle.iolb_check.specs.TermFit.{cold_front_fit, point_fit, cold_back_fit, cold_fit, term_at, branch_at, certificate_fit}
 use Rattle.claims.proofs.Laws.{AllHold-left, AllHold-right}
-use Rattle.part_fit.proofs.ReadTrees.{open-many, bounds-fit, columns-many, tree-of, leaves-many}
-use Rattle.part_fit.proofs.TreeParts.{forms-over, rows-fit}
+use Rattle.certificate_fit.proofs.ReadTrees.{open-many, bounds-fit, columns-many, tree-of, leaves-many}
+use Rattle.certificate_fit.proofs.TreeParts.{forms-over, rows-fit}
 use Rattle.iolb_check.proofs.FitFronts.{front-fits}
 use Rattle.iolb_check.proofs.FitPartitions.{partition-fits}
 

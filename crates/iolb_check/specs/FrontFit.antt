@@ -15,10 +15,10 @@ use Rattle.reuse_paths.specs.Walks.{SpotForms, ReachClaim}
 use Rattle.wavefront.specs.FrontClaims.{front_variables}
 use Rattle.wavefront.specs.FrontFits.{source_depth}
 use Rattle.wavefront.specs.FrontTerm.{WavefrontTerm, user_read}
-use Rattle.part_fit.specs.EntryFit.{entries_fit, leaf_names}
-use Rattle.part_fit.specs.FitClaims.{so_many, names}
-use Rattle.part_fit.specs.PartFit.{bounds_fit, matrix_fit, polynomials_fit, shown_fit}
-use Rattle.part_fit.specs.WalkFit.{fit_in, spot_fit}
+use Rattle.certificate_fit.specs.EntryFit.{entries_fit, leaf_names}
+use Rattle.certificate_fit.specs.FitClaims.{so_many, names}
+use Rattle.certificate_fit.specs.PartFit.{bounds_fit, matrix_fit, polynomials_fit, shown_fit}
+use Rattle.certificate_fit.specs.WalkFit.{fit_in, spot_fit}
 
 -- ---- the ways
 

@@ -10,7 +10,7 @@ use Rattle.reuse_paths.specs.Families.{family_of}
 use Rattle.reuse_paths.specs.LeafClaims.{claim_of}
 use Rattle.reuse_paths.specs.declared.quasts.Quasts.{Quasts}
 use Rattle.reuse_paths.specs.Walks.{spot_of, reach_of}
-use Rattle.part_fit.specs.Limits.{AreSmall, AreSmallBounds, NameRows, IsSmallPolynomial, IsSmallTree, IsSmallEntry, IsSmallFamily, IsSmallReach, IsSmallSpot, IsSmallWay}
+use Rattle.certificate_fit.specs.Limits.{AreSmall, AreSmallBounds, NameRows, IsSmallPolynomial, IsSmallTree, IsSmallEntry, IsSmallFamily, IsSmallReach, IsSmallSpot, IsSmallWay}
 use Rattle.wavefront.specs.declared.cold.Cold.{Cold}
 use Rattle.wavefront.specs.declared.front.Wavefront.{Wavefront}
 use Rattle.iolb_check.specs.declared.term.Term.{Term}

@@ -19,7 +19,7 @@ use Rattle.reuse_paths.specs.Walks.{SpotForms}
 use Rattle.wavefront.specs.FrontTerm.{WavefrontTerm, user_read}
 use Rattle.iolb_check.specs.Claims.{TermClaim, cold, partition, front, cold_term, front_term, BranchClaim}
 use Rattle.iolb_check.specs.FamilyTargets.{leaf_targets, partition_targets}
-use Rattle.part_fit.specs.PartFit.{shown_fit}
+use Rattle.certificate_fit.specs.PartFit.{shown_fit}
 
 -- those of the leaves at which the entries say that a walk stops
 abbrev pub stop_targets : List (Option Target) → List LeafClaim → List Target

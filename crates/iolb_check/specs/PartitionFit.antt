@@ -13,8 +13,8 @@ use Rattle.k_partition.specs.declared.term.Shape.TheVariants.{Each, Sum}
 use Rattle.k_partition.specs.Term.{CreditTerm, PartitionTerm, credited_nests}
 use Rattle.reuse_paths.specs.Families.{CreditedNest}
 use Rattle.reuse_paths.specs.TargetPairs.{pairwise_targets}
-use Rattle.part_fit.specs.FamilyFit.{credit_fit, credit_nest_fit, credit_count_fit, families_fit}
-use Rattle.part_fit.specs.PartFit.{matrix_fit, shown_fit}
+use Rattle.certificate_fit.specs.FamilyFit.{credit_fit, credit_nest_fit, credit_count_fit, families_fit}
+use Rattle.certificate_fit.specs.PartFit.{matrix_fit, shown_fit}
 use Rattle.iolb_check.specs.FamilyTargets.{family_targets}
 
 -- ---- the families

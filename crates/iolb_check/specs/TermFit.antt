@@ -12,10 +12,10 @@ use Rattle.wavefront.specs.Term.{ColdTerm}
 use Rattle.iolb_check.specs.Claims.{TermClaim, cold, partition, front, cold_term, front_term, BranchClaim, CertificateClaim}
 use Rattle.iolb_check.specs.FrontFit.{front_fit}
 use Rattle.claims.specs.Claims.{Claim, numbered}
-use Rattle.part_fit.specs.EntryFit.{entries_fit, leaf_names}
-use Rattle.part_fit.specs.FitClaims.{so_many, names}
-use Rattle.part_fit.specs.PartFit.{bounds_fit, forms_fit, matrix_fit, shown_fit, sums_fit}
-use Rattle.part_fit.specs.TreeFit.{trees_fit}
+use Rattle.certificate_fit.specs.EntryFit.{entries_fit, leaf_names}
+use Rattle.certificate_fit.specs.FitClaims.{so_many, names}
+use Rattle.certificate_fit.specs.PartFit.{bounds_fit, forms_fit, matrix_fit, shown_fit, sums_fit}
+use Rattle.certificate_fit.specs.TreeFit.{trees_fit}
 use Rattle.iolb_check.specs.PairFit.{disjoint_fit}
 use Rattle.iolb_check.specs.PartitionFit.{partition_fit}
 

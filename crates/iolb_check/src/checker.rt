@@ -1,4 +1,5 @@
 //! The checker.
+#![tactic(auto, using(claims::proofs::Found::in_a_row))]
 
 ghost use Rattle.std.specs.Prelude.{◌≡◌, IfOk, IfErr, OnOk};
 ghost use Rattle.std.specs.List.{AllByRecursion, AllZip};
@@ -13,10 +14,9 @@ ghost use Rattle.iolb_check.specs.Sound.{AreCounted, ArePaid, IsSoundBranch};
 use crate::bound::Bound;
 use crate::branches::check_branches;
 use crate::certificate::Certificate;
-use crate::misfit::first_misfit;
-use affine_form::Memory;
+use crate::fit_parts::parts_fit;
 use affine_program::Program;
-use claims::{No, Refused};
+use claims::Refused;
 use reuse_paths::check_quasts;
 use std::alloc::Global;
 
@@ -43,19 +43,10 @@ pub fn check(alloc: Global, program: &Program, certificate: &Certificate) -> Res
     ensures counts { IfOk result (λ bound. AllZip (AreCounted program.now) certificate.now.branches bound.branches) }
     ensures refused { IfErr result (IsRefusal (conditions (meaning program.now) (claim_of_certificate certificate.now))) }
 {
-    match first_misfit(alloc, program, certificate) {
-        Ok(None) => {}
-        Ok(Some(place)) => return Err(Refused::No(No {
-            condition: 1,
-            place,
-        })),
-        Err(Memory) => return Err(Refused::Memory),
-    }
+    parts_fit(alloc, program, certificate)?;
     let quasts = certificate.quasts();
     check_quasts(alloc, program, quasts)?;
     let values = check_branches(alloc, program, quasts, certificate.branches())?;
-    let Ok(assumed) = program.assumed().try_clone(alloc) else {
-        return Err(Refused::Memory);
-    };
+    let assumed = program.assumed().try_clone(alloc)?;
     Ok(Bound::new(assumed, values))
 }

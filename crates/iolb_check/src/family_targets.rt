@@ -15,10 +15,10 @@ ghost use Rattle.reuse_paths.specs.Walks.{take, tree_of_walk};
 use crate::fit_pairs::push_leaf_targets;
 use affine_form::Memory;
 use affine_program::Program;
+use certificate_fit::counts::read_count;
 use dep_quast::Quast;
 use dep_quast::reader::{Reader, reference};
 use k_partition::Partition;
-use part_fit::counts::read_count;
 use reuse_paths::{Family, FamilyNode, Leaf, Quasts, Target, Walk};
 use std::alloc::Global;
 

@@ -1,90 +1,90 @@
 //! Whether branches fit.
+#![tactic(auto, using(claims::proofs::Found::in_a_row))]
 
 ghost use Rattle.std.specs.Prelude.{◌≡◌, ◌∷◌, [], IfOk, map};
 ghost use Rattle.affine_program.specs.Parts.{meaning};
 ghost use Rattle.claims.specs.declared.key.TheConstants.{BRANCHES};
 ghost use Rattle.claims.specs.declared.place.Step.TheVariants.{Index, Key};
 ghost use Rattle.claims.specs.Claims.{numbered};
-ghost use Rattle.part_fit.specs.FitClaims.{FindsMisfit};
+ghost use Rattle.claims.specs.Claims.{Decides};
 ghost use Rattle.iolb_check.specs.TermFit.{branch_at, branch_fit, term_fit, terms_fit};
 ghost use Rattle.reuse_paths.specs.Quasts.{trees_of};
 ghost use Rattle.iolb_check.specs.Claims.{claim_of_term, claim_of_branch};
 
-use crate::fit_colds::cold_misfit;
-use crate::fit_fronts::front_misfit;
+use crate::fit_colds::cold_fits;
+use crate::fit_fronts::front_fits;
 use crate::fit_pairs::branch_targets;
-use crate::fit_partitions::partition_misfit;
+use crate::fit_partitions::partition_fits;
 use crate::{Branch, Term};
 use affine_form::Memory;
 use affine_program::Program;
+use certificate_fit::lists::misfit;
 use claims::key::{BRANCHES, COLD, DISJOINT, PARTITION, TERMS, WAVEFRONT};
-use claims::{Place, Step};
-use part_fit::lists::misfit_at;
+use claims::{Place, Refused, Step};
 use reuse_paths::{Quasts, has_pairs};
 use std::alloc::Global;
 
-/// The place of what doesn't fit first of a term at this place.
-fn term_misfit(
+/// Whether what is said fits of a term at this place.
+fn term_fits(
     alloc: Global,
     program: &Program,
     quasts: &Quasts,
     place: &Place,
     term: &Term,
-) -> Result<Option<Place>, Memory>
-    ensures { IfOk result (λ found. FindsMisfit (term_fit (meaning program.now) (trees_of quasts.now) place.now (claim_of_term term.now)) found) }
+) -> Result<(), Refused>
+    ensures { Decides (term_fit (meaning program.now) (trees_of quasts.now) place.now (claim_of_term term.now)) result }
 {
     match term {
         Term::Cold(cold) => {
             let at = place.within(alloc, Step::Key(COLD))?;
-            cold_misfit(alloc, program, quasts, &at, cold)
+            cold_fits(alloc, program, quasts, &at, cold)
         }
         Term::Partition(partition) => {
             let at = place.within(alloc, Step::Key(PARTITION))?;
-            partition_misfit(alloc, program, quasts, &at, partition)
+            partition_fits(alloc, program, quasts, &at, partition)
         }
         Term::Wavefront(front) => {
             let at = place.within(alloc, Step::Key(WAVEFRONT))?;
-            front_misfit(alloc, program, quasts, &at, front)
+            front_fits(alloc, program, quasts, &at, front)
         }
     }
 }
 
-/// The place of what doesn't fit first of terms, in a list at this place.
-fn terms_misfit(
+/// Whether what is said fits of terms, in a list at this place.
+fn terms_fits(
     alloc: Global,
     program: &Program,
     quasts: &Quasts,
     list: &Place,
     terms: &[Term],
-) -> Result<Option<Place>, Memory>
-    ensures { IfOk result (λ found. FindsMisfit (terms_fit (meaning program.now) (trees_of quasts.now) list.now (map claim_of_term terms.now)) found) }
+) -> Result<(), Refused>
+    ensures { Decides (terms_fit (meaning program.now) (trees_of quasts.now) list.now (map claim_of_term terms.now)) result }
 {
     for (index, term) in terms.iter().enumerate() {
         let at = list.within(alloc, Step::Index(index as u64))?;
-        if let Some(misfit) = term_misfit(alloc, program, quasts, &at, term)? {
-            return Ok(Some(misfit));
-        }
+        term_fits(alloc, program, quasts, &at, term)?;
     }
-    Ok(None)
+    Ok(())
 }
 
-/// The place of what doesn't fit first of a branch at this place.
-fn branch_misfit(
+/// Whether what is said fits of a branch at this place.
+fn branch_fits(
     alloc: Global,
     program: &Program,
     quasts: &Quasts,
     place: &Place,
     branch: &Branch,
-) -> Result<Option<Place>, Memory>
-    ensures { IfOk result (λ found. FindsMisfit (branch_fit (meaning program.now) (trees_of quasts.now) place.now (claim_of_branch branch.now)) found) }
+) -> Result<(), Refused>
+    ensures { Decides (branch_fit (meaning program.now) (trees_of quasts.now) place.now (claim_of_branch branch.now)) result }
 {
     let terms = branch.terms.as_slice();
     let targets = branch_targets(alloc, program, quasts, terms)?;
     if !has_pairs(targets.as_slice(), branch.disjoint.as_slice().len()) {
-        return misfit_at(alloc, place, Step::Key(DISJOINT));
+        return Err(misfit(alloc, place, Step::Key(DISJOINT)));
     }
     let list = place.within(alloc, Step::Key(TERMS))?;
-    terms_misfit(alloc, program, quasts, &list, terms)
+    terms_fits(alloc, program, quasts, &list, terms)?;
+    Ok(())
 }
 
 /// The place of a branch.
@@ -95,20 +95,18 @@ fn branch_place(alloc: Global, index: usize) -> Result<Place, Memory>
     Ok(Place::new(steps))
 }
 
-/// The place of what doesn't fit first of the branches.
-pub(crate) fn branches_misfit(
+/// Whether what is said fits of the branches.
+pub(crate) fn branches_fits(
     alloc: Global,
     program: &Program,
     quasts: &Quasts,
     branches: &[Branch],
-) -> Result<Option<Place>, Memory>
-    ensures { IfOk result (λ found. FindsMisfit (numbered (branch_at (meaning program.now) (trees_of quasts.now)) 0 (map claim_of_branch branches.now)) found) }
+) -> Result<(), Refused>
+    ensures { Decides (numbered (branch_at (meaning program.now) (trees_of quasts.now)) 0 (map claim_of_branch branches.now)) result }
 {
     for (index, branch) in branches.iter().enumerate() {
         let place = branch_place(alloc, index)?;
-        if let Some(misfit) = branch_misfit(alloc, program, quasts, &place, branch)? {
-            return Ok(Some(misfit));
-        }
+        branch_fits(alloc, program, quasts, &place, branch)?;
     }
-    Ok(None)
+    Ok(())
 }

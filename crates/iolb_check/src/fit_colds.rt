@@ -1,63 +1,67 @@
 //! Whether cold terms fit.
+#![tactic(auto, using(claims::proofs::Found::in_a_row))]
 
+ghost use Rattle.claims.specs.Claims.{Decides, IsRefusalAt};
 ghost use Rattle.std.specs.Prelude.{◌≡◌, ◌==◌, if◌then◌else◌, ◌++◌, ◌∷◌, [], Some, IfOk};
 ghost use Rattle.affine_program.specs.Parts.{meaning};
 ghost use Rattle.claims.specs.declared.key.TheConstants.{INVERSE, MATRIX};
 ghost use Rattle.claims.specs.declared.place.Step.TheVariants.{Key};
-ghost use Rattle.part_fit.specs.FitClaims.{FindsMisfit, FindsStep};
 ghost use Rattle.iolb_check.specs.TermFit.{cold_back_fit, cold_fit, cold_front_fit, point_fit};
 ghost use Rattle.reuse_paths.specs.Quasts.{trees_of};
 ghost use Rattle.wavefront.specs.View.{term_of};
 
 use affine_form::Memory;
 use affine_program::Program;
+use certificate_fit::counts::{has_entry_each, loops_around, read_count, subscript_count};
+use certificate_fit::entries::entries_fits;
+use certificate_fit::lists::{bounds_fits, forms_fits, misfit, sums_fits};
 use claims::key::{INSIDE, INVERSE, LEAVES, MATRIX, NEST, POINT, READ, SHOWN, STATEMENT, SUMS};
-use claims::{Place, Step};
+use claims::{Place, Refused, Step};
 use dep_quast::reader::Reader;
-use part_fit::counts::{has_entry_each, loops_around, read_count, subscript_count};
-use part_fit::entries::entries_misfit;
-use part_fit::lists::{bounds_misfit, forms_misfit, misfit_at, sums_misfit};
 use reuse_paths::Quasts;
 use std::alloc::Global;
 use wavefront::Cold;
 
-/// The place of the inverse's matrix.
-pub(crate) fn matrix_at(alloc: Global, place: &Place) -> Result<Option<Place>, Memory>
-    ensures { IfOk result (λ found. found ≡ Some (place.now ++ Key INVERSE ∷ Key MATRIX ∷ [])) }
+/// The refusal of the inverse's matrix.
+pub(crate) fn matrix_misfit(alloc: Global, place: &Place) -> Refused
+    ensures { IsRefusalAt 1 (place.now ++ Key INVERSE ∷ Key MATRIX ∷ []) result }
 {
-    let inverse = place.within(alloc, Step::Key(INVERSE))?;
-    misfit_at(alloc, &inverse, Step::Key(MATRIX))
+    match place.within(alloc, Step::Key(INVERSE)) {
+        Ok(inverse) => misfit(alloc, &inverse, Step::Key(MATRIX)),
+        Err(Memory) => Refused::Memory,
+    }
 }
 
-/// The place of what doesn't fit first of a cold term at this place, up to its leaves.
-fn front_misfit(
+/// Whether what is said fits of a cold term at this place, up to its leaves.
+fn front_fits(
     alloc: Global,
     program: &Program,
     quasts: &Quasts,
     place: &Place,
     cold: &Cold,
-) -> Result<Option<Place>, Memory>
-    ensures { IfOk result (λ found. FindsMisfit (cold_front_fit (meaning program.now) (trees_of quasts.now) place.now (term_of cold.now)) found) }
+) -> Result<(), Refused>
+    ensures { Decides (cold_front_fit (meaning program.now) (trees_of quasts.now) place.now (term_of cold.now)) result }
 {
     let reader = Reader {
         statement: cold.statement,
         read: cold.read,
     };
     if cold.inside.as_slice().len() != 2 * loops_around(program, cold.statement) {
-        return misfit_at(alloc, place, Step::Key(INSIDE));
+        return Err(misfit(alloc, place, Step::Key(INSIDE)));
     }
     let matrix = &cold.inverse.matrix;
     if matrix.rows() != cold.nest.bounds().len() {
-        return matrix_at(alloc, place);
+        return Err(matrix_misfit(alloc, place));
     }
     if matrix.cols() != columns_called(matrix.rows(), subscript_count(program, reader)) {
-        return matrix_at(alloc, place);
+        return Err(matrix_misfit(alloc, place));
     }
     let entries = cold.leaves.as_slice();
     if !has_entry_each(program, quasts, reader, entries.len()) {
-        return misfit_at(alloc, place, Step::Key(LEAVES));
+        return Err(misfit(alloc, place, Step::Key(LEAVES)));
     }
-    entries_misfit(alloc, place, LEAVES, 0, &[], entries)
+    entries_fits(alloc, place, LEAVES, 0, &[], entries)?;
+    Ok(())
 }
 
 /// How many columns a matrix with so many rows has: so many where it has a row.
@@ -67,65 +71,54 @@ pub(crate) fn columns_called(rows: usize, called: usize) -> usize
     if rows == 0 { 0 } else { called }
 }
 
-/// The place of what doesn't fit first of a cold term's point.
-fn point_misfit(
-    alloc: Global,
-    program: &Program,
-    place: &Place,
-    cold: &Cold,
-) -> Result<Option<Place>, Memory>
-    ensures { IfOk result (λ found. FindsMisfit (point_fit (meaning program.now) place.now (term_of cold.now)) found) }
+/// Whether what is said fits of a cold term's point.
+fn point_fits(alloc: Global, program: &Program, place: &Place, cold: &Cold) -> Result<(), Refused>
+    ensures { Decides (point_fit (meaning program.now) place.now (term_of cold.now)) result }
 {
     let point = cold.point.as_slice();
     if point.len() != loops_around(program, cold.statement) {
-        return misfit_at(alloc, place, Step::Key(POINT));
+        return Err(misfit(alloc, place, Step::Key(POINT)));
     }
     let vars = program.params().len() as u128 + cold.nest.bounds().len() as u128;
-    forms_misfit(alloc, place, POINT, vars, point)
+    forms_fits(alloc, place, POINT, vars, point)?;
+    Ok(())
 }
 
-/// What doesn't fit first behind a cold term's point, but for each sum.
-fn misfit_back(program: &Program, cold: &Cold) -> Option<Step>
-    ensures { FindsStep (cold_back_fit (meaning program.now) (term_of cold.now)) result }
+/// Whether what is said behind a cold term's point fits, but for each sum.
+fn back_fits(alloc: Global, program: &Program, place: &Place, cold: &Cold) -> Result<(), Refused>
+    ensures { Decides (cold_back_fit (meaning program.now) (term_of cold.now) place.now) result }
 {
     let depth = cold.nest.bounds().len();
     if usize::from(cold.read) >= read_count(program, cold.statement) {
-        return Some(Step::Key(READ));
+        return Err(misfit(alloc, place, Step::Key(READ)));
     }
     if cold.sums.shown().len() != depth {
-        return Some(Step::Key(SHOWN));
+        return Err(misfit(alloc, place, Step::Key(SHOWN)));
     }
     if usize::from(cold.statement) >= program.statements().len() {
-        return Some(Step::Key(STATEMENT));
+        return Err(misfit(alloc, place, Step::Key(STATEMENT)));
     }
     if cold.sums.sums().len() != depth {
-        return Some(Step::Key(SUMS));
+        return Err(misfit(alloc, place, Step::Key(SUMS)));
     }
-    None
+    Ok(())
 }
 
-/// The place of what doesn't fit first of a cold term at this place.
-pub(crate) fn cold_misfit(
+/// Whether what is said fits of a cold term at this place.
+pub(crate) fn cold_fits(
     alloc: Global,
     program: &Program,
     quasts: &Quasts,
     place: &Place,
     cold: &Cold,
-) -> Result<Option<Place>, Memory>
-    ensures { IfOk result (λ found. FindsMisfit (cold_fit (meaning program.now) (trees_of quasts.now) place.now (term_of cold.now)) found) }
+) -> Result<(), Refused>
+    ensures { Decides (cold_fit (meaning program.now) (trees_of quasts.now) place.now (term_of cold.now)) result }
 {
     let params = program.params().len();
-    if let Some(misfit) = front_misfit(alloc, program, quasts, place, cold)? {
-        return Ok(Some(misfit));
-    }
-    if let Some(misfit) = bounds_misfit(alloc, place, NEST, params, cold.nest.bounds())? {
-        return Ok(Some(misfit));
-    }
-    if let Some(misfit) = point_misfit(alloc, program, place, cold)? {
-        return Ok(Some(misfit));
-    }
-    if let Some(step) = misfit_back(program, cold) {
-        return misfit_at(alloc, place, step);
-    }
-    sums_misfit(alloc, place, SUMS, params + 1, cold.sums.sums())
+    front_fits(alloc, program, quasts, place, cold)?;
+    bounds_fits(alloc, place, NEST, params, cold.nest.bounds())?;
+    point_fits(alloc, program, place, cold)?;
+    back_fits(alloc, program, place, cold)?;
+    sums_fits(alloc, place, SUMS, params + 1, cold.sums.sums())?;
+    Ok(())
 }

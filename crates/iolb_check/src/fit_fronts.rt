@@ -1,32 +1,34 @@
 //! Whether wavefront terms fit.
+#![tactic(auto, using(claims::proofs::Found::in_a_row))]
 
-ghost use Rattle.std.specs.Prelude.{◌≡◌, ◌≤◌, ◌++◌, ◌∷◌, [], length, IfOk};
+ghost use Rattle.std.specs.Prelude.{◌≡◌, ◌≤◌, ◌++◌, ◌∷◌, [], length};
 ghost use Rattle.affine_program.specs.Parts.{meaning};
 ghost use Rattle.claims.specs.declared.key.TheConstants.{NEST, SUMS};
 ghost use Rattle.iolb_model.specs.declared.limits.TheConstants.{LOOPS};
 ghost use Rattle.claims.specs.declared.place.Step.TheVariants.{Key};
 ghost use Rattle.iolb_check.specs.FrontFit.{back_fit, count_fit, edge_fit, first_fit, front_fit, nest_fit, outer_fit, reach_fit, read_fit, source_fit, spots_fit, word_count as count_of_word, words_fit};
-ghost use Rattle.part_fit.specs.FitClaims.{FindsMisfit};
-ghost use Rattle.part_fit.specs.PartFit.{bounds_fit, polynomials_fit};
-ghost use Rattle.part_fit.specs.WalkFit.{spot_fit};
+ghost use Rattle.claims.specs.Claims.{Decides};
+ghost use Rattle.certificate_fit.specs.PartFit.{bounds_fit, polynomials_fit};
+ghost use Rattle.certificate_fit.specs.WalkFit.{spot_fit};
 ghost use Rattle.reuse_paths.specs.Quasts.{trees_of};
 ghost use Rattle.reuse_paths.specs.Walks.{spot_of};
 ghost use Rattle.wavefront.specs.FrontClaims.{front_variables};
 ghost use Rattle.wavefront.specs.FrontFits.{source_depth};
 ghost use Rattle.wavefront.specs.View.{front_of};
 
-use crate::fit_colds::{columns_called, matrix_at};
-use affine_form::Memory;
+use crate::fit_colds::{columns_called, matrix_misfit};
 use affine_program::Program;
+use certificate_fit::counts::{
+    has_entry_each, is_twice, loops_around, read_count, subscript_count,
+};
+use certificate_fit::entries::entries_fits;
+use certificate_fit::lists::{bounds_fits, list_fits, misfit, polynomials_fits};
+use certificate_fit::walks::{reach_fits, spot_fits};
 use claims::key::{
     BACK, EDGE, INSIDE, NEST, OUTER, OUTER_SUMS, REACH, READ, SHOWN, SOURCE, SUMS, USER, VERTEX,
 };
-use claims::{Place, Step};
+use claims::{Place, Refused, Step};
 use dep_quast::reader::Reader;
-use part_fit::counts::{has_entry_each, is_twice, loops_around, read_count, subscript_count};
-use part_fit::entries::entries_misfit;
-use part_fit::lists::{bounds_misfit, list_misfit, misfit_at, polynomials_misfit};
-use part_fit::walks::{reach_misfit, spot_misfit};
 use reuse_paths::{Quasts, Spot};
 use std::alloc::Global;
 use wavefront::Wavefront;
@@ -65,18 +67,18 @@ fn word_count(program: &Program, front: &Wavefront) -> usize
     }
 }
 
-/// The place of what doesn't fit first of what shows the way from the user to the vertex.
-fn back_misfit(
+/// Whether what is said fits of what shows the way from the user to the vertex.
+fn back_fits(
     alloc: Global,
     program: &Program,
     quasts: &Quasts,
     place: &Place,
     front: &Wavefront,
-) -> Result<Option<Place>, Memory>
-    ensures { IfOk result (λ found. FindsMisfit (back_fit (meaning program.now) (trees_of quasts.now) place.now (front_of front.now)) found) }
+) -> Result<(), Refused>
+    ensures { Decides (back_fit (meaning program.now) (trees_of quasts.now) place.now (front_of front.now)) result }
 {
     let at = place.within(alloc, Step::Key(BACK))?;
-    reach_misfit(
+    reach_fits(
         alloc,
         program,
         quasts,
@@ -88,15 +90,15 @@ fn back_misfit(
     )
 }
 
-/// The place of what doesn't fit first of the entries at the leaves of the user's read.
-fn edge_misfit(
+/// Whether what is said fits of the entries at the leaves of the user's read.
+fn edge_fits(
     alloc: Global,
     program: &Program,
     quasts: &Quasts,
     place: &Place,
     front: &Wavefront,
-) -> Result<Option<Place>, Memory>
-    ensures { IfOk result (λ found. FindsMisfit (edge_fit (meaning program.now) (trees_of quasts.now) place.now (front_of front.now)) found) }
+) -> Result<(), Refused>
+    ensures { Decides (edge_fit (meaning program.now) (trees_of quasts.now) place.now (front_of front.now)) result }
 {
     let reader = Reader {
         statement: front.user.statement,
@@ -104,89 +106,88 @@ fn edge_misfit(
     };
     let entries = front.edge.as_slice();
     if !has_entry_each(program, quasts, reader, entries.len()) {
-        return misfit_at(alloc, place, Step::Key(EDGE));
+        return Err(misfit(alloc, place, Step::Key(EDGE)));
     }
     let loops = source_loops(program, front);
-    entries_misfit(alloc, place, EDGE, loops, &[], entries)
+    entries_fits(alloc, place, EDGE, loops, &[], entries)?;
+    Ok(())
 }
 
-/// The place of what doesn't fit first of what shows that the instances are in their domains and that words differ.
-fn words_misfit(
+/// Whether what is said fits of what shows that the instances are in their domains and that words differ.
+fn words_fits(
     alloc: Global,
     program: &Program,
     place: &Place,
     front: &Wavefront,
-) -> Result<Option<Place>, Memory>
-    ensures { IfOk result (λ found. FindsMisfit (words_fit (meaning program.now) place.now (front_of front.now)) found) }
+) -> Result<(), Refused>
+    ensures { Decides (words_fit (meaning program.now) place.now (front_of front.now)) result }
 {
     let user = loops_around(program, front.user.statement);
     let vertex = loops_around(program, front.vertex.statement);
     let loops = user + vertex + source_loops(program, front);
     if !is_twice(front.inside.as_slice().len(), loops) {
-        return misfit_at(alloc, place, Step::Key(INSIDE));
+        return Err(misfit(alloc, place, Step::Key(INSIDE)));
     }
     let matrix = &front.inverse.matrix;
     if matrix.rows() != front.nest.bounds().len() {
-        return matrix_at(alloc, place);
+        return Err(matrix_misfit(alloc, place));
     }
     if matrix.cols() != columns_called(matrix.rows(), word_count(program, front)) {
-        return matrix_at(alloc, place);
+        return Err(matrix_misfit(alloc, place));
     }
-    Ok(None)
+    Ok(())
 }
 
 /// The place of what doesn't fit first up to what tells the words apart.
-fn first_misfit(
+fn first_fits(
     alloc: Global,
     program: &Program,
     quasts: &Quasts,
     place: &Place,
     front: &Wavefront,
-) -> Result<Option<Place>, Memory>
-    ensures { IfOk result (λ found. FindsMisfit (first_fit (meaning program.now) (trees_of quasts.now) place.now (front_of front.now)) found) }
+) -> Result<(), Refused>
+    ensures { Decides (first_fit (meaning program.now) (trees_of quasts.now) place.now (front_of front.now)) result }
 {
-    if let Some(misfit) = back_misfit(alloc, program, quasts, place, front)? {
-        return Ok(Some(misfit));
-    }
-    if let Some(misfit) = edge_misfit(alloc, program, quasts, place, front)? {
-        return Ok(Some(misfit));
-    }
-    words_misfit(alloc, program, place, front)
+    back_fits(alloc, program, quasts, place, front)?;
+    edge_fits(alloc, program, quasts, place, front)?;
+    words_fits(alloc, program, place, front)?;
+    Ok(())
 }
 
-/// The place of what doesn't fit first of the outer variables.
-fn outer_misfit(
+/// Whether what is said fits of the outer variables.
+fn outer_fits(
     alloc: Global,
     program: &Program,
     place: &Place,
     front: &Wavefront,
-) -> Result<Option<Place>, Memory>
-    ensures { IfOk result (λ found. FindsMisfit (outer_fit (meaning program.now) place.now (front_of front.now)) found) }
+) -> Result<(), Refused>
+    ensures { Decides (outer_fit (meaning program.now) place.now (front_of front.now)) result }
 {
     let outer = usize::from(front.outer);
     if outer > front.nest.bounds().len() {
-        return misfit_at(alloc, place, Step::Key(OUTER));
+        return Err(misfit(alloc, place, Step::Key(OUTER)));
     }
     let sums = front.outer_sums.as_slice();
     let params = program.params().len();
-    polynomials_misfit(alloc, place, OUTER_SUMS, params, sums, outer)
+    polynomials_fits(alloc, place, OUTER_SUMS, params, sums, outer)?;
+    Ok(())
 }
 
-/// The place of what doesn't fit first of what shows the way from the vertex to the word's instance.
-fn way_misfit(
+/// Whether what is said fits of what shows the way from the vertex to the word's instance.
+fn way_fits(
     alloc: Global,
     program: &Program,
     quasts: &Quasts,
     place: &Place,
     front: &Wavefront,
-) -> Result<Option<Place>, Memory>
-    ensures { IfOk result (λ found. FindsMisfit (reach_fit (meaning program.now) (trees_of quasts.now) place.now (front_of front.now)) found) }
+) -> Result<(), Refused>
+    ensures { Decides (reach_fit (meaning program.now) (trees_of quasts.now) place.now (front_of front.now)) result }
 {
     match (&front.source, &front.reach) {
         (Some(spot), Some(reach)) => {
             let at = place.within(alloc, Step::Key(REACH))?;
             let nest = &front.nest;
-            reach_misfit(
+            reach_fits(
                 alloc,
                 program,
                 quasts,
@@ -197,160 +198,149 @@ fn way_misfit(
                 reach,
             )
         }
-        (None, None) => Ok(None),
-        _ => misfit_at(alloc, place, Step::Key(REACH)),
+        (None, None) => Ok(()),
+        _ => Err(misfit(alloc, place, Step::Key(REACH))),
     }
 }
 
-/// The place of what doesn't fit first of the nest's bounds.
-fn ranges_misfit(
+/// Whether what is said fits of the nest's bounds.
+fn ranges_fits(
     alloc: Global,
     program: &Program,
     place: &Place,
     front: &Wavefront,
-) -> Result<Option<Place>, Memory>
-    ensures { IfOk result (λ found. FindsMisfit (bounds_fit (length (meaning program.now).parameters) (place.now ++ Key NEST ∷ []) (front_of front.now).nest) found) }
+) -> Result<(), Refused>
+    ensures { Decides (bounds_fit (length (meaning program.now).parameters) (place.now ++ Key NEST ∷ []) (front_of front.now).nest) result }
 {
     let params = program.params().len();
-    bounds_misfit(alloc, place, NEST, params, front.nest.bounds())
+    bounds_fits(alloc, place, NEST, params, front.nest.bounds())
 }
 
-/// The place of what doesn't fit first of the nest, its outer variables, and the way to the word's instance.
-fn nest_misfit(
+/// Whether what is said fits of the nest, its outer variables, and the way to the word's instance.
+fn nest_fits(
     alloc: Global,
     program: &Program,
     quasts: &Quasts,
     place: &Place,
     front: &Wavefront,
-) -> Result<Option<Place>, Memory>
-    ensures { IfOk result (λ found. FindsMisfit (nest_fit (meaning program.now) (trees_of quasts.now) place.now (front_of front.now)) found) }
+) -> Result<(), Refused>
+    ensures { Decides (nest_fit (meaning program.now) (trees_of quasts.now) place.now (front_of front.now)) result }
 {
-    if let Some(misfit) = ranges_misfit(alloc, program, place, front)? {
-        return Ok(Some(misfit));
-    }
-    if let Some(misfit) = outer_misfit(alloc, program, place, front)? {
-        return Ok(Some(misfit));
-    }
-    way_misfit(alloc, program, quasts, place, front)
+    ranges_fits(alloc, program, place, front)?;
+    outer_fits(alloc, program, place, front)?;
+    way_fits(alloc, program, quasts, place, front)?;
+    Ok(())
 }
 
-/// The place of what doesn't fit first of the read and of what shows the ranges of the nest's variables.
-fn read_misfit(
+/// Whether what is said fits of the read and of what shows the ranges of the nest's variables.
+fn read_fits(
     alloc: Global,
     program: &Program,
     place: &Place,
     front: &Wavefront,
-) -> Result<Option<Place>, Memory>
-    ensures { IfOk result (λ found. FindsMisfit (read_fit (meaning program.now) place.now (front_of front.now)) found) }
+) -> Result<(), Refused>
+    ensures { Decides (read_fit (meaning program.now) place.now (front_of front.now)) result }
 {
     if usize::from(front.read) >= read_count(program, front.user.statement) {
-        return misfit_at(alloc, place, Step::Key(READ));
+        return Err(misfit(alloc, place, Step::Key(READ)));
     }
     let depth = front.nest.bounds().len();
-    list_misfit(
+    list_fits(
         alloc,
         place,
         Step::Key(SHOWN),
         front.sums.shown().len(),
         depth,
-    )
+    )?;
+    Ok(())
 }
 
-/// The place of what doesn't fit first of a spot at a key.
-fn spot_at_misfit(
+/// Whether what is said fits of a spot at a key.
+fn spot_at_fits(
     alloc: Global,
     program: &Program,
     place: &Place,
     front: &Wavefront,
     key: u8,
     spot: &Spot,
-) -> Result<Option<Place>, Memory>
-    ensures { IfOk result (λ found. FindsMisfit (spot_fit (meaning program.now) (front_variables (meaning program.now) (front_of front.now)) (place.now ++ Key key ∷ []) (spot_of spot.now)) found) }
+) -> Result<(), Refused>
+    ensures { Decides (spot_fit (meaning program.now) (front_variables (meaning program.now) (front_of front.now)) (place.now ++ Key key ∷ []) (spot_of spot.now)) result }
 {
     let at = place.within(alloc, Step::Key(key))?;
-    spot_misfit(alloc, program, &at, variables(program, front), spot)
+    spot_fits(alloc, program, &at, variables(program, front), spot)
 }
 
-/// The place of what doesn't fit first of the word's instance.
-fn source_misfit(
+/// Whether what is said fits of the word's instance.
+fn source_fits(
     alloc: Global,
     program: &Program,
     place: &Place,
     front: &Wavefront,
-) -> Result<Option<Place>, Memory>
-    ensures { IfOk result (λ found. FindsMisfit (source_fit (meaning program.now) place.now (front_of front.now) (front_of front.now).source) found) }
+) -> Result<(), Refused>
+    ensures { Decides (source_fit (meaning program.now) place.now (front_of front.now) (front_of front.now).source) result }
 {
     match &front.source {
-        Some(spot) => spot_at_misfit(alloc, program, place, front, SOURCE, spot),
-        None => Ok(None),
+        Some(spot) => spot_at_fits(alloc, program, place, front, SOURCE, spot),
+        None => Ok(()),
     }
 }
 
-/// The place of what doesn't fit first of the polynomials of the count.
-fn counted_misfit(
+/// Whether what is said fits of the polynomials of the count.
+fn counted_fits(
     alloc: Global,
     program: &Program,
     place: &Place,
     front: &Wavefront,
-) -> Result<Option<Place>, Memory>
-    ensures { IfOk result (λ found. FindsMisfit (polynomials_fit (length (meaning program.now).parameters) (place.now ++ Key SUMS ∷ []) (front_of front.now).count.sums (length (front_of front.now).nest)) found) }
+) -> Result<(), Refused>
+    ensures { Decides (polynomials_fit (length (meaning program.now).parameters) (place.now ++ Key SUMS ∷ []) (front_of front.now).count.sums (length (front_of front.now).nest)) result }
 {
     let depth = front.nest.bounds().len();
     let params = program.params().len();
-    polynomials_misfit(alloc, place, SUMS, params, front.sums.sums(), depth)
+    polynomials_fits(alloc, place, SUMS, params, front.sums.sums(), depth)
 }
 
-/// The place of what doesn't fit first of the read, the word's instance, and the count.
-fn count_misfit(
+/// Whether what is said fits of the read, the word's instance, and the count.
+fn count_fits(
     alloc: Global,
     program: &Program,
     place: &Place,
     front: &Wavefront,
-) -> Result<Option<Place>, Memory>
-    ensures { IfOk result (λ found. FindsMisfit (count_fit (meaning program.now) place.now (front_of front.now)) found) }
+) -> Result<(), Refused>
+    ensures { Decides (count_fit (meaning program.now) place.now (front_of front.now)) result }
 {
-    if let Some(misfit) = read_misfit(alloc, program, place, front)? {
-        return Ok(Some(misfit));
-    }
-    if let Some(misfit) = source_misfit(alloc, program, place, front)? {
-        return Ok(Some(misfit));
-    }
-    counted_misfit(alloc, program, place, front)
+    read_fits(alloc, program, place, front)?;
+    source_fits(alloc, program, place, front)?;
+    counted_fits(alloc, program, place, front)?;
+    Ok(())
 }
 
-/// The place of what doesn't fit first of the user and the vertex.
-fn spots_misfit(
+/// Whether what is said fits of the user and the vertex.
+fn spots_fits(
     alloc: Global,
     program: &Program,
     place: &Place,
     front: &Wavefront,
-) -> Result<Option<Place>, Memory>
-    ensures { IfOk result (λ found. FindsMisfit (spots_fit (meaning program.now) place.now (front_of front.now)) found) }
+) -> Result<(), Refused>
+    ensures { Decides (spots_fit (meaning program.now) place.now (front_of front.now)) result }
 {
-    if let Some(misfit) = spot_at_misfit(alloc, program, place, front, USER, &front.user)? {
-        return Ok(Some(misfit));
-    }
-    spot_at_misfit(alloc, program, place, front, VERTEX, &front.vertex)
+    spot_at_fits(alloc, program, place, front, USER, &front.user)?;
+    spot_at_fits(alloc, program, place, front, VERTEX, &front.vertex)?;
+    Ok(())
 }
 
-/// The place of what doesn't fit first of a wavefront term at this place.
-pub(crate) fn front_misfit(
+/// Whether what is said fits of a wavefront term at this place.
+pub(crate) fn front_fits(
     alloc: Global,
     program: &Program,
     quasts: &Quasts,
     place: &Place,
     front: &Wavefront,
-) -> Result<Option<Place>, Memory>
-    ensures { IfOk result (λ found. FindsMisfit (front_fit (meaning program.now) (trees_of quasts.now) place.now (front_of front.now)) found) }
+) -> Result<(), Refused>
+    ensures { Decides (front_fit (meaning program.now) (trees_of quasts.now) place.now (front_of front.now)) result }
 {
-    if let Some(misfit) = first_misfit(alloc, program, quasts, place, front)? {
-        return Ok(Some(misfit));
-    }
-    if let Some(misfit) = nest_misfit(alloc, program, quasts, place, front)? {
-        return Ok(Some(misfit));
-    }
-    if let Some(misfit) = count_misfit(alloc, program, place, front)? {
-        return Ok(Some(misfit));
-    }
-    spots_misfit(alloc, program, place, front)
+    first_fits(alloc, program, quasts, place, front)?;
+    nest_fits(alloc, program, quasts, place, front)?;
+    count_fits(alloc, program, place, front)?;
+    spots_fits(alloc, program, place, front)?;
+    Ok(())
 }

@@ -1,27 +1,28 @@
 //! Whether partition terms fit.
+#![tactic(auto, using(claims::proofs::Found::in_a_row))]
 
+ghost use Rattle.claims.specs.Claims.{Decides};
 ghost use Rattle.std.specs.Prelude.{◌≡◌, ◌≤◌, ◌↔◌, ◌++◌, ◌∷◌, [], map, length, IsTrue, IfOk};
 ghost use Rattle.affine_program.specs.Parts.{meaning};
 ghost use Rattle.claims.specs.declared.key.TheConstants.{NEST, SHOWN, STATEMENT, SUMS};
 ghost use Rattle.claims.specs.declared.place.Step.TheVariants.{Key};
 ghost use Rattle.iolb_check.specs.PartitionFit.{apart_count, apart_fit, coordinates_fit, credits_fit, nest_fit, number_fit, partition_fit, points_fit, walked_fit, walks_fit};
 ghost use Rattle.k_partition.specs.View.{partition_of};
-ghost use Rattle.part_fit.specs.FitClaims.{FindsMisfit, FindsStep};
 ghost use Rattle.reuse_paths.specs.Quasts.{trees_of};
 
 use crate::family_targets::targets_of_families;
 use crate::fit_colds::columns_called;
 use affine_form::Memory;
 use affine_program::Program;
+use certificate_fit::counts::loops_around;
+use certificate_fit::credits::credits_fits;
+use certificate_fit::families::families_fits;
+use certificate_fit::lists::{bounds_fits, misfit, polynomials_fits};
 use claims::key::{
     APART, CREDITS, FAMILIES, INSIDE, INVERSE, MATRIX, NEST, SHOWN, STATEMENT, SUMS,
 };
-use claims::{Place, Step};
+use claims::{Place, Refused, Step};
 use k_partition::{Partition, Shape};
-use part_fit::counts::loops_around;
-use part_fit::credits::credits_misfit;
-use part_fit::families::families_misfit;
-use part_fit::lists::{bounds_misfit, misfit_at, polynomials_misfit};
 use reuse_paths::{Quasts, has_pairs};
 use std::alloc::Global;
 
@@ -45,49 +46,49 @@ fn has_apart(
     }
 }
 
-/// The place of what doesn't fit of what shows the families apart.
-fn apart_misfit(
+/// Whether what is said fits of what shows the families apart.
+fn apart_fits(
     alloc: Global,
     program: &Program,
     quasts: &Quasts,
     place: &Place,
     term: &Partition,
-) -> Result<Option<Place>, Memory>
-    ensures { IfOk result (λ found. FindsMisfit (apart_fit (meaning program.now) (trees_of quasts.now) place.now (partition_of term.now)) found) }
+) -> Result<(), Refused>
+    ensures { Decides (apart_fit (meaning program.now) (trees_of quasts.now) place.now (partition_of term.now)) result }
 {
     if has_apart(alloc, program, quasts, term)? {
-        return Ok(None);
+        return Ok(());
     }
-    misfit_at(alloc, place, Step::Key(APART))
+    Err(misfit(alloc, place, Step::Key(APART)))
 }
 
-/// The place of what doesn't fit first of the credits.
-fn credited_misfit(
+/// Whether what is said fits of the credits.
+fn credited_fits(
     alloc: Global,
     program: &Program,
     place: &Place,
     term: &Partition,
-) -> Result<Option<Place>, Memory>
-    ensures { IfOk result (λ found. FindsMisfit (credits_fit (meaning program.now) place.now (partition_of term.now)) found) }
+) -> Result<(), Refused>
+    ensures { Decides (credits_fit (meaning program.now) place.now (partition_of term.now)) result }
 {
     let list = place.within(alloc, Step::Key(CREDITS))?;
-    credits_misfit(alloc, program, &list, term.credits.as_slice())
+    credits_fits(alloc, program, &list, term.credits.as_slice())
 }
 
-/// The place of what doesn't fit first of the families.
-fn walked_misfit(
+/// Whether what is said fits of the families.
+fn walked_fits(
     alloc: Global,
     program: &Program,
     quasts: &Quasts,
     place: &Place,
     term: &Partition,
-) -> Result<Option<Place>, Memory>
-    ensures { IfOk result (λ found. FindsMisfit (walked_fit (meaning program.now) (trees_of quasts.now) place.now (partition_of term.now)) found) }
+) -> Result<(), Refused>
+    ensures { Decides (walked_fit (meaning program.now) (trees_of quasts.now) place.now (partition_of term.now)) result }
 {
     let list = place.within(alloc, Step::Key(FAMILIES))?;
     let credits = term.credits.as_slice();
     let families = term.families.as_slice();
-    families_misfit(
+    families_fits(
         alloc,
         program,
         quasts,
@@ -98,115 +99,115 @@ fn walked_misfit(
     )
 }
 
-/// The place of what doesn't fit first of what shows the families apart, of the credits, and of the families.
-fn walks_misfit(
+/// Whether what is said fits of what shows the families apart, of the credits, and of the families.
+fn walks_fits(
     alloc: Global,
     program: &Program,
     quasts: &Quasts,
     place: &Place,
     term: &Partition,
-) -> Result<Option<Place>, Memory>
-    ensures { IfOk result (λ found. FindsMisfit (walks_fit (meaning program.now) (trees_of quasts.now) place.now (partition_of term.now)) found) }
+) -> Result<(), Refused>
+    ensures { Decides (walks_fit (meaning program.now) (trees_of quasts.now) place.now (partition_of term.now)) result }
 {
-    if let Some(misfit) = apart_misfit(alloc, program, quasts, place, term)? {
-        return Ok(Some(misfit));
-    }
-    if let Some(misfit) = credited_misfit(alloc, program, place, term)? {
-        return Ok(Some(misfit));
-    }
-    walked_misfit(alloc, program, quasts, place, term)
+    apart_fits(alloc, program, quasts, place, term)?;
+    credited_fits(alloc, program, place, term)?;
+    walked_fits(alloc, program, quasts, place, term)?;
+    Ok(())
 }
 
-/// What doesn't fit first of what shows that the points are instances, and of the matrices.
-fn misfit_of_coordinates(program: &Program, term: &Partition) -> Option<Step>
-    ensures { FindsStep (coordinates_fit (meaning program.now) (partition_of term.now)) result }
+/// Whether what is said fits of what shows that the points are instances, and of the matrices.
+fn coordinates_fit(
+    alloc: Global,
+    program: &Program,
+    place: &Place,
+    term: &Partition,
+) -> Result<(), Refused>
+    ensures { Decides (coordinates_fit (meaning program.now) (partition_of term.now) place.now) result }
 {
     let loops = loops_around(program, term.statement);
     if term.inside.as_slice().len() != 2 * loops {
-        return Some(Step::Key(INSIDE));
+        return Err(misfit(alloc, place, Step::Key(INSIDE)));
     }
     let (inverse, matrix) = (&term.inverse, &term.matrix);
     if inverse.rows() != loops {
-        return Some(Step::Key(INVERSE));
+        return Err(misfit(alloc, place, Step::Key(INVERSE)));
     }
     if inverse.cols() != columns_called(inverse.rows(), loops) {
-        return Some(Step::Key(INVERSE));
+        return Err(misfit(alloc, place, Step::Key(INVERSE)));
     }
     if matrix.rows() != loops {
-        return Some(Step::Key(MATRIX));
+        return Err(misfit(alloc, place, Step::Key(MATRIX)));
     }
     if matrix.cols() != columns_called(matrix.rows(), loops) {
-        return Some(Step::Key(MATRIX));
+        return Err(misfit(alloc, place, Step::Key(MATRIX)));
     }
-    None
+    Ok(())
 }
 
-/// The place of what doesn't fit first of the nest.
-fn nest_misfit(
+/// Whether what is said fits of the nest.
+fn nest_fits(
     alloc: Global,
     program: &Program,
     place: &Place,
     term: &Partition,
-) -> Result<Option<Place>, Memory>
-    ensures { IfOk result (λ found. FindsMisfit (nest_fit (meaning program.now) place.now (partition_of term.now)) found) }
+) -> Result<(), Refused>
+    ensures { Decides (nest_fit (meaning program.now) place.now (partition_of term.now)) result }
 {
     let bounds = term.nest.bounds();
     if bounds.len() != loops_around(program, term.statement) {
-        return misfit_at(alloc, place, Step::Key(NEST));
+        return Err(misfit(alloc, place, Step::Key(NEST)));
     }
-    bounds_misfit(alloc, place, NEST, program.params().len(), bounds)
+    bounds_fits(alloc, place, NEST, program.params().len(), bounds)?;
+    Ok(())
 }
 
-/// The place of what doesn't fit first of the points.
-fn points_misfit(
+/// Whether what is said fits of the points.
+fn points_fits(
     alloc: Global,
     program: &Program,
     place: &Place,
     term: &Partition,
-) -> Result<Option<Place>, Memory>
-    ensures { IfOk result (λ found. FindsMisfit (points_fit (meaning program.now) place.now (partition_of term.now)) found) }
+) -> Result<(), Refused>
+    ensures { Decides (points_fit (meaning program.now) place.now (partition_of term.now)) result }
 {
-    if let Some(step) = misfit_of_coordinates(program, term) {
-        return misfit_at(alloc, place, step);
-    }
-    nest_misfit(alloc, program, place, term)
+    coordinates_fit(alloc, program, place, term)?;
+    nest_fits(alloc, program, place, term)?;
+    Ok(())
 }
 
-/// The place of what doesn't fit first of the statement, and of what is claimed of the number of points.
-fn number_misfit(
+/// Whether what is said fits of the statement, and of what is claimed of the number of points.
+fn number_fits(
     alloc: Global,
     program: &Program,
     place: &Place,
     term: &Partition,
-) -> Result<Option<Place>, Memory>
-    ensures { IfOk result (λ found. FindsMisfit (number_fit (meaning program.now) place.now (partition_of term.now)) found) }
+) -> Result<(), Refused>
+    ensures { Decides (number_fit (meaning program.now) place.now (partition_of term.now)) result }
 {
     let depth = term.nest.bounds().len();
     if term.sums.shown().len() != depth {
-        return misfit_at(alloc, place, Step::Key(SHOWN));
+        return Err(misfit(alloc, place, Step::Key(SHOWN)));
     }
     if usize::from(term.statement) >= program.statements().len() {
-        return misfit_at(alloc, place, Step::Key(STATEMENT));
+        return Err(misfit(alloc, place, Step::Key(STATEMENT)));
     }
     let params = program.params().len();
-    polynomials_misfit(alloc, place, SUMS, params, term.sums.sums(), depth)
+    polynomials_fits(alloc, place, SUMS, params, term.sums.sums(), depth)?;
+    Ok(())
 }
 
-/// The place of what doesn't fit first of a partition term at this place.
-pub(crate) fn partition_misfit(
+/// Whether what is said fits of a partition term at this place.
+pub(crate) fn partition_fits(
     alloc: Global,
     program: &Program,
     quasts: &Quasts,
     place: &Place,
     term: &Partition,
-) -> Result<Option<Place>, Memory>
-    ensures { IfOk result (λ found. FindsMisfit (partition_fit (meaning program.now) (trees_of quasts.now) place.now (partition_of term.now)) found) }
+) -> Result<(), Refused>
+    ensures { Decides (partition_fit (meaning program.now) (trees_of quasts.now) place.now (partition_of term.now)) result }
 {
-    if let Some(misfit) = walks_misfit(alloc, program, quasts, place, term)? {
-        return Ok(Some(misfit));
-    }
-    if let Some(misfit) = points_misfit(alloc, program, place, term)? {
-        return Ok(Some(misfit));
-    }
-    number_misfit(alloc, program, place, term)
+    walks_fits(alloc, program, quasts, place, term)?;
+    points_fits(alloc, program, place, term)?;
+    number_fits(alloc, program, place, term)?;
+    Ok(())
 }

@@ -5,8 +5,8 @@ ghost use Rattle.iolb_check.specs.Limits.{IsWithinLimits};
 
 use crate::term::Branch;
 use crate::term_limits::are_small_branches;
+use certificate_fit::rows_are_small;
 use iolb_model::limits;
-use part_fit::rows_are_small;
 use reuse_paths::Quasts;
 
 /// Whether source trees and branches are within the limits of certificates.

@@ -1,4 +1,5 @@
 //! The conditions of pairs of a branch's terms.
+#![tactic(auto, using(claims::proofs::Found::in_a_row))]
 
 ghost use Rattle.std.specs.Prelude.{◌≡◌, ◌∷◌, [], map, IfOk, IfErr, OnOk};
 ghost use Rattle.std.specs.List.{AllByRecursion};
@@ -40,18 +41,11 @@ pub(crate) fn check_pairs(
     ensures refused { IfErr result (IsRefusal (disjoint_claims (meaning program.now) (trees_of quasts.now) number (claim_of_branch branch.now))) }
 {
     disjoint_pieces_are_apart();
-    let Ok(place) = disjoint_place(alloc, number) else {
-        return Err(Refused::Memory);
-    };
-    let Ok(pieces) = pieces_of_terms(alloc, program, quasts, branch.terms.as_slice()) else {
-        return Err(Refused::Memory);
-    };
+    let place = disjoint_place(alloc, number)?;
+    let pieces = pieces_of_terms(alloc, program, quasts, branch.terms.as_slice())?;
     let shown = branch.disjoint.as_slice();
-    match lists_shown(alloc, program, pieces.as_slice(), shown, 23, &place) {
-        Ok(None) => Ok(()),
-        Ok(Some(no)) => Err(Refused::No(no)),
-        Err(Memory) => Err(Refused::Memory),
-    }
+    lists_shown(alloc, program, pieces.as_slice(), shown, 23, &place)?;
+    Ok(())
 }
 
 /// The place of the multipliers for the pairs of a branch's terms.

@@ -6,15 +6,15 @@ ghost use Rattle.iolb_check.specs.Limits.{IsSmallCredit, IsSmallPartition};
 ghost use Rattle.iolb_model.specs.declared.limits.TheConstants.{CREDITS, FAMILIES, STRETCH, STRETCH_MORE, WEIGHT, WEIGHTS};
 ghost use Rattle.k_partition.specs.TermLoads.{weight_of};
 ghost use Rattle.k_partition.specs.View.{partition_of};
-ghost use Rattle.part_fit.specs.Limits.{IsSmallFamily, NameRows};
+ghost use Rattle.certificate_fit.specs.Limits.{IsSmallFamily, NameRows};
 ghost use Rattle.reuse_paths.specs.declared.family.Family.{Family as family};
 ghost use Rattle.reuse_paths.specs.Families.{family_of};
 
 use crate::term_limits::nest_is_small;
+use certificate_fit::family_limits::are_small_families;
+use certificate_fit::part_limits::name_rows;
 use iolb_model::limits;
 use k_partition::Partition;
-use part_fit::family_limits::are_small_families;
-use part_fit::part_limits::name_rows;
 use reuse_paths::{Credit, Family};
 
 /// Whether credited nests are within their limits.

@@ -4,16 +4,16 @@ ghost use Rattle.std.specs.Prelude.{◌≡◌, ◌≤◌, ◌↔◌, IsTrue, len
 ghost use Rattle.std.specs.List.{AllByRecursion};
 ghost use Rattle.reuse_paths.specs.LeafClaims.{claim_of};
 ghost use Rattle.reuse_paths.specs.Walks.{reach_of, spot_of};
-ghost use Rattle.part_fit.specs.Limits.{AreSmall, AreSmallBounds, IsSmallEntry, IsSmallPolynomial, IsSmallReach, IsSmallSpot, IsSmallWay, NameRows};
+ghost use Rattle.certificate_fit.specs.Limits.{AreSmall, AreSmallBounds, IsSmallEntry, IsSmallPolynomial, IsSmallReach, IsSmallSpot, IsSmallWay, NameRows};
 ghost use Rattle.iolb_check.specs.Limits.{IsSmallBranch, IsSmallCold, IsSmallFront, IsSmallTerm};
 ghost use Rattle.iolb_model.specs.declared.limits.TheConstants.{NEST_VARIABLES, SCALE};
 
 use crate::partition_limits::is_small_partition;
 use crate::term::{Branch, Term};
+use certificate_fit::part_limits::{are_small, are_small_polynomials, bounds_are_small, name_rows};
+use certificate_fit::walk_limits::{are_small_leaves, is_small_reach, is_small_spot, is_small_way};
 use domain_count::{Nest, Sums};
 use iolb_model::limits;
-use part_fit::part_limits::{are_small, are_small_polynomials, bounds_are_small, name_rows};
-use part_fit::walk_limits::{are_small_leaves, is_small_reach, is_small_spot, is_small_way};
 use wavefront::{Cold, Wavefront};
 
 /// Whether a term's nest is within its limits, and what is claimed of its number of points.

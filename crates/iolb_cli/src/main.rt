@@ -2,7 +2,7 @@
 //! schedules of the nests.
 #![tactic(auto)]
 
-use iolb_call::{called, finished, no_memory};
+use iolb_commands::{called, finished, no_memory};
 use iolb_host::{StdFiles, StdSink};
 use std::env;
 use std::process::ExitCode;

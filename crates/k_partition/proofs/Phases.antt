@@ -1,9 +1,7 @@
--- What is found in five lists of claims, one after another.
+-- Five lists of claims, one after another.
 use Rattle.std.proofs.Common.{List, ◌++◌}
-use Rattle.claims.specs.Claims.{Claim, AllHold, FirstFails, IsRefusal}
-use Rattle.claims.specs.declared.refused.No.{No}
+use Rattle.claims.specs.Claims.{Claim, AllHold, IsRefusal}
 use Rattle.claims.specs.declared.refused.Refused.{Refused}
-use Rattle.claims.specs.declared.refused.Refused.TheVariants.{No as not_so}
 use Rattle.claims.proofs.Found.{refused-first, refused-later}
 use Rattle.claims.proofs.Laws.{AllHold-append}
 
@@ -11,9 +9,9 @@ module _ (a b c d e : List Claim) where
   pub stop-first : (refused : Refused) → IsRefusal a refused → IsRefusal (a ++ (b ++ c) ++ d ++ e) refused
   stop-first refused h = refused-first (a ++ (b ++ c) ++ d) e refused (refused-first (a ++ (b ++ c)) d refused (refused-first a (b ++ c) refused h))
 
-  pub stop-second : (failed : No) → AllHold a → FirstFails b failed → FirstFails (a ++ (b ++ c) ++ d ++ e) failed
-  stop-second failed ha h =
-      refused-first (a ++ (b ++ c) ++ d) e (not_so failed) (refused-first (a ++ (b ++ c)) d (not_so failed) (refused-later a (b ++ c) (not_so failed) ha (refused-first b c (not_so failed) h)))
+  pub stop-second : (refused : Refused) → AllHold a → IsRefusal b refused → IsRefusal (a ++ (b ++ c) ++ d ++ e) refused
+  stop-second refused ha h =
+      refused-first (a ++ (b ++ c) ++ d) e refused (refused-first (a ++ (b ++ c)) d refused (refused-later a (b ++ c) refused ha (refused-first b c refused h)))
 
   pub stop-third : (refused : Refused) → AllHold a → AllHold b → IsRefusal c refused → IsRefusal (a ++ (b ++ c) ++ d ++ e) refused
   stop-third refused ha hb h =
@@ -22,9 +20,8 @@ module _ (a b c d e : List Claim) where
   points-hold : AllHold a → AllHold b → AllHold c → AllHold (a ++ (b ++ c))
   points-hold ha hb hc = AllHold-append a (b ++ c) ha (AllHold-append b c hb hc)
 
-  pub stop-fourth : (failed : No) → AllHold a → AllHold b → AllHold c → FirstFails d failed → FirstFails (a ++ (b ++ c) ++ d ++ e) failed
-  stop-fourth failed ha hb hc h =
-      refused-first (a ++ (b ++ c) ++ d) e (not_so failed) (refused-later (a ++ (b ++ c)) d (not_so failed) (points-hold ha hb hc) h)
+  pub stop-fourth : (refused : Refused) → AllHold a → AllHold b → AllHold c → IsRefusal d refused → IsRefusal (a ++ (b ++ c) ++ d ++ e) refused
+  stop-fourth refused ha hb hc h = refused-first (a ++ (b ++ c) ++ d) e refused (refused-later (a ++ (b ++ c)) d refused (points-hold ha hb hc) h)
 
   pub stop-fifth : (refused : Refused) → AllHold a → AllHold b → AllHold c → AllHold d → IsRefusal e refused → IsRefusal (a ++ (b ++ c) ++ d ++ e) refused
   stop-fifth refused ha hb hc hd h =

@@ -1,7 +1,8 @@
 //! Whether the families' sets cover the coordinates.
+#![tactic(auto, using(claims::proofs::Found::in_a_row))]
 
-ghost use Rattle.std.specs.Prelude.{◌≡◌, ◌≤◌, ◌<◌, ◌++◌, ◌∷◌, [], length, map, sum_by, Some, IfOk};
-ghost use Rattle.claims.specs.Claims.{Finds};
+ghost use Rattle.std.specs.Prelude.{◌≡◌, ◌≤◌, ◌<◌, ◌++◌, ◌∷◌, [], length, map, sum_by, IfOk};
+ghost use Rattle.claims.specs.Claims.{Decides};
 ghost use Rattle.iolb_model.specs.Game.{stands_in};
 ghost use Rattle.claims.specs.declared.key.TheConstants.{MATRIX as MATRIX_KEY};
 ghost use Rattle.claims.specs.declared.place.Step.TheVariants.{Index, Key};
@@ -15,28 +16,25 @@ ghost use Rattle.iolb_model.specs.declared.limits.TheConstants.{NEST_VARIABLES, 
 use crate::term::Partition;
 use affine_form::Memory;
 use claims::key::MATRIX;
-use claims::{No, Place, Step, refusal};
+use claims::{Place, Refused, Step, refusal};
 use reuse_paths::Family;
 use std::alloc::Global;
 
 /// Whether each coordinate lies in sets of a total weight of at least `q`.
-pub(crate) fn cover_shown(
-    alloc: Global,
-    term: &Partition,
-    place: &Place,
-) -> Result<Option<No>, Memory>
+pub(crate) fn cover_shown(alloc: Global, term: &Partition, place: &Place) -> Result<(), Refused>
     requires few { length term.now.nest ≤ NEST_VARIABLES }
     requires light { weight_of (partition_of term.now) ≤ WEIGHTS }
-    ensures { IfOk result (λ found. Finds (cover_claims place.now (partition_of term.now)) found) }
+    ensures { Decides (cover_claims place.now (partition_of term.now)) result }
 {
     let families = term.families.as_slice();
     let size = term.nest.bounds().len();
     for i in 0..size {
         if weight_at(families, i as u8) < term.q {
-            return cover_failed(alloc, place, i);
+            let row = cover_place(alloc, place, i)?;
+            return Err(refusal(alloc, 17, &row));
         }
     }
-    Ok(None)
+    Ok(())
 }
 
 /// The weights of the sets in which a coordinate lies.
@@ -60,11 +58,10 @@ fn has(family: &Family, coordinate: u8) -> bool
     family.set.coords().contains(&coordinate)
 }
 
-/// The refusal by condition 17 at a row of the matrix.
-fn cover_failed(alloc: Global, place: &Place, i: usize) -> Result<Option<No>, Memory>
-    ensures { IfOk result (λ found. found ≡ Some (record { condition = 17; place = place.now ++ Key MATRIX_KEY ∷ Index i ∷ [] })) }
+/// The place of a row of the matrix.
+fn cover_place(alloc: Global, place: &Place, i: usize) -> Result<Place, Memory>
+    ensures { IfOk result (λ row. row ≡ place.now ++ Key MATRIX_KEY ∷ Index i ∷ []) }
 {
     let list = place.within(alloc, Step::Key(MATRIX))?;
-    let row = list.within(alloc, Step::Index(i as u64))?;
-    refusal(alloc, 17, &row)
+    list.within(alloc, Step::Index(i as u64))
 }

@@ -1,9 +1,10 @@
 //! Whether a partition term's points are instances.
+#![tactic(auto, using(claims::proofs::Found::in_a_row))]
 
 ghost use Rattle.std.specs.Prelude.{◌≡◌, ◌*◌, ◌≤◌, length, IfOk};
 ghost use Rattle.affine_program.specs.Domain.{depth_of};
 ghost use Rattle.affine_program.specs.Parts.{meaning};
-ghost use Rattle.claims.specs.Claims.{Finds};
+ghost use Rattle.claims.specs.Claims.{Decides};
 ghost use Rattle.k_partition.specs.PartitionClaims.{inside_claims, inside_goals};
 ghost use Rattle.k_partition.specs.View.{partition_of};
 ghost use Rattle.reuse_paths.specs.FamilyFits.{CountedFits};
@@ -13,7 +14,7 @@ use crate::term::Partition;
 use affine_form::{Form, Memory, variables_from};
 use affine_program::Program;
 use claims::key::INSIDE;
-use claims::{No, Place, Step};
+use claims::{Place, Refused, Step};
 use dep_quast::claims_shown::goals_shown;
 use dep_quast::point_rows::domain_rows;
 use domain_count::rows_before;
@@ -39,11 +40,11 @@ pub(crate) fn inside_shown(
     program: &Program,
     term: &Partition,
     place: &Place,
-) -> Result<Option<No>, Memory>
+) -> Result<(), Refused>
     requires counted { CountedFits (meaning program.now) term.now.statement term.now.nest term.now.matrix }
     requires few { length term.now.nest ≤ NEST_VARIABLES }
     requires each { length term.now.inside.items ≡ 2 * depth_of (meaning program.now) term.now.statement }
-    ensures { IfOk result (λ found. Finds (inside_claims (meaning program.now) place.now (partition_of term.now)) found) }
+    ensures { Decides (inside_claims (meaning program.now) place.now (partition_of term.now)) result }
 {
     let goals = goals_of(alloc, program, term)?;
     let system = rows_before(alloc, program, term.nest.bounds())?;

@@ -1,9 +1,10 @@
 //! The check of partition terms, and their pieces.
+#![tactic(auto, using(claims::proofs::Found::in_a_row))]
 
 ghost use Rattle.std.specs.Prelude.{◌≡◌, [], length, map, IfErr, IfOk, OnOk};
 ghost use Rattle.std.specs.List.{AllByRecursion};
 ghost use Rattle.affine_program.specs.Parts.{meaning};
-ghost use Rattle.claims.specs.Claims.{AllHold, Finds, IsRefusal};
+ghost use Rattle.claims.specs.Claims.{AllHold, Decides, IsRefusal};
 ghost use Rattle.domain_count.specs.Count.{CountsPoints, IsCount};
 ghost use Rattle.iolb_model.specs.Bound.{count_value, partition};
 ghost use Rattle.iolb_model.specs.Footprint.{CostsItsValue};
@@ -128,15 +129,15 @@ fn families_apart(
     quasts: &Quasts,
     term: &Partition,
     place: &Place,
-) -> Result<Option<No>, Memory>
+) -> Result<(), Refused>
     requires fits { FitsPartition program.now (trees_of quasts.now) term.now }
     requires few { HasPartitionPieces (meaning program.now) (trees_of quasts.now) (partition_of term.now) }
-    ensures found { IfOk result (λ found. Finds (apart_claims (partition_of term.now).shape (meaning program.now) (trees_of quasts.now) place.now (partition_of term.now)) found) }
-    ensures fit { IfOk result (λ found. AllByRecursion (AllByRecursion (PieceFits (meaning program.now))) (pieces_by_family (meaning program.now) (trees_of quasts.now) (partition_of term.now))) }
+    ensures found { Decides (apart_claims (partition_of term.now).shape (meaning program.now) (trees_of quasts.now) place.now (partition_of term.now)) result }
+    ensures fit { OnOk result (AllByRecursion (AllByRecursion (PieceFits (meaning program.now))) (pieces_by_family (meaning program.now) (trees_of quasts.now) (partition_of term.now))) }
 {
     let lists = pieces_of_families(alloc, program, quasts, term)?;
     if let Shape::Each = term.shape {
-        return Ok(None);
+        return Ok(());
     }
     let list = place.within(alloc, Step::Key(APART))?;
     lists_shown(
@@ -195,9 +196,7 @@ pub fn check_partition(
     contexts_are_few();
     family_pieces_cover();
     let bound = check_sound(alloc, program, quasts, term, place)?;
-    if let Some(no) = families_apart(alloc, program, quasts, term, place)? {
-        return Err(Refused::No(no));
-    }
+    families_apart(alloc, program, quasts, term, place)?;
     // Their readers say that the polynomials are in lowest terms.
     let (_count, _credits) = (bound.count.den(), bound.credits.den());
     Ok(bound)

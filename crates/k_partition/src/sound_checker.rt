@@ -1,8 +1,9 @@
 //! The check of what makes a partition term sound.
+#![tactic(auto, using(claims::proofs::Found::in_a_row))]
 
 ghost use Rattle.std.specs.Prelude.{◌≤◌, ◌++◌, length, IfErr, IfOk, OnOk};
 ghost use Rattle.affine_program.specs.Parts.{meaning};
-ghost use Rattle.claims.specs.Claims.{AllHold, Finds, IsRefusal};
+ghost use Rattle.claims.specs.Claims.{AllHold, Decides, IsRefusal};
 ghost use Rattle.domain_count.specs.Count.{CountsPoints, IsCount};
 ghost use Rattle.k_partition.specs.Numbers.{HasNumbers};
 ghost use Rattle.k_partition.specs.PartitionClaims.{cover_claims, no_points, sound_claims, unit_claims, IsCreditsTotal};
@@ -21,24 +22,22 @@ use crate::inside_shown::inside_shown;
 use crate::partitions::partitions_are_sound;
 use crate::term::{Partition, PartitionBound};
 use crate::unit_shown::unit_shown;
-use affine_form::Memory;
 use affine_program::Program;
-use claims::{No, Place, Refused};
+use claims::{Place, Refused};
 use domain_count::check_count;
 use reuse_paths::Quasts;
 use std::alloc::Global;
 
 /// Whether the matrix is shown to have the inverse that stands beside it, and the families' sets to cover each coordinate.
-fn coordinates_shown(alloc: Global, term: &Partition, place: &Place) -> Result<Option<No>, Memory>
+fn coordinates_shown(alloc: Global, term: &Partition, place: &Place) -> Result<(), Refused>
     requires matrices { FitsMatrices term.now }
     requires few { length term.now.nest ≤ NEST_VARIABLES }
     requires light { weight_of (partition_of term.now) ≤ WEIGHTS }
-    ensures { IfOk result (λ found. Finds (unit_claims place.now (partition_of term.now) ++ cover_claims place.now (partition_of term.now)) found) }
+    ensures { Decides (unit_claims place.now (partition_of term.now) ++ cover_claims place.now (partition_of term.now)) result }
 {
-    if let Some(no) = unit_shown(alloc, term, place)? {
-        return Ok(Some(no));
-    }
-    cover_shown(alloc, term, place)
+    unit_shown(alloc, term, place)?;
+    cover_shown(alloc, term, place)?;
+    Ok(())
 }
 
 /// Checks what makes a partition term sound, which stands at this place of a certificate: all that it claims but that its
@@ -74,13 +73,9 @@ pub fn check_sound(
     ensures refused { IfErr result (λ refused. IsRefusal (sound_claims (meaning program.now) (trees_of quasts.now) place.now (partition_of term.now)) refused) }
 {
     let count = check_count(alloc, program, &term.nest, &term.sums, place)?;
-    if let Some(no) = inside_shown(alloc, program, term, place)? {
-        return Err(Refused::No(no));
-    }
+    inside_shown(alloc, program, term, place)?;
     let credits = credits_counted(alloc, program, term.credits.as_slice(), place)?;
-    if let Some(no) = coordinates_shown(alloc, term, place)? {
-        return Err(Refused::No(no));
-    }
+    coordinates_shown(alloc, term, place)?;
     families_checked(alloc, program, quasts, term, place)?;
     let _params = program.params();
     partitions_are_sound();

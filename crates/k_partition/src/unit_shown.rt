@@ -1,9 +1,10 @@
 //! Whether the matrix of coordinates has the inverse that stands beside it.
+#![tactic(auto, using(claims::proofs::Found::in_a_row))]
 
-ghost use Rattle.std.specs.Prelude.{◌≡◌, ◌<◌, ◌++◌, ◌∷◌, [], ◌+◌, length, Some, IfOk, IsTrue, ◌↔◌};
+ghost use Rattle.std.specs.Prelude.{◌≡◌, ◌<◌, ◌++◌, ◌∷◌, [], ◌+◌, length, IfOk, IsTrue, ◌↔◌};
 ghost use Rattle.execution_laws.specs.Inverse.{product_entry, scaled_entry};
 ghost use Rattle.reuse_paths.specs.MatrixRows.{matrix_rows};
-ghost use Rattle.claims.specs.Claims.{Finds, counted};
+ghost use Rattle.claims.specs.Claims.{Decides, counted};
 ghost use Rattle.claims.specs.declared.key.TheConstants.{INVERSE as INVERSE_KEY};
 ghost use Rattle.claims.specs.declared.place.Step.TheVariants.{Index, Key};
 ghost use Rattle.k_partition.specs.PartitionClaims.{unit_claim, unit_claims};
@@ -13,43 +14,33 @@ ghost use Rattle.iolb_model.specs.declared.limits.TheConstants.{NUMBER_SIZE};
 use crate::term::Partition;
 use affine_form::{Matrix, Memory, add_entry};
 use claims::key::INVERSE;
-use claims::{No, Place, Step, refusal};
+use claims::{Place, Refused, Step, refusal};
 use std::alloc::Global;
 
 /// Whether the product of the inverse with the matrix is 1 on the diagonal and else 0.
-pub(crate) fn unit_shown(
-    alloc: Global,
-    term: &Partition,
-    place: &Place,
-) -> Result<Option<No>, Memory>
+pub(crate) fn unit_shown(alloc: Global, term: &Partition, place: &Place) -> Result<(), Refused>
     requires { FitsMatrices term.now }
-    ensures { IfOk result (λ found. Finds (unit_claims place.now (partition_of term.now)) found) }
+    ensures { Decides (unit_claims place.now (partition_of term.now)) result }
 {
     for row in 0..term.nest.bounds().len() {
-        if let Some(no) = row_shown(alloc, term, row, place)? {
-            return Ok(Some(no));
-        }
+        row_shown(alloc, term, row, place)?;
     }
-    Ok(None)
+    Ok(())
 }
 
 /// Whether a row of the product is so.
-fn row_shown(
-    alloc: Global,
-    term: &Partition,
-    row: usize,
-    place: &Place,
-) -> Result<Option<No>, Memory>
+fn row_shown(alloc: Global, term: &Partition, row: usize, place: &Place) -> Result<(), Refused>
     requires fits { FitsMatrices term.now }
     requires there { row < length term.now.nest }
-    ensures { IfOk result (λ found. Finds (counted (unit_claim place.now (partition_of term.now) row) 0 (length term.now.nest)) found) }
+    ensures { Decides (counted (unit_claim place.now (partition_of term.now) row) 0 (length term.now.nest)) result }
 {
     for col in 0..term.nest.bounds().len() {
         if !is_unit_entry(term, row, col) {
-            return entry_failed(alloc, place, row, col);
+            let entry = entry_place(alloc, place, row, col)?;
+            return Err(refusal(alloc, 16, &entry));
         }
     }
-    Ok(None)
+    Ok(())
 }
 
 /// Whether an entry of the product is 1 on the diagonal and else 0.
@@ -79,12 +70,11 @@ fn product_entry(first: &Matrix, second: &Matrix, row: usize, col: usize) -> i12
     sum
 }
 
-/// The refusal by condition 16 at an entry of the product.
-fn entry_failed(alloc: Global, place: &Place, row: usize, col: usize) -> Result<Option<No>, Memory>
-    ensures { IfOk result (λ found. found ≡ Some (record { condition = 16; place = place.now ++ Key INVERSE_KEY ∷ Index row ∷ Index col ∷ [] })) }
+/// The place of an entry of the product.
+fn entry_place(alloc: Global, place: &Place, row: usize, col: usize) -> Result<Place, Memory>
+    ensures { IfOk result (λ entry. entry ≡ place.now ++ Key INVERSE_KEY ∷ Index row ∷ Index col ∷ []) }
 {
     let inverse = place.within(alloc, Step::Key(INVERSE))?;
     let row = inverse.within(alloc, Step::Index(row as u64))?;
-    let entry = row.within(alloc, Step::Index(col as u64))?;
-    refusal(alloc, 16, &entry)
+    row.within(alloc, Step::Index(col as u64))
 }

@@ -8,7 +8,7 @@ ghost use Rattle.pebble_game.specs.Boards.{IsBoardOf, moved, is_full, load_refus
 
 use crate::graph::Graph;
 use crate::illegal::Illegal;
-use crate::memory::Memory;
+use affine_form::Memory;
 use iolb_model::game::Move;
 use std::alloc::Global;
 use std::marker::Model;

@@ -9,11 +9,10 @@ pub mod cold;
 pub mod graph;
 pub mod illegal;
 pub mod inputs;
-pub mod memory;
 pub mod sets;
 
+pub use affine_form::Memory;
 pub use board::Board;
 pub use graph::Graph;
 pub use illegal::Illegal;
 pub use iolb_model::game::Move;
-pub use memory::Memory;

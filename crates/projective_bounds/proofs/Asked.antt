@@ -6,7 +6,7 @@ use Rattle.std.proofs.lemmas.Bool.{eqb-true}
 use Rattle.base_laws.proofs.Lists.{All-every, All-map}
 use Rattle.iolb_model.specs.Form.{AffineForm}
 use Rattle.iolb_model.specs.Program.{Access, AffineProgram, statement_at}
-use Rattle.part_fit.proofs.FormsFit.{bounds-hold}
+use Rattle.certificate_fit.proofs.FormsFit.{bounds-hold}
 use Rattle.affine_form.specs.Rows.{BoundsFit, step_of}
 use Rattle.affine_program.specs.Domain.{depth_of, path_of}
 use Rattle.affine_program.specs.Parts.{ProgramParts, meaning}
@@ -20,7 +20,7 @@ use Rattle.domain_count.specs.Claims.{SumClaims}
 use Rattle.reuse_paths.specs.declared.piece.Target.{Target}
 use Rattle.reuse_paths.specs.TargetPairs.{pairwise_targets}
 use Rattle.reuse_paths.proofs.PairCounts.{pairs-many}
-use Rattle.part_fit.specs.PartFit.{matrix_fit}
+use Rattle.certificate_fit.specs.PartFit.{matrix_fit}
 use Rattle.k_partition.specs.PartitionClaims.{pieces_of_families}
 use Rattle.k_partition.specs.PartitionFits.{PartitionFits}
 use Rattle.k_partition.specs.Term.{PartitionTerm}

@@ -7,7 +7,7 @@ use Rattle.std.proofs.lemmas.List.{length-map, length-replicate}
 use Rattle.base_laws.proofs.Lists.{All-append}
 use Rattle.iolb_model.specs.Form.{AffineForm}
 use Rattle.iolb_model.specs.Program.{Array, AffineProgram, statement_at}
-use Rattle.part_fit.proofs.FormsFit.{forms-hold}
+use Rattle.certificate_fit.proofs.FormsFit.{forms-hold}
 use Rattle.affine_form.specs.Matrix.{IntegerMatrix}
 use Rattle.affine_program.specs.Domain.{depth_of}
 use Rattle.claims.specs.Claims.{Claim, AllHold, numbered}
@@ -23,11 +23,11 @@ use Rattle.reuse_paths.specs.Quasts.{tree_for}
 use Rattle.reuse_paths.specs.Trees.{read_of}
 use Rattle.reuse_paths.specs.WalkFits.{AreCellLabels, IsLabel}
 use Rattle.reuse_paths.specs.WalkSettings.{WalkSetting, region_at}
-use Rattle.part_fit.specs.EntryFit.{EntryAim, aimed_at, aimed_entries_fit, aimed_fit, leaf_names, names_in}
-use Rattle.part_fit.specs.FamilyFit.{RisesBelow, family_at, family_fit, input_fit, inputs_fit, label_fit, node_fit, nodes_fit, set_fit, start_fit, subscripts_of}
-use Rattle.part_fit.specs.FitClaims.{names}
-use Rattle.part_fit.specs.WalkFit.{entry_aim, row_count, rows_called, walk_fit}
-use Rattle.part_fit.proofs.ReadTrees.{names-of, open-many}
+use Rattle.certificate_fit.specs.EntryFit.{EntryAim, aimed_at, aimed_entries_fit, aimed_fit, leaf_names, names_in}
+use Rattle.certificate_fit.specs.FamilyFit.{RisesBelow, family_at, family_fit, input_fit, inputs_fit, label_fit, node_fit, nodes_fit, set_fit, start_fit, subscripts_of}
+use Rattle.certificate_fit.specs.FitClaims.{names}
+use Rattle.certificate_fit.specs.WalkFit.{entry_aim, row_count, rows_called, walk_fit}
+use Rattle.certificate_fit.proofs.ReadTrees.{names-of, open-many}
 use Rattle.projective_bounds.specs.Families.{array_families, array_family, array_node, array_read, array_walk, entries_of, loops_label, loop_form}
 use Rattle.projective_bounds.specs.Multipliers.{labels_agree, none_taken}
 use Rattle.projective_bounds.proofs.Family.{AreWalked, IsNest, IsWalked, family-fits, tree-is}

@@ -13,8 +13,8 @@ use Rattle.claims.specs.declared.place.Step.TheVariants.{Key, Index}
 use Rattle.claims.specs.declared.key.TheConstants.{BRANCHES, PARTITION, TERMS as TERMS_KEY}
 use Rattle.claims.proofs.Laws.{AllHold-append}
 use Rattle.dep_quast.specs.Tree.{SelectionTree}
-use Rattle.part_fit.specs.Limits.{NamesRows}
-use Rattle.part_fit.specs.TreeFit.{trees_fit}
+use Rattle.certificate_fit.specs.Limits.{NamesRows}
+use Rattle.certificate_fit.specs.TreeFit.{trees_fit}
 use Rattle.reuse_paths.specs.declared.quasts.Quasts.{Quasts}
 use Rattle.reuse_paths.specs.Quasts.{trees_of}
 use Rattle.reuse_paths.specs.Trees.{rows_claims}

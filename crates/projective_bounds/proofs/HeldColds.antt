@@ -14,7 +14,7 @@ use Rattle.dep_quast.specs.Context.{variables_at}
 use Rattle.dep_quast.specs.Tree.{SelectionTree}
 use Rattle.dep_quast.specs.Truth.{ReadFits}
 use Rattle.domain_count.specs.Claims.{SumClaims}
-use Rattle.part_fit.specs.Limits.{NameRows}
+use Rattle.certificate_fit.specs.Limits.{NameRows}
 use Rattle.projective.specs.Products.{IsProduct, IsProductCount, RunBelow}
 use Rattle.projective.proofs.Units.{unit-at, unit-other, unit-same}
 use Rattle.projective.proofs.Runs.{run-many}

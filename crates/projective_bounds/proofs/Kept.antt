@@ -13,7 +13,7 @@ use Rattle.affine_program.specs.Domain.{depth_of, path_of}
 use Rattle.dep_quast.specs.Context.{no_row, variables_at}
 use Rattle.dep_quast.specs.Tree.{SelectionTree, leaf, test, source, input, empty, blank}
 use Rattle.dep_quast.specs.Truth.{FitsUnder}
-use Rattle.part_fit.specs.Limits.{IsNestedTree}
+use Rattle.certificate_fit.specs.Limits.{IsNestedTree}
 use Rattle.projective.specs.Projective.{IsProjective, coordinates, shifted_variable, stands_in}
 use Rattle.flow_deps.specs.Shapes.{last_write, no_write, shape_of, split}
 use Rattle.projective.specs.SourceTrees.{AreSourceTrees, IsSourceTree, read_number, turns_shape}

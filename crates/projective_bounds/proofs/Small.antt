@@ -9,7 +9,7 @@ use Rattle.std.proofs.lemmas.List.Sums.{sum_by-cons}
 use Rattle.base_laws.proofs.Lists.{All-append, All-every, All-map, All-replicate, All-weaken}
 use Rattle.iolb_model.specs.Form.{AffineForm}
 use Rattle.iolb_model.specs.Program.{AffineProgram, statement_at}
-use Rattle.part_fit.proofs.FormsFit.{bounds-small}
+use Rattle.certificate_fit.proofs.FormsFit.{bounds-small}
 use Rattle.projective.specs.Turns.{width}
 use Rattle.affine_form.specs.Form.{IsSmall, IsSmallForm}
 use Rattle.affine_form.specs.Multipliers.{FarkasMultipliers}
@@ -24,7 +24,7 @@ use Rattle.poly_tree.specs.Poly.{Quotient}
 use Rattle.poly_tree.proofs.Expansions.{IsCanonical-more}
 use Rattle.reuse_paths.specs.Families.{FamilyForms, family_of}
 use Rattle.reuse_paths.specs.Walks.{take}
-use Rattle.part_fit.specs.Limits.{AreSmall, IsSmallEntry, IsSmallFamily, IsSmallFamilyNode, IsSmallLabel, IsSmallPolynomial, IsSmallWalk, NameRows, NamesRows}
+use Rattle.certificate_fit.specs.Limits.{AreSmall, IsSmallEntry, IsSmallFamily, IsSmallFamilyNode, IsSmallLabel, IsSmallPolynomial, IsSmallWalk, NameRows, NamesRows}
 use Rattle.k_partition.specs.declared.term.Partition.{Partition}
 use Rattle.k_partition.specs.View.{credit_term_of, partition_of}
 use Rattle.iolb_check.specs.Limits.{IsSmallCredit, IsSmallPartition}

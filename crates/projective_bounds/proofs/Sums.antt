@@ -8,7 +8,7 @@ use Rattle.affine_form.specs.Multipliers.{FarkasMultipliers}
 use Rattle.domain_count.specs.Claims.{SumClaims}
 use Rattle.poly_tree.specs.Expansion.{IsCanonical}
 use Rattle.poly_tree.specs.Poly.{Quotient}
-use Rattle.part_fit.specs.PartFit.{polynomials_fit, sum_at}
+use Rattle.certificate_fit.specs.PartFit.{polynomials_fit, sum_at}
 use Rattle.projective.specs.Products.{AreRepeated, AreTaken, IsProductCount}
 use Rattle.projective.proofs.Runs.{run-many}
 

@@ -1,17 +1,17 @@
 -- What is found in the claims of an entry.
 use Rattle.std.proofs.Common.{◌≡◌, sym, subst, ℕ, zero, suc, ◌+◌, ◌≤◌, List, [], ◌∷◌, ◌++◌, map, arith, lit<, zero-add}
-use Rattle.std.specs.Prelude.{Option, Some, None, IsSomeAnd}
+use Rattle.std.specs.Prelude.{Option, Some, None, IsSomeAnd, Result}
 use Rattle.std.specs.List.{AllByRecursion}
 use Rattle.std.proofs.Math.IntN.{pos}
 use Rattle.std.proofs.Math.Nat.{add-zero}
 use Rattle.base_laws.proofs.Lists.{All-append, All-replicate}
 use Rattle.iolb_model.specs.Form.{AffineForm}
-use Rattle.claims.specs.Claims.{Claim, Finds}
+use Rattle.claims.specs.Claims.{Claim, Decides}
 use Rattle.claims.specs.declared.place.Step.{Step}
 use Rattle.claims.specs.declared.place.Step.TheVariants.{Key}
-use Rattle.claims.specs.declared.key.TheConstants.{ROWS, START}
-use Rattle.claims.specs.declared.refused.No.{No}
-use Rattle.claims.proofs.Found.{Finds-later}
+use Rattle.claims.specs.declared.key.TheConstants.{ROWS}
+use Rattle.claims.specs.declared.refused.Refused.{Refused}
+use Rattle.claims.proofs.Found.{decides-later}
 use Rattle.claims.proofs.Members.{suc-moved}
 use Rattle.affine_form.specs.Form.{IsSmall}
 use Rattle.affine_form.specs.Multipliers.{FarkasMultipliers}
@@ -19,13 +19,11 @@ use Rattle.affine_form.specs.Rows.{widened, IsSmallOver}
 use Rattle.affine_form.specs.System.{AffineSystem}
 use Rattle.affine_form.proofs.RowLemmas.{length-widened}
 use Rattle.dep_quast.specs.Claims.{follow_claims}
-use Rattle.domain_count.specs.Count.{rows_before}
 use Rattle.reuse_paths.specs.EntryClaims.{IsInRegion, going_goals}
 use Rattle.reuse_paths.specs.OpenLeaves.{written, form_at}
-use Rattle.reuse_paths.specs.ReachClaims.{start_claims}
 use Rattle.reuse_paths.specs.WalkFits.{RegionsFit, RegionRowsFit}
-use Rattle.reuse_paths.specs.WalkSettings.{WalkSetting, spot_variables, region_variables, region_at, entering_rows}
-use Rattle.reuse_paths.specs.Walks.{WalkRegion, SpotForms}
+use Rattle.reuse_paths.specs.WalkSettings.{WalkSetting, region_variables, region_at, entering_rows}
+use Rattle.reuse_paths.specs.Walks.{WalkRegion}
 use Rattle.iolb_model.specs.declared.limits.TheConstants.{NUMBER_SIZE}
 
 -- small forms read over more variables
@@ -41,15 +39,15 @@ all-widened-small many vars (form ∷ forms) more h = (
 
 -- a walk goes on into a region
 pub going-found : (condition : ℕ) (walk : WalkSetting) (place : List Step) (system : AffineSystem) (point : List AffineForm) (writer : ℕ) (values : List AffineForm) (region : WalkRegion)
-    (shown : List FarkasMultipliers) (found : Option No) → region_at walk.nodes writer ≡ Some region
-    → Finds (follow_claims condition (place ++ Key ROWS ∷ []) system 0 (entering_rows walk system.vars (Some region) (map (form_at system.vars point) values)) shown) found
-    → Finds (record { condition = condition; place = place; statement = IsInRegion walk (written writer values) }
+    (shown : List FarkasMultipliers) (found : Result (Unit {0}) Refused) → region_at walk.nodes writer ≡ Some region
+    → Decides (follow_claims condition (place ++ Key ROWS ∷ []) system 0 (entering_rows walk system.vars (Some region) (map (form_at system.vars point) values)) shown) found
+    → Decides (record { condition = condition; place = place; statement = IsInRegion walk (written writer values) }
     ∷ follow_claims condition (place ++ Key ROWS ∷ []) system 0 (going_goals walk system.vars point (written writer values)) shown) found
 going-found condition walk place system point writer values region shown found is h =
     let follow : List Claim = follow_claims condition (place ++ Key ROWS ∷ []) system 0 (going_goals walk system.vars point (written writer values)) shown in
-    Finds-later (record { condition = condition; place = place; statement = IsSomeAnd (region_at walk.nodes writer) (λ region. Unit {0}) }) follow found
-    (subst (λ (o : Option WalkRegion). IsSomeAnd o (λ region. Unit {0})) (sym is) tt)
-    (subst (λ (o : Option WalkRegion). Finds (follow_claims condition (place ++ Key ROWS ∷ []) system 0 (entering_rows walk system.vars o (map (form_at system.vars point) values)) shown) found) (sym is) h)
+    decides-later (record { condition = condition; place = place; statement = IsSomeAnd (region_at walk.nodes writer) (λ region. Unit {0}) } ∷ []) follow found
+    (subst (λ (o : Option WalkRegion). IsSomeAnd o (λ region. Unit {0})) (sym is) tt, tt)
+    (subst (λ (o : Option WalkRegion). Decides (follow_claims condition (place ++ Key ROWS ∷ []) system 0 (entering_rows walk system.vars o (map (form_at system.vars point) values)) shown) found) (sym is) h)
 
 -- the rows of regions that fit are over their variables
 pub rows-fit : (walk : WalkSetting) (first : ℕ) (nodes : List (Option WalkRegion)) → RegionsFit walk first nodes → RegionRowsFit walk first nodes
@@ -74,14 +72,3 @@ rows-at walk first (suc s) (Some other ∷ nodes) region e fits =
 pub region-over : (walk : WalkSetting) (s : ℕ) (region : WalkRegion) → RegionRowsFit walk 0 walk.nodes → region_at walk.nodes s ≡ Some region
     → AllByRecursion (IsSmallOver (region_variables walk s)) region.rows
 region-over walk s region fits is = subst (λ (n : ℕ). AllByRecursion (IsSmallOver (region_variables walk n)) region.rows) (zero-add s) (rows-at walk 0 s walk.nodes region is fits)
-
--- a spot is in its statement's region
-pub start-found : (condition : ℕ) (walk : WalkSetting) (place : List Step) (from : SpotForms) (region : WalkRegion) (start : List FarkasMultipliers) (found : Option No)
-    → region_at walk.nodes from.statement ≡ Some region
-    → Finds (follow_claims condition (place ++ Key START ∷ []) (rows_before walk.program walk.nest) 0 (entering_rows walk (spot_variables walk) (Some region) from.point) start) found
-    → Finds (start_claims condition walk place from start) found
-start-found condition walk place from region start found is h =
-    let follow : Option WalkRegion → List Claim = λ o. follow_claims condition (place ++ Key START ∷ []) (rows_before walk.program walk.nest) 0 (entering_rows walk (spot_variables walk) o from.point) start in
-    Finds-later (record { condition = condition; place = place ++ Key START ∷ []; statement = IsSomeAnd (region_at walk.nodes from.statement) (λ region. Unit {0}) }) (follow (region_at walk.nodes from.statement)) found
-    (subst (λ (o : Option WalkRegion). IsSomeAnd o (λ region. Unit {0})) (sym is) tt)
-    (subst (λ (o : Option WalkRegion). Finds (follow o) found) (sym is) h)

@@ -1,6 +1,6 @@
 -- The labels that a family's walks keep: what is looked up, that it fits, and what is found in the claims of a label.
 use Rattle.std.proofs.Common.{◌≡◌, sym, ◌∙◌, subst, ℕ, zero, suc, ◌+◌, ◌≤◌, List, [], ◌∷◌, ◌++◌, length, map, arith, lit<}
-use Rattle.std.specs.Prelude.{Option, Some, option_map, slice_get, IsSomeAnd}
+use Rattle.std.specs.Prelude.{Option, Some, slice_get, IsSomeAnd}
 use Rattle.std.specs.List.{AllByRecursion}
 use Rattle.std.proofs.Math.IntN.{pos}
 use Rattle.std.proofs.lemmas.List.{length-append}
@@ -9,24 +9,16 @@ use Rattle.std.proofs.Math.Nat.{add-zero}
 use Rattle.base_laws.proofs.Lists.{All-append, All-at, All-replicate, All-weaken}
 use Rattle.iolb_model.specs.Form.{AffineForm}
 use Rattle.iolb_model.specs.Program.{Array, AccessFits, AffineProgram, IsWellFormed, no_statement, statement_at}
-use Rattle.claims.specs.Claims.{Finds}
-use Rattle.claims.specs.declared.place.Step.{Step}
-use Rattle.claims.specs.declared.place.Step.TheVariants.{Key}
-use Rattle.claims.specs.declared.refused.No.{No}
 use Rattle.claims.proofs.Members.{suc-moved}
 use Rattle.affine_form.specs.Form.{variables, IsSmall, IsSmallForm}
-use Rattle.affine_form.specs.Multipliers.{FarkasMultipliers}
-use Rattle.affine_form.specs.Rows.{equality_rows, variables_from, IsSmallOver}
+use Rattle.affine_form.specs.Rows.{variables_from, IsSmallOver}
 use Rattle.affine_form.specs.Substitution.{substitution}
-use Rattle.affine_form.specs.System.{AffineSystem}
 use Rattle.affine_form.proofs.RowLemmas.{length-variables, length-widened, small-substitution, small-wider, variables-over, variables-substitution}
 use Rattle.affine_program.specs.Domain.{depth_of}
 use Rattle.affine_program.specs.Parts.{ProgramParts, IsProgram, array_of, meaning}
-use Rattle.dep_quast.specs.Claims.{follow_claims}
 use Rattle.dep_quast.specs.Context.{ReadOf, reference_of}
 use Rattle.dep_quast.specs.Truth.{ReadFits}
 use Rattle.dep_quast.proofs.Fits.{fits-at}
-use Rattle.reuse_paths.specs.EntryClaims.{label_claims}
 use Rattle.reuse_paths.specs.Families.{CreditedNest, label_at}
 use Rattle.reuse_paths.specs.WalkFits.{AimFits, AreCellLabels, AreInstanceLabels, CreditFits, IsLabel, IsLabelIf, LabelsFit, ReaderFits}
 use Rattle.reuse_paths.specs.WalkSettings.{KeptLabels, keeps, WalkSetting, forms_behind, region_variables, spot_variables}
@@ -125,12 +117,3 @@ own-within vars forms h = All-weaken (IsSmallOver vars) (λ (form : AffineForm).
 
 pub own-small : (vars : ℕ) (forms : List AffineForm) → AllByRecursion (IsSmallOver vars) forms → AllByRecursion (IsSmallForm PUT_SIZE) forms
 own-small vars forms h = All-weaken (IsSmallOver vars) (IsSmallForm PUT_SIZE) forms (λ form g. small-wider form g.small) h
-
--- ---- what is found in the claims of a label
-
-module _ (own : List AffineForm) (place : List Step) (key : ℕ) (system : AffineSystem) (behind : List AffineForm → List AffineForm) (label : Option (List AffineForm)) (shown : List FarkasMultipliers) where
-  -- where there is a label
-  pub label-found : (is : List AffineForm) (found : Option No) → label ≡ Some is
-      → Finds (follow_claims 14 (place ++ Key key ∷ []) system 0 (equality_rows system.vars (behind is) own) shown) found
-      → Finds (label_claims own place key system (option_map behind label) shown) found
-  label-found is found e h = subst (λ (l : Option (List AffineForm)). Finds (label_claims own place key system (option_map behind l) shown) found) (sym e) h

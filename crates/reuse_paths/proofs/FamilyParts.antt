@@ -1,16 +1,16 @@
 -- The settings of a family's walks fit, and what is found in the claims of its start label.
 use Rattle.std.proofs.Common.{◌≡◌, refl, sym, ◌∙◌, ap, subst, ℕ, zero, suc, ◌+◌, ◌<◌, ◌≤◌, List, [], ◌∷◌, ◌++◌, length, map, get_or, drop, arith, zero-add}
-use Rattle.std.specs.Prelude.{Option, Some, None}
+use Rattle.std.specs.Prelude.{Option, Some, None, Result}
 use Rattle.std.specs.List.{AllByRecursion}
 use Rattle.std.proofs.lemmas.List.{length-map, drop_all}
 use Rattle.base_laws.proofs.Lists.{rest_at, add-one}
 use Rattle.iolb_model.specs.Form.{AffineForm}
 use Rattle.iolb_model.specs.Program.{AffineProgram}
-use Rattle.claims.specs.Claims.{Claim, AllHold, Finds}
+use Rattle.claims.specs.Claims.{Claim, AllHold, Decides, IsRefusal, IsRefusalAt}
 use Rattle.claims.specs.declared.place.Step.{Step}
 use Rattle.claims.specs.declared.place.Step.TheVariants.{Index}
-use Rattle.claims.specs.declared.refused.No.{No}
-use Rattle.claims.proofs.Found.{Finds-here, Finds-later}
+use Rattle.claims.specs.declared.refused.Refused.{Refused}
+use Rattle.claims.proofs.Found.{refused-here, decides-later}
 use Rattle.claims.proofs.Members.{suc-moved}
 use Rattle.affine_form.specs.Matrix.{IntegerMatrix}
 use Rattle.affine_form.specs.Rows.{IsSmallOver}
@@ -130,8 +130,8 @@ module _ (matrix : IntegerMatrix) (scale parameters loops : ℕ) (place : List S
         ∙ ap (λ (l : List AffineForm). label_rows matrix scale parameters loops place i (row ∷ drop (i + 1) set) l) (rest_at label i form below is_form)
         ∙ ap (λ (n : ℕ). claim ∷ label_rows matrix scale parameters loops place n (drop (i + 1) set) (drop (i + 1) label)) (add-one i)
 
-    pub row-fails : (found : Option No) → (IsScaledRow matrix scale parameters loops row form → ⊥) → found ≡ Some (record { condition = 13; place = place ++ Index i ∷ [] }) → Finds (rows-from i) found
-    row-fails found fails e = subst (λ (cs : List Claim). Finds cs found) (sym split) (Finds-here claim (rows-from (i + 1)) found fails e)
+    pub row-fails : (r : Refused) → (IsScaledRow matrix scale parameters loops row form → ⊥) → IsRefusalAt 13 (place ++ Index i ∷ []) r → IsRefusal (rows-from i) r
+    row-fails r fails at = subst (λ (cs : List Claim). IsRefusal cs r) (sym split) (refused-here claim (rows-from (i + 1)) r fails at)
 
-    pub row-holds : (found : Option No) → IsScaledRow matrix scale parameters loops row form → Finds (rows-from (i + 1)) found → Finds (rows-from i) found
-    row-holds found holds h = subst (λ (cs : List Claim). Finds cs found) (sym split) (Finds-later claim (rows-from (i + 1)) found holds h)
+    pub row-holds : (answer : Result (Unit {0}) Refused) → IsScaledRow matrix scale parameters loops row form → Decides (rows-from (i + 1)) answer → Decides (rows-from i) answer
+    row-holds answer holds h = subst (λ (cs : List Claim). Decides cs answer) (sym split) (decides-later (claim ∷ []) (rows-from (i + 1)) answer (holds, tt) h)

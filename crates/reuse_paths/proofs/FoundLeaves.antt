@@ -1,17 +1,15 @@
 -- What is found in the claims at open leaves, leaf by leaf.
 use Rattle.std.proofs.Common.{◌≡◌, refl, sym, ◌∙◌, ap, subst, ℕ, zero, suc, ◌+◌, ◌<◌, ◌≤◌, List, [], ◌∷◌, ◌++◌, length, get_or, map, drop, arith}
-use Rattle.std.specs.Prelude.{Option, Some, None}
+use Rattle.std.specs.Prelude.{Option, Result}
 use Rattle.std.proofs.lemmas.List.{drop_all}
 use Rattle.std.proofs.Math.Nat.{add-zero}
 use Rattle.base_laws.proofs.Lists.{rest_at, add-one}
 use Rattle.iolb_model.specs.Form.{AffineForm}
-use Rattle.claims.specs.Claims.{Claim, AllHold, Finds, IsRefusal}
+use Rattle.claims.specs.Claims.{Claim, AllHold, Decides, IsRefusal}
 use Rattle.claims.specs.declared.place.Step.{Step}
 use Rattle.claims.specs.declared.place.Step.TheVariants.{Index}
-use Rattle.claims.specs.declared.refused.No.{No}
 use Rattle.claims.specs.declared.refused.Refused.{Refused}
-use Rattle.claims.specs.declared.refused.Refused.TheVariants.{No as not_so, Memory}
-use Rattle.claims.proofs.Found.{Finds-stop, Finds-go}
+use Rattle.claims.proofs.Found.{refused-first, decides-later}
 use Rattle.claims.proofs.Members.{suc-moved}
 use Rattle.dep_quast.specs.Context.{ReadOf}
 use Rattle.reuse_paths.specs.declared.leaf.Leaf.{Leaf}
@@ -68,13 +66,8 @@ module _ (condition : ℕ) (walk : WalkSetting) (reader : ReadOf) (list : List S
         ∙ ap (λ (p : List Step). leaf_claims condition walk reader p rows l (claim_of e) ++ leaves_claims condition walk reader list rows (suc i) (drop (i + 1) leaves) (map claim_of (drop (i + 1) entries))) (sym at)
         ∙ ap (λ (n : ℕ). here ++ leaves_claims condition walk reader list rows n (drop (i + 1) leaves) (map claim_of (drop (i + 1) entries))) (add-one i)
 
-    pub leaves-stop : (n : No) (found : Option No) → found ≡ Some n → Finds here found → Finds (from i) (Some n)
-    leaves-stop n found none h = subst (λ (cs : List Claim). Finds cs (Some n)) (sym split) (Finds-stop here (from (i + 1)) n (subst (Finds here) none h))
+    pub leaves-stop : (r : Refused) → IsRefusal here r → IsRefusal (from i) r
+    leaves-stop r h = subst (λ (cs : List Claim). IsRefusal cs r) (sym split) (refused-first here (from (i + 1)) r h)
 
-    pub leaves-next : (before found : Option No) → before ≡ None → Finds here before → Finds (from (i + 1)) found → Finds (from i) found
-    leaves-next before found none h g = subst (λ (cs : List Claim). Finds cs found) (sym split) (Finds-go here (from (i + 1)) found (subst (Finds here) none h) g)
-
--- a refusal of the later claims is one of all, where what is found in the later is found in all
-pub refused-there : (later all : List Claim) → ((found : Option No) → Finds later found → Finds all found) → (r : Refused) → IsRefusal later r → IsRefusal all r
-refused-there later all there (not_so n) h = there (Some n) h
-refused-there later all there Memory h = tt
+    pub leaves-next : (answer : Result (Unit {0}) Refused) → AllHold here → Decides (from (i + 1)) answer → Decides (from i) answer
+    leaves-next answer h g = subst (λ (cs : List Claim). Decides cs answer) (sym split) (decides-later here (from (i + 1)) answer h g)

@@ -17,7 +17,6 @@ pub mod Renamed
 pub mod EntryClaims
 pub mod FamilyLabels
 pub mod FamilyParts
-pub mod WalkSides
 pub mod FoundLeaves
 pub mod Arrivals
 pub mod KeptLabels

@@ -1,15 +1,15 @@
--- What is found in the claims on pieces, part by part.
+-- The claims on pieces, part by part.
 use Rattle.std.proofs.Common.{◌≡◌, sym, ◌∙◌, ap, subst, ℕ, ◌+◌, ◌<◌, ◌≤◌, Bool, true, false, cond, List, [], ◌∷◌, ◌++◌, length, map, get_or, drop, arith}
-use Rattle.std.specs.Prelude.{Option, Some, None, IfNone, Vec}
+use Rattle.std.specs.Prelude.{Result, Vec}
 use Rattle.std.specs.List.{AllByRecursion}
 use Rattle.std.specs.Global.{Global}
 use Rattle.std.proofs.lemmas.List.{length-append}
 use Rattle.base_laws.proofs.Lists.{rest_at}
 use Rattle.iolb_model.specs.Program.{AffineProgram}
-use Rattle.claims.specs.Claims.{Finds}
+use Rattle.claims.specs.Claims.{AllHold, Decides, IsRefusal}
 use Rattle.claims.specs.declared.place.Step.{Step}
 use Rattle.claims.specs.declared.place.Step.TheVariants.{Index}
-use Rattle.claims.specs.declared.refused.No.{No}
+use Rattle.claims.specs.declared.refused.Refused.{Refused}
 use Rattle.affine_form.specs.Multipliers.{FarkasMultipliers}
 use Rattle.affine_form.specs.System.{AffineSystem}
 use Rattle.dep_quast.proofs.Chunks.{claims_from, one-from, chunk-stop, chunk-go}
@@ -27,11 +27,9 @@ module _ (condition : ℕ) (place : List Step) (at next : ℕ) (whole here rest 
   pub first-room : at + length here ≤ length shown
   first-room = omega (arith, many, enough)
 
-  -- something is found of the first
-  pub first-stop : (found : Option No) (n : No) → found ≡ Some n → Finds (claims_from condition place at here shown) found → Finds (claims_from condition place at whole shown) (Some n)
-  first-stop found n e h =
-      subst (λ (xs : List AffineSystem). Finds (claims_from condition place at xs shown) (Some n)) (sym split)
-      (chunk-stop condition place at here rest shown n first-room (subst (Finds (claims_from condition place at here shown)) e h))
+  -- a claim on the first fails
+  pub first-stop : (r : Refused) → IsRefusal (claims_from condition place at here shown) r → IsRefusal (claims_from condition place at whole shown) r
+  first-stop r h = subst (λ (xs : List AffineSystem). IsRefusal (claims_from condition place at xs shown) r) (sym split) (chunk-stop condition place at here rest shown r first-room h)
 
   module _ (is_next : next ≡ at + length here) where
     -- there are multipliers for the others
@@ -42,12 +40,10 @@ module _ (condition : ℕ) (place : List Step) (at next : ℕ) (whole here rest 
     pub rest-end : next + length rest ≡ at + length whole
     rest-end = omega (arith, many, is_next)
 
-    -- nothing is found of the first
-    pub first-go : (found later : Option No) → found ≡ None → Finds (claims_from condition place at here shown) found → Finds (claims_from condition place next rest shown) later
-        → Finds (claims_from condition place at whole shown) later
-    first-go found later e h g =
-        subst (λ (xs : List AffineSystem). Finds (claims_from condition place at xs shown) later) (sym split)
-        (chunk-go condition place at next here rest shown later first-room is_next (subst (Finds (claims_from condition place at here shown)) e h) g)
+    -- those on the first hold
+    pub first-go : (later : Result (Unit {0}) Refused) → AllHold (claims_from condition place at here shown) → Decides (claims_from condition place next rest shown) later → Decides (claims_from condition place at whole shown) later
+    first-go later h g =
+        subst (λ (xs : List AffineSystem). Decides (claims_from condition place at xs shown) later) (sym split) (chunk-go condition place at next here rest shown later first-room is_next h g)
 
 -- ---- a piece and those of a list
 
@@ -67,13 +63,13 @@ module _ (program : AffineProgram) (piece : FootprintPiece) (others : List Piece
       → systems_with program (map piece_of (drop i others)) piece ≡ (shared_system program piece (piece_of other) ∷ []) ++ systems_with program (map piece_of (drop (i + 1) others)) piece
   split-same e = split true e
 
--- what is found of a pair is found of its system, where its multipliers stand in the list
-pub pair-found : (program : AffineProgram) (piece other : FootprintPiece) (condition : ℕ) (place member : List Step) (at : ℕ) (shown : List FarkasMultipliers) (m : FarkasMultipliers) (found : Option No)
-    → at < length shown → m ≡ get_or shown at m → member ≡ place ++ Index at ∷ [] → Finds (pair_claims program condition member piece other m) found
-    → Finds (claims_from condition place at (shared_system program piece other ∷ []) shown) found
+-- what decides the claims of a pair decides those on its system, where its multipliers stand in the list
+pub pair-found : (program : AffineProgram) (piece other : FootprintPiece) (condition : ℕ) (place member : List Step) (at : ℕ) (shown : List FarkasMultipliers) (m : FarkasMultipliers) (found : Result (Unit {0}) Refused)
+    → at < length shown → m ≡ get_or shown at m → member ≡ place ++ Index at ∷ [] → Decides (pair_claims program condition member piece other m) found
+    → Decides (claims_from condition place at (shared_system program piece other ∷ []) shown) found
 pair-found program piece other condition place member at shown m found below is there h =
     one-from condition place at (shared_system program piece other) shown m found below is
-    (subst (λ (p : List Step). Finds (pair_claims program condition p piece other m) found) there h)
+    (subst (λ (p : List Step). Decides (pair_claims program condition p piece other m) found) there h)
 
 -- ---- the pieces of a list and those of another; pieces and those of later lists; several lists
 
@@ -100,7 +96,3 @@ pub lists-fit : (program : AffineProgram) (lists : List (Vec Piece Global)) (i :
     → AllByRecursion (AllByRecursion (PieceFits program)) (map pieces_of (drop i lists))
     → AllByRecursion (PieceFits program) (pieces_of pieces) × AllByRecursion (AllByRecursion (PieceFits program)) (map pieces_of (drop (i + 1) lists))
 lists-fit program lists i pieces below is h = subst (λ (ls : List (Vec Piece Global)). AllByRecursion (AllByRecursion (PieceFits program)) (map pieces_of ls)) (rest_at lists i pieces below is) h
-
--- what holds if nothing is found
-pub if-none : {X : Type 0} (found : Option X) (P : Type 0) → found ≡ None → IfNone found P → P
-if-none {X = X} found P e h = let Q : Option X → Type 0 = λ o. IfNone o P in subst Q e h

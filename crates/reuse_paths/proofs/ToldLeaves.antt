@@ -1,15 +1,14 @@
 -- The pieces of open leaves, leaf by leaf, and what is found in the claims that their rows are few.
 use Rattle.std.proofs.Common.{◌≡◌, sym, ◌∙◌, ap, subst, ℕ, suc, ◌+◌, ◌<◌, ◌≤◌, List, [], ◌∷◌, ◌++◌, length, get_or, map, drop, append_assoc}
-use Rattle.std.specs.Prelude.{Option}
+use Rattle.std.specs.Prelude.{Result}
 use Rattle.std.proofs.lemmas.List.{append-nil, drop_all}
 use Rattle.base_laws.proofs.Lists.{rest_at, add-one}
 use Rattle.iolb_model.specs.Form.{AffineForm}
-use Rattle.claims.specs.Claims.{Claim, AllHold, Finds, IsRefusal}
+use Rattle.claims.specs.Claims.{Claim, AllHold, Decides, IsRefusal}
 use Rattle.claims.specs.declared.place.Step.{Step}
 use Rattle.claims.specs.declared.place.Step.TheVariants.{Index}
-use Rattle.claims.specs.declared.refused.No.{No}
 use Rattle.claims.specs.declared.refused.Refused.{Refused}
-use Rattle.claims.proofs.Found.{Finds-later, refused-first}
+use Rattle.claims.proofs.Found.{decides-later, refused-first}
 use Rattle.dep_quast.specs.Claims.{IsFew}
 use Rattle.dep_quast.specs.Context.{ReadOf}
 use Rattle.reuse_paths.specs.declared.leaf.Leaf.{Leaf}
@@ -59,5 +58,5 @@ module _ (walk : WalkSetting) (reader : ReadOf) (list : List Step) (rows : List 
       pub few-stops : (r : Refused) → IsRefusal (here ∷ []) r → IsRefusal (from i) r
       few-stops r h = subst (λ (cs : List Claim). IsRefusal cs r) (sym parted) (refused-first (here ∷ []) (from (i + 1)) r h)
 
-      pub few-next : (found : Option No) → IsFew (length (rows ++ l.tests)) → Finds (from (i + 1)) found → Finds (from i) found
-      few-next found h later = subst (λ (cs : List Claim). Finds cs found) (sym parted) (Finds-later here (from (i + 1)) found h later)
+      pub few-next : (found : Result (Unit {0}) Refused) → IsFew (length (rows ++ l.tests)) → Decides (from (i + 1)) found → Decides (from i) found
+      few-next found h later = subst (λ (cs : List Claim). Decides cs found) (sym parted) (decides-later (here ∷ []) (from (i + 1)) found (h, tt) later)

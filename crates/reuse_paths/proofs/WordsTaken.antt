@@ -1,5 +1,5 @@
 -- What a walk takes from an instance whose claims hold: a word whose entry's claims hold, and of which the source tree is true.
-use Rattle.std.proofs.Common.{◌≡◌, refl, subst, ℕ, ◌+◌, if◌then◌else◌, Bool, true, false, List, [], ◌∷◌, ◌++◌, length, map, arith, zero-add}
+use Rattle.std.proofs.Common.{◌≡◌, refl, subst, ℕ, if◌then◌else◌, Bool, true, false, List, [], ◌∷◌, ◌++◌, length, map, arith, zero-add}
 use Rattle.std.specs.Prelude.{◌<ℤ◌}
 use Rattle.std.proofs.Math.IntN.{ℤ, pos, negsuc}
 use lib.Signed.{◌≤ℤ◌}

@@ -1,11 +1,12 @@
 //! Whether a word is shown to be written in a credited nest.
+#![tactic(auto, using(claims::proofs::Found::in_a_row))]
 
-ghost use Rattle.std.specs.Prelude.{◌≡◌, ◌+◌, ◌*◌, ◌≤◌, ◌++◌, ◌∷◌, [], length, map, slice_get, None, Some, IfOk, IsSomeAnd, MatchOption};
+ghost use Rattle.std.specs.Prelude.{◌≡◌, ◌+◌, ◌*◌, ◌≤◌, ◌++◌, ◌∷◌, [], length, map, slice_get, None, Some, IsSomeAnd, MatchOption};
 ghost use Rattle.std.specs.List.{AllByRecursion};
 ghost use Rattle.affine_form.specs.Rows.{step_of, within_rows, BoundsFit, IsSmallOver};
 ghost use Rattle.affine_form.specs.System.{AllOver};
 ghost use Rattle.affine_program.specs.Domain.{depth_of};
-ghost use Rattle.claims.specs.Claims.{Finds};
+ghost use Rattle.claims.specs.Claims.{Decides};
 ghost use Rattle.claims.specs.declared.place.Step.TheVariants.{Key};
 ghost use Rattle.dep_quast.specs.Claims.{follow_claims, IsFew};
 ghost use Rattle.dep_quast.specs.Context.{parameter_point};
@@ -21,9 +22,9 @@ use crate::family::Credit;
 use crate::open_leaves::Origin;
 use crate::region::written_values;
 use crate::walking::{Kept, Walking, region_variables};
-use affine_form::{Form, Memory, Multipliers, system_of, variables_from, within_rows};
+use affine_form::{Form, Multipliers, system_of, variables_from, within_rows};
 use claims::key::ROWS;
-use claims::{No, Place, Step, refusal};
+use claims::{Place, Refused, Step, refusal};
 use dep_quast::claims_shown::goals_shown;
 use domain_count::Nest;
 use std::alloc::Global;
@@ -39,7 +40,7 @@ fn nest_shown(
     nest: &Nest,
     values: &[Form],
     shown: &[Multipliers],
-) -> Result<Option<No>, Memory>
+) -> Result<(), Refused>
     requires fits { ReadingFits (walk_of walking.now) statement }
     requires rows_over { AllOver (region_variables (walk_of walking.now) statement) rows.now }
     requires few { IsFew (length rows.now) }
@@ -48,9 +49,9 @@ fn nest_shown(
     requires one_each { length values.now ≡ length nest.now }
     requires values_over { AllByRecursion (IsSmallOver (length (walk_of walking.now).program.parameters + depth_of (walk_of walking.now).program statement)) values.now }
     requires enough { length shown.now ≡ 2 * length nest.now }
-    ensures { IfOk result (λ found. Finds (follow_claims walking.now.condition (place.now ++ Key ROWS ∷ []) (record { vars = region_variables (walk_of walking.now) statement; rows = rows.now }) 0
+    ensures { Decides (follow_claims walking.now.condition (place.now ++ Key ROWS ∷ []) (record { vars = region_variables (walk_of walking.now) statement; rows = rows.now }) 0
         (within_rows (region_variables (walk_of walking.now) statement) (map step_of nest.now) (parameter_point (walk_of walking.now).program (region_variables (walk_of walking.now) statement))
-        (map (form_at (region_variables (walk_of walking.now) statement) (reading_point (walk_of walking.now) statement)) values.now)) shown.now) found) }
+        (map (form_at (region_variables (walk_of walking.now) statement) (reading_point (walk_of walking.now) statement)) values.now)) shown.now) result }
 {
     let vars = region_variables(walking, statement);
     let params = variables_from(alloc, vars, 0, walking.program.params().len())?;
@@ -87,30 +88,30 @@ pub(crate) fn credit_shown(
     origin: &Origin,
     number: u8,
     shown: &[Multipliers],
-) -> Result<Option<No>, Memory>
+) -> Result<(), Refused>
     requires fits { ReadingFits (walk_of walking.now) statement }
     requires aim { (walk_of walking.now).aim ≡ keeps (kept_of kept) }
     requires rows_over { AllOver (region_variables (walk_of walking.now) statement) rows.now }
     requires few { IsFew (length rows.now) }
     requires origin { OriginFits (walk_of walking.now).program (length (walk_of walking.now).program.parameters + depth_of (walk_of walking.now).program statement) (origin_of origin.now) }
     requires enough { IsSomeAnd (slice_get (kept_of kept).credits number) (λ nest. length shown.now ≡ 2 * length nest.nest) }
-    ensures { IfOk result (λ found. Finds (record { condition = walking.now.condition; place = place.now; statement = IsOfCredit (kept_of kept.entry).credits number (origin_of origin.now) }
+    ensures { Decides (record { condition = walking.now.condition; place = place.now; statement = IsOfCredit (kept_of kept.entry).credits number (origin_of origin.now) }
         ∷ follow_claims walking.now.condition (place.now ++ Key ROWS ∷ []) (record { vars = region_variables (walk_of walking.now) statement; rows = rows.now }) 0
-        (credit_goals (walk_of walking.now).program (kept_of kept.entry).credits (region_variables (walk_of walking.now) statement) (reading_point (walk_of walking.now) statement) number (origin_of origin.now)) shown.now) found) }
+        (credit_goals (walk_of walking.now).program (kept_of kept.entry).credits (region_variables (walk_of walking.now) statement) (reading_point (walk_of walking.now) statement) number (origin_of origin.now)) shown.now) result }
 {
     let _params = walking.program.params();
     let Some(credit) = credit_at(kept.credits, number) else {
-        return refusal(alloc, walking.condition, place);
+        return Err(refusal(alloc, walking.condition, place));
     };
     let Origin::Written {
         statement: writer,
         point,
     } = origin
     else {
-        return refusal(alloc, walking.condition, place);
+        return Err(refusal(alloc, walking.condition, place));
     };
     if *writer != credit.statement {
-        return refusal(alloc, walking.condition, place);
+        return Err(refusal(alloc, walking.condition, place));
     }
     nest_shown(
         alloc,
@@ -121,5 +122,6 @@ pub(crate) fn credit_shown(
         &credit.nest,
         point.as_slice(),
         shown,
-    )
+    )?;
+    Ok(())
 }

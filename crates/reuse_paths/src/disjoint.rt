@@ -1,9 +1,10 @@
 //! The check that pieces of footprints have no vertex in common.
+#![tactic(auto, using(claims::proofs::Found::in_a_row))]
 
-ghost use Rattle.std.specs.Prelude.{◌≡◌, ◌≤◌, ◌+◌, [], ◌∷◌, ◌++◌, length, map, drop, IfOk, OnOk, IfErr, IfNone};
+ghost use Rattle.std.specs.Prelude.{◌≡◌, ◌≤◌, ◌+◌, [], ◌∷◌, ◌++◌, length, map, drop, IfOk, OnOk, IfErr};
 ghost use Rattle.std.specs.List.{AllByRecursion};
 ghost use Rattle.affine_program.specs.Parts.{meaning};
-ghost use Rattle.claims.specs.Claims.{AllHold, Finds, IsRefusal};
+ghost use Rattle.claims.specs.Claims.{AllHold, Decides, IsRefusal};
 ghost use Rattle.claims.specs.declared.place.Step.TheVariants.{Key};
 ghost use Rattle.dep_quast.specs.Claims.{pointless_claims};
 ghost use Rattle.reuse_paths.specs.DisjointClaims.{DisjointPiecesAreApart, PairwisePiecesAreApart, disjoint_claims, pair_claims, pair_key, pairwise_systems, shared_systems, systems_with, systems_with_lists};
@@ -14,7 +15,7 @@ use crate::shared::{is_same, rows_of, variables_of};
 use affine_form::{Memory, Multipliers};
 use affine_program::Program;
 use claims::key::{APART, DISJOINT};
-use claims::{No, Place, Refused, Step};
+use claims::{Place, Refused, Step};
 use dep_quast::claims_shown::system_shown;
 use std::alloc::Global;
 
@@ -50,17 +51,12 @@ pub fn check_disjoint(
     ensures refused { IfErr result (λ refused. IsRefusal (disjoint_claims (meaning program.now) condition place.now (map piece_of first.now) (map piece_of second.now) shown.now) refused) }
 {
     disjoint_pieces_are_apart();
-    let Ok(list) = list_of(alloc, condition, place) else {
-        return Err(Refused::Memory);
-    };
+    let list = list_of(alloc, condition, place)?;
     let mut at = 0;
-    match pieces_shown(
+    pieces_shown(
         alloc, program, first, second, shown, &mut at, condition, &list,
-    ) {
-        Ok(None) => Ok(()),
-        Ok(Some(no)) => Err(Refused::No(no)),
-        Err(Memory) => Err(Refused::Memory),
-    }
+    )?;
+    Ok(())
 }
 
 /// The place of the multipliers.
@@ -80,23 +76,20 @@ pub fn lists_shown(
     shown: &[Multipliers],
     condition: u8,
     list: &Place,
-) -> Result<Option<No>, Memory>
+) -> Result<(), Refused>
     requires fit { AllByRecursion (AllByRecursion (PieceFits (meaning program.now))) (map pieces_of lists.now) }
     requires enough { length (pairwise_systems (meaning program.now) (map pieces_of lists.now)) ≤ length shown.now }
-    ensures { IfOk result (λ found. Finds (pointless_claims condition list.now 0 (pairwise_systems (meaning program.now) (map pieces_of lists.now)) shown.now) found) }
+    ensures { Decides (pointless_claims condition list.now 0 (pairwise_systems (meaning program.now) (map pieces_of lists.now)) shown.now) result }
 {
     let mut at = 0;
     for (i, pieces) in lists.iter().enumerate() {
         let (_before, later) = lists.split_at(i + 1);
         let pieces = pieces.as_slice();
-        let found = later_shown(
+        later_shown(
             alloc, program, pieces, later, shown, &mut at, condition, list,
         )?;
-        if let Some(no) = found {
-            return Ok(Some(no));
-        }
     }
-    Ok(None)
+    Ok(())
 }
 
 /// Whether pieces and those of later lists are shown to have no vertex in common, by the multipliers of the list at this
@@ -110,21 +103,18 @@ fn later_shown(
     at: &mut usize,
     condition: u8,
     list: &Place,
-) -> Result<Option<No>, Memory>
+) -> Result<(), Refused>
     requires pieces { AllByRecursion (PieceFits (meaning program.now)) (map piece_of pieces.now) }
     requires later { AllByRecursion (AllByRecursion (PieceFits (meaning program.now))) (map pieces_of later.now) }
     requires enough { at.old + length (systems_with_lists (meaning program.now) (map piece_of pieces.now) (map pieces_of later.now)) ≤ length shown.now }
-    ensures found { IfOk result (λ found. Finds (pointless_claims condition list.now at.old (systems_with_lists (meaning program.now) (map piece_of pieces.now) (map pieces_of later.now)) (drop at.old shown.now)) found) }
-    ensures next { IfOk result (λ found. IfNone found (at.new ≡ at.old + length (systems_with_lists (meaning program.now) (map piece_of pieces.now) (map pieces_of later.now)))) }
+    ensures found { Decides (pointless_claims condition list.now at.old (systems_with_lists (meaning program.now) (map piece_of pieces.now) (map pieces_of later.now)) (drop at.old shown.now)) result }
+    ensures next { OnOk result (at.new ≡ at.old + length (systems_with_lists (meaning program.now) (map piece_of pieces.now) (map pieces_of later.now))) }
 {
     for others in later {
         let others = others.as_slice();
-        let found = pieces_shown(alloc, program, pieces, others, shown, at, condition, list)?;
-        if let Some(no) = found {
-            return Ok(Some(no));
-        }
+        pieces_shown(alloc, program, pieces, others, shown, at, condition, list)?;
     }
-    Ok(None)
+    Ok(())
 }
 
 /// Whether pieces of two lists are shown to have no vertex in common, by the multipliers of the list at this place from one
@@ -138,20 +128,17 @@ fn pieces_shown(
     at: &mut usize,
     condition: u8,
     list: &Place,
-) -> Result<Option<No>, Memory>
+) -> Result<(), Refused>
     requires pieces { AllByRecursion (PieceFits (meaning program.now)) (map piece_of pieces.now) }
     requires others { AllByRecursion (PieceFits (meaning program.now)) (map piece_of others.now) }
     requires enough { at.old + length (shared_systems (meaning program.now) (map piece_of pieces.now) (map piece_of others.now)) ≤ length shown.now }
-    ensures found { IfOk result (λ found. Finds (pointless_claims condition list.now at.old (shared_systems (meaning program.now) (map piece_of pieces.now) (map piece_of others.now)) (drop at.old shown.now)) found) }
-    ensures next { IfOk result (λ found. IfNone found (at.new ≡ at.old + length (shared_systems (meaning program.now) (map piece_of pieces.now) (map piece_of others.now)))) }
+    ensures found { Decides (pointless_claims condition list.now at.old (shared_systems (meaning program.now) (map piece_of pieces.now) (map piece_of others.now)) (drop at.old shown.now)) result }
+    ensures next { OnOk result (at.new ≡ at.old + length (shared_systems (meaning program.now) (map piece_of pieces.now) (map piece_of others.now))) }
 {
     for piece in pieces {
-        let found = piece_shown(alloc, program, piece, others, shown, at, condition, list)?;
-        if let Some(no) = found {
-            return Ok(Some(no));
-        }
+        piece_shown(alloc, program, piece, others, shown, at, condition, list)?;
     }
-    Ok(None)
+    Ok(())
 }
 
 /// Whether a piece and those with its target are shown to have no vertex in common, by the multipliers of the list at this
@@ -165,17 +152,17 @@ fn piece_shown(
     at: &mut usize,
     condition: u8,
     list: &Place,
-) -> Result<Option<No>, Memory>
+) -> Result<(), Refused>
     requires fits { PieceFits (meaning program.now) (piece_of piece.now) }
     requires others { AllByRecursion (PieceFits (meaning program.now)) (map piece_of others.now) }
     requires enough { at.old + length (systems_with (meaning program.now) (map piece_of others.now) (piece_of piece.now)) ≤ length shown.now }
-    ensures found { IfOk result (λ found. Finds (pointless_claims condition list.now at.old (systems_with (meaning program.now) (map piece_of others.now) (piece_of piece.now)) (drop at.old shown.now)) found) }
-    ensures next { IfOk result (λ found. IfNone found (at.new ≡ at.old + length (systems_with (meaning program.now) (map piece_of others.now) (piece_of piece.now)))) }
+    ensures found { Decides (pointless_claims condition list.now at.old (systems_with (meaning program.now) (map piece_of others.now) (piece_of piece.now)) (drop at.old shown.now)) result }
+    ensures next { OnOk result (at.new ≡ at.old + length (systems_with (meaning program.now) (map piece_of others.now) (piece_of piece.now))) }
 {
     for other in others {
         if is_same(&piece.target, &other.target) {
             let member = list.within(alloc, Step::Index(*at as u64))?;
-            let found = pair_shown(
+            pair_shown(
                 alloc,
                 program,
                 piece,
@@ -184,13 +171,10 @@ fn piece_shown(
                 condition,
                 &member,
             )?;
-            if let Some(no) = found {
-                return Ok(Some(no));
-            }
             *at += 1;
         }
     }
-    Ok(None)
+    Ok(())
 }
 
 /// Whether two pieces with one target are shown to have no vertex in common, by the multipliers at this place.
@@ -202,10 +186,10 @@ fn pair_shown(
     shown: &Multipliers,
     condition: u8,
     place: &Place,
-) -> Result<Option<No>, Memory>
+) -> Result<(), Refused>
     requires piece { PieceFits (meaning program.now) (piece_of piece.now) }
     requires other { PieceFits (meaning program.now) (piece_of other.now) }
-    ensures { IfOk result (λ found. Finds (pair_claims (meaning program.now) condition place.now (piece_of piece.now) (piece_of other.now) shown.now) found) }
+    ensures { Decides (pair_claims (meaning program.now) condition place.now (piece_of piece.now) (piece_of other.now) shown.now) result }
 {
     let rows = rows_of(alloc, program, piece, other)?;
     let vars = variables_of(program, piece, other);

@@ -1,11 +1,12 @@
 //! Whether what a walk that is to arrive claims at a leaf is shown, and what walks of both kinds claim.
+#![tactic(auto, using(claims::proofs::Found::in_a_row))]
 
 ghost use Rattle.std.specs.Prelude.{◌≡◌, ◌+◌, ◌*◌, ◌<◌, ◌≤◌, ◌++◌, ◌∷◌, [], length, map, IfOk};
 ghost use Rattle.std.specs.List.{AllByRecursion};
 ghost use Rattle.affine_form.specs.Rows.{IsSmallOver};
 ghost use Rattle.affine_form.specs.System.{AllOver};
 ghost use Rattle.affine_program.specs.Domain.{depth_of};
-ghost use Rattle.claims.specs.Claims.{Finds};
+ghost use Rattle.claims.specs.Claims.{Decides};
 ghost use Rattle.claims.specs.declared.place.Step.TheVariants.{Key};
 ghost use Rattle.dep_quast.specs.Claims.{follow_claims, IsFew, IsPointless};
 ghost use Rattle.dep_quast.specs.Views.{read_of};
@@ -25,7 +26,7 @@ use crate::walking::{Walking, region_at, region_variables};
 use crate::{Leaf, Region, Spot};
 use affine_form::{Form, Memory, Multipliers, system_of};
 use claims::key::{ARRIVE, EMPTY, LABEL, ROWS, STOP};
-use claims::{No, Place, Step, refusal};
+use claims::{Place, Refused, Step, refusal};
 use dep_quast::claims_shown::{goals_shown, system_shown};
 use dep_quast::lists::all_widened;
 use dep_quast::reader::Reader;
@@ -87,15 +88,15 @@ fn target_shown(
     rows: &[Form],
     values: &[Form],
     equal: &[Multipliers],
-) -> Result<Option<No>, Memory>
+) -> Result<(), Refused>
     requires fits { ReadingFits (walk_of walking.now) statement }
     requires target_fits { SpotFits (walk_of walking.now).program (spot_variables (walk_of walking.now)) (spot_of target.now) }
     requires rows_over { AllOver (region_variables (walk_of walking.now) statement) rows.now }
     requires few { IsFew (length rows.now) }
     requires origin { OriginFits (walk_of walking.now).program (length (walk_of walking.now).program.parameters + depth_of (walk_of walking.now).program statement) (written target.now.statement values.now) }
     requires enough { length equal.now ≡ 2 * depth_of (walk_of walking.now).program target.now.statement }
-    ensures { IfOk result (λ found. Finds (follow_claims walking.now.condition (place.now ++ Key ARRIVE ∷ []) (record { vars = region_variables (walk_of walking.now) statement; rows = rows.now }) 0
-        (arriving_goals (spot_of target.now) (region_variables (walk_of walking.now) statement) (reading_point (walk_of walking.now) statement) (written target.now.statement values.now)) equal.now) found) }
+    ensures { Decides (follow_claims walking.now.condition (place.now ++ Key ARRIVE ∷ []) (record { vars = region_variables (walk_of walking.now) statement; rows = rows.now }) 0
+        (arriving_goals (spot_of target.now) (region_variables (walk_of walking.now) statement) (reading_point (walk_of walking.now) statement) (written target.now.statement values.now)) equal.now) result }
 {
     let vars = region_variables(walking, statement);
     let here = written_values(alloc, walking, statement, values)?;
@@ -123,15 +124,15 @@ fn arrival_shown(
     rows: &[Form],
     origin: &Origin,
     equal: &[Multipliers],
-) -> Result<Option<No>, Memory>
+) -> Result<(), Refused>
     requires fits { ReadingFits (walk_of walking.now) statement }
     requires target_fits { SpotFits (walk_of walking.now).program (spot_variables (walk_of walking.now)) (spot_of target.now) }
     requires rows_over { AllOver (region_variables (walk_of walking.now) statement) rows.now }
     requires few { IsFew (length rows.now) }
     requires origin { OriginFits (walk_of walking.now).program (length (walk_of walking.now).program.parameters + depth_of (walk_of walking.now).program statement) (origin_of origin.now) }
     requires enough { length equal.now ≡ 2 * depth_of (walk_of walking.now).program target.now.statement }
-    ensures { IfOk result (λ found. Finds (arriving_claims walking.now.condition (walk_of walking.now) (spot_of target.now) place.now
-        (record { vars = region_variables (walk_of walking.now) statement; rows = rows.now }) (reading_point (walk_of walking.now) statement) (origin_of origin.now) (arrives equal.now)) found) }
+    ensures { Decides (arriving_claims walking.now.condition (walk_of walking.now) (spot_of target.now) place.now
+        (record { vars = region_variables (walk_of walking.now) statement; rows = rows.now }) (reading_point (walk_of walking.now) statement) (origin_of origin.now) (arrives equal.now)) result }
 {
     match origin {
         Origin::Written {
@@ -147,7 +148,7 @@ fn arrival_shown(
             point.as_slice(),
             equal,
         ),
-        _ => refusal(alloc, walking.condition, place),
+        _ => Err(refusal(alloc, walking.condition, place)),
     }
 }
 
@@ -162,7 +163,7 @@ fn region_shown(
     region: &Region,
     values: &[Form],
     shown: &[Multipliers],
-) -> Result<Option<No>, Memory>
+) -> Result<(), Refused>
     requires fits { ReadingFits (walk_of walking.now) statement }
     requires rows_over { AllOver (region_variables (walk_of walking.now) statement) rows.now }
     requires few { IsFew (length rows.now) }
@@ -170,9 +171,9 @@ fn region_shown(
     requires region_over { AllByRecursion (IsSmallOver (spot_variables (walk_of walking.now) + length values.now)) region.now.rows.items }
     requires values_over { AllByRecursion (IsSmallOver (length (walk_of walking.now).program.parameters + depth_of (walk_of walking.now).program statement)) values.now }
     requires enough { length shown.now ≡ length region.now.rows.items }
-    ensures { IfOk result (λ found. Finds (follow_claims walking.now.condition (place.now ++ Key ROWS ∷ []) (record { vars = region_variables (walk_of walking.now) statement; rows = rows.now }) 0
+    ensures { Decides (follow_claims walking.now.condition (place.now ++ Key ROWS ∷ []) (record { vars = region_variables (walk_of walking.now) statement; rows = rows.now }) 0
         (forms_behind (walk_of walking.now) (region_variables (walk_of walking.now) statement)
-        (map (form_at (region_variables (walk_of walking.now) statement) (reading_point (walk_of walking.now) statement)) values.now) region.now.rows.items) shown.now) found) }
+        (map (form_at (region_variables (walk_of walking.now) statement) (reading_point (walk_of walking.now) statement)) values.now) region.now.rows.items) shown.now) result }
 {
     let vars = region_variables(walking, statement);
     let here = written_values(alloc, walking, statement, values)?;
@@ -200,15 +201,15 @@ pub(crate) fn going_shown(
     rows: &[Form],
     origin: &Origin,
     shown: &[Multipliers],
-) -> Result<Option<No>, Memory>
+) -> Result<(), Refused>
     requires fits { ReadingFits (walk_of walking.now) statement }
     requires rows_over { AllOver (region_variables (walk_of walking.now) statement) rows.now }
     requires few { IsFew (length rows.now) }
     requires origin { OriginFits (walk_of walking.now).program (length (walk_of walking.now).program.parameters + depth_of (walk_of walking.now).program statement) (origin_of origin.now) }
     requires enough { length shown.now ≡ length (going_goals (walk_of walking.now) (region_variables (walk_of walking.now) statement) (reading_point (walk_of walking.now) statement) (origin_of origin.now)) }
-    ensures { IfOk result (λ found. Finds (record { condition = walking.now.condition; place = place.now; statement = IsInRegion (walk_of walking.now) (origin_of origin.now) }
+    ensures { Decides (record { condition = walking.now.condition; place = place.now; statement = IsInRegion (walk_of walking.now) (origin_of origin.now) }
         ∷ follow_claims walking.now.condition (place.now ++ Key ROWS ∷ []) (record { vars = region_variables (walk_of walking.now) statement; rows = rows.now }) 0
-        (going_goals (walk_of walking.now) (region_variables (walk_of walking.now) statement) (reading_point (walk_of walking.now) statement) (origin_of origin.now)) shown.now) found) }
+        (going_goals (walk_of walking.now) (region_variables (walk_of walking.now) statement) (reading_point (walk_of walking.now) statement) (origin_of origin.now)) shown.now) result }
 {
     let _params = walking.program.params();
     let Origin::Written {
@@ -216,10 +217,10 @@ pub(crate) fn going_shown(
         point,
     } = origin
     else {
-        return refusal(alloc, walking.condition, place);
+        return Err(refusal(alloc, walking.condition, place));
     };
     let Some(region) = region_at(walking, *writer) else {
-        return refusal(alloc, walking.condition, place);
+        return Err(refusal(alloc, walking.condition, place));
     };
     region_shown(
         alloc,
@@ -241,16 +242,16 @@ pub(crate) fn empty_shown(
     statement: u16,
     rows: &[Form],
     shown: &Multipliers,
-) -> Result<Option<No>, Memory>
+) -> Result<(), Refused>
     requires nest { NestFits (walk_of walking.now).program (walk_of walking.now).nest }
     requires there { statement < length (walk_of walking.now).program.statements }
     requires rows_over { AllOver (region_variables (walk_of walking.now) statement) rows.now }
     requires few { IsFew (length rows.now) }
-    ensures { IfOk result (λ found. Finds (record {
+    ensures { Decides (record {
       condition = walking.now.condition;
       place = place.now ++ Key EMPTY ∷ [];
       statement = IsPointless (record { vars = region_variables (walk_of walking.now) statement; rows = rows.now }) shown.now;
-    } ∷ []) found) }
+    } ∷ []) result }
 {
     let vars = region_variables(walking, statement);
     let empty = place.within(alloc, Step::Key(EMPTY))?;
@@ -268,15 +269,15 @@ pub(crate) fn arriving_shown(
     rows: &[Form],
     origin: &Origin,
     entry: &Leaf,
-) -> Result<Option<No>, Memory>
+) -> Result<(), Refused>
     requires fits { ReadingFits (walk_of walking.now) reader.statement }
     requires target_fits { SpotFits (walk_of walking.now).program (spot_variables (walk_of walking.now)) (spot_of target.now) }
     requires rows_over { AllOver (region_variables (walk_of walking.now) reader.statement) rows.now }
     requires few { IsFew (length rows.now) }
     requires origin { OriginFits (walk_of walking.now).program (length (walk_of walking.now).program.parameters + depth_of (walk_of walking.now).program reader.statement) (origin_of origin.now) }
     requires entry_fits { ArrivingFits (walk_of walking.now) (spot_of target.now) (read_of reader) (origin_of origin.now) (claim_of entry.now) }
-    ensures { IfOk result (λ found. Finds (arriving_claims walking.now.condition (walk_of walking.now) (spot_of target.now) place.now
-        (record { vars = region_variables (walk_of walking.now) reader.statement; rows = rows.now }) (reading_point (walk_of walking.now) reader.statement) (origin_of origin.now) (claim_of entry.now)) found) }
+    ensures { Decides (arriving_claims walking.now.condition (walk_of walking.now) (spot_of target.now) place.now
+        (record { vars = region_variables (walk_of walking.now) reader.statement; rows = rows.now }) (reading_point (walk_of walking.now) reader.statement) (origin_of origin.now) (claim_of entry.now)) result }
 {
     let statement = reader.statement;
     match entry {
@@ -300,6 +301,6 @@ pub(crate) fn arriving_shown(
             origin,
             shown.as_slice(),
         ),
-        Leaf::Stop { .. } | Leaf::Credit { .. } => refusal(alloc, walking.condition, place),
+        Leaf::Stop { .. } | Leaf::Credit { .. } => Err(refusal(alloc, walking.condition, place)),
     }
 }

@@ -1,4 +1,5 @@
 //! The check of families.
+#![tactic(auto, using(claims::proofs::Found::in_a_row))]
 
 ghost use Rattle.std.specs.Prelude.{◌≡◌, ◌↔◌, ◌<◌, ◌+◌, ◌*◌, ◌^◌, ◌*ℤ◌, ◌++◌, ◌∷◌, [], pos, unsigned_abs, length, map, option_map, Some, IfOk, IfErr, IsTrue, OnOk};
 ghost use Rattle.std.specs.List.{AllByRecursion};
@@ -7,7 +8,7 @@ ghost use Rattle.affine_form.specs.Rows.{BoundsFit};
 ghost use Rattle.affine_form.specs.System.{AllOver};
 ghost use Rattle.affine_program.specs.Domain.{depth_of};
 ghost use Rattle.affine_program.specs.Parts.{meaning};
-ghost use Rattle.claims.specs.Claims.{AllHold, Finds, IsRefusal, numbered};
+ghost use Rattle.claims.specs.Claims.{AllHold, Decides, IsRefusal, numbered};
 ghost use Rattle.claims.specs.declared.place.Step.TheVariants.{Key};
 ghost use Rattle.reuse_paths.specs.Families.{credit_of, family_of, node_of, NodeForms};
 ghost use Rattle.reuse_paths.specs.FamilyClaims.{family_claims, family_setting, label_rows, node_walk, region_walk, start_rows, start_walk, IsScaledRow};
@@ -20,7 +21,7 @@ ghost use Rattle.reuse_paths.specs.WalkFits.{IsLabel, NestFits, RegionFits, Walk
 ghost use Rattle.reuse_paths.specs.Walks.{region_of, tree_of_walk};
 ghost use Rattle.reuse_paths.specs.WalkSettings.{region_context, region_variables};
 ghost use Rattle.reuse_paths.specs.WalkViews.{walk_of, ReadingFits, SettingFits};
-ghost use Rattle.claims.specs.declared.key.TheConstants.{START, TREE};
+ghost use Rattle.claims.specs.declared.key.TheConstants.{LABEL, START, TREE};
 
 use crate::family::{Credit, Family, FamilyNode};
 use crate::law::families_are_sound;
@@ -32,7 +33,7 @@ use crate::walking::{Aim, Kept, Walking, region_values, region_variables};
 use affine_form::{Form, Matrix, Memory, variables_from, within_rows};
 use affine_program::Program;
 use claims::key::{LABEL, NODES, REGION, START, TREE};
-use claims::{No, Place, Refused, Step, refusal};
+use claims::{Place, Refused, Step, refusal};
 use dep_quast::reader::depth;
 use domain_count::Nest;
 use std::alloc::Global;
@@ -79,12 +80,12 @@ fn label_shown(
     matrix: &Matrix,
     family: &Family,
     list: &Place,
-) -> Result<Option<No>, Memory>
+) -> Result<(), Refused>
     requires counted { CountedFits (meaning program.now) statement nest.now matrix.now }
     requires set { AllByRecursion (λ row. row < matrix.now.rows) (family_of family.now).set }
     requires label { IsLabel (length (family_of family.now).set) (length program.now.params + depth_of (meaning program.now) statement) (family_of family.now).start_label }
-    ensures { IfOk result (λ found. Finds (label_rows matrix.now family.now.scale (length program.now.params) (depth_of (meaning program.now) statement) list.now 0
-        (family_of family.now).set (family_of family.now).start_label) found) }
+    ensures { Decides (label_rows matrix.now family.now.scale (length program.now.params) (depth_of (meaning program.now) statement) list.now 0
+        (family_of family.now).set (family_of family.now).start_label) result }
 {
     let params = program.params().len();
     let loops = depth(program, statement);
@@ -93,10 +94,10 @@ fn label_shown(
     for (i, row) in set.iter().enumerate() {
         if !is_scaled_row(matrix, family.scale, params, loops, *row, &label[i]) {
             let place = list.within(alloc, Step::Index(i as u64))?;
-            return refusal(alloc, 13, &place);
+            return Err(refusal(alloc, 13, &place));
         }
     }
-    Ok(None)
+    Ok(())
 }
 
 /// The rows of a nest of instances of a statement, whose variables are the loop values.
@@ -129,13 +130,13 @@ fn start_shown(
     nest: &Nest,
     tree: &Walk,
     place: &Place,
-) -> Result<Option<No>, Memory>
+) -> Result<(), Refused>
     requires fits { ReadingFits (walk_of walking.now) statement }
     requires each { length nest.now ≡ depth_of (walk_of walking.now).program statement }
     requires bounds { BoundsFit (length (walk_of walking.now).program.parameters) nest.now }
     requires walk_fits { WalkFits (walk_of walking.now) statement (tree_of_walk tree.now) }
-    ensures { IfOk result (λ found. Finds (walk_claims walking.now.condition (walk_of walking.now) statement (place.now ++ Key START ∷ Key TREE ∷ [])
-        (region_context (walk_of walking.now) statement (start_rows (walk_of walking.now) statement nest.now)) (tree_of_walk tree.now)) found) }
+    ensures { Decides (walk_claims walking.now.condition (walk_of walking.now) statement (place.now ++ Key START ∷ Key TREE ∷ [])
+        (region_context (walk_of walking.now) statement (start_rows (walk_of walking.now) statement nest.now)) (tree_of_walk tree.now)) result }
 {
     let own = start_rows(alloc, walking, statement, nest)?;
     let rows = region_context(alloc, walking, statement, own.as_slice())?;
@@ -151,14 +152,14 @@ fn region_shown(
     list: &Place,
     statement: u16,
     region: &Option<Region>,
-) -> Result<Option<No>, Memory>
+) -> Result<(), Refused>
     requires fits { ReadingFits (walk_of walking.now) statement }
     requires region_fits { RegionFits (walk_of walking.now) statement (option_map region_of region.now) }
     requires condition { walking.now.condition ≡ 15 }
-    ensures { IfOk result (λ found. Finds (region_walk (walk_of walking.now) list.now statement (option_map region_of region.now)) found) }
+    ensures { Decides (region_walk (walk_of walking.now) list.now statement (option_map region_of region.now)) result }
 {
     let Some(region) = region else {
-        return Ok(None);
+        return Ok(());
     };
     let rows = region_context(alloc, walking, statement, region.rows.as_slice())?;
     let node = list.within(alloc, Step::Index(u64::from(statement)))?;
@@ -211,13 +212,13 @@ fn counted_shown(
     credits: &[Credit],
     family: &Family,
     place: &Place,
-) -> Result<Option<No>, Memory>
+) -> Result<(), Refused>
     requires none { none.now ≡ [] }
     requires fits { ReadingFits (family_setting (meaning program.now) (trees_of quasts.now) (map credit_of credits.now) (family_of family.now) (family_of family.now).start_label) statement }
     requires each { length nest.now ≡ depth_of (meaning program.now) statement }
     requires bounds { BoundsFit (length (meaning program.now).parameters) nest.now }
     requires walk_fits { WalkFits (family_setting (meaning program.now) (trees_of quasts.now) (map credit_of credits.now) (family_of family.now) (family_of family.now).start_label) statement (family_of family.now).start }
-    ensures { IfOk result (λ found. Finds (start_walk (meaning program.now) (trees_of quasts.now) statement nest.now (map credit_of credits.now) (family_of family.now) place.now) found) }
+    ensures { Decides (start_walk (meaning program.now) (trees_of quasts.now) statement nest.now (map credit_of credits.now) (family_of family.now) place.now) result }
 {
     let label = family.start_label.as_slice();
     let walking = walking_from(program, quasts, none, credits, family, label);
@@ -235,15 +236,15 @@ fn node_shown(
     list: &Place,
     statement: u16,
     node: &Option<FamilyNode>,
-) -> Result<Option<No>, Memory>
+) -> Result<(), Refused>
     requires none { none.now ≡ [] }
     requires fits { (here : NodeForms) → option_map node_of node.now ≡ Some here
         → ReadingFits (family_setting (meaning program.now) (trees_of quasts.now) (map credit_of credits.now) (family_of family.now) here.label) statement }
     requires region_fits { NodeFits (meaning program.now) (trees_of quasts.now) (map credit_of credits.now) (family_of family.now) statement (option_map node_of node.now) }
-    ensures { IfOk result (λ found. Finds (node_walk (meaning program.now) (trees_of quasts.now) (map credit_of credits.now) (family_of family.now) list.now statement (option_map node_of node.now)) found) }
+    ensures { Decides (node_walk (meaning program.now) (trees_of quasts.now) (map credit_of credits.now) (family_of family.now) list.now statement (option_map node_of node.now)) result }
 {
     let Some(node) = node else {
-        return Ok(None);
+        return Ok(());
     };
     let label = node.label.as_slice();
     let walking = walking_from(program, quasts, none, credits, family, label);
@@ -260,22 +261,28 @@ fn nodes_shown(
     credits: &[Credit],
     family: &Family,
     list: &Place,
-) -> Result<Option<No>, Memory>
+) -> Result<(), Refused>
     requires none { none.now ≡ [] }
     requires fits { SettingFits (family_setting (meaning program.now) (trees_of quasts.now) (map credit_of credits.now) (family_of family.now) (family_of family.now).start_label) }
     requires regions_fit { NodesFit (meaning program.now) (trees_of quasts.now) (map credit_of credits.now) (family_of family.now) 0 (family_of family.now).nodes }
-    ensures { IfOk result (λ found. Finds (numbered (node_walk (meaning program.now) (trees_of quasts.now) (map credit_of credits.now) (family_of family.now) list.now) 0 (family_of family.now).nodes) found) }
+    ensures { Decides (numbered (node_walk (meaning program.now) (trees_of quasts.now) (map credit_of credits.now) (family_of family.now) list.now) 0 (family_of family.now).nodes) result }
 {
     let _params = program.params();
     let nodes = family.nodes.as_slice();
     for i in 0..nodes.len() {
-        if let Some(no) = node_shown(
+        node_shown(
             alloc, program, quasts, none, credits, family, list, i as u16, &nodes[i],
-        )? {
-            return Ok(Some(no));
-        }
+        )?;
     }
-    Ok(None)
+    Ok(())
+}
+
+/// The place of a family's start label.
+fn label_place(alloc: Global, place: &Place) -> Result<Place, Memory>
+    ensures { IfOk result (λ label. label ≡ place.now ++ Key START ∷ Key LABEL ∷ []) }
+{
+    let start = place.within(alloc, Step::Key(START))?;
+    start.within(alloc, Step::Key(LABEL))
 }
 
 /// Whether what a family claims is shown.
@@ -289,24 +296,20 @@ fn family_shown(
     credits: &[Credit],
     family: &Family,
     place: &Place,
-) -> Result<Option<No>, Memory>
+) -> Result<(), Refused>
     requires trees_fit { RowsFit (meaning program.now) 0 (trees_of quasts.now) }
     requires fits { FamilyFits (meaning program.now) (trees_of quasts.now) statement nest.now matrix.now (map credit_of credits.now) (family_of family.now) }
-    ensures { IfOk result (λ found. Finds (family_claims (meaning program.now) (trees_of quasts.now) statement nest.now matrix.now (map credit_of credits.now) (family_of family.now) place.now) found) }
+    ensures { Decides (family_claims (meaning program.now) (trees_of quasts.now) statement nest.now matrix.now (map credit_of credits.now) (family_of family.now) place.now) result }
 {
-    let start = place.within(alloc, Step::Key(START))?;
-    let label = start.within(alloc, Step::Key(LABEL))?;
-    if let Some(no) = label_shown(alloc, program, statement, nest, matrix, family, &label)? {
-        return Ok(Some(no));
-    }
+    let label = label_place(alloc, place)?;
+    label_shown(alloc, program, statement, nest, matrix, family, &label)?;
     let none = Nest::new(Vec::new(alloc));
-    if let Some(no) = counted_shown(
+    counted_shown(
         alloc, program, quasts, &none, statement, nest, credits, family, place,
-    )? {
-        return Ok(Some(no));
-    }
+    )?;
     let list = place.within(alloc, Step::Key(NODES))?;
-    nodes_shown(alloc, program, quasts, &none, credits, family, &list)
+    nodes_shown(alloc, program, quasts, &none, credits, family, &list)?;
+    Ok(())
 }
 
 /// Checks what a family of a nest of instances of a statement claims, at this place of a certificate. The matrix has a row
@@ -343,11 +346,7 @@ pub fn check_family(
 {
     let _params = program.params();
     families_are_sound();
-    match family_shown(
+    family_shown(
         alloc, program, quasts, statement, nest, matrix, credits, family, place,
-    ) {
-        Ok(None) => Ok(()),
-        Ok(Some(no)) => Err(Refused::No(no)),
-        Err(Memory) => Err(Refused::Memory),
-    }
+    )
 }

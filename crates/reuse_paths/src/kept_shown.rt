@@ -1,9 +1,10 @@
 //! Whether what a walk that keeps labels claims at a leaf is shown.
+#![tactic(auto, using(claims::proofs::Found::in_a_row))]
 
-ghost use Rattle.std.specs.Prelude.{◌≡◌, ◌+◌, ◌*◌, length, Some, IfOk};
+ghost use Rattle.std.specs.Prelude.{◌≡◌, ◌+◌, ◌*◌, length};
 ghost use Rattle.affine_form.specs.System.{AllOver};
 ghost use Rattle.affine_program.specs.Domain.{depth_of};
-ghost use Rattle.claims.specs.Claims.{Finds};
+ghost use Rattle.claims.specs.Claims.{Decides};
 ghost use Rattle.dep_quast.specs.Claims.{IsFew};
 ghost use Rattle.dep_quast.specs.Truth.{ReadFits};
 ghost use Rattle.dep_quast.specs.Views.{read_of};
@@ -20,9 +21,9 @@ use crate::entry_shown::{empty_shown, going_shown};
 use crate::open_leaves::Origin;
 use crate::walking::{Kept, Walking, region_variables};
 use crate::word_labels::{input_shown, label_shown};
-use affine_form::{Form, Memory, Multipliers};
+use affine_form::{Form, Multipliers};
 use claims::key::{LABEL, STOP};
-use claims::{No, Place, refusal};
+use claims::{Place, Refused, refusal};
 use dep_quast::reader::Reader;
 use std::alloc::Global;
 
@@ -36,19 +37,19 @@ fn stop_shown(
     rows: &[Form],
     origin: &Origin,
     label: &[Multipliers],
-) -> Result<Option<No>, Memory>
+) -> Result<(), Refused>
     requires fits { ReadingFits (walk_of walking.now) reader.statement }
     requires aim { (walk_of walking.now).aim ≡ keeps (kept_of kept) }
     requires read_fits { ReadFits (walk_of walking.now).program (read_of reader) }
     requires rows_over { AllOver (region_variables (walk_of walking.now) reader.statement) rows.now }
     requires few { IsFew (length rows.now) }
     requires enough { length label.now ≡ 2 * length (kept_of kept).reader }
-    ensures { IfOk result (λ found. Finds (keeping_claims walking.now.condition (walk_of walking.now) (kept_of kept.entry) (read_of reader) place.now
-        (record { vars = region_variables (walk_of walking.now) reader.statement; rows = rows.now }) (reading_point (walk_of walking.now) reader.statement) (origin_of origin.now) (stops label.now)) found) }
+    ensures { Decides (keeping_claims walking.now.condition (walk_of walking.now) (kept_of kept.entry) (read_of reader) place.now
+        (record { vars = region_variables (walk_of walking.now) reader.statement; rows = rows.now }) (reading_point (walk_of walking.now) reader.statement) (origin_of origin.now) (stops label.now)) result }
 {
     match origin {
         Origin::Input => input_shown(alloc, walking, kept, place, STOP, reader, rows, label),
-        _ => refusal(alloc, walking.condition, place),
+        _ => Err(refusal(alloc, walking.condition, place)),
     }
 }
 
@@ -64,7 +65,7 @@ fn credited_shown(
     number: u8,
     shown: &[Multipliers],
     label: &[Multipliers],
-) -> Result<Option<No>, Memory>
+) -> Result<(), Refused>
     requires fits { ReadingFits (walk_of walking.now) reader.statement }
     requires aim { (walk_of walking.now).aim ≡ keeps (kept_of kept) }
     requires read_fits { ReadFits (walk_of walking.now).program (read_of reader) }
@@ -72,19 +73,18 @@ fn credited_shown(
     requires few { IsFew (length rows.now) }
     requires origin { OriginFits (walk_of walking.now).program (length (walk_of walking.now).program.parameters + depth_of (walk_of walking.now).program reader.statement) (origin_of origin.now) }
     requires entry_fits { KeepingFits (walk_of walking.now) (kept_of kept) (read_of reader) (origin_of origin.now) (is_credited number shown.now label.now) }
-    ensures { IfOk result (λ found. Finds (keeping_claims walking.now.condition (walk_of walking.now) (kept_of kept.entry) (read_of reader) place.now
+    ensures { Decides (keeping_claims walking.now.condition (walk_of walking.now) (kept_of kept.entry) (read_of reader) place.now
         (record { vars = region_variables (walk_of walking.now) reader.statement; rows = rows.now }) (reading_point (walk_of walking.now) reader.statement) (origin_of origin.now)
-        (is_credited number shown.now label.now)) found) }
+        (is_credited number shown.now label.now)) result }
 {
     let statement = reader.statement;
-    if let Some(no) = credit_shown(
+    credit_shown(
         alloc, walking, kept, place, statement, rows, origin, number, shown,
-    )? {
-        return Ok(Some(no));
-    }
+    )?;
     label_shown(
         alloc, walking, kept, place, LABEL, reader, rows, origin, label,
-    )
+    )?;
+    Ok(())
 }
 
 /// Whether a walk is shown to go on at a leaf, at a word with the reader's label.
@@ -98,7 +98,7 @@ fn onward_shown(
     origin: &Origin,
     shown: &[Multipliers],
     label: &[Multipliers],
-) -> Result<Option<No>, Memory>
+) -> Result<(), Refused>
     requires fits { ReadingFits (walk_of walking.now) reader.statement }
     requires aim { (walk_of walking.now).aim ≡ keeps (kept_of kept) }
     requires read_fits { ReadFits (walk_of walking.now).program (read_of reader) }
@@ -106,17 +106,16 @@ fn onward_shown(
     requires few { IsFew (length rows.now) }
     requires origin { OriginFits (walk_of walking.now).program (length (walk_of walking.now).program.parameters + depth_of (walk_of walking.now).program reader.statement) (origin_of origin.now) }
     requires entry_fits { KeepingFits (walk_of walking.now) (kept_of kept) (read_of reader) (origin_of origin.now) (goes_on shown.now label.now) }
-    ensures { IfOk result (λ found. Finds (keeping_claims walking.now.condition (walk_of walking.now) (kept_of kept.entry) (read_of reader) place.now
+    ensures { Decides (keeping_claims walking.now.condition (walk_of walking.now) (kept_of kept.entry) (read_of reader) place.now
         (record { vars = region_variables (walk_of walking.now) reader.statement; rows = rows.now }) (reading_point (walk_of walking.now) reader.statement) (origin_of origin.now)
-        (goes_on shown.now label.now)) found) }
+        (goes_on shown.now label.now)) result }
 {
     let statement = reader.statement;
-    if let Some(no) = going_shown(alloc, walking, place, statement, rows, origin, shown)? {
-        return Ok(Some(no));
-    }
+    going_shown(alloc, walking, place, statement, rows, origin, shown)?;
     label_shown(
         alloc, walking, kept, place, LABEL, reader, rows, origin, label,
-    )
+    )?;
+    Ok(())
 }
 
 /// Whether what an entry of a walk that keeps labels claims at a leaf is shown, in the system of the region of a
@@ -130,7 +129,7 @@ pub(crate) fn keeping_shown(
     rows: &[Form],
     origin: &Origin,
     entry: &Leaf,
-) -> Result<Option<No>, Memory>
+) -> Result<(), Refused>
     requires fits { ReadingFits (walk_of walking.now) reader.statement }
     requires aim { (walk_of walking.now).aim ≡ keeps (kept_of kept) }
     requires read_fits { ReadFits (walk_of walking.now).program (read_of reader) }
@@ -138,8 +137,8 @@ pub(crate) fn keeping_shown(
     requires few { IsFew (length rows.now) }
     requires origin { OriginFits (walk_of walking.now).program (length (walk_of walking.now).program.parameters + depth_of (walk_of walking.now).program reader.statement) (origin_of origin.now) }
     requires entry_fits { KeepingFits (walk_of walking.now) (kept_of kept) (read_of reader) (origin_of origin.now) (claim_of entry.now) }
-    ensures { IfOk result (λ found. Finds (keeping_claims walking.now.condition (walk_of walking.now) (kept_of kept.entry) (read_of reader) place.now
-        (record { vars = region_variables (walk_of walking.now) reader.statement; rows = rows.now }) (reading_point (walk_of walking.now) reader.statement) (origin_of origin.now) (claim_of entry.now)) found) }
+    ensures { Decides (keeping_claims walking.now.condition (walk_of walking.now) (kept_of kept.entry) (read_of reader) place.now
+        (record { vars = region_variables (walk_of walking.now) reader.statement; rows = rows.now }) (reading_point (walk_of walking.now) reader.statement) (origin_of origin.now) (claim_of entry.now)) result }
 {
     match entry {
         Leaf::Empty(shown) => empty_shown(alloc, walking, place, reader.statement, rows, shown),
@@ -174,6 +173,6 @@ pub(crate) fn keeping_shown(
             shown.as_slice(),
             label.as_slice(),
         ),
-        Leaf::Arrive { .. } => refusal(alloc, walking.condition, place),
+        Leaf::Arrive { .. } => Err(refusal(alloc, walking.condition, place)),
     }
 }

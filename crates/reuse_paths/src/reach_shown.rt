@@ -1,9 +1,10 @@
 //! The check of reaches.
+#![tactic(auto, using(claims::proofs::Found::in_a_row))]
 
-ghost use Rattle.std.specs.Prelude.{◌≡◌, ◌*◌, ◌++◌, ◌∷◌, [], ℕ, length, map, option_map, IfOk, OnOk, IfErr};
+ghost use Rattle.std.specs.Prelude.{◌≡◌, ◌*◌, ◌++◌, ◌∷◌, [], ℕ, length, map, option_map, OnOk, IfErr};
 ghost use Rattle.affine_program.specs.Domain.{depth_of};
 ghost use Rattle.affine_program.specs.Parts.{meaning};
-ghost use Rattle.claims.specs.Claims.{AllHold, Finds, IsRefusal, numbered};
+ghost use Rattle.claims.specs.Claims.{AllHold, Decides, IsRefusal, numbered};
 ghost use Rattle.claims.specs.declared.key.TheConstants.{NODES};
 ghost use Rattle.claims.specs.declared.place.Step.TheVariants.{Key};
 ghost use Rattle.reuse_paths.specs.Arrival.{Arrives};
@@ -21,10 +22,10 @@ use crate::region::{equality_rows, forms_behind};
 use crate::walk_shown::regions_shown;
 use crate::walking::{Aim, Walking, region_at, spot_variables};
 use crate::{Quasts, Reach, Region, Spot};
-use affine_form::{Memory, Multipliers};
+use affine_form::Multipliers;
 use affine_program::Program;
 use claims::key::{NODES, SAME, START};
-use claims::{No, Place, Refused, Step, refusal};
+use claims::{Place, Refused, Step, refusal};
 use dep_quast::claims_shown::goals_shown;
 use domain_count::{Nest, rows_before};
 use std::alloc::Global;
@@ -37,16 +38,16 @@ fn same_shown(
     place: &Place,
     from: &Spot,
     equal: &[Multipliers],
-) -> Result<Option<No>, Memory>
+) -> Result<(), Refused>
     requires nest { NestFits (walk_of walking.now).program (walk_of walking.now).nest }
     requires target_fits { SpotFits (walk_of walking.now).program (spot_variables (walk_of walking.now)) (spot_of target.now) }
     requires from_fits { SpotFits (walk_of walking.now).program (spot_variables (walk_of walking.now)) (spot_of from.now) }
     requires enough { from.now.statement ≡ target.now.statement → length equal.now ≡ 2 * depth_of (walk_of walking.now).program from.now.statement }
-    ensures { IfOk result (λ found. Finds (same_claims walking.now.condition (walk_of walking.now) (spot_of target.now) place.now (spot_of from.now) equal.now) found) }
+    ensures { Decides (same_claims walking.now.condition (walk_of walking.now) (spot_of target.now) place.now (spot_of from.now) equal.now) result }
 {
     let list = place.within(alloc, Step::Key(SAME))?;
     if from.statement != target.statement {
-        return refusal(alloc, walking.condition, &list);
+        return Err(refusal(alloc, walking.condition, &list));
     }
     let vars = spot_variables(walking);
     let system = rows_before(alloc, walking.program, walking.nest.bounds())?;
@@ -58,7 +59,8 @@ fn same_shown(
         &system,
         goals.as_slice(),
         equal,
-    )
+    )?;
+    Ok(())
 }
 
 /// Whether a spot is shown to be in its statement's region.
@@ -68,15 +70,15 @@ fn start_shown(
     place: &Place,
     from: &Spot,
     start: &[Multipliers],
-) -> Result<Option<No>, Memory>
+) -> Result<(), Refused>
     requires fits { SettingFits (walk_of walking.now) }
     requires from_fits { SpotFits (walk_of walking.now).program (spot_variables (walk_of walking.now)) (spot_of from.now) }
     requires enough { length start.now ≡ length (entering_rows (walk_of walking.now) (spot_variables (walk_of walking.now)) (region_at (walk_of walking.now).nodes from.now.statement) (spot_of from.now).point) }
-    ensures { IfOk result (λ found. Finds (start_claims walking.now.condition (walk_of walking.now) place.now (spot_of from.now) start.now) found) }
+    ensures { Decides (start_claims walking.now.condition (walk_of walking.now) place.now (spot_of from.now) start.now) result }
 {
     let list = place.within(alloc, Step::Key(START))?;
     let Some(region) = region_at(walking, from.statement) else {
-        return refusal(alloc, walking.condition, &list);
+        return Err(refusal(alloc, walking.condition, &list));
     };
     let vars = spot_variables(walking);
     let system = rows_before(alloc, walking.program, walking.nest.bounds())?;
@@ -89,7 +91,8 @@ fn start_shown(
         &system,
         goals.as_slice(),
         start,
-    )
+    )?;
+    Ok(())
 }
 
 /// Whether what a walk from a spot through these regions claims is shown.
@@ -100,21 +103,20 @@ fn walked_shown(
     from: &Spot,
     start: &[Multipliers],
     nodes: &[Option<Region>],
-) -> Result<Option<No>, Memory>
+) -> Result<(), Refused>
     requires fits { SettingFits (walk_of walking.now) }
     requires readers { (statement : ℕ) → ReaderFits (walk_of walking.now) statement (walk_of walking.now).aim }
     requires from_fits { SpotFits (walk_of walking.now).program (spot_variables (walk_of walking.now)) (spot_of from.now) }
     requires enough { length start.now ≡ length (entering_rows (walk_of walking.now) (spot_variables (walk_of walking.now)) (region_at (walk_of walking.now).nodes from.now.statement) (spot_of from.now).point) }
     requires each { length nodes.now ≡ length (walk_of walking.now).program.statements }
     requires regions_fit { RegionsFit (walk_of walking.now) 0 (map (option_map region_of) nodes.now) }
-    ensures { IfOk result (λ found. Finds (start_claims walking.now.condition (walk_of walking.now) place.now (spot_of from.now) start.now
-        ++ numbered (region_claims walking.now.condition (walk_of walking.now) (place.now ++ Key NODES ∷ [])) 0 (map (option_map region_of) nodes.now)) found) }
+    ensures { Decides (start_claims walking.now.condition (walk_of walking.now) place.now (spot_of from.now) start.now
+        ++ numbered (region_claims walking.now.condition (walk_of walking.now) (place.now ++ Key NODES ∷ [])) 0 (map (option_map region_of) nodes.now)) result }
 {
-    if let Some(no) = start_shown(alloc, walking, place, from, start)? {
-        return Ok(Some(no));
-    }
+    start_shown(alloc, walking, place, from, start)?;
     let list = place.within(alloc, Step::Key(NODES))?;
-    regions_shown(alloc, walking, &list, nodes)
+    regions_shown(alloc, walking, &list, nodes)?;
+    Ok(())
 }
 
 /// Whether what a reach claims is shown.
@@ -128,10 +130,10 @@ fn reach_shown<'a>(
     reach: &'a Reach,
     condition: u8,
     place: &Place,
-) -> Result<Option<No>, Memory>
+) -> Result<(), Refused>
     requires trees_fit { RowsFit (meaning program.now) 0 (trees_of quasts.now) }
     requires fits { ReachFits (meaning program.now) (trees_of quasts.now) nest.now (spot_of from.now) (spot_of to.now) (reach_of reach.now) }
-    ensures { IfOk result (λ found. Finds (reach_claims (meaning program.now) (trees_of quasts.now) nest.now (spot_of from.now) (spot_of to.now) (reach_of reach.now) condition place.now) found) }
+    ensures { Decides (reach_claims (meaning program.now) (trees_of quasts.now) nest.now (spot_of from.now) (spot_of to.now) (reach_of reach.now) condition place.now) result }
 {
     match reach {
         Reach::Same(equal) => {
@@ -198,11 +200,7 @@ pub fn check_reach(
 {
     let _params = program.params();
     reaches_arrive();
-    match reach_shown(
+    reach_shown(
         alloc, program, quasts, nest, from, to, reach, condition, place,
-    ) {
-        Ok(None) => Ok(()),
-        Ok(Some(no)) => Err(Refused::No(no)),
-        Err(Memory) => Err(Refused::Memory),
-    }
+    )
 }

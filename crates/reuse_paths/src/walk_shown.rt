@@ -1,10 +1,11 @@
 //! Whether what a walk claims in its regions is shown.
+#![tactic(auto, using(claims::proofs::Found::in_a_row))]
 
 ghost use Rattle.std.specs.Prelude.{◌≡◌, ◌≤◌, ◌<◌, ◌++◌, ◌+◌, ◌∷◌, [], ℕ, length, map, option_map, Some, IfOk};
 ghost use Rattle.std.specs.List.{AllByRecursion};
 ghost use Rattle.affine_form.specs.Rows.{IsSmallOver};
 ghost use Rattle.affine_form.specs.System.{AllOver};
-ghost use Rattle.claims.specs.Claims.{Finds, numbered};
+ghost use Rattle.claims.specs.Claims.{Decides, numbered};
 ghost use Rattle.dep_quast.specs.Claims.{IsFew};
 ghost use Rattle.dep_quast.specs.Context.{no_row};
 ghost use Rattle.dep_quast.specs.Truth.{ReadFits};
@@ -30,7 +31,7 @@ use crate::walking::{Aim, Walking, reading_point, region_variables};
 use crate::{Leaf, Region, Walk};
 use affine_form::{Form, Memory};
 use claims::key::{LEAVES, NO, TREE, YES};
-use claims::{No, Place, Step, refusal};
+use claims::{Place, Refused, Step, refusal};
 use dep_quast::lists::{followed_by, with_form};
 use dep_quast::reader::Reader;
 use iolb_model::limits;
@@ -46,15 +47,15 @@ fn aimed_shown(
     rows: &[Form],
     origin: &Origin,
     entry: &Leaf,
-) -> Result<Option<No>, Memory>
+) -> Result<(), Refused>
     requires fits { ReadingFits (walk_of walking.now) reader.statement }
     requires read_fits { ReadFits (walk_of walking.now).program (read_of reader) }
     requires rows_over { AllOver (region_variables (walk_of walking.now) reader.statement) rows.now }
     requires few { IsFew (length rows.now) }
     requires origin { OriginFits (walk_of walking.now).program (length (walk_of walking.now).program.parameters + depth_of (walk_of walking.now).program reader.statement) (origin_of origin.now) }
     requires entry_fits { EntryFits (walk_of walking.now) (read_of reader) (origin_of origin.now) (claim_of entry.now) }
-    ensures { IfOk result (λ found. Finds (aimed_claims walking.now.condition (walk_of walking.now) (walk_of walking.now).aim (read_of reader) place.now
-        (record { vars = region_variables (walk_of walking.now) reader.statement; rows = rows.now }) (reading_point (walk_of walking.now) reader.statement) (origin_of origin.now) (claim_of entry.now)) found) }
+    ensures { Decides (aimed_claims walking.now.condition (walk_of walking.now) (walk_of walking.now).aim (read_of reader) place.now
+        (record { vars = region_variables (walk_of walking.now) reader.statement; rows = rows.now }) (reading_point (walk_of walking.now) reader.statement) (origin_of origin.now) (claim_of entry.now)) result }
 {
     match walking.aim {
         Aim::Arrive { target, .. } => arriving_shown(
@@ -74,19 +75,19 @@ fn leaf_shown(
     rows: &[Form],
     leaf: &OpenLeaf,
     entry: &Leaf,
-) -> Result<Option<No>, Memory>
+) -> Result<(), Refused>
     requires fits { ReadingFits (walk_of walking.now) reader.statement }
     requires read_fits { ReadFits (walk_of walking.now).program (read_of reader) }
     requires rows_over { AllOver (region_variables (walk_of walking.now) reader.statement) rows.now }
     requires leaf_fits { OpenLeafFits (walk_of walking.now) reader.statement leaf.now }
     requires entry_fits { EntryFits (walk_of walking.now) (read_of reader) leaf.now.origin (claim_of entry.now) }
-    ensures { IfOk result (λ found. Finds (leaf_claims walking.now.condition (walk_of walking.now) (read_of reader) place.now rows.now leaf.now (claim_of entry.now)) found) }
+    ensures { Decides (leaf_claims walking.now.condition (walk_of walking.now) (read_of reader) place.now rows.now leaf.now (claim_of entry.now)) result }
 {
     let front = followed_by(alloc, Vec::new(alloc), rows)?;
     let all = followed_by(alloc, front, leaf.tests.as_slice())?;
     if all.as_slice().len() > limits::ROWS {
         let first = entry_place(alloc, place, entry)?;
-        return refusal(alloc, 2, &first);
+        return Err(refusal(alloc, 2, &first));
     }
     aimed_shown(
         alloc,
@@ -96,7 +97,8 @@ fn leaf_shown(
         all.as_slice(),
         &leaf.origin,
         entry,
-    )
+    )?;
+    Ok(())
 }
 
 /// Whether what entries claim at open leaves is shown, one for each, in the system of the region of a statement with these
@@ -109,21 +111,19 @@ fn leaves_shown(
     rows: &[Form],
     leaves: &[OpenLeaf],
     entries: &[Leaf],
-) -> Result<Option<No>, Memory>
+) -> Result<(), Refused>
     requires fits { ReadingFits (walk_of walking.now) reader.statement }
     requires read_fits { ReadFits (walk_of walking.now).program (read_of reader) }
     requires rows_over { AllOver (region_variables (walk_of walking.now) reader.statement) rows.now }
     requires leaves_fit { AllByRecursion (OpenLeafFits (walk_of walking.now) reader.statement) leaves.now }
     requires entries_fit { EntriesFit (walk_of walking.now) (read_of reader) leaves.now (map claim_of entries.now) }
-    ensures { IfOk result (λ found. Finds (leaves_claims walking.now.condition (walk_of walking.now) (read_of reader) list.now rows.now 0 leaves.now (map claim_of entries.now)) found) }
+    ensures { Decides (leaves_claims walking.now.condition (walk_of walking.now) (read_of reader) list.now rows.now 0 leaves.now (map claim_of entries.now)) result }
 {
     for (i, leaf) in leaves.iter().enumerate() {
         let place = list.within(alloc, Step::Index(i as u64))?;
-        if let Some(no) = leaf_shown(alloc, walking, &place, reader, rows, leaf, &entries[i])? {
-            return Ok(Some(no));
-        }
+        leaf_shown(alloc, walking, &place, reader, rows, leaf, &entries[i])?;
     }
-    Ok(None)
+    Ok(())
 }
 
 /// The open leaves of the source tree of a read of a region's statement.
@@ -157,12 +157,12 @@ fn take_shown(
     reader: Reader,
     rows: &[Form],
     entries: &[Leaf],
-) -> Result<Option<No>, Memory>
+) -> Result<(), Refused>
     requires fits { ReadingFits (walk_of walking.now) reader.statement }
     requires rows_over { AllOver (region_variables (walk_of walking.now) reader.statement) rows.now }
     requires take_fits { TakeFits (walk_of walking.now) reader.statement reader.read (map claim_of entries.now) }
-    ensures { IfOk result (λ found. Finds (leaves_claims walking.now.condition (walk_of walking.now) (read_of reader) list.now rows.now 0 (leaves_at (walk_of walking.now) (read_of reader))
-        (map claim_of entries.now)) found) }
+    ensures { Decides (leaves_claims walking.now.condition (walk_of walking.now) (read_of reader) list.now rows.now 0 (leaves_at (walk_of walking.now) (read_of reader))
+        (map claim_of entries.now)) result }
 {
     let leaves = leaves_of(alloc, walking, reader)?;
     leaves_shown(
@@ -200,30 +200,22 @@ pub(crate) fn walk_shown(
     statement: u16,
     rows: &[Form],
     tree: &Walk,
-) -> Result<Option<No>, Memory>
+) -> Result<(), Refused>
     requires fits { ReadingFits (walk_of walking.now) statement }
     requires rows_over { AllOver (region_variables (walk_of walking.now) statement) rows.now }
     requires walk_fits { WalkFits (walk_of walking.now) statement (tree_of_walk tree.now) }
-    ensures { IfOk result (λ found. Finds (walk_claims walking.now.condition (walk_of walking.now) statement place.now rows.now (tree_of_walk tree.now)) found) }
+    ensures { Decides (walk_claims walking.now.condition (walk_of walking.now) statement place.now rows.now (tree_of_walk tree.now)) result }
 {
     match tree {
         Walk::Test { form, yes, no } => {
             let vars = region_variables(walking, statement);
             let above = with_form(alloc, rows, form.try_clone(alloc)?)?;
             let side = place.within(alloc, Step::Key(YES))?;
-            if let Some(found) = walk_shown(
-                alloc,
-                walking,
-                &side,
-                statement,
-                above.as_slice(),
-                yes,
-            )? {
-                return Ok(Some(found));
-            }
+            walk_shown(alloc, walking, &side, statement, above.as_slice(), yes)?;
             let below = rows_of_no(alloc, vars, rows, form)?;
             let side = place.within(alloc, Step::Key(NO))?;
-            walk_shown(alloc, walking, &side, statement, below.as_slice(), no)
+            walk_shown(alloc, walking, &side, statement, below.as_slice(), no)?;
+            Ok(())
         }
         Walk::Take {
             read,
@@ -246,13 +238,13 @@ fn region_shown(
     list: &Place,
     statement: u16,
     node: &Option<Region>,
-) -> Result<Option<No>, Memory>
+) -> Result<(), Refused>
     requires fits { ReadingFits (walk_of walking.now) statement }
     requires region_fits { RegionFits (walk_of walking.now) statement (option_map region_of node.now) }
-    ensures { IfOk result (λ found. Finds (region_claims walking.now.condition (walk_of walking.now) list.now statement (option_map region_of node.now)) found) }
+    ensures { Decides (region_claims walking.now.condition (walk_of walking.now) list.now statement (option_map region_of node.now)) result }
 {
     let Some(region) = node else {
-        return Ok(None);
+        return Ok(());
     };
     let rows = region_context(alloc, walking, statement, region.rows.as_slice())?;
     let node = list.within(alloc, Step::Index(u64::from(statement)))?;
@@ -274,18 +266,16 @@ pub(crate) fn regions_shown(
     walking: &Walking,
     list: &Place,
     nodes: &[Option<Region>],
-) -> Result<Option<No>, Memory>
+) -> Result<(), Refused>
     requires fits { SettingFits (walk_of walking.now) }
     requires readers { (statement : ℕ) → ReaderFits (walk_of walking.now) statement (walk_of walking.now).aim }
     requires each { length nodes.now ≡ length (walk_of walking.now).program.statements }
     requires regions_fit { RegionsFit (walk_of walking.now) 0 (map (option_map region_of) nodes.now) }
-    ensures { IfOk result (λ found. Finds (numbered (region_claims walking.now.condition (walk_of walking.now) list.now) 0 (map (option_map region_of) nodes.now)) found) }
+    ensures { Decides (numbered (region_claims walking.now.condition (walk_of walking.now) list.now) 0 (map (option_map region_of) nodes.now)) result }
 {
     let _params = walking.program.params();
     for i in 0..nodes.len() {
-        if let Some(no) = region_shown(alloc, walking, list, i as u16, &nodes[i])? {
-            return Ok(Some(no));
-        }
+        region_shown(alloc, walking, list, i as u16, &nodes[i])?;
     }
-    Ok(None)
+    Ok(())
 }

@@ -1,4 +1,5 @@
 //! Labels of words, and whether they are shown to be those of their readers.
+#![tactic(auto, using(claims::proofs::Found::in_a_row))]
 
 ghost use Rattle.std.specs.Prelude.{◌≡◌, ◌+◌, ◌*◌, ◌≤◌, ◌++◌, ◌∷◌, [], length, map, Some, IfOk};
 ghost use Rattle.std.specs.List.{AllByRecursion};
@@ -6,7 +7,7 @@ ghost use Rattle.affine_form.specs.Form.{variables, IsSmallForm};
 ghost use Rattle.affine_form.specs.Rows.{equality_rows, IsSmallOver};
 ghost use Rattle.affine_form.specs.System.{AllOver};
 ghost use Rattle.affine_program.specs.Domain.{depth_of};
-ghost use Rattle.claims.specs.Claims.{Finds};
+ghost use Rattle.claims.specs.Claims.{Decides};
 ghost use Rattle.claims.specs.declared.place.Step.TheVariants.{Key};
 ghost use Rattle.dep_quast.specs.Claims.{follow_claims, IsFew};
 ghost use Rattle.dep_quast.specs.Truth.{ReadFits};
@@ -23,7 +24,7 @@ use crate::region::{forms_behind, written_values};
 use crate::shared::equal_rows;
 use crate::walking::{Kept, Walking, region_variables};
 use affine_form::{Form, Memory, Multipliers, system_of};
-use claims::{No, Place, Step, refusal};
+use claims::{Place, Refused, Step, refusal};
 use dep_quast::claims_shown::goals_shown;
 use dep_quast::reader::{Reader, reference};
 use std::alloc::Global;
@@ -64,7 +65,7 @@ fn same_shown(
     values: &[Form],
     own: &[Form],
     shown: &[Multipliers],
-) -> Result<Option<No>, Memory>
+) -> Result<(), Refused>
     requires fits { ReadingFits (walk_of walking.now) statement }
     requires rows_over { AllOver (region_variables (walk_of walking.now) statement) rows.now }
     requires few { IsFew (length rows.now) }
@@ -74,9 +75,9 @@ fn same_shown(
     requires own_over { AllByRecursion (IsSmallOver (region_variables (walk_of walking.now) statement)) own.now }
     requires one_each { length label.now ≡ length own.now }
     requires enough { length shown.now ≡ 2 * length own.now }
-    ensures { IfOk result (λ found. Finds (follow_claims 14 (place.now ++ Key key ∷ []) (record { vars = region_variables (walk_of walking.now) statement; rows = rows.now }) 0
+    ensures { Decides (follow_claims 14 (place.now ++ Key key ∷ []) (record { vars = region_variables (walk_of walking.now) statement; rows = rows.now }) 0
         (equality_rows (region_variables (walk_of walking.now) statement) (forms_behind (walk_of walking.now) (region_variables (walk_of walking.now) statement)
-        (map (form_at (region_variables (walk_of walking.now) statement) (reading_point (walk_of walking.now) statement)) values.now) label.now) own.now) shown.now) found) }
+        (map (form_at (region_variables (walk_of walking.now) statement) (reading_point (walk_of walking.now) statement)) values.now) label.now) own.now) shown.now) result }
 {
     let vars = region_variables(walking, statement);
     let word = word_label(alloc, walking, statement, label, values)?;
@@ -98,19 +99,19 @@ fn written_shown(
     writer: u16,
     values: &[Form],
     shown: &[Multipliers],
-) -> Result<Option<No>, Memory>
+) -> Result<(), Refused>
     requires fits { ReadingFits (walk_of walking.now) reader.statement }
     requires aim { (walk_of walking.now).aim ≡ keeps (kept_of kept) }
     requires rows_over { AllOver (region_variables (walk_of walking.now) reader.statement) rows.now }
     requires few { IsFew (length rows.now) }
     requires origin { OriginFits (walk_of walking.now).program (length (walk_of walking.now).program.parameters + depth_of (walk_of walking.now).program reader.statement) (written writer values.now) }
     requires enough { length shown.now ≡ 2 * length (kept_of kept).reader }
-    ensures { IfOk result (λ found. Finds (label_claims (kept_of kept.entry).reader place.now key (record { vars = region_variables (walk_of walking.now) reader.statement; rows = rows.now })
-        (word_label (walk_of walking.now) (kept_of kept.entry) (read_of reader) (region_variables (walk_of walking.now) reader.statement) (reading_point (walk_of walking.now) reader.statement) (written writer values.now)) shown.now) found) }
+    ensures { Decides (label_claims (kept_of kept.entry).reader place.now key (record { vars = region_variables (walk_of walking.now) reader.statement; rows = rows.now })
+        (word_label (walk_of walking.now) (kept_of kept.entry) (read_of reader) (region_variables (walk_of walking.now) reader.statement) (reading_point (walk_of walking.now) reader.statement) (written writer values.now)) shown.now) result }
 {
     let _params = walking.program.params();
     let Some(label) = instance_label(kept.family, writer) else {
-        return refusal(alloc, 14, place);
+        return Err(refusal(alloc, 14, place));
     };
     same_shown(
         alloc,
@@ -123,7 +124,8 @@ fn written_shown(
         values,
         kept.reader,
         shown,
-    )
+    )?;
+    Ok(())
 }
 
 /// Whether a word that is an input is shown to have the reader's label.
@@ -136,20 +138,20 @@ pub(crate) fn input_shown(
     reader: Reader,
     rows: &[Form],
     shown: &[Multipliers],
-) -> Result<Option<No>, Memory>
+) -> Result<(), Refused>
     requires fits { ReadingFits (walk_of walking.now) reader.statement }
     requires aim { (walk_of walking.now).aim ≡ keeps (kept_of kept) }
     requires read_fits { ReadFits (walk_of walking.now).program (read_of reader) }
     requires rows_over { AllOver (region_variables (walk_of walking.now) reader.statement) rows.now }
     requires few { IsFew (length rows.now) }
     requires enough { length shown.now ≡ 2 * length (kept_of kept).reader }
-    ensures { IfOk result (λ found. Finds (label_claims (kept_of kept.entry).reader place.now key (record { vars = region_variables (walk_of walking.now) reader.statement; rows = rows.now })
-        (word_label (walk_of walking.now) (kept_of kept.entry) (read_of reader) (region_variables (walk_of walking.now) reader.statement) (reading_point (walk_of walking.now) reader.statement) as_input) shown.now) found) }
+    ensures { Decides (label_claims (kept_of kept.entry).reader place.now key (record { vars = region_variables (walk_of walking.now) reader.statement; rows = rows.now })
+        (word_label (walk_of walking.now) (kept_of kept.entry) (read_of reader) (region_variables (walk_of walking.now) reader.statement) (reading_point (walk_of walking.now) reader.statement) as_input) shown.now) result }
 {
     let _params = walking.program.params();
     let cell = reference(walking.program, reader);
     let Some(label) = cell_label(kept.family, cell.array) else {
-        return refusal(alloc, 14, place);
+        return Err(refusal(alloc, 14, place));
     };
     same_shown(
         alloc,
@@ -162,7 +164,8 @@ pub(crate) fn input_shown(
         cell.subs.as_slice(),
         kept.reader,
         shown,
-    )
+    )?;
+    Ok(())
 }
 
 /// Whether a word is shown to have the reader's label, by multipliers under a key, in a system with these rows.
@@ -176,7 +179,7 @@ pub(crate) fn label_shown(
     rows: &[Form],
     origin: &Origin,
     shown: &[Multipliers],
-) -> Result<Option<No>, Memory>
+) -> Result<(), Refused>
     requires fits { ReadingFits (walk_of walking.now) reader.statement }
     requires aim { (walk_of walking.now).aim ≡ keeps (kept_of kept) }
     requires read_fits { ReadFits (walk_of walking.now).program (read_of reader) }
@@ -184,8 +187,8 @@ pub(crate) fn label_shown(
     requires few { IsFew (length rows.now) }
     requires origin { OriginFits (walk_of walking.now).program (length (walk_of walking.now).program.parameters + depth_of (walk_of walking.now).program reader.statement) (origin_of origin.now) }
     requires enough { length shown.now ≡ 2 * length (kept_of kept).reader }
-    ensures { IfOk result (λ found. Finds (label_claims (kept_of kept.entry).reader place.now key (record { vars = region_variables (walk_of walking.now) reader.statement; rows = rows.now })
-        (word_label (walk_of walking.now) (kept_of kept.entry) (read_of reader) (region_variables (walk_of walking.now) reader.statement) (reading_point (walk_of walking.now) reader.statement) (origin_of origin.now)) shown.now) found) }
+    ensures { Decides (label_claims (kept_of kept.entry).reader place.now key (record { vars = region_variables (walk_of walking.now) reader.statement; rows = rows.now })
+        (word_label (walk_of walking.now) (kept_of kept.entry) (read_of reader) (region_variables (walk_of walking.now) reader.statement) (reading_point (walk_of walking.now) reader.statement) (origin_of origin.now)) shown.now) result }
 {
     match origin {
         Origin::Written { statement, point } => written_shown(
@@ -201,6 +204,6 @@ pub(crate) fn label_shown(
             shown,
         ),
         Origin::Input => input_shown(alloc, walking, kept, place, key, reader, rows, shown),
-        Origin::Unknown => refusal(alloc, 14, place),
+        Origin::Unknown => Err(refusal(alloc, 14, place)),
     }
 }

@@ -1,5 +1,5 @@
 -- A schedule that was read fits the program.
-use Rattle.std.proofs.Common.{◌≡◌, refl, sym, ap, ◌∙◌, subst, ℕ, suc, ◌+◌, ◌≤◌, ◌^◌, Bool, true, false, List, [], ◌∷◌, length, Ok, Err, codes, arith}
+use Rattle.std.proofs.Common.{◌≡◌, refl, sym, ap, ◌∙◌, subst, ℕ, suc, ◌+◌, ◌≤◌, Bool, true, false, List, [], ◌∷◌, length, Ok, Err, codes, arith}
 use Rattle.std.specs.Prelude.{ℤ, pos, negsuc, ◌==◌, ◌&&◌, nat_le, if◌then◌else◌, Option, Some, None}
 use Rattle.std.specs.List.{AllByRecursion, enumerate_from}
 use Rattle.std.proofs.lemmas.Bool.{eqb-true}
@@ -13,8 +13,8 @@ use Rattle.iolb_model.specs.Program.{AffineProgram, IsOver}
 use Rattle.iolb_model.specs.declared.limits.TheConstants.{DIVISOR, NUMBER_SIZE}
 use Rattle.serde_json.specs.Data.{Data}
 use Rattle.serde_json.specs.Find.{get}
-use Rattle.cert_parts.specs.Outcome.{Outcome, ◌>>=◌, fault, under}
-use Rattle.cert_parts.specs.Json.{with_keys, read_member, reads_list, reads_short_list, each, reads_integer, reads_natural, natural_within, integer_of}
+use Rattle.json_parts.specs.Outcome.{Outcome, ◌>>=◌, fault, under}
+use Rattle.json_parts.specs.Json.{with_keys, read_member, reads_list, reads_short_list, each, reads_integer, reads_natural, natural_within, integer_of}
 use Rattle.cert_parts.specs.Parts.{reads_form, form_in, form_of, columns_of}
 use Rattle.tile_sched.specs.declared.schedule.Key.{Key}
 use Rattle.tile_sched.specs.Schedules.{key_variables, IsKey, IsSchedule}

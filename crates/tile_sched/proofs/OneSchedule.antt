@@ -1,12 +1,12 @@
 -- A text has one schedule of a program, or one fault.
 use Rattle.std.proofs.Common.{◌≡◌, ℕ, List, Ok, Err, inl, inr, sym, ◌∙◌, ap}
 use Rattle.iolb_model.specs.Program.{AffineProgram}
-use Rattle.cert_parts.proofs.Texts.{same-value}
-use Rattle.cert_parts.specs.Texts.{HasValue}
+use Rattle.json_parts.proofs.Texts.{same-value}
+use Rattle.json_parts.specs.Texts.{HasValue}
 use Rattle.claims.specs.declared.place.Step.{Step}
 use Rattle.serde_json.specs.Data.{Data}
-use Rattle.cert_parts.specs.declared.error.CertFault.{CertFault}
-use Rattle.cert_parts.specs.Outcome.{Outcome}
+use Rattle.json_parts.specs.declared.error.CertFault.{CertFault}
+use Rattle.json_parts.specs.Outcome.{Outcome}
 use Rattle.tile_sched.specs.declared.error.SchedFault.{SchedFault}
 use Rattle.tile_sched.specs.declared.schedule.Key.{Key}
 use Rattle.tile_sched.specs.OneSchedule.{IsTextFault, TextsHaveOneSchedule}

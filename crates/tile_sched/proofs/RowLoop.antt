@@ -7,10 +7,10 @@ use Rattle.claims.specs.declared.place.Step.TheVariants.{Index}
 use Rattle.serde_json.specs.Data.{Data}
 use Rattle.serde_json.specs.View.{view}
 use Rattle.serde_json.specs.declared.value.Value.{Value}
-use Rattle.cert_parts.specs.declared.error.CertError.{CertError}
-use Rattle.cert_parts.specs.declared.error.CertError.TheVariants.{Fault, Memory}
-use Rattle.cert_parts.specs.Outcome.{Outcome, behind, Fails, IsUnder}
-use Rattle.cert_parts.proofs.Loop.{with_front, regroup, next}
+use Rattle.json_parts.specs.declared.error.CertError.{CertError}
+use Rattle.json_parts.specs.declared.error.CertError.TheVariants.{Fault, Memory}
+use Rattle.json_parts.specs.Outcome.{Outcome, behind, Fails, IsUnder}
+use Rattle.json_parts.proofs.Loop.{with_front, regroup, next}
 use Rattle.tile_sched.specs.declared.schedule.Key.{Key}
 use Rattle.tile_sched.specs.Schedules.{rows_of, key_variables}
 use Rattle.tile_sched.specs.Reading.{reads_keys, reads_rows}

@@ -6,8 +6,8 @@ use Rattle.iolb_model.specs.Program.{AffineProgram}
 use Rattle.claims.specs.declared.place.Step.TheVariants.{Index}
 use Rattle.claims.specs.declared.key.TheConstants.{KEYS}
 use Rattle.serde_json.specs.Data.{Data}
-use Rattle.cert_parts.specs.Outcome.{Outcome, ◌>>=◌, fault, under}
-use Rattle.cert_parts.specs.Json.{with_keys, part, reads_list, each, reads_natural}
+use Rattle.json_parts.specs.Outcome.{Outcome, ◌>>=◌, fault, under}
+use Rattle.json_parts.specs.Json.{with_keys, part, reads_list, each, reads_natural}
 use Rattle.cert_parts.specs.Parts.{reads_form, columns_of}
 use Rattle.tile_sched.specs.declared.schedule.Key.{Key}
 use Rattle.tile_sched.specs.Schedules.{key_variables}

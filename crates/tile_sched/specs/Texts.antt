@@ -2,10 +2,10 @@
 use Rattle.std.specs.Prelude.{◌≡◌, ⊤, ◌⊎◌, ℕ, List, [], Result, Ok, Err}
 use Rattle.iolb_model.specs.Program.{AffineProgram}
 use Rattle.serde_json.specs.Data.{Data}
-use Rattle.cert_parts.specs.Texts.{HasValue}
-use Rattle.cert_parts.specs.declared.error.CertFault.{CertFault}
-use Rattle.cert_parts.specs.declared.error.CertError.{CertError}
-use Rattle.cert_parts.specs.declared.error.CertError.TheVariants.{Fault as CertFaulty, Memory as CertMemory}
+use Rattle.json_parts.specs.Texts.{HasValue}
+use Rattle.json_parts.specs.declared.error.CertFault.{CertFault}
+use Rattle.json_parts.specs.declared.error.CertError.{CertError}
+use Rattle.json_parts.specs.declared.error.CertError.TheVariants.{Fault as CertFaulty, Memory as CertMemory}
 use Rattle.tile_sched.specs.declared.error.SchedFault.{SchedFault}
 use Rattle.tile_sched.specs.declared.error.SchedError.{SchedError}
 use Rattle.tile_sched.specs.declared.error.SchedError.TheVariants.{Fault, Memory}

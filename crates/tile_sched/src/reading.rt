@@ -3,7 +3,7 @@
 ghost use Rattle.std.specs.Prelude.{◌≡◌, ◌<◌, ◌^◌, length, map, IfOk};
 ghost use Rattle.serde_json.specs.View.{view};
 ghost use Rattle.affine_program.specs.Parts.{meaning};
-ghost use Rattle.cert_parts.specs.Outcome.{Gives};
+ghost use Rattle.json_parts.specs.Outcome.{Gives};
 ghost use Rattle.cert_parts.specs.Parts.{columns_of};
 ghost use Rattle.tile_sched.specs.Schedules.{rows_of, key_variables, IsSchedule};
 ghost use Rattle.tile_sched.specs.Reading.{reads_form_over, reads_key, reads_key_list, reads_keys, reads_all, reads_schedule as schedule_in};
@@ -133,7 +133,7 @@ fn rows(alloc: Global, program: &Program, value: &Value) -> Result<Vec<Vec<Key>>
 }
 
 /// A schedule of a program.
-#[tactic(auto, unfolding(crate::specs::Reading::reads_schedule, cert_parts::specs::Json::with_keys))]
+#[tactic(auto, unfolding(crate::specs::Reading::reads_schedule, json_parts::specs::Json::with_keys))]
 fn schedule(alloc: Global, program: &Program, value: &Value) -> Result<Schedule, CertError>
     ensures { Gives (λ schedule. schedule) result (schedule_in (meaning program.now) (view value.now)) }
 {

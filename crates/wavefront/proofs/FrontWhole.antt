@@ -1,12 +1,11 @@
--- What is found in the parts of a wavefront term's claims is found in all.
+-- The parts of a wavefront term's claims, one after another.
 use Rattle.std.proofs.Common.{◌≡◌, sym, subst, List, ◌++◌}
 use Rattle.iolb_model.specs.Program.{AffineProgram}
-use Rattle.claims.specs.Claims.{Claim, AllHold, FirstFails, IsRefusal}
+use Rattle.claims.specs.Claims.{Claim, AllHold, IsRefusal}
 use Rattle.claims.specs.declared.place.Step.{Step}
-use Rattle.claims.specs.declared.refused.No.{No}
 use Rattle.claims.specs.declared.refused.Refused.{Refused}
 use Rattle.claims.proofs.Found.{refused-first, refused-later}
-use Rattle.claims.proofs.Laws.{AllHold-append, first-fails, later-fails}
+use Rattle.claims.proofs.Laws.{AllHold-append}
 use Rattle.dep_quast.specs.Tree.{SelectionTree}
 use Rattle.reuse_paths.specs.Quasts.{tree_for}
 use Rattle.wavefront.specs.FrontClaims.{front_back, front_claims, front_counts, front_reach, point_claims, wave_claims}
@@ -34,10 +33,10 @@ module _ (program : AffineProgram) (place : List Step) (trees : List (List Selec
   pub stop-counts : (r : Refused) → IsRefusal counts r → IsRefusal (front_claims program place trees term) r
   stop-counts r h = refused-first counts waves r h
 
-  pub stop-points : (failed : No) → AllHold counts → FirstFails (point_claims program place tree term) failed → FirstFails (front_claims program place trees term) failed
-  stop-points failed h fails =
-      later-fails counts waves failed h
-      (first-fails (points ++ reach) back failed (first-fails points reach failed (subst (λ (t : SelectionTree). FirstFails (point_claims program place t term) failed) (sym is) fails)))
+  pub stop-points : (r : Refused) → AllHold counts → IsRefusal (point_claims program place tree term) r → IsRefusal (front_claims program place trees term) r
+  stop-points r h refused =
+      refused-later counts waves r h
+      (refused-first (points ++ reach) back r (refused-first points reach r (subst (λ (t : SelectionTree). IsRefusal (point_claims program place t term) r) (sym is) refused)))
 
   pub stop-reach : (r : Refused) → AllHold counts → AllHold (point_claims program place tree term) → IsRefusal reach r → IsRefusal (front_claims program place trees term) r
   stop-reach r h hp refused = refused-later counts waves r h (refused-first (points ++ reach) back r (refused-later points reach r (points-hold hp) refused))

@@ -1,10 +1,11 @@
 //! The check of cold terms.
+#![tactic(auto, using(claims::proofs::Found::in_a_row))]
 
 ghost use Rattle.std.specs.Prelude.{length, IfOk, OnOk, IfErr};
 ghost use Rattle.iolb_model.specs.Bound.{cold};
 ghost use Rattle.iolb_model.specs.Footprint.{CostsItsValue};
 ghost use Rattle.affine_program.specs.Parts.{meaning};
-ghost use Rattle.claims.specs.Claims.{AllHold, Finds, IsRefusal};
+ghost use Rattle.claims.specs.Claims.{AllHold, Decides, IsRefusal};
 ghost use Rattle.dep_quast.specs.Tree.{tree_of};
 ghost use Rattle.domain_count.specs.Count.{IsCount, CountsPoints};
 ghost use Rattle.poly_tree.specs.Expansion.{IsCanonical};
@@ -20,9 +21,8 @@ use crate::cold::Cold;
 use crate::cold_shown::{cells_undone, inside_shown, tree_shown};
 use crate::law::cold_terms_are_loaded;
 use crate::pieces::cold_pieces_cover;
-use affine_form::Memory;
 use affine_program::Program;
-use claims::{No, Place, Refused};
+use claims::{Place, Refused};
 use dep_quast::Quast;
 use domain_count::check_count;
 use poly_tree::Poly;
@@ -73,29 +73,23 @@ pub fn check_cold(
     cold_terms_are_loaded();
     cold_pieces_cover();
     terms_have_the_value();
-    match claims_shown(alloc, program, quast, term, place) {
-        Ok(None) => Ok(count),
-        Ok(Some(no)) => Err(Refused::No(no)),
-        Err(Memory) => Err(Refused::Memory),
-    }
+    claims_shown(alloc, program, quast, term, place)?;
+    Ok(count)
 }
 
-/// What isn't shown of what a cold term claims past its count.
+/// Whether what a cold term claims past its count is shown.
 fn claims_shown(
     alloc: Global,
     program: &Program,
     quast: &Quast,
     term: &Cold,
     place: &Place,
-) -> Result<Option<No>, Memory>
+) -> Result<(), Refused>
     requires { ColdFits (meaning program.now) (tree_of quast.now) (term_of term.now) }
-    ensures { IfOk result (λ found. Finds (instance_claims (meaning program.now) place.now (tree_of quast.now) (term_of term.now)) found) }
+    ensures { Decides (instance_claims (meaning program.now) place.now (tree_of quast.now) (term_of term.now)) result }
 {
-    if let Some(no) = inside_shown(alloc, program, term, place)? {
-        return Ok(Some(no));
-    }
-    if let Some(no) = tree_shown(alloc, program, quast, term, place)? {
-        return Ok(Some(no));
-    }
-    cells_undone(alloc, program, term, place)
+    inside_shown(alloc, program, term, place)?;
+    tree_shown(alloc, program, quast, term, place)?;
+    cells_undone(alloc, program, term, place)?;
+    Ok(())
 }

@@ -1,10 +1,11 @@
 //! Whether what a cold term claims is shown.
+#![tactic(auto, using(claims::proofs::Found::in_a_row))]
 
 ghost use Rattle.std.specs.Prelude.{◌≡◌, [], IfOk};
 ghost use Rattle.std.specs.List.{AllByRecursion};
 ghost use Rattle.affine_form.specs.System.{AllOver};
 ghost use Rattle.affine_program.specs.Parts.{meaning};
-ghost use Rattle.claims.specs.Claims.{Finds};
+ghost use Rattle.claims.specs.Claims.{Decides};
 ghost use Rattle.dep_quast.specs.Tree.{tree_of};
 ghost use Rattle.reuse_paths.specs.OpenLeaves.{OpenLeaf as open_leaf, open_leaves};
 ghost use Rattle.wavefront.specs.ColdClaims.{matrix_claims};
@@ -20,7 +21,7 @@ use crate::leaves_shown::leaves_shown;
 use affine_form::Memory;
 use affine_program::Program;
 use claims::key::{INSIDE, LEAVES};
-use claims::{No, Place, Step};
+use claims::{Place, Refused, Step};
 use dep_quast::Quast;
 use dep_quast::claims_shown::goals_shown;
 use dep_quast::point_rows::domain_rows;
@@ -34,9 +35,9 @@ pub(crate) fn inside_shown(
     program: &Program,
     term: &Cold,
     place: &Place,
-) -> Result<Option<No>, Memory>
+) -> Result<(), Refused>
     requires { TermFits (meaning program.now) (term_of term.now) }
-    ensures { IfOk result (λ found. Finds (inside_claims (meaning program.now) place.now (term_of term.now)) found) }
+    ensures { Decides (inside_claims (meaning program.now) place.now (term_of term.now)) result }
 {
     let vars = variables(program, term);
     let system = rows_before(alloc, program, term.nest.bounds())?;
@@ -59,9 +60,9 @@ pub(crate) fn tree_shown(
     quast: &Quast,
     term: &Cold,
     place: &Place,
-) -> Result<Option<No>, Memory>
+) -> Result<(), Refused>
     requires { ColdFits (meaning program.now) (tree_of quast.now) (term_of term.now) }
-    ensures { IfOk result (λ found. Finds (term_leaves (meaning program.now) place.now (tree_of quast.now) (term_of term.now)) found) }
+    ensures { Decides (term_leaves (meaning program.now) place.now (tree_of quast.now) (term_of term.now)) result }
 {
     let vars = variables(program, term);
     let system = rows_before(alloc, program, term.nest.bounds())?;
@@ -102,9 +103,9 @@ pub(crate) fn cells_undone(
     program: &Program,
     term: &Cold,
     place: &Place,
-) -> Result<Option<No>, Memory>
+) -> Result<(), Refused>
     requires { TermFits (meaning program.now) (term_of term.now) }
-    ensures { IfOk result (λ found. Finds (matrix_claims (meaning program.now) place.now (term_of term.now)) found) }
+    ensures { Decides (matrix_claims (meaning program.now) place.now (term_of term.now)) result }
 {
     let cell = cell_of(alloc, program, term)?;
     let params = program.params().len();

@@ -1,11 +1,12 @@
 //! The leaves of a wavefront term's edge, one after another.
+#![tactic(auto, using(claims::proofs::Found::in_a_row))]
 
 ghost use Rattle.std.specs.Prelude.{◌≡◌, ◌≤◌, length, map, option_map, IfOk};
 ghost use Rattle.std.specs.List.{AllByRecursion};
 ghost use Rattle.affine_form.specs.Rows.{IsSmallOver};
 ghost use Rattle.affine_form.specs.System.{AllOver};
 ghost use Rattle.affine_program.specs.Parts.{meaning};
-ghost use Rattle.claims.specs.Claims.{Finds};
+ghost use Rattle.claims.specs.Claims.{Decides};
 ghost use Rattle.dep_quast.specs.Tree.{tree_of};
 ghost use Rattle.reuse_paths.specs.LeafClaims.{claim_of};
 ghost use Rattle.reuse_paths.specs.Walks.{spot_of};
@@ -21,7 +22,7 @@ use crate::front_shown::{user_at, variables};
 use affine_form::{Form, Memory};
 use affine_program::Program;
 use claims::key::EDGE;
-use claims::{No, Place, Step};
+use claims::{Place, Refused, Step};
 use dep_quast::Quast;
 use domain_count::rows_before;
 use reuse_paths::open_leaves::{OpenLeaf, push_open_leaves};
@@ -38,23 +39,21 @@ fn all_shown(
     list: &Place,
     leaves: &[OpenLeaf],
     entries: &[Leaf],
-) -> Result<Option<No>, Memory>
+) -> Result<(), Refused>
     requires few { vars ≤ VARIABLES }
     requires few_forms { length point.now ≤ VARIABLES }
     requires rows_over { AllOver vars rows.now }
     requires point_over { AllByRecursion (IsSmallOver vars) point.now }
     requires one_each { length entries.now ≡ length leaves.now }
     requires fit { AreFit vars (length point.now) (option_map spot_of source.now) leaves.now (map claim_of entries.now) }
-    ensures { IfOk result (λ found. Finds (edges_claims vars rows.now point.now (option_map spot_of source.now) list.now 0 leaves.now (map claim_of entries.now)) found) }
+    ensures { Decides (edges_claims vars rows.now point.now (option_map spot_of source.now) list.now 0 leaves.now (map claim_of entries.now)) result }
 {
     for i in 0..leaves.len() {
         let place = list.within(alloc, Step::Index(i as u64))?;
         let (leaf, entry) = (&leaves[i], &entries[i]);
-        if let Some(no) = edge_shown(alloc, vars, rows, point, source, &place, leaf, entry)? {
-            return Ok(Some(no));
-        }
+        edge_shown(alloc, vars, rows, point, source, &place, leaf, entry)?;
     }
-    Ok(None)
+    Ok(())
 }
 
 /// The leaves of the source tree of the user's read that aren't empty.
@@ -82,10 +81,10 @@ pub(crate) fn edges_shown(
     quast: &Quast,
     term: &Wavefront,
     place: &Place,
-) -> Result<Option<No>, Memory>
+) -> Result<(), Refused>
     requires parts { PartsFit (meaning program.now) (front_of term.now) }
     requires fits { EdgesFit (meaning program.now) (tree_of quast.now) (front_of term.now) }
-    ensures { IfOk result (λ found. Finds (front_edges (meaning program.now) place.now (tree_of quast.now) (front_of term.now)) found) }
+    ensures { Decides (front_edges (meaning program.now) place.now (tree_of quast.now) (front_of term.now)) result }
 {
     let vars = variables(program, term);
     let point = user_at(alloc, program, term)?;

@@ -1,10 +1,11 @@
 //! Whether what a wavefront term claims at the leaves of its edge is shown.
+#![tactic(auto, using(claims::proofs::Found::in_a_row))]
 
 ghost use Rattle.std.specs.Prelude.{◌≡◌, ◌≤◌, ◌*◌, ◌++◌, ◌∷◌, [], ◌↔◌, length, option_map, IfOk, IsTrue};
 ghost use Rattle.std.specs.List.{AllByRecursion};
 ghost use Rattle.affine_form.specs.Rows.{equality_rows, put_in, IsSmallOver};
 ghost use Rattle.affine_form.specs.System.{AllOver};
-ghost use Rattle.claims.specs.Claims.{Finds};
+ghost use Rattle.claims.specs.Claims.{Decides};
 ghost use Rattle.dep_quast.specs.Claims.{IsFew};
 ghost use Rattle.reuse_paths.specs.LeafClaims.{arrives, claim_of};
 ghost use Rattle.reuse_paths.specs.OpenLeaves.{origin_of};
@@ -14,7 +15,7 @@ ghost use Rattle.wavefront.specs.FrontClaims.{edge_claim, AllFollow, IsInputWord
 ghost use Rattle.iolb_model.specs.declared.limits.TheConstants.{VARIABLES};
 
 use affine_form::{Form, Memory, Multipliers, System, difference, entails, put, system_of};
-use claims::{No, Place, Step, refusal};
+use claims::{Place, Refused, refusal};
 use dep_quast::claims_shown::system_shown;
 use dep_quast::lists::followed_by;
 use iolb_model::limits;
@@ -107,23 +108,23 @@ fn source_shown(
     place: &Place,
     origin: &Origin,
     equal: &[Multipliers],
-) -> Result<Option<No>, Memory>
+) -> Result<(), Refused>
     requires few { vars ≤ VARIABLES }
     requires few_forms { length point.now ≤ VARIABLES }
     requires rows_over { AllOver vars rows.now }
     requires point_over { AllByRecursion (IsSmallOver vars) point.now }
     requires fits { EqualFits vars (length point.now) (option_map spot_of source.now) (origin_of origin.now) (length equal.now) }
-    ensures { IfOk result (λ found. Finds (record { condition = 2; place = place.now; statement = IsFew (length rows.now) }
-        ∷ edge_claim place.now (record { vars = vars; rows = rows.now }) point.now (option_map spot_of source.now) (origin_of origin.now) (arrives equal.now) ∷ []) found) }
+    ensures { Decides (record { condition = 2; place = place.now; statement = IsFew (length rows.now) }
+        ∷ edge_claim place.now (record { vars = vars; rows = rows.now }) point.now (option_map spot_of source.now) (origin_of origin.now) (arrives equal.now) ∷ []) result }
 {
     if rows.len() > limits::ROWS {
-        return refusal(alloc, 2, place);
+        return Err(refusal(alloc, 2, place));
     }
     let system = system_of(alloc, vars, rows)?;
     if !is_source(alloc, &system, point, source, origin, equal)? {
-        return refusal(alloc, 19, place);
+        return Err(refusal(alloc, 19, place));
     }
-    Ok(None)
+    Ok(())
 }
 
 /// Whether the word at a leaf is an input, as a term without a source says.
@@ -147,15 +148,15 @@ pub(crate) fn edge_shown(
     place: &Place,
     leaf: &OpenLeaf,
     entry: &Leaf,
-) -> Result<Option<No>, Memory>
+) -> Result<(), Refused>
     requires few { vars ≤ VARIABLES }
     requires few_forms { length point.now ≤ VARIABLES }
     requires rows_over { AllOver vars rows.now }
     requires point_over { AllByRecursion (IsSmallOver vars) point.now }
     requires leaf_over { AllOver vars leaf.now.tests }
     requires fits { EntryFits vars (length point.now) (option_map spot_of source.now) leaf.now.origin (claim_of entry.now) }
-    ensures { IfOk result (λ found. Finds (record { condition = 2; place = place.now; statement = IsFew (length (rows.now ++ leaf.now.tests)) }
-        ∷ edge_claim place.now (record { vars = vars; rows = rows.now ++ leaf.now.tests }) point.now (option_map spot_of source.now) leaf.now.origin (claim_of entry.now) ∷ []) found) }
+    ensures { Decides (record { condition = 2; place = place.now; statement = IsFew (length (rows.now ++ leaf.now.tests)) }
+        ∷ edge_claim place.now (record { vars = vars; rows = rows.now ++ leaf.now.tests }) point.now (option_map spot_of source.now) leaf.now.origin (claim_of entry.now) ∷ []) result }
 {
     let front = followed_by(alloc, Vec::new(alloc), rows)?;
     let all = followed_by(alloc, front, leaf.tests.as_slice())?;
@@ -172,8 +173,8 @@ pub(crate) fn edge_shown(
             origin,
             equal.as_slice(),
         ),
-        _ if all.len() > limits::ROWS => refusal(alloc, 2, place),
-        Leaf::Stop { .. } if is_input_word(source, leaf) => Ok(None),
-        _ => refusal(alloc, 19, place),
+        _ if all.len() > limits::ROWS => Err(refusal(alloc, 2, place)),
+        Leaf::Stop { .. } if is_input_word(source, leaf) => Ok(()),
+        _ => Err(refusal(alloc, 19, place)),
     }
 }

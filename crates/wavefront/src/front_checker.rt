@@ -1,10 +1,11 @@
 //! The check of wavefront terms.
+#![tactic(auto, using(claims::proofs::Found::in_a_row))]
 
 ghost use Rattle.std.specs.Prelude.{◌≡◌, length, take, IfOk, OnOk, IfErr};
 ghost use Rattle.iolb_model.specs.Bound.{wavefront};
 ghost use Rattle.iolb_model.specs.Footprint.{CostsItsValue};
 ghost use Rattle.affine_program.specs.Parts.{meaning};
-ghost use Rattle.claims.specs.Claims.{AllHold, Finds, IsRefusal};
+ghost use Rattle.claims.specs.Claims.{AllHold, Decides, IsRefusal};
 ghost use Rattle.dep_quast.specs.Tree.{tree_of};
 ghost use Rattle.domain_count.specs.Count.{CountsPoints, IsCount, IsSumFrom};
 ghost use Rattle.poly_tree.specs.Expansion.{IsCanonical};
@@ -20,10 +21,9 @@ ghost use Rattle.wavefront.specs.View.{front_of, FitsFront};
 use crate::edge_leaves::edges_shown;
 use crate::front::Wavefront;
 use crate::front_shown::{front_inside_shown, outer_shown, words_shown};
-use affine_form::Memory;
 use affine_program::Program;
 use claims::key::{BACK, OUTER_SUMS, REACH};
-use claims::{No, Place, Refused, Step};
+use claims::{Place, Refused, Step};
 use dep_quast::Quast;
 use domain_count::law::first_variables_are_counted;
 use domain_count::{check_count, check_sums};
@@ -75,9 +75,7 @@ pub fn check_wavefront(
     let counts = counted(alloc, program, quasts, term, place)?;
     let _params = program.params();
     terms_have_the_value();
-    if let Some(no) = points_shown(alloc, program, quast, term, place)? {
-        return Err(Refused::No(no));
-    }
+    points_shown(alloc, program, quast, term, place)?;
     source_reached(alloc, program, quasts, term, place)?;
     vertex_reached(alloc, program, quasts, term, place)?;
     Ok(counts)
@@ -114,28 +112,23 @@ fn counted(
     Ok((pairs, outer))
 }
 
-/// What isn't shown of what a wavefront term claims of its instances.
+/// Whether what a wavefront term claims of its instances is shown.
 fn points_shown(
     alloc: Global,
     program: &Program,
     quast: &Quast,
     term: &Wavefront,
     place: &Place,
-) -> Result<Option<No>, Memory>
+) -> Result<(), Refused>
     requires parts { PartsFit (meaning program.now) (front_of term.now) }
     requires fits { EdgesFit (meaning program.now) (tree_of quast.now) (front_of term.now) }
-    ensures { IfOk result (λ found. Finds (point_claims (meaning program.now) place.now (tree_of quast.now) (front_of term.now)) found) }
+    ensures { Decides (point_claims (meaning program.now) place.now (tree_of quast.now) (front_of term.now)) result }
 {
-    if let Some(no) = front_inside_shown(alloc, program, term, place)? {
-        return Ok(Some(no));
-    }
-    if let Some(no) = outer_shown(alloc, program, term, place)? {
-        return Ok(Some(no));
-    }
-    if let Some(no) = words_shown(alloc, program, term, place)? {
-        return Ok(Some(no));
-    }
-    edges_shown(alloc, program, quast, term, place)
+    front_inside_shown(alloc, program, term, place)?;
+    outer_shown(alloc, program, term, place)?;
+    words_shown(alloc, program, term, place)?;
+    edges_shown(alloc, program, quast, term, place)?;
+    Ok(())
 }
 
 /// Whether a walk back from the vertex is shown to arrive at the word's instance, where the word isn't an input.

@@ -1,11 +1,12 @@
 //! Whether what a wavefront term claims of its instances is shown.
+#![tactic(auto, using(claims::proofs::Found::in_a_row))]
 
 ghost use Rattle.std.specs.Prelude.{◌≡◌, ◌+◌, ◌≤◌, ◌↔◌, ◌++◌, ◌∷◌, [], length, Some, None, IfOk, IsTrue};
 ghost use Rattle.std.specs.List.{AllByRecursion};
 ghost use Rattle.affine_form.specs.Form.{variables as form_variables, IsSmallForm};
 ghost use Rattle.affine_form.specs.Rows.{IsSmallOver};
 ghost use Rattle.affine_program.specs.Parts.{meaning, IsProgram};
-ghost use Rattle.claims.specs.Claims.{Finds};
+ghost use Rattle.claims.specs.Claims.{Decides};
 ghost use Rattle.claims.specs.declared.place.Step.TheVariants.{Index, Key};
 ghost use Rattle.claims.specs.declared.key.TheConstants.{POINT as POINT_KEY, VERTEX as VERTEX_KEY};
 ghost use Rattle.dep_quast.specs.Context.{variables_at};
@@ -20,7 +21,7 @@ use crate::inverse_shown::inverse_shown;
 use affine_form::{Form, Memory, put_all, variables_from};
 use affine_program::Program;
 use claims::key::{INSIDE, POINT, VERTEX};
-use claims::{No, Place, Step, refusal};
+use claims::{Place, Refused, Step, refusal};
 use dep_quast::claims_shown::goals_shown;
 use dep_quast::lists::followed_by;
 use dep_quast::point_rows::domain_rows;
@@ -89,9 +90,9 @@ pub(crate) fn front_inside_shown(
     program: &Program,
     term: &Wavefront,
     place: &Place,
-) -> Result<Option<No>, Memory>
+) -> Result<(), Refused>
     requires { PartsFit (meaning program.now) (front_of term.now) }
-    ensures { IfOk result (λ found. Finds (front_inside (meaning program.now) place.now (front_of term.now)) found) }
+    ensures { Decides (front_inside (meaning program.now) place.now (front_of term.now)) result }
 {
     let goals = goals_of(alloc, program, term)?;
     let system = rows_before(alloc, program, term.nest.bounds())?;
@@ -112,18 +113,19 @@ pub(crate) fn outer_shown(
     program: &Program,
     term: &Wavefront,
     place: &Place,
-) -> Result<Option<No>, Memory>
+) -> Result<(), Refused>
     requires { PartsFit (meaning program.now) (front_of term.now) }
-    ensures { IfOk result (λ found. Finds (outer_claims (meaning program.now) place.now (front_of term.now)) found) }
+    ensures { Decides (outer_claims (meaning program.now) place.now (front_of term.now)) result }
 {
     let _vars = variables(program, term);
     let first = program.params().len() + usize::from(term.outer);
     for (i, form) in term.vertex.point.iter().enumerate() {
         if !is_without(form, first) {
-            return outer_failed(alloc, place, i);
+            let form = outer_place(alloc, place, i)?;
+            return Err(refusal(alloc, 22, &form));
         }
     }
-    Ok(None)
+    Ok(())
 }
 
 /// Whether the coefficients of the variables past so many are 0.
@@ -134,14 +136,13 @@ fn is_without(form: &Form, first: usize) -> bool
     form.coef()[first..].iter().all(|c| *c == 0)
 }
 
-/// The refusal by condition 22 at a form of the vertex.
-fn outer_failed(alloc: Global, place: &Place, i: usize) -> Result<Option<No>, Memory>
-    ensures { IfOk result (λ found. found ≡ Some (record { condition = 22; place = place.now ++ Key VERTEX_KEY ∷ Key POINT_KEY ∷ Index i ∷ [] })) }
+/// The place of a form of the vertex.
+fn outer_place(alloc: Global, place: &Place, i: usize) -> Result<Place, Memory>
+    ensures { IfOk result (λ form. form ≡ place.now ++ Key VERTEX_KEY ∷ Key POINT_KEY ∷ Index i ∷ []) }
 {
     let vertex = place.within(alloc, Step::Key(VERTEX))?;
     let point = vertex.within(alloc, Step::Key(POINT))?;
-    let form = point.within(alloc, Step::Index(i as u64))?;
-    refusal(alloc, 22, &form)
+    point.within(alloc, Step::Index(i as u64))
 }
 
 /// Whether the matrix turns what tells the words apart back into the scale times the nest's variables: the subscripts of the
@@ -151,9 +152,9 @@ pub(crate) fn words_shown(
     program: &Program,
     term: &Wavefront,
     place: &Place,
-) -> Result<Option<No>, Memory>
+) -> Result<(), Refused>
     requires { PartsFit (meaning program.now) (front_of term.now) }
-    ensures { IfOk result (λ found. Finds (word_claims (meaning program.now) place.now (front_of term.now)) found) }
+    ensures { Decides (word_claims (meaning program.now) place.now (front_of term.now)) result }
 {
     let params = program.params().len();
     let size = term.nest.bounds().len();

@@ -1,7 +1,8 @@
 //! Whether a matrix turns forms back into a number times a nest's variables.
+#![tactic(auto, using(claims::proofs::Found::in_a_row))]
 
 ghost use Rattle.std.specs.Prelude.{◌≡◌, ◌+◌, ◌≤◌, length, Some, IfOk};
-ghost use Rattle.claims.specs.Claims.{Finds};
+ghost use Rattle.claims.specs.Claims.{Decides};
 ghost use Rattle.wavefront.specs.InverseClaims.{entry_place, inverse_claims};
 ghost use Rattle.iolb_model.specs.declared.limits.TheConstants.{VARIABLES};
 
@@ -9,7 +10,7 @@ use crate::cold::Inverse;
 use crate::inverse::first_difference;
 use affine_form::{Form, Memory};
 use claims::key::{INVERSE, MATRIX};
-use claims::{No, Place, Step, refusal};
+use claims::{Place, Refused, Step, refusal};
 use std::alloc::Global;
 
 /// Whether the matrix turns the forms back into the scale times the variables past the parameters, so many of them.
@@ -20,25 +21,27 @@ pub(crate) fn inverse_shown(
     params: usize,
     size: usize,
     place: &Place,
-) -> Result<Option<No>, Memory>
+) -> Result<(), Refused>
     requires few { params + size ≤ VARIABLES }
     requires rows { inverse.now.matrix.rows ≡ size }
     requires columns { (1 ≤ inverse.now.matrix.rows) → inverse.now.matrix.columns ≡ length forms.now }
-    ensures { IfOk result (λ found. Finds (inverse_claims inverse.now.matrix inverse.now.scale params size forms.now place.now) found) }
+    ensures { Decides (inverse_claims inverse.now.matrix inverse.now.scale params size forms.now place.now) result }
 {
     match first_difference(&inverse.matrix, forms, params, inverse.scale, size) {
-        Some((row, col)) => entry_failed(alloc, place, row, col),
-        None => Ok(None),
+        Some((row, col)) => {
+            let entry = entry_at(alloc, place, row, col)?;
+            Err(refusal(alloc, 12, &entry))
+        }
+        None => Ok(()),
     }
 }
 
-/// The refusal by condition 12 at an entry of the product of the matrix with the forms' coefficients.
-fn entry_failed(alloc: Global, place: &Place, row: usize, col: usize) -> Result<Option<No>, Memory>
-    ensures { IfOk result (λ found. found ≡ Some (record { condition = 12; place = entry_place place.now row col })) }
+/// The place of an entry of the product of the matrix with the forms' coefficients.
+fn entry_at(alloc: Global, place: &Place, row: usize, col: usize) -> Result<Place, Memory>
+    ensures { IfOk result (λ entry. entry ≡ entry_place place.now row col) }
 {
     let inverse = place.within(alloc, Step::Key(INVERSE))?;
     let matrix = inverse.within(alloc, Step::Key(MATRIX))?;
     let row = matrix.within(alloc, Step::Index(row as u64))?;
-    let entry = row.within(alloc, Step::Index(col as u64))?;
-    refusal(alloc, 12, &entry)
+    row.within(alloc, Step::Index(col as u64))
 }

@@ -1,17 +1,18 @@
 //! Whether what a cold term claims at leaves is shown.
+#![tactic(auto, using(claims::proofs::Found::in_a_row))]
 
-ghost use Rattle.std.specs.Prelude.{◌≡◌, ◌≤◌, ◌++◌, [], ◌∷◌, length, map, IfOk};
+ghost use Rattle.std.specs.Prelude.{◌≡◌, ◌≤◌, ◌++◌, [], ◌∷◌, length, map};
 ghost use Rattle.std.specs.List.{AllByRecursion};
 ghost use Rattle.affine_form.specs.System.{AllOver};
 ghost use Rattle.dep_quast.specs.Claims.{IsFew};
-ghost use Rattle.claims.specs.Claims.{Finds};
+ghost use Rattle.claims.specs.Claims.{Decides};
 ghost use Rattle.reuse_paths.specs.LeafClaims.{claim_of};
 ghost use Rattle.reuse_paths.specs.OpenLeaves.{OpenLeaf as open_leaf, is_input};
 ghost use Rattle.wavefront.specs.Leaves.{leaf_claim, leaves_claims};
 ghost use Rattle.iolb_model.specs.declared.limits.TheConstants.{VARIABLES};
 
-use affine_form::{Form, Memory};
-use claims::{No, Place, Step, refusal};
+use affine_form::Form;
+use claims::{Place, Refused, Step, refusal};
 use dep_quast::claims_shown::system_shown;
 use dep_quast::lists::followed_by;
 use iolb_model::limits;
@@ -28,20 +29,18 @@ pub(crate) fn leaves_shown(
     list: &Place,
     leaves: &[OpenLeaf],
     entries: &[Leaf],
-) -> Result<Option<No>, Memory>
+) -> Result<(), Refused>
     requires few { vars ≤ VARIABLES }
     requires rows_over { AllOver vars rows.now }
     requires leaves_over { AllByRecursion (λ (l : open_leaf). AllOver vars l.tests) leaves.now }
     requires one_each { length entries.now ≡ length leaves.now }
-    ensures { IfOk result (λ found. Finds (leaves_claims vars rows.now list.now 0 leaves.now (map claim_of entries.now)) found) }
+    ensures { Decides (leaves_claims vars rows.now list.now 0 leaves.now (map claim_of entries.now)) result }
 {
     for i in 0..leaves.len() {
         let place = list.within(alloc, Step::Index(i as u64))?;
-        if let Some(no) = leaf_shown(alloc, vars, rows, &place, &leaves[i], &entries[i])? {
-            return Ok(Some(no));
-        }
+        leaf_shown(alloc, vars, rows, &place, &leaves[i], &entries[i])?;
     }
-    Ok(None)
+    Ok(())
 }
 
 /// Whether what an entry claims at a leaf is shown: else the condition that doesn't hold, at this place. Want of memory
@@ -53,12 +52,12 @@ fn leaf_shown(
     place: &Place,
     leaf: &OpenLeaf,
     entry: &Leaf,
-) -> Result<Option<No>, Memory>
+) -> Result<(), Refused>
     requires few { vars ≤ VARIABLES }
     requires rows_over { AllOver vars rows.now }
     requires leaf_over { AllOver vars leaf.now.tests }
-    ensures { IfOk result (λ found. Finds (record { condition = 2; place = place.now; statement = IsFew (length (rows.now ++ leaf.now.tests)) }
-        ∷ leaf_claim place.now (record { vars = vars; rows = rows.now ++ leaf.now.tests }) (is_input leaf.now.origin) (claim_of entry.now) ∷ []) found) }
+    ensures { Decides (record { condition = 2; place = place.now; statement = IsFew (length (rows.now ++ leaf.now.tests)) }
+        ∷ leaf_claim place.now (record { vars = vars; rows = rows.now ++ leaf.now.tests }) (is_input leaf.now.origin) (claim_of entry.now) ∷ []) result }
 {
     let front = followed_by(alloc, Vec::new(alloc), rows)?;
     let all = followed_by(alloc, front, leaf.tests.as_slice())?;
@@ -66,10 +65,10 @@ fn leaf_shown(
         return system_shown(alloc, 11, place, vars, all.as_slice(), shown);
     }
     if all.len() > limits::ROWS {
-        return refusal(alloc, 2, place);
+        return Err(refusal(alloc, 2, place));
     }
     if !(leaf.is_input() && matches!(entry, Leaf::Stop { .. })) {
-        return refusal(alloc, 11, place);
+        return Err(refusal(alloc, 11, place));
     }
-    Ok(None)
+    Ok(())
 }

@@ -3,7 +3,7 @@
 ghost use Rattle.std.specs.Prelude.{◌≢◌};
 
 use crate::scene::{Failing, Scene};
-use iolb_call::{Status, run, sure_calls_have_no_fault};
+use iolb_commands::{Status, run, sure_calls_have_no_fault};
 use iolb_host::{Files, MemFiles, MemSink, SureFiles, SureSink};
 use std::alloc::{AllocError, Global};
 use std::collections::BTreeMap;

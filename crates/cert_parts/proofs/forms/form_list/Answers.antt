@@ -2,7 +2,7 @@ use Rattle.affine_form.specs.Form.{IsSmallForm}
 use Rattle.cert_parts.specs.Parts.{reads_form, reads_forms}
 use Rattle.base_laws.proofs.Lists.{All-push}
 use Rattle.serde_json.specs.View.{view}
-use Rattle.cert_parts.proofs.Loop.{goes_on, ends, is_done}
+use Rattle.json_parts.proofs.Loop.{goes_on, ends, is_done}
 use Rattle.cert_parts.proofs.forms.form_list.Goals as goal
 use Rattle.iolb_model.specs.declared.limits.TheConstants.{NUMBER_SIZE}
 

@@ -3,8 +3,8 @@ use Rattle.std.specs.List.{AllByRecursion}
 use Rattle.affine_form.specs.Form.{IsSmallForm}
 use Rattle.cert_parts.specs.Parts.{reads_form, reads_forms}
 use Rattle.serde_json.specs.View.{view}
-use Rattle.cert_parts.specs.Json.{each}
-use Rattle.cert_parts.proofs.Loop.{with_front}
+use Rattle.json_parts.specs.Json.{each}
+use Rattle.json_parts.proofs.Loop.{with_front}
 use Rattle.cert_parts.proofs.forms.form_list.Given as goal
 use Rattle.iolb_model.specs.declared.limits.TheConstants.{NUMBER_SIZE}
 

@@ -6,8 +6,8 @@ use Rattle.std.proofs.lemmas.List.{length-append}
 use Rattle.affine_form.specs.Form.{IsSmall}
 use Rattle.base_laws.proofs.Lists.{All-push}
 use Rattle.serde_json.specs.View.{view}
-use Rattle.cert_parts.specs.Json.{each, reads_integer}
-use Rattle.cert_parts.proofs.Loop.{goes_on, ends, is_done}
+use Rattle.json_parts.specs.Json.{each, reads_integer}
+use Rattle.json_parts.proofs.Loop.{goes_on, ends, is_done}
 use Rattle.cert_parts.proofs.forms.numbers.Goals as goal
 use Rattle.iolb_model.specs.declared.limits.TheConstants.{NUMBER_SIZE}
 

@@ -3,7 +3,7 @@ use Rattle.std.proofs.lemmas.List.{map_push}
 use Rattle.reuse_paths.specs.LeafClaims.{claim_of}
 use Rattle.cert_parts.specs.Leaves.{reads_leaf, reads_leaves}
 use Rattle.serde_json.specs.View.{view}
-use Rattle.cert_parts.proofs.Loop.{goes_on, ends, is_done}
+use Rattle.json_parts.proofs.Loop.{goes_on, ends, is_done}
 use Rattle.cert_parts.proofs.leaves.leaf_list.Goals as goal
 
 pub returns-in-Err : goal.returns-in-Err

@@ -2,8 +2,8 @@ use Rattle.std.proofs.Common.{◌≡◌, map, drop, length}
 use Rattle.std.specs.List.{AllByRecursion}
 use Rattle.affine_form.specs.Form.{IsSmall}
 use Rattle.serde_json.specs.View.{view}
-use Rattle.cert_parts.specs.Json.{each, reads_integer}
-use Rattle.cert_parts.proofs.Loop.{with_front}
+use Rattle.json_parts.specs.Json.{each, reads_integer}
+use Rattle.json_parts.proofs.Loop.{with_front}
 use Rattle.cert_parts.proofs.matrices.entries.Given as goal
 use Rattle.iolb_model.specs.declared.limits.TheConstants.{NUMBER_SIZE}
 

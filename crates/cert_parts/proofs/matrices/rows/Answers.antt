@@ -1,11 +1,11 @@
 use Rattle.std.proofs.Common.{◌≡◌, [], ◌∷◌, ◌++◌, map}
 use Rattle.std.proofs.lemmas.List.{map_push}
-use Rattle.cert_parts.specs.Json.{each}
+use Rattle.json_parts.specs.Json.{each}
 use Rattle.cert_parts.specs.Parts.{reads_row}
 use Rattle.cert_parts.specs.Rows.{row_items, IsRow}
 use Rattle.base_laws.proofs.Lists.{All-push}
 use Rattle.serde_json.specs.View.{view}
-use Rattle.cert_parts.proofs.Loop.{goes_on, ends, is_done}
+use Rattle.json_parts.proofs.Loop.{goes_on, ends, is_done}
 use Rattle.cert_parts.proofs.matrices.rows.Goals as goal
 
 pub returns-in-Err-clause-read : goal.returns-in-Err-clause-read

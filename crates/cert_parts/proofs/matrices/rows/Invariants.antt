@@ -3,8 +3,8 @@ use Rattle.std.specs.List.{AllByRecursion}
 use Rattle.cert_parts.specs.Parts.{reads_row}
 use Rattle.cert_parts.specs.Rows.{row_items, IsRow}
 use Rattle.serde_json.specs.View.{view}
-use Rattle.cert_parts.specs.Json.{each}
-use Rattle.cert_parts.proofs.Loop.{with_front}
+use Rattle.json_parts.specs.Json.{each}
+use Rattle.json_parts.proofs.Loop.{with_front}
 use Rattle.cert_parts.proofs.matrices.rows.Given as goal
 
 abbrev pub invariant-loop-i : goal.invariant-loop-i

@@ -1,8 +1,8 @@
 use Rattle.std.proofs.Common.{◌≡◌, map, drop}
 use Rattle.cert_parts.specs.Parts.{reads_multipliers, reads_all_multipliers}
 use Rattle.serde_json.specs.View.{view}
-use Rattle.cert_parts.specs.Json.{each}
-use Rattle.cert_parts.proofs.Loop.{with_front}
+use Rattle.json_parts.specs.Json.{each}
+use Rattle.json_parts.proofs.Loop.{with_front}
 use Rattle.cert_parts.proofs.multipliers.all_multipliers.Given as goal
 
 abbrev pub invariant-loop-i : goal.invariant-loop-i

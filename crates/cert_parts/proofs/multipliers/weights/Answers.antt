@@ -3,7 +3,7 @@ use Rattle.affine_form.specs.Multipliers.{IsWeight}
 use Rattle.base_laws.proofs.Lists.{All-push}
 use Rattle.serde_json.specs.View.{view}
 use Rattle.cert_parts.specs.Parts.{reads_weights}
-use Rattle.cert_parts.proofs.Members.{hands_on}
+use Rattle.json_parts.proofs.Failing.{hands_on}
 use Rattle.cert_parts.proofs.Weights.{goes_on, ends_first, ends_second, is_done}
 use Rattle.cert_parts.proofs.multipliers.weights.Goals as goal
 

@@ -1,6 +1,6 @@
 use Rattle.cert_parts.specs.Nests.{reads_pair, reads_nest}
 use Rattle.serde_json.specs.View.{view}
-use Rattle.cert_parts.proofs.Loop.{goes_on, ends, is_done}
+use Rattle.json_parts.proofs.Loop.{goes_on, ends, is_done}
 use Rattle.cert_parts.proofs.nests.bounds.Goals as goal
 
 pub returns-in-Err : goal.returns-in-Err

@@ -2,8 +2,8 @@ use Rattle.std.proofs.Common.{◌+◌, ◌≤◌, ℕ, map, ◌∷◌, [], ap, �
 use Rattle.std.proofs.lemmas.List.{length-append}
 use Rattle.base_laws.proofs.Lists.{All-push}
 use Rattle.serde_json.specs.View.{view}
-use Rattle.cert_parts.specs.Json.{each, reads_natural}
-use Rattle.cert_parts.proofs.Loop.{goes_on, ends, is_done}
+use Rattle.json_parts.specs.Json.{each, reads_natural}
+use Rattle.json_parts.proofs.Loop.{goes_on, ends, is_done}
 use Rattle.cert_parts.proofs.polynomials.exponents.Goals as goal
 
 pub returns-in-Err-clause-read : goal.returns-in-Err-clause-read

@@ -1,8 +1,8 @@
 use Rattle.std.proofs.Common.{◌≡◌, ◌≤◌, ◌+◌, map, drop, length}
 use Rattle.std.specs.List.{AllByRecursion}
 use Rattle.serde_json.specs.View.{view}
-use Rattle.cert_parts.specs.Json.{each, reads_natural}
-use Rattle.cert_parts.proofs.Loop.{with_front}
+use Rattle.json_parts.specs.Json.{each, reads_natural}
+use Rattle.json_parts.proofs.Loop.{with_front}
 use Rattle.cert_parts.proofs.polynomials.exponents.Given as goal
 
 abbrev pub invariant-loop-i : goal.invariant-loop-i

@@ -5,7 +5,7 @@ use Rattle.base_laws.proofs.Lists.{All-push}
 use Rattle.poly_tree.specs.Terms.{term_of, terms_of, HasExponents}
 use Rattle.serde_json.specs.View.{view}
 use Rattle.cert_parts.specs.Apart.{HasLists, exponent_lists}
-use Rattle.cert_parts.specs.Outcome.{Fails}
+use Rattle.json_parts.specs.Outcome.{Fails}
 use Rattle.cert_parts.specs.Polynomials.{reads_term_behind, reads_terms, stands_apart}
 use Rattle.cert_parts.proofs.TermLoop.{goes_on, ends, is_done, AreApart-push}
 use Rattle.cert_parts.proofs.polynomials.terms.Goals as goal

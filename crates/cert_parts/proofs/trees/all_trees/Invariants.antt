@@ -2,8 +2,8 @@ use Rattle.std.proofs.Common.{◌≡◌, map, drop}
 use Rattle.reuse_paths.specs.Quasts.{row_trees}
 use Rattle.cert_parts.specs.Trees.{reads_trees, reads_all_trees}
 use Rattle.serde_json.specs.View.{view}
-use Rattle.cert_parts.specs.Json.{each}
-use Rattle.cert_parts.proofs.Loop.{with_front}
+use Rattle.json_parts.specs.Json.{each}
+use Rattle.json_parts.proofs.Loop.{with_front}
 use Rattle.cert_parts.proofs.trees.all_trees.Given as goal
 
 abbrev pub invariant-loop-i : goal.invariant-loop-i

@@ -3,7 +3,7 @@ use Rattle.std.proofs.lemmas.List.{map_push}
 use Rattle.dep_quast.specs.Tree.{tree_of}
 use Rattle.cert_parts.specs.Trees.{reads_tree, reads_trees}
 use Rattle.serde_json.specs.View.{view}
-use Rattle.cert_parts.proofs.Loop.{goes_on, ends, is_done}
+use Rattle.json_parts.proofs.Loop.{goes_on, ends, is_done}
 use Rattle.cert_parts.proofs.trees.trees.Goals as goal
 
 pub returns-in-Err : goal.returns-in-Err

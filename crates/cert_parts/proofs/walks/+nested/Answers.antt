@@ -5,11 +5,11 @@ use Rattle.reuse_paths.specs.Walks.{WalkTree, tree_of_walk}
 use Rattle.serde_json.specs.Data.{Data}
 use Rattle.serde_json.specs.Find.{get}
 use Rattle.serde_json.specs.View.{view}
-use Rattle.cert_parts.specs.Outcome.{Outcome, Gives, Fails, fault, under}
-use Rattle.cert_parts.specs.Json.{part}
+use Rattle.json_parts.specs.Outcome.{Outcome, Gives, Fails, fault, under}
+use Rattle.json_parts.specs.Json.{part}
 use Rattle.cert_parts.specs.Parts.{reads_form}
 use Rattle.cert_parts.specs.Walks.{reads_walk_test, reads_nested_walk}
-use Rattle.cert_parts.proofs.Members.{part_there, part_absent, fails_fault, fails_under, fails_then, hands_on}
+use Rattle.json_parts.proofs.Failing.{part_there, part_absent, fails_fault, fails_under, fails_then, hands_on}
 use Rattle.cert_parts.proofs.NestedWalks.{nested_leaf, nested_past, nested_test}
 use Rattle.cert_parts.proofs.walks.+nested.Goals as goal
 

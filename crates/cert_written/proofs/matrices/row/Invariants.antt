@@ -1,6 +1,6 @@
 use Rattle.std.proofs.Common.{◌≡◌, ◌++◌, map, drop}
 use Rattle.serde_json.specs.View.{view}
-use Rattle.cert_written.specs.Parts.{whole}
+use Rattle.json_parts.specs.Written.{whole}
 use Rattle.cert_written.proofs.matrices.row.Given as goal
 
 abbrev pub invariant-loop-entry : goal.invariant-loop-entry

@@ -1,6 +1,6 @@
 use Rattle.std.proofs.Common.{◌≡◌, ◌∷◌, ◌++◌, map, drop}
 use Rattle.serde_json.specs.View.{view}
-use Rattle.cert_written.specs.Parts.{natural, whole}
+use Rattle.json_parts.specs.Written.{natural, whole}
 use Rattle.cert_written.proofs.polynomials.term.Given as goal
 
 abbrev pub invariant-loop-exponent : goal.invariant-loop-exponent

@@ -1,7 +1,7 @@
 use Rattle.std.proofs.Common.{map}
 use Rattle.iolb_check.specs.Claims.{claim_of_branch}
 use Rattle.serde_json.specs.View.{view}
-use Rattle.cert_parts.proofs.LoopBy.{SoFar}
+use Rattle.json_parts.proofs.LoopBy.{SoFar}
 use Rattle.iolb_cert.specs.Certificates.{reads_branch, reads_branches}
 use Rattle.iolb_cert.specs.Read.{IsBranch}
 use Rattle.iolb_cert.proofs.read_branches.branch_list.Given as goal

@@ -1,9 +1,9 @@
 use Rattle.std.proofs.Common.{◌≡◌, true, false, refl, sym, subst}
 use Rattle.serde_json.specs.Data.{Data}
 use Rattle.serde_json.specs.View.{view}
-use Rattle.cert_parts.specs.Outcome.{GivesBy, fault}
-use Rattle.cert_parts.specs.Json.{has_keys, with_keys}
-use Rattle.cert_parts.proofs.Members.{fails_fault}
+use Rattle.json_parts.specs.Outcome.{GivesBy, fault}
+use Rattle.json_parts.specs.Json.{has_keys, with_keys}
+use Rattle.json_parts.proofs.Failing.{fails_fault}
 use Rattle.iolb_cert.specs.FrontTexts.{front_keys, reads_front, reads_front_members}
 use Rattle.iolb_cert.specs.Read.{IsFront}
 use Rattle.iolb_check.specs.Claims.{claim_of_front}

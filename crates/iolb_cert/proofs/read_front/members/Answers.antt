@@ -4,15 +4,15 @@ use Rattle.claims.specs.declared.key.TheConstants.{OUTER_SUMS}
 use Rattle.poly_tree.specs.Poly.{Quotient}
 use Rattle.serde_json.specs.Data.{Data}
 use Rattle.serde_json.specs.View.{view}
-use Rattle.cert_parts.specs.Outcome.{Outcome}
-use Rattle.cert_parts.specs.Json.{part}
+use Rattle.json_parts.specs.Outcome.{Outcome}
+use Rattle.json_parts.specs.Json.{part}
 use Rattle.cert_parts.specs.Polynomials.{reads_polynomials}
 use Rattle.cert_parts.specs.Read.{ArePolynomials}
 use Rattle.iolb_check.specs.Claims.{claim_of_front}
 use Rattle.iolb_cert.specs.FrontTexts.{FrontHead, FrontMiddle, FrontRest, front_claim, reads_front_head, reads_front_rest, reads_front_members}
 use Rattle.iolb_cert.specs.Read.{WrittenFront, IsFront}
 use Rattle.iolb_cert.specs.Views.{front_head_of, spots_of}
-use Rattle.cert_parts.proofs.Members.{hands_on_by}
+use Rattle.json_parts.proofs.Failing.{hands_on_by}
 use Rattle.iolb_cert.proofs.Steps.{first_fails, second_fails, third_fails, all_read}
 use Rattle.iolb_cert.proofs.read_front.members.Goals as goal
 

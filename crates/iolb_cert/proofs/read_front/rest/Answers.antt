@@ -3,12 +3,12 @@ use Rattle.iolb_model.specs.Polynomial.{Polynomial}
 use Rattle.claims.specs.declared.key.TheConstants.{SUMS}
 use Rattle.serde_json.specs.Data.{Data}
 use Rattle.serde_json.specs.View.{view}
-use Rattle.cert_parts.specs.Outcome.{Outcome}
-use Rattle.cert_parts.specs.Json.{part}
+use Rattle.json_parts.specs.Outcome.{Outcome}
+use Rattle.json_parts.specs.Json.{part}
 use Rattle.cert_parts.specs.Polynomials.{reads_polynomials}
 use Rattle.iolb_cert.specs.FrontTexts.{FrontMiddle, FrontSpots, FrontRest, reads_front_middle, reads_front_spots, reads_front_rest}
 use Rattle.iolb_cert.specs.Views.{front_middle_of, spots_of, IsRest}
-use Rattle.cert_parts.proofs.Members.{hands_on_by}
+use Rattle.json_parts.proofs.Failing.{hands_on_by}
 use Rattle.iolb_cert.proofs.Steps.{first_fails, second_fails, third_fails, all_read}
 use Rattle.iolb_cert.proofs.read_front.rest.Goals as goal
 

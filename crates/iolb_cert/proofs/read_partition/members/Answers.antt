@@ -6,14 +6,14 @@ use Rattle.poly_tree.specs.Poly.{Quotient}
 use Rattle.reuse_paths.specs.declared.family.Credit.{Credit}
 use Rattle.serde_json.specs.Data.{Data}
 use Rattle.serde_json.specs.View.{view}
-use Rattle.cert_parts.specs.Credits.{WrittenCredit, reads_all_credited, AreCredits}
-use Rattle.cert_parts.specs.Outcome.{Outcome}
-use Rattle.cert_parts.specs.Json.{part}
+use Rattle.cert_written.specs.Credits.{WrittenCredit, reads_all_credited, AreCredits}
+use Rattle.json_parts.specs.Outcome.{Outcome}
+use Rattle.json_parts.specs.Json.{part}
 use Rattle.cert_parts.specs.Read.{ArePolynomials}
 use Rattle.iolb_cert.specs.PartitionTexts.{PartitionHead, PartitionWalks, PartitionRest, claim_in, reads_partition_head, reads_partition_rest, reads_partition_members}
 use Rattle.iolb_cert.specs.Read.{WrittenPartition, IsCreditTerm, IsPartition}
 use Rattle.iolb_cert.specs.Views.{partition_head_of, partition_cover_of}
-use Rattle.cert_parts.proofs.Members.{hands_on_by}
+use Rattle.json_parts.proofs.Failing.{hands_on_by}
 use Rattle.iolb_cert.proofs.Related.{all-mapped}
 use Rattle.iolb_cert.proofs.Steps.{first_fails, second_fails, third_fails, all_read}
 use Rattle.iolb_cert.proofs.read_partition.members.Goals as goal

@@ -3,9 +3,9 @@ use Rattle.k_partition.specs.declared.term.Partition.{Partition}
 use Rattle.k_partition.specs.View.{partition_of}
 use Rattle.serde_json.specs.Data.{Data}
 use Rattle.serde_json.specs.View.{view}
-use Rattle.cert_parts.specs.Outcome.{GivesBy, fault}
-use Rattle.cert_parts.specs.Json.{has_keys, with_keys}
-use Rattle.cert_parts.proofs.Members.{fails_fault}
+use Rattle.json_parts.specs.Outcome.{GivesBy, fault}
+use Rattle.json_parts.specs.Json.{has_keys, with_keys}
+use Rattle.json_parts.proofs.Failing.{fails_fault}
 use Rattle.iolb_cert.specs.PartitionTexts.{partition_keys, reads_partition, reads_whole_partition}
 use Rattle.iolb_cert.specs.Read.{IsPartition}
 use Rattle.iolb_cert.proofs.read_partition.partition.Goals as goal

@@ -3,12 +3,12 @@ use Rattle.iolb_model.specs.Polynomial.{Polynomial}
 use Rattle.claims.specs.declared.key.TheConstants.{SUMS}
 use Rattle.serde_json.specs.Data.{Data}
 use Rattle.serde_json.specs.View.{view}
-use Rattle.cert_parts.specs.Outcome.{Outcome}
-use Rattle.cert_parts.specs.Json.{part}
+use Rattle.json_parts.specs.Outcome.{Outcome}
+use Rattle.json_parts.specs.Json.{part}
 use Rattle.cert_parts.specs.Polynomials.{reads_polynomials}
 use Rattle.iolb_cert.specs.PartitionTexts.{PartitionWalks, PartitionCover, PartitionRest, reads_partition_walks, reads_partition_cover, reads_partition_rest}
 use Rattle.iolb_cert.specs.Views.{partition_walks_of, partition_cover_of, IsPartitionRest}
-use Rattle.cert_parts.proofs.Members.{hands_on_by}
+use Rattle.json_parts.proofs.Failing.{hands_on_by}
 use Rattle.iolb_cert.proofs.Steps.{first_fails, second_fails, third_fails, all_read}
 use Rattle.iolb_cert.proofs.read_partition.rest.Goals as goal
 

@@ -6,10 +6,10 @@ use Rattle.k_partition.specs.declared.term.Partition.{Partition}
 use Rattle.k_partition.specs.View.{partition_of}
 use Rattle.serde_json.specs.Data.{Data}
 use Rattle.serde_json.specs.View.{view}
-use Rattle.cert_parts.specs.Outcome.{fault, under, Fails}
+use Rattle.json_parts.specs.Outcome.{fault, under, Fails}
 use Rattle.iolb_cert.specs.PartitionTexts.{reads_partition_members, with_events, reads_whole_partition}
 use Rattle.iolb_cert.specs.Read.{PartitionClaim, WrittenPartition, IsPartition}
-use Rattle.cert_parts.proofs.Members.{fails_fault, fails_under, fails_then, hands_on_by}
+use Rattle.json_parts.proofs.Failing.{fails_fault, fails_under, fails_then, hands_on_by}
 use Rattle.iolb_cert.proofs.Events.{first-counts, second-counts, no-events, some-events}
 use Rattle.iolb_cert.proofs.read_partition.whole.Goals as goal
 use Rattle.iolb_cert.proofs.read_partition.whole.Goals.{else-found-eq0-via-then-found-eq0+else-found-eq0-2, else-found-eq0-via-else-found-eq0}

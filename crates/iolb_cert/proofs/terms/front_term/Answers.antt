@@ -2,7 +2,7 @@ use Rattle.std.proofs.Common.{◌≡◌, Ok, codes, refl}
 use Rattle.claims.specs.declared.key.TheConstants.{WAVEFRONT}
 use Rattle.serde_json.specs.Data.{Data}
 use Rattle.serde_json.specs.View.{view}
-use Rattle.cert_parts.specs.Json.{part}
+use Rattle.json_parts.specs.Json.{part}
 use Rattle.iolb_cert.specs.FrontTexts.{reads_front}
 use Rattle.iolb_cert.specs.Terms.{reads_front_term}
 use Rattle.iolb_cert.specs.Read.{WrittenFront, as_front}

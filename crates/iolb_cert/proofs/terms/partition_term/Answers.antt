@@ -2,7 +2,7 @@ use Rattle.std.proofs.Common.{◌≡◌, Ok, codes, refl}
 use Rattle.claims.specs.declared.key.TheConstants.{PARTITION}
 use Rattle.serde_json.specs.Data.{Data}
 use Rattle.serde_json.specs.View.{view}
-use Rattle.cert_parts.specs.Json.{part}
+use Rattle.json_parts.specs.Json.{part}
 use Rattle.iolb_cert.specs.PartitionTexts.{reads_partition}
 use Rattle.iolb_cert.specs.Terms.{reads_partition_term}
 use Rattle.iolb_cert.specs.Read.{WrittenPartition, as_partition}

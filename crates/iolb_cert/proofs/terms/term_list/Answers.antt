@@ -2,7 +2,7 @@ use Rattle.std.proofs.Common.{◌≡◌, [], ◌∷◌, ◌++◌, map}
 use Rattle.std.proofs.lemmas.List.{map_push}
 use Rattle.iolb_check.specs.Claims.{claim_of_term}
 use Rattle.serde_json.specs.View.{view}
-use Rattle.cert_parts.proofs.LoopBy.{goes_on_by, ends_by, is_done_by}
+use Rattle.json_parts.proofs.LoopBy.{goes_on_by, ends_by, is_done_by}
 use Rattle.iolb_cert.specs.Terms.{reads_term, reads_terms}
 use Rattle.iolb_cert.specs.Read.{IsTerm}
 use Rattle.iolb_cert.proofs.terms.term_list.Goals as goal

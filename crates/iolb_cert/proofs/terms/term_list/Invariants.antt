@@ -1,7 +1,7 @@
 use Rattle.std.proofs.Common.{map}
 use Rattle.iolb_check.specs.Claims.{claim_of_term}
 use Rattle.serde_json.specs.View.{view}
-use Rattle.cert_parts.proofs.LoopBy.{SoFar}
+use Rattle.json_parts.proofs.LoopBy.{SoFar}
 use Rattle.iolb_cert.specs.Terms.{reads_term, reads_terms}
 use Rattle.iolb_cert.specs.Read.{IsTerm}
 use Rattle.iolb_cert.proofs.terms.term_list.Given as goal

@@ -2,10 +2,10 @@ use Rattle.std.proofs.Common.{◌∙◌, ap, map}
 use Rattle.serde_json.proofs.Views.{view-Array}
 use Rattle.iolb_check.specs.Limits.{IsSmallTerm}
 use Rattle.iolb_cert.specs.WrittenCertificates.{term_data}
-use Rattle.cert_written.specs.Parts.{list}
+use Rattle.json_parts.specs.Written.{list}
 use Rattle.iolb_cert.specs.ReadBack.{TermIsRead}
 use Rattle.iolb_cert.specs.Written.{written_term}
-use Rattle.cert_written.proofs.Rest.{one-more, all-more, all-rest, all-done}
+use Rattle.json_parts.proofs.Rest.{one-more, all-more, all-rest, all-done}
 use Rattle.iolb_cert.proofs.written_branches.terms.Goals as goal
 
 pub loop-one-preserved : goal.loop-one-preserved

@@ -2,10 +2,9 @@ use Rattle.std.proofs.Common.{subst, List, rules}
 use Rattle.std.specs.List.{AllByRecursion}
 use Rattle.iolb_model.specs.Form.{AffineForm}
 use Rattle.affine_form.specs.Multipliers.{FarkasMultipliers}
-use Rattle.poly_tree.specs.Poly.{Quotient}
 use Rattle.reuse_paths.specs.declared.leaf.Leaf.{Leaf}
-use Rattle.cert_written.specs.ReadBack.{FormIsRead, AreMultipliersRead, LeafIsRead, PolynomialIsRead}
-use Rattle.iolb_cert.proofs.ReadTerms.{cold-read}
+use Rattle.cert_written.specs.ReadBack.{FormIsRead, AreMultipliersRead, LeafIsRead}
+use Rattle.iolb_cert.proofs.ReadTerms.{ArePolynomialsRead, cold-read}
 use Rattle.iolb_cert.proofs.written_cold.cold.Goals as goal
 
 abbrev AllRead : List FarkasMultipliers → Type 0
@@ -21,5 +20,5 @@ returns-clause-read c = cold-read c.args.cold.now c.requires (record {
   read = search rules;
   shown = subst AllRead c.shown.ensures c.in_ok-shown.ensures.read;
   statement = search rules;
-  sums = subst (λ (sums : List Quotient). AllByRecursion PolynomialIsRead sums) c.sums.ensures c.in_ok-sums.ensures.read;
+  sums = subst ArePolynomialsRead c.sums.ensures (record { read = c.in_ok-sums.ensures.read; are = c.in_ok-sums.ensures.is });
 })

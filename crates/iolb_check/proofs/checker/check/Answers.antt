@@ -1,12 +1,9 @@
 use Rattle.std.proofs.Common.{rules, ◌≡◌, sym, ◌∙◌, ap, subst, List, ◌++◌, map}
-use Rattle.std.specs.Prelude.{Option, IfNone}
 use Rattle.affine_form.specs.System.{AffineSystem}
 use Rattle.affine_program.specs.Parts.{ProgramParts, meaning}
 use Rattle.claims.specs.Claims.{Claim, AllHold, IsRefusal, numbered}
-use Rattle.claims.specs.declared.place.Step.{Step}
-use Rattle.claims.specs.declared.refused.No.{No}
 use Rattle.claims.proofs.Found.{refused-first, refused-later}
-use Rattle.claims.proofs.Laws.{AllHold-append, first-fails}
+use Rattle.claims.proofs.Laws.{AllHold-append}
 use Rattle.reuse_paths.specs.declared.quasts.Quasts.{Quasts}
 use Rattle.reuse_paths.specs.Quasts.{trees_of}
 use Rattle.reuse_paths.specs.Trees.{RowsFit, rows_claims}
@@ -17,8 +14,7 @@ use Rattle.iolb_check.specs.Conditions.{AreBranchValues, branch_claims}
 use Rattle.iolb_check.specs.declared.bound.Value.{Value}
 use Rattle.iolb_check.specs.Holds.{BranchHolds, BranchesHold}
 use Rattle.iolb_check.specs.Sound.{AreCounted, ArePaid}
-use Rattle.iolb_check.specs.Fit.{BranchesFit, PartsFit}
-use Rattle.part_fit.specs.FitClaims.{misfit, FindsMisfit}
+use Rattle.iolb_check.specs.Fit.{BranchesFit}
 use Rattle.iolb_check.specs.Limits.{CertificateParts}
 use Rattle.iolb_check.specs.TermFit.{certificate_fit}
 use Rattle.iolb_check.proofs.Lists.{zip-weaken}
@@ -35,30 +31,24 @@ trees program parts = rows_claims (meaning program) 0 (trees_of parts.quasts)
 abbrev branches : ProgramParts → CertificateParts → List Claim
 branches program parts = numbered (branch_claims (meaning program) (trees_of parts.quasts)) 0 (map claim_of_branch parts.branches)
 
--- what is found where nothing is
-fits : (program : ProgramParts) (parts : CertificateParts) (found : Option (List Step)) → found ≡ Option.None → IfNone found (PartsFit program parts) → PartsFit program parts
-fits program parts found is h = subst (λ (o : Option (List Step)). IfNone o (PartsFit program parts)) is h
-
-accepted : (program : ProgramParts) (parts : CertificateParts) (found : Option (List Step)) → found ≡ Option.None → FindsMisfit (fit program parts) found → AllHold (fit program parts)
-accepted program parts found is h = subst (FindsMisfit (fit program parts)) is h
-
-pub returns-in-Ok-Some-clause-refused : goal.returns-in-Ok-Some-clause-refused
-returns-in-Ok-Some-clause-refused c =
+pub returns-in_err-parts_fit-clause-refused : goal.returns-in_err-parts_fit-clause-refused
+returns-in_err-parts_fit-clause-refused c =
     let program = c.args.program.now in
     let parts = c.args.certificate.now in
-    let n : No = misfit c.in-Ok-Some.place in
-    first-fails (fit program parts ++ trees program parts) (branches program parts) n
-    (first-fails (fit program parts) (trees program parts) n (subst (FindsMisfit (fit program parts)) c.in-Ok-Some.field-0-is c.in-Ok-Some.ensures.found))
+    let r = c.in_err-parts_fit.field-0.0 in
+    let refused : IsRefusal (fit program parts ++ trees program parts ++ branches program parts) r =
+    refused-first (fit program parts ++ trees program parts) (branches program parts) r (refused-first (fit program parts) (trees program parts) r c.in_err-parts_fit.ensures.fit) in
+    search rules
 
 pub check_branches-requires-clause-trees_fit : goal.check_branches-requires-clause-trees_fit
 check_branches-requires-clause-trees_fit c =
     subst (λ (q : Quasts). RowsFit (meaning c.args.program.now) 0 (trees_of q)) (sym c.quasts-quasts.ensures.quasts)
-    (fits c.args.program.now c.args.certificate.now c.in-Ok-None.field-0 c.in-Ok-None.field-0-is c.in-Ok-None.ensures.fits).trees
+    c.in_ok-parts_fit.ensures.fits.trees
 
 pub check_quasts-requires : goal.check_quasts-requires
 check_quasts-requires c =
     subst (λ (q : Quasts). RowsFit (meaning c.args.program.now) 0 (trees_of q)) (sym c.quasts-quasts.ensures.quasts)
-    (fits c.args.program.now c.args.certificate.now c.in-Ok-None.field-0 c.in-Ok-None.field-0-is c.in-Ok-None.ensures.fits).trees
+    c.in_ok-parts_fit.ensures.fits.trees
 
 pub returns-in_err-check_quasts-clause-refused : goal.returns-in_err-check_quasts-clause-refused
 returns-in_err-check_quasts-clause-refused c =
@@ -67,7 +57,7 @@ returns-in_err-check_quasts-clause-refused c =
     let r = c.in_err-check_quasts.field-0.0 in
     let refused : IsRefusal (fit program parts ++ trees program parts ++ branches program parts) r =
     refused-first (fit program parts ++ trees program parts) (branches program parts) r
-    (refused-later (fit program parts) (trees program parts) r (accepted program parts c.in-Ok-None.field-0 c.in-Ok-None.field-0-is c.in-Ok-None.ensures.found)
+    (refused-later (fit program parts) (trees program parts) r c.in_ok-parts_fit.ensures.fit
     (subst (λ (q : Quasts). IsRefusal (rows_claims (meaning program) 0 (trees_of q)) r) c.quasts-quasts.ensures.quasts c.in_err-check_quasts.ensures.refused)) in
     search rules
 
@@ -76,7 +66,7 @@ check_branches-requires-clause-fits c =
     let program = c.args.program.now in
     subst (λ (q : Quasts). BranchesFit program (trees_of q) c.branches.result.now) (sym c.quasts-quasts.ensures.quasts)
     (subst (BranchesFit program (trees_of c.args.certificate.now.quasts)) (sym c.branches.ensures.branches)
-    (fits program c.args.certificate.now c.in-Ok-None.field-0 c.in-Ok-None.field-0-is c.in-Ok-None.ensures.fits).branches)
+    c.in_ok-parts_fit.ensures.fits.branches)
 
 -- what holds of the branches of the certificate, and how what the check of the branches says reads
 module _ (program : ProgramParts) (parts : CertificateParts) (q : Quasts) (bs : List Branch) (same : q ≡ parts.quasts) (all : bs ≡ parts.branches) where
@@ -97,12 +87,12 @@ returns-in_err-values-clause-refused c =
     (subst (λ (q : Quasts). IsRefusal (numbered (branch_claims (meaning program) (trees_of q)) 0 (map claim_of_branch c.branches.result.now)) r) c.quasts-quasts.ensures.quasts c.in_err-values.ensures.refused) in
     let refused : IsRefusal (fit program parts ++ trees program parts ++ branches program parts) r =
     refused-later (fit program parts ++ trees program parts) (branches program parts) r
-    (AllHold-append (fit program parts) (trees program parts) (accepted program parts c.in-Ok-None.field-0 c.in-Ok-None.field-0-is c.in-Ok-None.ensures.found) hold) last in
+    (AllHold-append (fit program parts) (trees program parts) c.in_ok-parts_fit.ensures.fit hold) last in
     search rules
 
 pub new-requires : goal.new-requires
 new-requires c =
-    subst (λ (a : AffineSystem). IsBound (record { assumed = a; branches = lists c.in_ok-values.values.items })) (sym (c.in-Ok.ensures ∙ c.assumed.ensures.assumed))
+    subst (λ (a : AffineSystem). IsBound (record { assumed = a; branches = lists c.in_ok-values.values.items })) (sym (c.in_ok-assumed.ensures ∙ c.assumed.ensures.assumed))
     (is-bound c.args.program.now c.branches.result.now (lists c.in_ok-values.values.items) c.in_ok-values.ensures.hold)
 
 pub returns-clause-meets : goal.returns-clause-meets
@@ -113,7 +103,7 @@ returns-clause-meets c =
     subst (λ (q : Quasts). AllHold (rows_claims (meaning program) 0 (trees_of q))) c.quasts-quasts.ensures.quasts c.in_ok-check_quasts.ensures.hold in
     record {
       accepted = AllHold-append (fit program parts ++ trees program parts) (branches program parts)
-          (AllHold-append (fit program parts) (trees program parts) (accepted program parts c.in-Ok-None.field-0 c.in-Ok-None.field-0-is c.in-Ok-None.ensures.found) hold)
+          (AllHold-append (fit program parts) (trees program parts) c.in_ok-parts_fit.ensures.fit hold)
           (branches-accepted program parts c.quasts-quasts.result.now c.branches.result.now c.quasts-quasts.ensures.quasts c.branches.ensures.branches c.in_ok-values.ensures.accepted);
       valued = subst (AreBranchValues (meaning program) (map claim_of_branch parts.branches)) (sym (ap (λ (b : BoundParts). b.branches) c.new.ensures))
           (subst (λ (l : List Branch). AreBranchValues (meaning program) (map claim_of_branch l) (lists c.in_ok-values.values.items)) c.branches.ensures.branches c.in_ok-values.ensures.values);

@@ -2,7 +2,7 @@ use Rattle.std.proofs.Common.{◌≡◌, sym, ◌∙◌, ap, subst, ℕ, List, l
 use Rattle.std.specs.List.{AllByRecursion}
 use Rattle.affine_form.specs.Multipliers.{FarkasMultipliers}
 use Rattle.affine_program.specs.Parts.{ProgramParts, meaning}
-use Rattle.claims.specs.Claims.{AllHold, Finds}
+use Rattle.claims.specs.Claims.{AllHold}
 use Rattle.claims.specs.declared.place.Step.{Step}
 use Rattle.dep_quast.specs.Claims.{pointless_claims}
 use Rattle.dep_quast.specs.Tree.{SelectionTree}
@@ -39,26 +39,25 @@ pub lists_shown-requires-clause-enough : goal.lists_shown-requires-clause-enough
 lists_shown-requires-clause-enough c =
     let program = meaning c.args.program.now in
     let lists = ap (λ (v : List (Vec Piece Global)). length (pairwise_systems program (map pieces_of v))) c.as_slice-2.ensures.value
-    ∙ ap (λ (l : List (List FootprintPiece)). length (pairwise_systems program l)) c.in-Ok-pieces_of_terms.ensures.pieces
+    ∙ ap (λ (l : List (List FootprintPiece)). length (pairwise_systems program l)) c.in_ok-pieces.ensures.pieces
     ∙ ap (λ (ts : List Term). length (pairwise_systems program (branch_pieces program (trees_of c.args.quasts.now) (map claim_of_term ts)))) c.as_slice.ensures.value in
     omega (arith, lists, enough c.args.program.now (trees_of c.args.quasts.now) c.args.number c.args.branch.now c.requires.fits c.requires.pieces c.requires.shown, ap length c.as_slice-shown.ensures.value)
 
-pub returns-in-Ok-None-clause-apart : goal.returns-in-Ok-None-clause-apart
-returns-in-Ok-None-clause-apart c =
+pub returns-clause-apart : goal.returns-clause-apart
+returns-clause-apart c =
     let program = meaning c.args.program.now in
     let trees = trees_of c.args.quasts.now in
     let branch : Branch = c.args.branch.now in
     let pieces : List (List FootprintPiece) = branch_pieces program trees (map claim_of_term branch.terms.items) in
-    let place : List Step = c.in-Ok.place in
+    let place : List Step = c.in_ok-place.place in
     let made : List (List FootprintPiece) = map pieces_of c.as_slice-2.result.now in
-    let same : made ≡ pieces = ap (map pieces_of) c.as_slice-2.ensures.value ∙ c.in-Ok-pieces_of_terms.ensures.pieces
+    let same : made ≡ pieces = ap (map pieces_of) c.as_slice-2.ensures.value ∙ c.in_ok-pieces.ensures.pieces
     ∙ ap (λ (ts : List Term). branch_pieces program trees (map claim_of_term ts)) c.as_slice.ensures.value in
-    let found : AllHold (pointless_claims 23 place 0 (pairwise_systems program made) c.as_slice-shown.result.now) =
-    subst (Finds (pointless_claims 23 place 0 (pairwise_systems program made) c.as_slice-shown.result.now)) c.in-Ok-None.field-0-is c.in-Ok-None.ensures in
+    let found : AllHold (pointless_claims 23 place 0 (pairwise_systems program made) c.as_slice-shown.result.now) = c.in_ok-lists_shown.ensures in
     let hold : AllHold (pointless_claims 23 place 0 (pairwise_systems program pieces) branch.disjoint.items) =
     subst (λ (m : List FarkasMultipliers). AllHold (pointless_claims 23 place 0 (pairwise_systems program pieces) m)) c.as_slice-shown.ensures.value
     (subst (λ (l : List (List FootprintPiece)). AllHold (pointless_claims 23 place 0 (pairwise_systems program l) c.as_slice-shown.result.now)) same found) in
     let fit : AllByRecursion (AllByRecursion (PieceFits program)) made =
-    subst (λ (v : List (Vec Piece Global)). AllByRecursion (AllByRecursion (PieceFits program)) (map pieces_of v)) (sym c.as_slice-2.ensures.value) c.in-Ok-pieces_of_terms.ensures.fit in
+    subst (λ (v : List (Vec Piece Global)). AllByRecursion (AllByRecursion (PieceFits program)) (map pieces_of v)) (sym c.as_slice-2.ensures.value) c.in_ok-pieces.ensures.fit in
     pairwise-apart program 23 place pieces branch.disjoint.items (subst (AllByRecursion (AllByRecursion (PieceFits program))) same fit)
     (omega (arith, enough c.args.program.now trees c.args.number branch c.requires.fits c.requires.pieces c.requires.shown)) hold

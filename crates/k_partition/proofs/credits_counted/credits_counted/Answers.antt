@@ -1,5 +1,5 @@
 use Rattle.std.proofs.Common.{◌≡◌, refl, sym, ◌∙◌, ap, subst, ℕ, List, ◌+◌, ◌++◌, ◌∷◌, [], map, length, drop, take, append_assoc, rules, arith}
-use Rattle.std.specs.Prelude.{None}
+use Rattle.std.specs.Prelude.{Ok, Err}
 use Rattle.std.proofs.lemmas.List.{drop_all, length-map}
 use Rattle.std.proofs.Math.Numerals.{suc-eq-add-one}
 use Rattle.affine_program.specs.Parts.{meaning}
@@ -14,7 +14,6 @@ use Rattle.k_partition.specs.PartitionClaims.{credit_claims, credit_place, no_po
 use Rattle.k_partition.specs.Term.{CreditTerm}
 use Rattle.k_partition.specs.View.{credit_term_of}
 use Rattle.k_partition.proofs.CreditSums.{credit-holds, credit-refused, total-next}
-use Rattle.reuse_paths.proofs.FoundLeaves.{refused-there}
 use Rattle.k_partition.proofs.Members.{member-of}
 use Rattle.k_partition.proofs.credits_counted.credits_counted.Goals as goal
 
@@ -34,7 +33,7 @@ returns-in_err-total-2-clause-refused c =
     let each = credit_claims program place credits in
     let r = c.in_err-total-2.field-0.0 in
     let refused : IsRefusal (numbered each 0 credits) r =
-    refused-there (numbered each i (drop i credits)) (numbered each 0 credits) c.loop-i.invariant.claims r
+    c.loop-i.invariant.claims (Err r)
     (subst (λ (cs : List Claim). IsRefusal cs r) (sym (numbered-from each credits i credit there.0 there.1))
     (refused-first (each i credit) (numbered each (i + 1) (drop (i + 1) credits)) r
     (credit-refused program place credits i credit c.loop-i.total there.0 there.1 c.loop-i.invariant.total r
@@ -62,6 +61,6 @@ loop-i-preserved c =
 pub returns-clause-holds : goal.returns-clause-holds
 returns-clause-holds c =
     let credits : List CreditTerm = map credit_term_of c.args.credits.now in
-    c.loop-i.invariant.claims None
+    c.loop-i.invariant.claims (Ok tt)
     (numbered-ended (credit_claims (meaning c.args.program.now) c.args.place.now credits) credits c.loop-i.i
     (drop_all c.loop-i.i credits (omega (arith, c.loop-i-test.false, length-map c.args.credits.now credit_term_of))))

@@ -1,5 +1,5 @@
 use Rattle.std.proofs.Common.{◌≡◌, sym, ◌∙◌, ap, subst, ℕ, List, ◌+◌, ◌++◌, ◌∷◌, [], map, length, drop, append_assoc, rules, arith}
-use Rattle.std.specs.Prelude.{None}
+use Rattle.std.specs.Prelude.{Ok, Err}
 use Rattle.std.proofs.lemmas.List.{drop_all, length-map}
 use Rattle.base_laws.proofs.Lists.{All-at}
 use Rattle.affine_program.specs.Parts.{meaning}
@@ -19,7 +19,6 @@ use Rattle.iolb_model.specs.Program.{AffineProgram}
 use Rattle.k_partition.specs.PartitionClaims.{family_claims_at}
 use Rattle.k_partition.specs.Term.{PartitionTerm, credited_nests}
 use Rattle.k_partition.specs.View.{partition_of}
-use Rattle.reuse_paths.proofs.FoundLeaves.{refused-there}
 use Rattle.k_partition.proofs.Members.{member-of, nests-are}
 use Rattle.k_partition.proofs.families_checked.families_checked.Goals as goal
 
@@ -56,7 +55,7 @@ returns-in_err-check_family-clause-refused c =
     let nests : map credit_of c.as_slice-credits.result.now ≡ credited_nests term = sym (nests-are c.args.term.now.credits.items ∙ ap (map credit_of) (sym c.as_slice-credits.ensures.value)) in
     let r = c.in_err-check_family.field-0.0 in
     let refused : IsRefusal (numbered each 0 term.families) r =
-    refused-there (numbered each i (drop i term.families)) (numbered each 0 term.families) c.loop-i.invariant r
+    c.loop-i.invariant (Err r)
     (subst (λ (cs : List Claim). IsRefusal cs r) (sym (numbered-from each term.families i (family_of item) there.0 there.1))
     (refused-first (each i (family_of item)) (numbered each (i + 1) (drop (i + 1) term.families)) r
     (subst (λ (cs : List Claim). IsRefusal cs r)
@@ -85,7 +84,7 @@ returns-clause-holds c =
     let program = meaning c.args.program.now in
     let trees = trees_of c.args.quasts.now in
     let term = partition_of c.args.term.now in
-    c.loop-i.invariant None
+    c.loop-i.invariant (Ok tt)
     (numbered-ended (family_claims_at program trees c.args.place.now term) term.families c.loop-i.i
     (drop_all c.loop-i.i term.families
     (omega (arith, c.loop-i-test.false, length-map c.args.term.now.families.items family_of, ap (λ (l : List Family). length l) c.as_slice-families.ensures.value))))

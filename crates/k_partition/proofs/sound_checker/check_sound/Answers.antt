@@ -1,6 +1,6 @@
 use Rattle.std.proofs.Common.{subst, rules, List, ◌++◌, map}
 use Rattle.affine_program.specs.Parts.{meaning}
-use Rattle.claims.specs.Claims.{AllHold, Finds, IsRefusal, numbered}
+use Rattle.claims.specs.Claims.{AllHold, IsRefusal, numbered}
 use Rattle.domain_count.specs.CountClaims.{count_claims}
 use Rattle.reuse_paths.specs.declared.family.Credit.{Credit}
 use Rattle.reuse_paths.specs.Quasts.{trees_of}
@@ -20,15 +20,17 @@ returns-in_err-count-clause-refused c =
     (unit_claims place term ++ cover_claims place term) (numbered (family_claims_at program trees place term) 0 term.families) c.in_err-count.field-0.0 c.in_err-count.ensures.refused in
     search rules
 
-pub returns-in-Some-clause-refused : goal.returns-in-Some-clause-refused
-returns-in-Some-clause-refused c =
+pub returns-in_err-inside_shown-clause-refused : goal.returns-in_err-inside_shown-clause-refused
+returns-in_err-inside_shown-clause-refused c =
     let program = meaning c.args.program.now in
     let trees = trees_of c.args.quasts.now in
     let place = c.args.place.now in
     let term = partition_of c.args.term.now in
+    let refused : IsRefusal (sound_claims program trees place term) c.in_err-inside_shown.field-0.0 =
     stop-second (count_claims program term.nest term.count place) (inside_claims program place term) (numbered (credit_claims program place term.credits) 0 term.credits)
-    (unit_claims place term ++ cover_claims place term) (numbered (family_claims_at program trees place term) 0 term.families) c.in-Some.no c.in_ok-count.ensures.holds
-    (subst (Finds (inside_claims program place term)) c.in-Some.is c.in_ok-no.ensures)
+    (unit_claims place term ++ cover_claims place term) (numbered (family_claims_at program trees place term) 0 term.families) c.in_err-inside_shown.field-0.0 c.in_ok-count.ensures.holds
+    c.in_err-inside_shown.ensures in
+    search rules
 
 pub returns-in_err-credits-clause-refused : goal.returns-in_err-credits-clause-refused
 returns-in_err-credits-clause-refused c =
@@ -39,21 +41,23 @@ returns-in_err-credits-clause-refused c =
     let refused : IsRefusal (sound_claims program trees place term) c.in_err-credits.field-0.0 =
     stop-third (count_claims program term.nest term.count place) (inside_claims program place term) (numbered (credit_claims program place term.credits) 0 term.credits)
     (unit_claims place term ++ cover_claims place term) (numbered (family_claims_at program trees place term) 0 term.families) c.in_err-credits.field-0.0 c.in_ok-count.ensures.holds
-    (subst (Finds (inside_claims program place term)) c.in_default.is c.in_ok-no.ensures)
+    c.in_ok-inside_shown.ensures
     (subst (λ (credits : List Credit). IsRefusal (numbered (credit_claims program place (map credit_term_of credits)) 0 (map credit_term_of credits)) c.in_err-credits.field-0.0) c.as_slice.ensures.value c.in_err-credits.ensures.refused) in
     search rules
 
-pub returns-in-Some-2-clause-refused : goal.returns-in-Some-2-clause-refused
-returns-in-Some-2-clause-refused c =
+pub returns-in_err-coordinates_shown-clause-refused : goal.returns-in_err-coordinates_shown-clause-refused
+returns-in_err-coordinates_shown-clause-refused c =
     let program = meaning c.args.program.now in
     let trees = trees_of c.args.quasts.now in
     let place = c.args.place.now in
     let term = partition_of c.args.term.now in
+    let refused : IsRefusal (sound_claims program trees place term) c.in_err-coordinates_shown.field-0.0 =
     stop-fourth (count_claims program term.nest term.count place) (inside_claims program place term) (numbered (credit_claims program place term.credits) 0 term.credits)
-    (unit_claims place term ++ cover_claims place term) (numbered (family_claims_at program trees place term) 0 term.families) c.in-Some-2.no c.in_ok-count.ensures.holds
-    (subst (Finds (inside_claims program place term)) c.in_default.is c.in_ok-no.ensures)
+    (unit_claims place term ++ cover_claims place term) (numbered (family_claims_at program trees place term) 0 term.families) c.in_err-coordinates_shown.field-0.0 c.in_ok-count.ensures.holds
+    c.in_ok-inside_shown.ensures
     (subst (λ (credits : List Credit). AllHold (numbered (credit_claims program place (map credit_term_of credits)) 0 (map credit_term_of credits))) c.as_slice.ensures.value c.in_ok-credits.ensures.holds)
-    (subst (Finds (unit_claims place term ++ cover_claims place term)) c.in-Some-2.is c.in_ok-no-2.ensures)
+    c.in_err-coordinates_shown.ensures in
+    search rules
 
 pub returns-in_err-families_checked-clause-refused : goal.returns-in_err-families_checked-clause-refused
 returns-in_err-families_checked-clause-refused c =
@@ -64,9 +68,9 @@ returns-in_err-families_checked-clause-refused c =
     let refused : IsRefusal (sound_claims program trees place term) c.in_err-families_checked.field-0.0 =
     stop-fifth (count_claims program term.nest term.count place) (inside_claims program place term) (numbered (credit_claims program place term.credits) 0 term.credits)
     (unit_claims place term ++ cover_claims place term) (numbered (family_claims_at program trees place term) 0 term.families) c.in_err-families_checked.field-0.0 c.in_ok-count.ensures.holds
-    (subst (Finds (inside_claims program place term)) c.in_default.is c.in_ok-no.ensures)
+    c.in_ok-inside_shown.ensures
     (subst (λ (credits : List Credit). AllHold (numbered (credit_claims program place (map credit_term_of credits)) 0 (map credit_term_of credits))) c.as_slice.ensures.value c.in_ok-credits.ensures.holds)
-    (subst (Finds (unit_claims place term ++ cover_claims place term)) c.in_default-2.is c.in_ok-no-2.ensures)
+    c.in_ok-coordinates_shown.ensures
     c.in_err-families_checked.ensures.refused in
     search rules
 
@@ -79,9 +83,9 @@ whole c =
     let term = partition_of c.args.term.now in
     all-hold (count_claims program term.nest term.count place) (inside_claims program place term) (numbered (credit_claims program place term.credits) 0 term.credits)
     (unit_claims place term ++ cover_claims place term) (numbered (family_claims_at program trees place term) 0 term.families) c.in_ok-count.ensures.holds
-    (subst (Finds (inside_claims program place term)) c.in_default.is c.in_ok-no.ensures)
+    c.in_ok-inside_shown.ensures
     (subst (λ (credits : List Credit). AllHold (numbered (credit_claims program place (map credit_term_of credits)) 0 (map credit_term_of credits))) c.as_slice.ensures.value c.in_ok-credits.ensures.holds)
-    (subst (Finds (unit_claims place term ++ cover_claims place term)) c.in_default-2.is c.in_ok-no-2.ensures)
+    c.in_ok-coordinates_shown.ensures
     c.in_ok-families_checked.ensures.holds
 
 pub returns-clause-holds : goal.returns-clause-holds

@@ -1,13 +1,12 @@
-use Rattle.std.proofs.Common.{true, ◌≡◌, refl, sym, ap, subst, inl, ℕ, ◌<◌, ◌++◌, ◌∷◌, [], length, arith}
-use Rattle.std.specs.Prelude.{Some}
+use Rattle.std.proofs.Common.{true, ◌≡◌, List, ap, subst, ℕ, ◌<◌, ◌++◌, ◌∷◌, [], length, arith}
+use Rattle.claims.specs.declared.place.Step.{Step}
+use Rattle.claims.proofs.Found.{refused-here}
 use Rattle.execution_laws.specs.Inverse.{product_entry, scaled_entry}
 use Rattle.reuse_paths.specs.MatrixRows.{matrix_rows}
-use Rattle.claims.specs.Claims.{Finds, counted}
+use Rattle.claims.specs.Claims.{IsRefusalAt}
 use Rattle.claims.specs.declared.key.TheConstants.{INVERSE}
 use Rattle.claims.specs.declared.place.Step.TheVariants.{Index, Key}
-use Rattle.claims.specs.declared.refused.No.{No}
-use Rattle.claims.proofs.Found.{IfOk-then}
-use Rattle.claims.proofs.Members.{counts-fail, counts-hold}
+use Rattle.claims.proofs.Members.{counts-refused, counts-hold}
 use Rattle.k_partition.specs.PartitionClaims.{unit_claim}
 use Rattle.k_partition.specs.View.{partition_of}
 use Rattle.k_partition.proofs.unit_shown.row_shown.Goals as goal
@@ -19,13 +18,12 @@ returns-then-not-is_unit_entry c =
     let row : ℕ = c.args.row in
     let col : ℕ = c.loop-col.col in
     let each = unit_claim place term row in
-    let failed : No = record { condition = 16; place = place ++ Key INVERSE ∷ Index row ∷ Index col ∷ [] } in
     let below : col < length term.nest = omega (arith, c.loop-col-test.true, ap length c.bounds-col-end.ensures) in
     let differs : product_entry (matrix_rows term.inverse) (matrix_rows term.matrix) row col ≡ scaled_entry 1 row col → ⊥ =
     λ e. let yes : c.is_unit_entry.result ≡ true = c.is_unit_entry.ensures.1 e in cc in
-    IfOk-then c.entry_failed.result (λ found. found ≡ Some failed) (Finds (counted each 0 (length term.nest))) c.entry_failed.ensures
-    (λ found e. subst (Finds (counted each 0 (length term.nest))) (sym e)
-    (counts-fail each (length term.nest) col failed below c.loop-col.invariant (inl (differs, refl, refl))))
+    counts-refused each (length term.nest) col c.refusal.result below c.loop-col.invariant
+    (refused-here (record { condition = 16; place = place ++ Key INVERSE ∷ Index row ∷ Index col ∷ []; statement = product_entry (matrix_rows term.inverse) (matrix_rows term.matrix) row col ≡ scaled_entry 1 row col }) []
+    c.refusal.result differs (subst (λ (p : List Step). IsRefusalAt 16 p c.refusal.result) c.in_ok-entry.ensures c.refusal.ensures))
 
 pub returns : goal.returns
 returns c =

@@ -1,18 +1,10 @@
-use Rattle.std.proofs.Common.{◌≡◌, ◌∙◌, sym, ap, subst, arith, ℕ, List, [], ◌∷◌, ◌++◌, map, length}
-use Rattle.std.specs.Prelude.{IfOk}
+use Rattle.std.proofs.Common.{◌≡◌, ◌∙◌, sym, ap, subst, arith, ℕ, List, map, length}
 use Rattle.std.proofs.lemmas.List.{length-map}
 use Rattle.iolb_model.specs.Form.{AffineForm}
-use Rattle.claims.specs.Claims.{Claim, Finds}
-use Rattle.claims.specs.declared.place.Step.{Step}
-use Rattle.claims.specs.declared.place.Step.TheVariants.{Key}
-use Rattle.claims.specs.declared.key.TheConstants.{ROWS}
-use Rattle.affine_form.specs.Rows.{step_of, variables_from, within_rows, BoundsFit}
-use Rattle.affine_form.specs.System.{AffineSystem}
-use Rattle.dep_quast.specs.Claims.{follow_claims}
-use Rattle.dep_quast.specs.Context.{parameter_point}
+use Rattle.affine_form.specs.Rows.{BoundsFit}
 use Rattle.dep_quast.proofs.Fits.{params-few}
 use Rattle.reuse_paths.specs.OpenLeaves.{form_at}
-use Rattle.reuse_paths.specs.WalkSettings.{WalkSetting, reading_point, region_variables}
+use Rattle.reuse_paths.specs.WalkSettings.{reading_point, region_variables}
 use Rattle.reuse_paths.specs.WalkViews.{walk_of}
 use Rattle.reuse_paths.proofs.credited.nest_shown.Goals as goal
 
@@ -47,26 +39,3 @@ within_rows-requires-clause-bounds_fit c =
 pub goals_shown-requires : goal.goals_shown-requires
 goals_shown-requires c =
     omega (arith, c.requires.enough, ap (λ (l : List AffineForm). length l) c.as_slice-3.ensures.value, c.in_ok-goals.ensures.many, ap (λ (l : List (AffineForm × AffineForm)). length l) c.bounds-bounds.ensures)
-
-pub returns : goal.returns
-returns c =
-    let walk : WalkSetting = walk_of c.args.walking.now in
-    let vars : ℕ = region_variables walk c.args.statement in
-    let condition : ℕ = c.args.walking.now.condition in
-    let list : List Step = c.args.place.now ++ Key ROWS ∷ [] in
-    let system : AffineSystem = record { vars = vars; rows = c.args.rows.now } in
-    let shown = c.args.shown.now in
-    let nest = c.args.nest.now in
-    subst (λ (cs : List Claim). IfOk c.goals_shown.result (λ found. Finds cs found))
-    (ap (λ (place : List Step). follow_claims condition place c.in_ok-system.system 0 c.as_slice-3.result.now shown) c.in_ok-list.ensures
-    ∙ ap (λ (s : AffineSystem). follow_claims condition list s 0 c.as_slice-3.result.now shown)
-    (c.in_ok-system.ensures ∙ ap (λ (n : ℕ). record { vars = n; rows = c.args.rows.now }) c.region_variables-vars.ensures.variables)
-    ∙ ap (λ (goals : List AffineForm). follow_claims condition list system 0 goals shown)
-    (c.as_slice-3.ensures.value ∙ c.in_ok-goals.ensures.rows
-    ∙ ap (λ (n : ℕ). within_rows n (map step_of c.bounds-bounds.result.now) c.as_slice.result.now c.as_slice-2.result.now) c.region_variables-vars.ensures.variables
-    ∙ ap (λ (b : List (AffineForm × AffineForm)). within_rows vars (map step_of b) c.as_slice.result.now c.as_slice-2.result.now) c.bounds-bounds.ensures
-    ∙ ap (λ (p : List AffineForm). within_rows vars (map step_of nest) p c.as_slice-2.result.now)
-    (c.as_slice.ensures.value ∙ c.in_ok-params.ensures.forms ∙ ap (λ (n : ℕ). variables_from n 0 (length c.params.result.now)) c.region_variables-vars.ensures.variables
-    ∙ ap (variables_from vars 0) (ap (λ (l : List (List ℕ)). length l) c.params.ensures.params))
-    ∙ ap (within_rows vars (map step_of nest) (parameter_point walk.program vars)) (c.as_slice-2.ensures.value ∙ c.in_ok-here.ensures.values)))
-    c.goals_shown.ensures

@@ -1,27 +1,30 @@
-use Rattle.std.proofs.Common.{◌≡◌, ◌∙◌, ap, subst, ℕ, ◌+◌, List, ◌++◌, length, map, drop, Vec, Global}
-use Rattle.std.specs.Prelude.{Some}
+use Rattle.std.proofs.Common.{rules, ◌≡◌, ◌∙◌, ap, subst, ℕ, ◌+◌, List, ◌++◌, length, map, drop, Vec, Global}
+use Rattle.std.specs.Prelude.{Err}
 use Rattle.affine_form.specs.System.{AffineSystem}
 use Rattle.affine_program.specs.Parts.{meaning}
-use Rattle.claims.specs.Claims.{Finds}
+use Rattle.claims.specs.Claims.{AllHold, IsRefusal}
 use Rattle.dep_quast.proofs.Chunks.{claims_from}
 use Rattle.reuse_paths.specs.declared.piece.Piece.{Piece}
 use Rattle.reuse_paths.specs.DisjointClaims.{shared_systems, systems_with_lists}
 use Rattle.reuse_paths.specs.Pieces.{FootprintPiece, piece_of, pieces_of}
-use Rattle.reuse_paths.proofs.PairsFound.{first-stop, first-go, rest-room, rest-end, split-later, lists-fit, if-none}
+use Rattle.reuse_paths.proofs.PairsFound.{first-stop, first-go, rest-room, rest-end, split-later, lists-fit}
 use Rattle.reuse_paths.proofs.disjoint.later_shown.Goals as goal
 
-pub returns-in-Some-clause-found : goal.returns-in-Some-clause-found
-returns-in-Some-clause-found c =
+pub returns-in_err-pieces_shown-clause-found : goal.returns-in_err-pieces_shown-clause-found
+returns-in_err-pieces_shown-clause-found c =
     let program = meaning c.args.program.now in
     let pieces : List FootprintPiece = map piece_of c.args.pieces.now in
     let lists : List (Vec Piece Global) = c.args.later.now in
     let i : ℕ = c.loop-others.others-index in
     let others : Vec Piece Global = c.others-item.result in
-    c.loop-others.invariant.found (Some c.in-Some.no)
+    let r = c.in_err-pieces_shown.field-0.0 in
+    let refused =
+    c.loop-others.invariant.decided (Err r)
     (first-stop c.args.condition c.args.list.now c.loop-others.at c.loop-others.at (systems_with_lists program pieces (map pieces_of (drop i lists))) (shared_systems program pieces (pieces_of others))
     (systems_with_lists program pieces (map pieces_of (drop (i + 1) lists))) c.args.shown.now (split-later program pieces lists i others c.loop-others-test.true c.others-item.is) c.loop-others.invariant.room
-    c.in_ok-found.found c.in-Some.no c.in-Some.is
-    (subst (λ (ps : List Piece). Finds (claims_from c.args.condition c.args.list.now c.loop-others.at (shared_systems program pieces (map piece_of ps)) c.args.shown.now) c.in_ok-found.found) c.as_slice-others.ensures.value c.in_ok-found.ensures.found))
+    r
+    (subst (λ (ps : List Piece). IsRefusal (claims_from c.args.condition c.args.list.now c.loop-others.at (shared_systems program pieces (map piece_of ps)) c.args.shown.now) r) c.as_slice-others.ensures.value c.in_err-pieces_shown.ensures.found)) in
+    search rules
 
 pub loop-others-preserved : goal.loop-others-preserved
 loop-others-preserved c =
@@ -38,13 +41,13 @@ loop-others-preserved c =
     let same : shared_systems program pieces (map piece_of c.as_slice-others.result.now) ≡ here = ap (λ (ps : List Piece). shared_systems program pieces (map piece_of ps)) c.as_slice-others.ensures.value in
     let is_next : next ≡ c.loop-others.at + length here =
     subst (λ (xs : List AffineSystem). next ≡ c.loop-others.at + length xs) same
-    (if-none c.in_ok-found.found (next ≡ c.loop-others.at + length (shared_systems program pieces (map piece_of c.as_slice-others.result.now))) c.in_default.is c.in_ok-found.ensures.next) in
-    let found : Finds (claims_from c.args.condition c.args.list.now c.loop-others.at here c.args.shown.now) c.in_ok-found.found =
-    subst (λ (xs : List AffineSystem). Finds (claims_from c.args.condition c.args.list.now c.loop-others.at xs c.args.shown.now) c.in_ok-found.found) same c.in_ok-found.ensures.found in
+    (c.in_ok-pieces_shown.ensures.next) in
+    let found : AllHold (claims_from c.args.condition c.args.list.now c.loop-others.at here c.args.shown.now) =
+    subst (λ (xs : List AffineSystem). AllHold (claims_from c.args.condition c.args.list.now c.loop-others.at xs c.args.shown.now)) same c.in_ok-pieces_shown.ensures.found in
     record {
       fits = (lists-fit program lists i others c.loop-others-test.true c.others-item.is c.loop-others.invariant.fits).1;
       room = rest-room c.args.condition c.args.list.now c.loop-others.at next whole here rest c.args.shown.now split c.loop-others.invariant.room is_next;
       next = rest-end c.args.condition c.args.list.now c.loop-others.at next whole here rest c.args.shown.now split c.loop-others.invariant.room is_next ∙ c.loop-others.invariant.next;
-      found = λ later h. c.loop-others.invariant.found later
-          (first-go c.args.condition c.args.list.now c.loop-others.at next whole here rest c.args.shown.now split c.loop-others.invariant.room is_next c.in_ok-found.found later c.in_default.is found h);
+      decided = λ later h. c.loop-others.invariant.decided later
+          (first-go c.args.condition c.args.list.now c.loop-others.at next whole here rest c.args.shown.now split c.loop-others.invariant.room is_next later found h);
     }

@@ -1,9 +1,9 @@
 use Rattle.std.proofs.Common.{◌≡◌, ◌+◌, ◌≤◌, length, drop, map}
-use Rattle.std.specs.Prelude.{Option}
+use Rattle.std.specs.Prelude.{Result}
 use Rattle.std.specs.List.{AllByRecursion}
 use Rattle.affine_program.specs.Parts.{meaning}
-use Rattle.claims.specs.Claims.{Finds}
-use Rattle.claims.specs.declared.refused.No.{No}
+use Rattle.claims.specs.Claims.{Decides}
+use Rattle.claims.specs.declared.refused.Refused.{Refused}
 use Rattle.dep_quast.specs.Claims.{pointless_claims}
 use Rattle.reuse_paths.specs.DisjointClaims.{systems_with_lists}
 use Rattle.reuse_paths.specs.Pieces.{PieceFits, piece_of, pieces_of}
@@ -14,7 +14,7 @@ invariant-loop-others l = record {
   fits : AllByRecursion (AllByRecursion (PieceFits (meaning l.program))) (map pieces_of (drop l.others-index l.later));
   room : l.at + length (systems_with_lists (meaning l.program) (map piece_of l.pieces) (map pieces_of (drop l.others-index l.later))) ≤ length l.shown;
   next : l.at + length (systems_with_lists (meaning l.program) (map piece_of l.pieces) (map pieces_of (drop l.others-index l.later))) ≡ l.fn.at + length (systems_with_lists (meaning l.program) (map piece_of l.pieces) (map pieces_of l.later));
-  found : (found : Option No)
-      → Finds (pointless_claims l.condition l.list l.at (systems_with_lists (meaning l.program) (map piece_of l.pieces) (map pieces_of (drop l.others-index l.later))) (drop l.at l.shown)) found
-      → Finds (pointless_claims l.condition l.list l.fn.at (systems_with_lists (meaning l.program) (map piece_of l.pieces) (map pieces_of l.later)) (drop l.fn.at l.shown)) found;
+  decided : (answer : Result (Unit {0}) Refused)
+      → Decides (pointless_claims l.condition l.list l.at (systems_with_lists (meaning l.program) (map piece_of l.pieces) (map pieces_of (drop l.others-index l.later))) (drop l.at l.shown)) answer
+      → Decides (pointless_claims l.condition l.list l.fn.at (systems_with_lists (meaning l.program) (map piece_of l.pieces) (map pieces_of l.later)) (drop l.fn.at l.shown)) answer;
 }

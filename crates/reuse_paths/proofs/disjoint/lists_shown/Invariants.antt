@@ -1,9 +1,9 @@
 use Rattle.std.proofs.Common.{◌+◌, ◌≤◌, length, drop, map}
-use Rattle.std.specs.Prelude.{Option}
+use Rattle.std.specs.Prelude.{Result}
 use Rattle.std.specs.List.{AllByRecursion}
 use Rattle.affine_program.specs.Parts.{meaning}
-use Rattle.claims.specs.Claims.{Finds}
-use Rattle.claims.specs.declared.refused.No.{No}
+use Rattle.claims.specs.Claims.{Decides}
+use Rattle.claims.specs.declared.refused.Refused.{Refused}
 use Rattle.dep_quast.specs.Claims.{pointless_claims}
 use Rattle.reuse_paths.specs.DisjointClaims.{pairwise_systems}
 use Rattle.reuse_paths.specs.Pieces.{PieceFits, pieces_of}
@@ -13,7 +13,7 @@ abbrev pub invariant-loop-i : goal.invariant-loop-i
 invariant-loop-i l = record {
   fits : AllByRecursion (AllByRecursion (PieceFits (meaning l.program))) (map pieces_of (drop l.i l.lists));
   room : l.at + length (pairwise_systems (meaning l.program) (map pieces_of (drop l.i l.lists))) ≤ length l.shown;
-  found : (found : Option No)
-      → Finds (pointless_claims l.condition l.list l.at (pairwise_systems (meaning l.program) (map pieces_of (drop l.i l.lists))) (drop l.at l.shown)) found
-      → Finds (pointless_claims l.condition l.list 0 (pairwise_systems (meaning l.program) (map pieces_of l.lists)) l.shown) found;
+  decided : (answer : Result (Unit {0}) Refused)
+      → Decides (pointless_claims l.condition l.list l.at (pairwise_systems (meaning l.program) (map pieces_of (drop l.i l.lists))) (drop l.at l.shown)) answer
+      → Decides (pointless_claims l.condition l.list 0 (pairwise_systems (meaning l.program) (map pieces_of l.lists)) l.shown) answer;
 }

@@ -1,9 +1,9 @@
 use Rattle.std.proofs.Common.{◌≡◌, ◌+◌, ◌≤◌, length, drop, map}
-use Rattle.std.specs.Prelude.{Option}
+use Rattle.std.specs.Prelude.{Result}
 use Rattle.std.specs.List.{AllByRecursion}
 use Rattle.affine_program.specs.Parts.{meaning}
-use Rattle.claims.specs.Claims.{Finds}
-use Rattle.claims.specs.declared.refused.No.{No}
+use Rattle.claims.specs.Claims.{Decides}
+use Rattle.claims.specs.declared.refused.Refused.{Refused}
 use Rattle.dep_quast.specs.Claims.{pointless_claims}
 use Rattle.reuse_paths.specs.DisjointClaims.{systems_with}
 use Rattle.reuse_paths.specs.Pieces.{PieceFits, piece_of}
@@ -14,7 +14,7 @@ invariant-loop-other l = record {
   fits : AllByRecursion (PieceFits (meaning l.program)) (map piece_of (drop l.other-index l.others));
   room : l.at + length (systems_with (meaning l.program) (map piece_of (drop l.other-index l.others)) (piece_of l.piece)) ≤ length l.shown;
   next : l.at + length (systems_with (meaning l.program) (map piece_of (drop l.other-index l.others)) (piece_of l.piece)) ≡ l.fn.at + length (systems_with (meaning l.program) (map piece_of l.others) (piece_of l.piece));
-  found : (found : Option No)
-      → Finds (pointless_claims l.condition l.list l.at (systems_with (meaning l.program) (map piece_of (drop l.other-index l.others)) (piece_of l.piece)) (drop l.at l.shown)) found
-      → Finds (pointless_claims l.condition l.list l.fn.at (systems_with (meaning l.program) (map piece_of l.others) (piece_of l.piece)) (drop l.fn.at l.shown)) found;
+  decided : (answer : Result (Unit {0}) Refused)
+      → Decides (pointless_claims l.condition l.list l.at (systems_with (meaning l.program) (map piece_of (drop l.other-index l.others)) (piece_of l.piece)) (drop l.at l.shown)) answer
+      → Decides (pointless_claims l.condition l.list l.fn.at (systems_with (meaning l.program) (map piece_of l.others) (piece_of l.piece)) (drop l.fn.at l.shown)) answer;
 }

@@ -1,24 +1,27 @@
-use Rattle.std.proofs.Common.{◌≡◌, ◌∙◌, ℕ, ◌+◌, List, ◌++◌, length, map, drop}
-use Rattle.std.specs.Prelude.{Some}
+use Rattle.std.proofs.Common.{rules, ◌≡◌, ◌∙◌, ℕ, ◌+◌, List, ◌++◌, length, map, drop}
+use Rattle.std.specs.Prelude.{Err}
 use Rattle.affine_form.specs.System.{AffineSystem}
 use Rattle.affine_program.specs.Parts.{meaning}
 use Rattle.reuse_paths.specs.declared.piece.Piece.{Piece}
 use Rattle.reuse_paths.specs.DisjointClaims.{shared_systems, systems_with}
 use Rattle.reuse_paths.specs.Pieces.{FootprintPiece, piece_of}
-use Rattle.reuse_paths.proofs.PairsFound.{first-stop, first-go, rest-room, rest-end, split-pieces, pieces-fit, if-none}
+use Rattle.reuse_paths.proofs.PairsFound.{first-stop, first-go, rest-room, rest-end, split-pieces, pieces-fit}
 use Rattle.reuse_paths.proofs.disjoint.pieces_shown.Goals as goal
 
-pub returns-in-Some-clause-found : goal.returns-in-Some-clause-found
-returns-in-Some-clause-found c =
+pub returns-in_err-piece_shown-clause-found : goal.returns-in_err-piece_shown-clause-found
+returns-in_err-piece_shown-clause-found c =
     let program = meaning c.args.program.now in
     let pieces : List Piece = c.args.pieces.now in
     let others : List FootprintPiece = map piece_of c.args.others.now in
     let i : ℕ = c.loop-piece.piece-index in
     let piece : Piece = c.piece-item.result in
-    c.loop-piece.invariant.found (Some c.in-Some.no)
+    let r = c.in_err-piece_shown.field-0.0 in
+    let refused =
+    c.loop-piece.invariant.decided (Err r)
     (first-stop c.args.condition c.args.list.now c.loop-piece.at c.loop-piece.at (shared_systems program (map piece_of (drop i pieces)) others) (systems_with program others (piece_of piece))
     (shared_systems program (map piece_of (drop (i + 1) pieces)) others) c.args.shown.now (split-pieces program pieces others i piece c.loop-piece-test.true c.piece-item.is) c.loop-piece.invariant.room
-    c.in_ok-found.found c.in-Some.no c.in-Some.is c.in_ok-found.ensures.found)
+    r c.in_err-piece_shown.ensures.found) in
+    search rules
 
 pub loop-piece-preserved : goal.loop-piece-preserved
 loop-piece-preserved c =
@@ -32,11 +35,11 @@ loop-piece-preserved c =
     let rest : List AffineSystem = shared_systems program (map piece_of (drop (i + 1) pieces)) others in
     let next : ℕ = c.piece_shown.new.at in
     let split : whole ≡ here ++ rest = split-pieces program pieces others i piece c.loop-piece-test.true c.piece-item.is in
-    let is_next : next ≡ c.loop-piece.at + length here = if-none c.in_ok-found.found (next ≡ c.loop-piece.at + length here) c.in_default.is c.in_ok-found.ensures.next in
+    let is_next : next ≡ c.loop-piece.at + length here = c.in_ok-piece_shown.ensures.next in
     record {
       fits = (pieces-fit program pieces i piece c.loop-piece-test.true c.piece-item.is c.loop-piece.invariant.fits).1;
       room = rest-room c.args.condition c.args.list.now c.loop-piece.at next whole here rest c.args.shown.now split c.loop-piece.invariant.room is_next;
       next = rest-end c.args.condition c.args.list.now c.loop-piece.at next whole here rest c.args.shown.now split c.loop-piece.invariant.room is_next ∙ c.loop-piece.invariant.next;
-      found = λ later h. c.loop-piece.invariant.found later
-          (first-go c.args.condition c.args.list.now c.loop-piece.at next whole here rest c.args.shown.now split c.loop-piece.invariant.room is_next c.in_ok-found.found later c.in_default.is c.in_ok-found.ensures.found h);
+      decided = λ later h. c.loop-piece.invariant.decided later
+          (first-go c.args.condition c.args.list.now c.loop-piece.at next whole here rest c.args.shown.now split c.loop-piece.invariant.room is_next later c.in_ok-piece_shown.ensures.found h);
     }

@@ -2,11 +2,10 @@ use Rattle.std.proofs.Common.{◌≡◌, ◌∙◌, sym, ap, subst, arith, ℕ, 
 use Rattle.std.specs.List.{AllByRecursion}
 use Rattle.std.proofs.lemmas.List.{length-map}
 use Rattle.iolb_model.specs.Form.{AffineForm}
-use Rattle.claims.specs.Claims.{Claim, Finds}
+use Rattle.claims.specs.Claims.{Claim, Decides}
 use Rattle.claims.specs.declared.place.Step.{Step}
 use Rattle.claims.specs.declared.place.Step.TheVariants.{Key}
 use Rattle.claims.specs.declared.key.TheConstants.{ROWS}
-use Rattle.claims.proofs.Found.{IfOk-then}
 use Rattle.affine_form.specs.Rows.{IsSmallOver}
 use Rattle.affine_form.specs.System.{AffineSystem}
 use Rattle.affine_program.specs.Domain.{depth_of}
@@ -52,11 +51,9 @@ returns c =
     let place : List Step = c.args.place.now in
     let system : AffineSystem = record { vars = vars; rows = c.args.rows.now } in
     let region : WalkRegion = region_of c.in-Some.region.now in
-    let writer : ℕ = c.in-Written.writer in
     let entered : List AffineForm → List Claim = λ values. follow_claims condition (place ++ Key ROWS ∷ []) system 0 (forms_behind walk vars (map (form_at vars point) values) region.rows) c.args.shown.now in
     let claimed : LeafOrigin → List Claim = λ origin.
     record { condition = condition; place = place; statement = IsInRegion walk origin } ∷ follow_claims condition (place ++ Key ROWS ∷ []) system 0 (going_goals walk vars point origin) c.args.shown.now in
-    IfOk-then c.region_shown.result (λ found. Finds (entered c.as_slice.result.now) found) (λ found. Finds (claimed (origin_of c.args.origin.now)) found) c.region_shown.ensures
-    (λ found h. subst (λ (origin : LeafOrigin). Finds (claimed origin) found) (sym (ap origin_of c.in-Written.is))
-    (going-found condition walk place system point writer c.in-Written.point.items region c.args.shown.now found c.in-Some.ensures
-    (subst (λ (values : List AffineForm). Finds (entered values) found) c.as_slice.ensures.value h)))
+    subst (λ (origin : LeafOrigin). Decides (claimed origin) c.region_shown.result) (sym (ap origin_of c.in-Written.is))
+    (going-found condition walk place system point c.in-Written.writer c.in-Written.point.items region c.args.shown.now c.region_shown.result c.in-Some.ensures
+    (subst (λ (values : List AffineForm). Decides (entered values) c.region_shown.result) c.as_slice.ensures.value c.region_shown.ensures))

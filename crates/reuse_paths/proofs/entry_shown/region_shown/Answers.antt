@@ -1,7 +1,6 @@
 use Rattle.std.proofs.Common.{◌∙◌, ap, subst, ℕ, map, List, [], ◌∷◌, ◌++◌}
-use Rattle.std.specs.Prelude.{IfOk}
 use Rattle.iolb_model.specs.Form.{AffineForm}
-use Rattle.claims.specs.Claims.{Claim, Finds}
+use Rattle.claims.specs.Claims.{Claim, Decides}
 use Rattle.claims.specs.declared.place.Step.{Step}
 use Rattle.claims.specs.declared.place.Step.TheVariants.{Key}
 use Rattle.claims.specs.declared.key.TheConstants.{ROWS}
@@ -20,7 +19,7 @@ returns c =
     let list : List Step = c.args.place.now ++ Key ROWS ∷ [] in
     let system : AffineSystem = record { vars = vars; rows = c.args.rows.now } in
     let shown = c.args.shown.now in
-    subst (λ (cs : List Claim). IfOk c.goals_shown.result (λ found. Finds cs found))
+    subst (λ (cs : List Claim). Decides cs c.goals_shown.result)
     (ap (λ (place : List Step). follow_claims condition place c.in_ok-system.system 0 c.as_slice-2.result.now shown) c.in_ok-list.ensures
     ∙ ap (λ (s : AffineSystem). follow_claims condition list s 0 c.as_slice-2.result.now shown)
     (c.in_ok-system.ensures ∙ ap (λ (n : ℕ). record { vars = n; rows = c.args.rows.now }) c.region_variables-vars.ensures.variables)

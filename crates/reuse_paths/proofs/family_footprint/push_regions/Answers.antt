@@ -1,5 +1,5 @@
 use Rattle.std.proofs.Common.{rules, ◌≡◌, ◌≤◌, sym, ap, subst, arith, refl, ℕ, ◌+◌, ◌++◌, List, map, drop, length, zero-add}
-use Rattle.std.specs.Prelude.{None, Option, option_map}
+use Rattle.std.specs.Prelude.{Ok, Err, Option, option_map}
 use Rattle.std.proofs.lemmas.List.{drop_all, length-map}
 use Rattle.claims.specs.Claims.{Claim, IsRefusal, numbered}
 use Rattle.claims.proofs.Found.{refused-first}
@@ -11,12 +11,11 @@ use Rattle.reuse_paths.specs.FewContexts.{few_region, RegionTakesFit}
 use Rattle.reuse_paths.specs.Pieces.{FootprintPiece, pieces_of}
 use Rattle.reuse_paths.specs.Walks.{WalkRegion}
 use Rattle.reuse_paths.specs.WalkViews.{walk_of}
-use Rattle.reuse_paths.proofs.FoundLeaves.{refused-there}
 use Rattle.reuse_paths.proofs.ToldRegions.{fit-ended, fit-next, region_in, region-at, takes-at, told-ended, told-next}
 use Rattle.reuse_paths.proofs.family_footprint.push_regions.Goals as goal
 
 pub loop-i-init : goal.loop-i-init
-loop-i-init c = record { so_far = refl; fit = λ h. h; found = λ found h. h }
+loop-i-init c = record { so_far = refl; fit = λ h. h; decided = λ found h. h }
 
 pub push_region-requires-clause-takes : goal.push_region-requires-clause-takes
 push_region-requires-clause-takes c =
@@ -34,7 +33,7 @@ returns-in_err-push_region-clause-refused c =
     let each = few_region walk c.args.list.now in
     let r = c.in_err-push_region.field-0.0 in
     let refused : IsRefusal (numbered each 0 walk.nodes) r =
-    refused-there (numbered each i (drop i walk.nodes)) (numbered each 0 walk.nodes) c.loop-i.invariant.found r
+    c.loop-i.invariant.decided (Err r)
     (subst (λ (cs : List Claim). IsRefusal cs r) (sym (numbered-from each walk.nodes i region there.0 there.1))
     (refused-first (each i region) (numbered each (i + 1) (drop (i + 1) walk.nodes)) r c.in_err-push_region.ensures.refused)) in
     search rules
@@ -48,7 +47,7 @@ loop-i-preserved c =
     let all : List FootprintPiece = pieces_of c.args.pieces.now ++ regions_pieces walk 0 walk.nodes in record {
       so_far = told-next walk walk.nodes i region there.0 there.1 (pieces_of c.loop-i.pieces) (pieces_of c.push_region.new.pieces) all c.in_ok-push_region.ensures.pieces c.loop-i.invariant.so_far;
       fit = λ later. c.loop-i.invariant.fit (fit-next walk walk.nodes i region there.0 there.1 c.in_ok-push_region.ensures.fit later);
-      found = λ found h. c.loop-i.invariant.found found (numbered-next (few_region walk c.args.list.now) walk.nodes i region there.0 there.1 found c.in_ok-push_region.ensures.few h);
+      decided = λ found h. c.loop-i.invariant.decided found (numbered-next (few_region walk c.args.list.now) walk.nodes i region there.0 there.1 found c.in_ok-push_region.ensures.few h);
     }
 
 past : (nodes : List (Option WalkRegion)) (held : List (Option FamilyNode)) (i : ℕ) → nodes ≡ map node_region (map (option_map node_of) held) → length held ≤ i → length nodes ≤ i
@@ -68,5 +67,5 @@ returns-clause-fit c =
 pub returns-clause-few : goal.returns-clause-few
 returns-clause-few c =
     let walk = walk_of c.args.walking.now in
-    c.loop-i.invariant.found None
+    c.loop-i.invariant.decided (Ok tt)
     (numbered-ended (few_region walk c.args.list.now) walk.nodes c.loop-i.i (drop_all c.loop-i.i walk.nodes (past walk.nodes c.args.nodes.now c.loop-i.i c.requires.nodes c.loop-i-test.false)))

@@ -1,8 +1,8 @@
 use Rattle.std.proofs.Common.{◌≡◌, ◌++◌, drop}
-use Rattle.std.specs.Prelude.{Option}
+use Rattle.std.specs.Prelude.{Result}
 use Rattle.std.specs.List.{AllByRecursion}
-use Rattle.claims.specs.Claims.{Finds, numbered}
-use Rattle.claims.specs.declared.refused.No.{No}
+use Rattle.claims.specs.Claims.{Decides, numbered}
+use Rattle.claims.specs.declared.refused.Refused.{Refused}
 use Rattle.reuse_paths.specs.FamilyPieces.{regions_pieces}
 use Rattle.reuse_paths.specs.FewContexts.{few_region}
 use Rattle.reuse_paths.specs.Pieces.{pieces_of, PieceFits}
@@ -15,6 +15,6 @@ invariant-loop-i l = record {
       ≡ pieces_of l.initial.pieces ++ regions_pieces (walk_of l.walking) 0 (walk_of l.walking).nodes;
   fit : AllByRecursion (PieceFits (walk_of l.walking).program) (regions_pieces (walk_of l.walking) l.i (drop l.i (walk_of l.walking).nodes))
       → AllByRecursion (PieceFits (walk_of l.walking).program) (regions_pieces (walk_of l.walking) 0 (walk_of l.walking).nodes);
-  found : (found : Option No) → Finds (numbered (few_region (walk_of l.walking) l.list) l.i (drop l.i (walk_of l.walking).nodes)) found
-      → Finds (numbered (few_region (walk_of l.walking) l.list) 0 (walk_of l.walking).nodes) found;
+  decided : (answer : Result (Unit {0}) Refused) → Decides (numbered (few_region (walk_of l.walking) l.list) l.i (drop l.i (walk_of l.walking).nodes)) answer
+      → Decides (numbered (few_region (walk_of l.walking) l.list) 0 (walk_of l.walking).nodes) answer;
 }

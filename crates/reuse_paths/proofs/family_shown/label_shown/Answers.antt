@@ -1,15 +1,13 @@
-use Rattle.std.proofs.Common.{true, ◌≡◌, sym, ◌∙◌, ap, subst, arith, ℕ, ◌<◌, List, length, get_or}
-use Rattle.std.specs.Prelude.{Option, Some}
+use Rattle.std.proofs.Common.{true, ◌≡◌, sym, subst, arith, ℕ, ◌<◌, List, length, get_or}
+use Rattle.std.specs.Prelude.{Err}
 use Rattle.std.proofs.lemmas.List.{drop_more}
 use Rattle.iolb_model.specs.Form.{AffineForm}
-use Rattle.claims.specs.Claims.{Finds}
+use Rattle.claims.specs.Claims.{IsRefusalAt}
 use Rattle.claims.specs.declared.place.Step.{Step}
-use Rattle.claims.specs.declared.refused.No.{No}
-use Rattle.claims.proofs.Found.{IfOk-then}
 use Rattle.affine_form.specs.Matrix.{IntegerMatrix}
 use Rattle.affine_program.specs.Domain.{depth_of}
 use Rattle.affine_program.specs.Parts.{meaning}
-use Rattle.reuse_paths.specs.FamilyClaims.{label_rows, IsScaledRow}
+use Rattle.reuse_paths.specs.FamilyClaims.{IsScaledRow}
 use Rattle.reuse_paths.proofs.FamilyParts.{row-fails, row-holds}
 use Rattle.reuse_paths.proofs.family_shown.label_shown.Goals as goal
 
@@ -32,15 +30,13 @@ returns-then-not-is_scaled_row c =
     let i : ℕ = c.loop-i.i in
     let form : AffineForm = c.index-label-i.result in
     let there : i < length set = subst (λ (s : List ℕ). i < length s) c.coords-set.ensures c.loop-i-test.true in
-    let no : List Step → Option No = λ place. let n : No = record { condition = 13; place = place } in Some n in
-    IfOk-then c.refusal.result (λ found. found ≡ no c.in_ok-place.place) (λ found. Finds (label_rows matrix scale (length params) loops list 0 set label) found) c.refusal.ensures
-    (λ found e. c.loop-i.invariant found
+    c.loop-i.invariant (Err c.refusal.result)
     (row-fails matrix scale (length params) loops list set label i (get_or set i 0) form (drop_more set i 0 there) (omega (arith, there, c.requires.label.each))
-    (subst (λ (fs : List AffineForm). form ≡ get_or fs i form) c.as_slice-label.ensures.value c.index-label-i.is) found
+    (subst (λ (fs : List AffineForm). form ≡ get_or fs i form) c.as_slice-label.ensures.value c.index-label-i.is) c.refusal.result
     (λ holds.
     let yes : c.is_scaled_row.result ≡ true = c.is_scaled_row.ensures.1
     (same-row matrix scale params c.params-params.result.now loops c.depth-loops.result set c.coords-set.result.now i form (sym c.params-params.ensures.params) (sym c.depth-loops.ensures.depth) (sym c.coords-set.ensures) holds) in cc)
-    (e ∙ ap no c.in_ok-place.ensures)))
+    (subst (λ (p : List Step). IsRefusalAt 13 p c.refusal.result) c.in_ok-place.ensures c.refusal.ensures))
 
 pub loop-i-preserved : goal.loop-i-preserved
 loop-i-preserved c = λ found h.

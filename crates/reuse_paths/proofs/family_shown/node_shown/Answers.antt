@@ -1,12 +1,8 @@
-use Rattle.std.proofs.Common.{◌≡◌, ◌∙◌, sym, ap, subst, ℕ, List, map}
-use Rattle.std.specs.Prelude.{Option, option_map}
-use Rattle.claims.specs.Claims.{Finds}
-use Rattle.claims.specs.declared.place.Step.{Step}
-use Rattle.claims.proofs.Found.{IfOk-then}
+use Rattle.std.proofs.Common.{◌≡◌, ◌∙◌, sym, ap, subst, List, map}
+use Rattle.std.specs.Prelude.{option_map}
 use Rattle.affine_program.specs.Parts.{meaning}
-use Rattle.reuse_paths.specs.declared.family.FamilyNode.{FamilyNode}
 use Rattle.reuse_paths.specs.Families.{CreditedNest, FamilyForms, NodeForms, credit_of, family_of, node_of}
-use Rattle.reuse_paths.specs.FamilyClaims.{family_setting, node_walk, region_walk}
+use Rattle.reuse_paths.specs.FamilyClaims.{family_setting}
 use Rattle.reuse_paths.specs.FamilyFits.{NodeFits}
 use Rattle.reuse_paths.specs.Quasts.{trees_of}
 use Rattle.reuse_paths.specs.WalkFits.{RegionFits}
@@ -35,19 +31,3 @@ region_shown-requires-clause-region_fits c =
     c.walking_from-walking.ensures.setting ∙ ap (family_setting program trees credits family) c.as_slice-label.ensures.value in
     subst (λ (w : WalkSetting). RegionFits w c.args.statement node.region) (sym is)
     (subst (NodeFits program trees credits family c.args.statement) (ap (option_map node_of) c.in-Some.is) c.requires.region_fits)
-
-pub returns : goal.returns
-returns c =
-    let program = meaning c.args.program.now in
-    let trees = trees_of c.args.quasts.now in
-    let credits : List CreditedNest = map credit_of c.args.credits.now in
-    let family : FamilyForms = family_of c.args.family.now in
-    let node : NodeForms = node_of c.in-Some.node in
-    let list : List Step = c.args.list.now in
-    let s : ℕ = c.args.statement in
-    let is : walk_of c.walking_from-walking.result ≡ family_setting program trees credits family node.label =
-    c.walking_from-walking.ensures.setting ∙ ap (family_setting program trees credits family) c.as_slice-label.ensures.value in
-    IfOk-then c.region_shown.result (λ found. Finds (region_walk (walk_of c.walking_from-walking.result) list s node.region) found)
-    (λ found. Finds (node_walk program trees credits family list s (option_map node_of c.args.node.now)) found) c.region_shown.ensures
-    (λ found h. subst (λ (o : Option FamilyNode). Finds (node_walk program trees credits family list s (option_map node_of o)) found) (sym c.in-Some.is)
-    (subst (λ (w : WalkSetting). Finds (region_walk w list s node.region) found) is h))

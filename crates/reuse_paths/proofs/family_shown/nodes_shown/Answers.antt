@@ -1,7 +1,7 @@
-use Rattle.std.proofs.Common.{◌≡◌, ◌∙◌, sym, subst, arith, ap, ℕ, ◌<◌, List, length, map, get_or, zero-add}
-use Rattle.std.specs.Prelude.{Option, Some, None, option_map}
+use Rattle.std.proofs.Common.{rules, ◌≡◌, ◌∙◌, sym, subst, arith, ap, ℕ, ◌<◌, List, length, map, get_or, zero-add}
+use Rattle.std.specs.Prelude.{Option, Ok, Err, option_map}
 use Rattle.std.proofs.lemmas.List.{length-map, get_or-map, drop_all}
-use Rattle.claims.specs.Claims.{Claim, Finds}
+use Rattle.claims.specs.Claims.{Claim, IsRefusal, numbered}
 use Rattle.claims.proofs.Members.{numbered-ended, numbered-next, numbered-stop}
 use Rattle.affine_program.specs.Parts.{meaning}
 use Rattle.reuse_paths.specs.declared.family.FamilyNode.{FamilyNode}
@@ -39,8 +39,8 @@ node_shown-requires-clause-region_fits c =
     let there = member c.as_slice-nodes.result.now c.args.family.now.nodes.items c.loop-i.i c.index-nodes-i.result c.as_slice-nodes.ensures.value c.loop-i-test.true c.index-nodes-i.is in
     subst (λ (n : ℕ). NodeFits program trees credits family n node) (zero-add c.loop-i.i) (node-fits program trees credits family 0 c.loop-i.i family.nodes node c.requires.regions_fit there.0 there.1)
 
-pub returns-in-Some : goal.returns-in-Some
-returns-in-Some c =
+pub returns-in_err-node_shown : goal.returns-in_err-node_shown
+returns-in_err-node_shown c =
     let program = meaning c.args.program.now in
     let trees = trees_of c.args.quasts.now in
     let credits : List CreditedNest = map credit_of c.args.credits.now in
@@ -48,8 +48,9 @@ returns-in-Some c =
     let each : ℕ → Option NodeForms → List Claim = node_walk program trees credits family c.args.list.now in
     let node : Option NodeForms = option_map node_of c.index-nodes-i.result in
     let there = member c.as_slice-nodes.result.now c.args.family.now.nodes.items c.loop-i.i c.index-nodes-i.result c.as_slice-nodes.ensures.value c.loop-i-test.true c.index-nodes-i.is in
-    c.loop-i.invariant (Some c.in-Some.no)
-    (numbered-stop each family.nodes c.loop-i.i node there.0 there.1 c.in-Some.no (subst (Finds (each c.loop-i.i node)) c.in-Some.is c.in_ok-no.ensures))
+    let r = c.in_err-node_shown.field-0.0 in
+    let refused : IsRefusal (numbered each 0 family.nodes) r = c.loop-i.invariant (Err r) (numbered-stop each family.nodes c.loop-i.i node there.0 there.1 r c.in_err-node_shown.ensures) in
+    search rules
 
 pub loop-i-preserved : goal.loop-i-preserved
 loop-i-preserved c = λ found h.
@@ -61,7 +62,7 @@ loop-i-preserved c = λ found h.
     let node : Option NodeForms = option_map node_of c.index-nodes-i.result in
     let there = member c.as_slice-nodes.result.now c.args.family.now.nodes.items c.loop-i.i c.index-nodes-i.result c.as_slice-nodes.ensures.value c.loop-i-test.true c.index-nodes-i.is in
     c.loop-i.invariant found
-    (numbered-next each family.nodes c.loop-i.i node there.0 there.1 found (subst (Finds (each c.loop-i.i node)) c.in_default.is c.in_ok-no.ensures) h)
+    (numbered-next each family.nodes c.loop-i.i node there.0 there.1 found c.in_ok-node_shown.ensures h)
 
 pub returns : goal.returns
 returns c =
@@ -69,7 +70,7 @@ returns c =
     let trees = trees_of c.args.quasts.now in
     let credits : List CreditedNest = map credit_of c.args.credits.now in
     let family : FamilyForms = family_of c.args.family.now in
-    c.loop-i.invariant None
+    c.loop-i.invariant (Ok tt)
     (numbered-ended (node_walk program trees credits family c.args.list.now) family.nodes c.loop-i.i
     (drop_all c.loop-i.i family.nodes
     (omega (arith, c.loop-i-test.false, length-map c.args.family.now.nodes.items (option_map node_of), ap (λ (l : List (Option FamilyNode)). length l) c.as_slice-nodes.ensures.value))))

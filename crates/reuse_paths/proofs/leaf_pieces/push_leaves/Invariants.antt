@@ -1,7 +1,7 @@
 use Rattle.std.proofs.Common.{◌≡◌, ◌++◌, drop, map}
-use Rattle.std.specs.Prelude.{Option}
-use Rattle.claims.specs.Claims.{Finds}
-use Rattle.claims.specs.declared.refused.No.{No}
+use Rattle.std.specs.Prelude.{Result}
+use Rattle.claims.specs.Claims.{Decides}
+use Rattle.claims.specs.declared.refused.Refused.{Refused}
 use Rattle.dep_quast.specs.Views.{read_of}
 use Rattle.reuse_paths.specs.FewContexts.{few_leaves}
 use Rattle.reuse_paths.specs.LeafClaims.{claim_of}
@@ -14,5 +14,5 @@ abbrev pub invariant-loop-i : goal.invariant-loop-i
 invariant-loop-i l = record {
   so_far : pieces_of l.pieces ++ leaves_pieces (walk_of l.walking) (read_of l.reader) l.rows (drop l.i l.leaves) (map claim_of (drop l.i l.entries))
       ≡ pieces_of l.initial.pieces ++ leaves_pieces (walk_of l.walking) (read_of l.reader) l.rows l.leaves (map claim_of l.entries);
-  found : (found : Option No) → Finds (few_leaves l.list l.rows l.i (drop l.i l.leaves) (map claim_of (drop l.i l.entries))) found → Finds (few_leaves l.list l.rows 0 l.leaves (map claim_of l.entries)) found;
+  decided : (answer : Result (Unit {0}) Refused) → Decides (few_leaves l.list l.rows l.i (drop l.i l.leaves) (map claim_of (drop l.i l.entries))) answer → Decides (few_leaves l.list l.rows 0 l.leaves (map claim_of l.entries)) answer;
 }

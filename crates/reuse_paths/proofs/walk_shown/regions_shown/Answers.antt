@@ -1,7 +1,7 @@
-use Rattle.std.proofs.Common.{◌≡◌, ◌∙◌, ap, sym, subst, arith, ℕ, ◌<◌, List, length, map, get_or, zero-add}
-use Rattle.std.specs.Prelude.{Option, Some, None, option_map}
+use Rattle.std.proofs.Common.{rules, ◌≡◌, ◌∙◌, ap, sym, subst, arith, ℕ, ◌<◌, List, length, map, get_or, zero-add}
+use Rattle.std.specs.Prelude.{Option, Ok, Err, option_map}
 use Rattle.std.proofs.lemmas.List.{length-map, get_or-map, drop_all}
-use Rattle.claims.specs.Claims.{Claim, Finds}
+use Rattle.claims.specs.Claims.{Claim, IsRefusal, numbered}
 use Rattle.claims.proofs.Members.{numbered-ended, numbered-next, numbered-stop}
 use Rattle.reuse_paths.specs.declared.walk.Region.{Region}
 use Rattle.reuse_paths.specs.ReachClaims.{region_claims}
@@ -28,14 +28,15 @@ region_shown-requires-clause-region_fits c =
     let there = member c.args.nodes.now c.loop-i.i c.index-nodes-i.result c.loop-i-test.true c.index-nodes-i.is in
     subst (λ (n : ℕ). RegionFits walk n node) (zero-add c.loop-i.i) (regions-fit-at walk 0 c.loop-i.i (map (option_map region_of) c.args.nodes.now) node c.requires.regions_fit there.0 there.1)
 
-pub returns-in-Some : goal.returns-in-Some
-returns-in-Some c =
+pub returns-in_err-region_shown : goal.returns-in_err-region_shown
+returns-in_err-region_shown c =
     let walk : WalkSetting = walk_of c.args.walking.now in
     let each : ℕ → Option WalkRegion → List Claim = region_claims c.args.walking.now.condition walk c.args.list.now in
     let node : Option WalkRegion = option_map region_of c.index-nodes-i.result in
     let there = member c.args.nodes.now c.loop-i.i c.index-nodes-i.result c.loop-i-test.true c.index-nodes-i.is in
-    c.loop-i.invariant (Some c.in-Some.no)
-    (numbered-stop each (map (option_map region_of) c.args.nodes.now) c.loop-i.i node there.0 there.1 c.in-Some.no (subst (Finds (each c.loop-i.i node)) c.in-Some.is c.in_ok-no.ensures))
+    let r = c.in_err-region_shown.field-0.0 in
+    let refused : IsRefusal (numbered each 0 (map (option_map region_of) c.args.nodes.now)) r = c.loop-i.invariant (Err r) (numbered-stop each (map (option_map region_of) c.args.nodes.now) c.loop-i.i node there.0 there.1 r c.in_err-region_shown.ensures) in
+    search rules
 
 pub loop-i-preserved : goal.loop-i-preserved
 loop-i-preserved c = λ found h.
@@ -44,11 +45,11 @@ loop-i-preserved c = λ found h.
     let node : Option WalkRegion = option_map region_of c.index-nodes-i.result in
     let there = member c.args.nodes.now c.loop-i.i c.index-nodes-i.result c.loop-i-test.true c.index-nodes-i.is in
     c.loop-i.invariant found
-    (numbered-next each (map (option_map region_of) c.args.nodes.now) c.loop-i.i node there.0 there.1 found (subst (Finds (each c.loop-i.i node)) c.in_default.is c.in_ok-no.ensures) h)
+    (numbered-next each (map (option_map region_of) c.args.nodes.now) c.loop-i.i node there.0 there.1 found c.in_ok-region_shown.ensures h)
 
 pub returns : goal.returns
 returns c =
     let walk : WalkSetting = walk_of c.args.walking.now in
-    c.loop-i.invariant None
+    c.loop-i.invariant (Ok tt)
     (numbered-ended (region_claims c.args.walking.now.condition walk c.args.list.now) (map (option_map region_of) c.args.nodes.now) c.loop-i.i
     (drop_all c.loop-i.i (map (option_map region_of) c.args.nodes.now) (omega (arith, c.loop-i-test.false, length-map c.args.nodes.now (option_map region_of)))))

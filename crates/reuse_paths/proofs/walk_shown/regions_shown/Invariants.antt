@@ -1,7 +1,7 @@
 use Rattle.std.proofs.Common.{drop, map}
-use Rattle.std.specs.Prelude.{Option, option_map}
-use Rattle.claims.specs.Claims.{Finds, numbered}
-use Rattle.claims.specs.declared.refused.No.{No}
+use Rattle.std.specs.Prelude.{Result, option_map}
+use Rattle.claims.specs.Claims.{Decides, numbered}
+use Rattle.claims.specs.declared.refused.Refused.{Refused}
 use Rattle.reuse_paths.specs.ReachClaims.{region_claims}
 use Rattle.reuse_paths.specs.Walks.{region_of}
 use Rattle.reuse_paths.specs.WalkViews.{walk_of}
@@ -9,5 +9,5 @@ use Rattle.reuse_paths.proofs.walk_shown.regions_shown.Given as goal
 
 abbrev pub invariant-loop-i : goal.invariant-loop-i
 invariant-loop-i l =
-    (found : Option No) → Finds (numbered (region_claims l.walking.condition (walk_of l.walking) l.list) l.i (drop l.i (map (option_map region_of) l.nodes))) found
-    → Finds (numbered (region_claims l.walking.condition (walk_of l.walking) l.list) 0 (map (option_map region_of) l.nodes)) found
+    (answer : Result (Unit {0}) Refused) → Decides (numbered (region_claims l.walking.condition (walk_of l.walking) l.list) l.i (drop l.i (map (option_map region_of) l.nodes))) answer
+    → Decides (numbered (region_claims l.walking.condition (walk_of l.walking) l.list) 0 (map (option_map region_of) l.nodes)) answer

@@ -1,29 +1,21 @@
-use Rattle.std.proofs.Common.{◌≡◌, ◌∙◌, sym, ap, subst, arith, ℕ, ◌+◌, List, [], ◌∷◌, ◌++◌, map, length}
+use Rattle.std.proofs.Common.{◌≡◌, ◌∙◌, sym, ap, subst, arith, ℕ, ◌+◌, List, length}
 use Rattle.std.specs.Prelude.{Option, Some}
 use Rattle.std.specs.List.{AllByRecursion}
 use Rattle.iolb_model.specs.Form.{AffineForm}
 use Rattle.iolb_model.specs.Program.{Access, AffineProgram, IsWellFormed}
-use Rattle.claims.specs.Claims.{Claim, Finds}
-use Rattle.claims.specs.declared.place.Step.{Step}
-use Rattle.claims.specs.declared.place.Step.TheVariants.{Key}
-use Rattle.claims.proofs.Found.{IfOk-then}
-use Rattle.affine_form.specs.Rows.{equality_rows, IsSmallOver}
-use Rattle.affine_form.specs.System.{AffineSystem}
+use Rattle.affine_form.specs.Rows.{IsSmallOver}
 use Rattle.affine_program.specs.declared.reference.Reference.{Reference}
 use Rattle.affine_program.specs.Domain.{depth_of}
 use Rattle.affine_program.specs.Parts.{access_of}
-use Rattle.dep_quast.specs.Claims.{follow_claims}
 use Rattle.dep_quast.specs.Context.{ReadOf, reference_of}
 use Rattle.dep_quast.specs.Truth.{ReadFits}
 use Rattle.dep_quast.specs.Views.{read_of}
 use Rattle.dep_quast.proofs.Fits.{read-over}
-use Rattle.reuse_paths.specs.EntryClaims.{label_claims, word_label}
 use Rattle.reuse_paths.specs.Families.{label_at}
-use Rattle.reuse_paths.specs.OpenLeaves.{form_at, as_input}
 use Rattle.reuse_paths.specs.WalkFits.{IsLabel}
-use Rattle.reuse_paths.specs.WalkSettings.{KeptLabels, keeps, WalkSetting, forms_behind, reading_point, region_variables, spot_variables}
+use Rattle.reuse_paths.specs.WalkSettings.{KeptLabels, keeps, WalkSetting, spot_variables}
 use Rattle.reuse_paths.specs.WalkViews.{kept_of, walk_of, ReadingFits}
-use Rattle.reuse_paths.proofs.FamilyLabels.{cell-label, label-found, labels-fit, own-over, read-few, read-rank, spot-flat}
+use Rattle.reuse_paths.proofs.FamilyLabels.{cell-label, labels-fit, own-over, read-few, read-rank, spot-flat}
 use Rattle.reuse_paths.proofs.word_labels.input_shown.Goals as goal
 
 -- the subscripts that the code reads are those of the reference
@@ -65,19 +57,3 @@ same_shown-requires-clause-own_over c = own-over (walk_of c.args.walking.now) c.
 pub same_shown-requires-clause-one_each : goal.same_shown-requires-clause-one_each
 same_shown-requires-clause-one_each c = (label-fits (walk_of c.args.walking.now) (read_of c.args.reader) (kept_of c.args.kept) c.in-Some.label.now c.requires.aim c.requires.fits c.params-params.ensures.kept.well_formed c.requires.read_fits
     (label-is (walk_of c.args.walking.now).program (read_of c.args.reader) c.reference-cell.result.now (kept_of c.args.kept).cells c.in-Some.label.now c.reference-cell.ensures c.in-Some.ensures)).each
-
-pub returns : goal.returns
-returns c =
-    let walk : WalkSetting = walk_of c.args.walking.now in
-    let kept : KeptLabels = kept_of c.args.kept in
-    let cell : Access = reference_of walk.program (read_of c.args.reader) in
-    let vars : ℕ = region_variables walk c.args.reader.statement in
-    let point : List AffineForm = reading_point walk c.args.reader.statement in
-    let place : List Step = c.args.place.now in
-    let system : AffineSystem = record { vars = vars; rows = c.args.rows.now } in
-    let behind : List AffineForm → List AffineForm → List AffineForm = λ values. forms_behind walk vars (map (form_at vars point) values) in
-    let follow : List AffineForm → List Claim = λ values. follow_claims 14 (place ++ Key c.args.key ∷ []) system 0 (equality_rows vars (behind values c.in-Some.label.now) kept.reader) c.args.shown.now in
-    let claimed : List Claim = label_claims kept.reader place c.args.key system (word_label walk kept (read_of c.args.reader) vars point as_input) c.args.shown.now in
-    IfOk-then c.same_shown.result (λ found. Finds (follow c.as_slice.result.now) found) (λ found. Finds claimed found) c.same_shown.ensures
-    (λ found h. label-found kept.reader place c.args.key system (behind cell.subscripts) (label_at kept.cells cell.array) c.args.shown.now c.in-Some.label.now found (label-is (walk_of c.args.walking.now).program (read_of c.args.reader) c.reference-cell.result.now (kept_of c.args.kept).cells c.in-Some.label.now c.reference-cell.ensures c.in-Some.ensures)
-    (subst (λ (values : List AffineForm). Finds (follow values) found) (subscripts-are (walk_of c.args.walking.now).program (read_of c.args.reader) c.reference-cell.result.now c.as_slice.result.now c.as_slice.ensures.value c.reference-cell.ensures) h))

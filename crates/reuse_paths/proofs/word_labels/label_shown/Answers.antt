@@ -1,7 +1,6 @@
 use Rattle.std.proofs.Common.{sym, ap, subst, ℕ, List}
 use Rattle.iolb_model.specs.Form.{AffineForm}
-use Rattle.claims.specs.Claims.{Claim, Finds}
-use Rattle.claims.proofs.Found.{IfOk-then}
+use Rattle.claims.specs.Claims.{Claim, Decides}
 use Rattle.affine_form.specs.System.{AffineSystem}
 use Rattle.dep_quast.specs.Views.{read_of}
 use Rattle.reuse_paths.specs.EntryClaims.{label_claims, word_label}
@@ -18,6 +17,5 @@ returns-in-Written c =
     let system : AffineSystem = record { vars = vars; rows = c.args.rows.now } in
     let claimed : LeafOrigin → List Claim = λ origin.
     label_claims kept.reader c.args.place.now c.args.key system (word_label walk kept (read_of c.args.reader) vars (reading_point walk c.args.reader.statement) origin) c.args.shown.now in
-    IfOk-then c.written_shown.result (λ found. Finds (claimed (written c.in-Written.statement c.as_slice.result.now)) found) (λ found. Finds (claimed (origin_of c.args.origin.now)) found) c.written_shown.ensures
-    (λ found h. subst (λ (origin : LeafOrigin). Finds (claimed origin) found) (sym (ap origin_of c.in-Written.is))
-    (subst (λ (values : List AffineForm). Finds (claimed (written c.in-Written.statement values)) found) c.as_slice.ensures.value h))
+    subst (λ (origin : LeafOrigin). Decides (claimed origin) c.written_shown.result) (sym (ap origin_of c.in-Written.is))
+    (subst (λ (values : List AffineForm). Decides (claimed (written c.in-Written.statement values)) c.written_shown.result) c.as_slice.ensures.value c.written_shown.ensures)

@@ -1,15 +1,9 @@
-use Rattle.std.proofs.Common.{◌≡◌, ◌∙◌, sym, ap, subst, arith, ℕ, ◌*◌, ◌≤◌, List, [], ◌∷◌, ◌++◌, map, length}
-use Rattle.std.specs.Prelude.{IfOk}
+use Rattle.std.proofs.Common.{◌≡◌, ◌∙◌, sym, ap, subst, arith, ℕ, ◌*◌, ◌≤◌, List, ◌++◌, map, length}
 use Rattle.std.specs.List.{AllByRecursion}
 use Rattle.std.proofs.lemmas.List.{length-map}
 use Rattle.iolb_model.specs.Form.{AffineForm}
-use Rattle.claims.specs.Claims.{Claim, Finds}
-use Rattle.claims.specs.declared.place.Step.{Step}
-use Rattle.claims.specs.declared.place.Step.TheVariants.{Key}
 use Rattle.affine_form.specs.Form.{variables}
-use Rattle.affine_form.specs.Rows.{equality_rows, variables_from}
-use Rattle.affine_form.specs.System.{AffineSystem}
-use Rattle.dep_quast.specs.Claims.{follow_claims}
+use Rattle.affine_form.specs.Rows.{variables_from}
 use Rattle.dep_quast.proofs.Fits.{length-equality_rows}
 use Rattle.reuse_paths.specs.OpenLeaves.{form_at}
 use Rattle.reuse_paths.specs.WalkSettings.{WalkSetting, reading_point, region_variables, spot_variables}
@@ -37,20 +31,3 @@ goals_shown-requires c =
     let many : length c.as_slice-2.result.now ≡ 2 * length c.args.own.now =
     ap (λ (l : List AffineForm). length l) (c.as_slice-2.ensures.value ∙ c.in_ok-goals.ensures) ∙ length-equality_rows c.region_variables-vars.result c.as_slice.result.now c.args.own.now word in
     omega (arith, many, c.requires.enough)
-
-pub returns : goal.returns
-returns c =
-    let walk : WalkSetting = walk_of c.args.walking.now in
-    let vars : ℕ = region_variables walk c.args.statement in
-    let list : List Step = c.args.place.now ++ Key c.args.key ∷ [] in
-    let system : AffineSystem = record { vars = vars; rows = c.args.rows.now } in
-    let own : List AffineForm = c.args.own.now in
-    subst (λ (cs : List Claim). IfOk c.goals_shown.result (λ found. Finds cs found))
-    (ap (λ (place : List Step). follow_claims 14 place c.in_ok-system.system 0 c.as_slice-2.result.now c.args.shown.now) c.in_ok-list.ensures
-    ∙ ap (λ (s : AffineSystem). follow_claims 14 list s 0 c.as_slice-2.result.now c.args.shown.now)
-    (c.in_ok-system.ensures ∙ ap (λ (n : ℕ). record { vars = n; rows = c.args.rows.now }) c.region_variables-vars.ensures.variables)
-    ∙ ap (λ (goals : List AffineForm). follow_claims 14 list system 0 goals c.args.shown.now)
-    (c.as_slice-2.ensures.value ∙ c.in_ok-goals.ensures
-    ∙ ap (λ (n : ℕ). equality_rows n c.as_slice.result.now own) c.region_variables-vars.ensures.variables
-    ∙ ap (λ (word : List AffineForm). equality_rows vars word own) (c.as_slice.ensures.value ∙ c.in_ok-word.ensures.word)))
-    c.goals_shown.ensures

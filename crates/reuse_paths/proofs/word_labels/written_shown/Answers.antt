@@ -1,26 +1,17 @@
-use Rattle.std.proofs.Common.{◌≡◌, subst, arith, ℕ, ◌+◌, List, [], ◌∷◌, ◌++◌, map, length, zero-add}
+use Rattle.std.proofs.Common.{◌≡◌, subst, arith, ℕ, ◌+◌, List, length, zero-add}
 use Rattle.std.specs.Prelude.{Some}
 use Rattle.std.specs.List.{AllByRecursion}
 use Rattle.std.proofs.lemmas.List.{length-map}
 use Rattle.iolb_model.specs.Form.{AffineForm}
-use Rattle.claims.specs.Claims.{Claim, Finds}
-use Rattle.claims.specs.declared.place.Step.{Step}
-use Rattle.claims.specs.declared.place.Step.TheVariants.{Key}
-use Rattle.claims.proofs.Found.{IfOk-then}
-use Rattle.affine_form.specs.Rows.{equality_rows, IsSmallOver}
-use Rattle.affine_form.specs.System.{AffineSystem}
+use Rattle.affine_form.specs.Rows.{IsSmallOver}
 use Rattle.affine_program.specs.Domain.{depth_of}
 use Rattle.affine_program.specs.Parts.{statement_of}
-use Rattle.dep_quast.specs.Claims.{follow_claims}
-use Rattle.dep_quast.specs.Views.{read_of}
 use Rattle.dep_quast.proofs.Fits.{depth-few}
-use Rattle.reuse_paths.specs.EntryClaims.{label_claims, word_label}
 use Rattle.reuse_paths.specs.Families.{label_at}
-use Rattle.reuse_paths.specs.OpenLeaves.{form_at, written}
 use Rattle.reuse_paths.specs.WalkFits.{IsLabel}
-use Rattle.reuse_paths.specs.WalkSettings.{KeptLabels, keeps, WalkSetting, forms_behind, reading_point, region_variables, spot_variables}
+use Rattle.reuse_paths.specs.WalkSettings.{KeptLabels, keeps, WalkSetting, spot_variables}
 use Rattle.reuse_paths.specs.WalkViews.{kept_of, walk_of, ReadingFits}
-use Rattle.reuse_paths.proofs.FamilyLabels.{instance-label, label-found, labels-fit, own-over, spot-flat}
+use Rattle.reuse_paths.proofs.FamilyLabels.{instance-label, labels-fit, own-over, spot-flat}
 use Rattle.reuse_paths.proofs.word_labels.written_shown.Goals as goal
 
 -- the label of the statement's instances fits
@@ -48,17 +39,3 @@ same_shown-requires-clause-own_over c = own-over (walk_of c.args.walking.now) c.
 
 pub same_shown-requires-clause-one_each : goal.same_shown-requires-clause-one_each
 same_shown-requires-clause-one_each c = (label-fits (walk_of c.args.walking.now) c.args.reader.statement c.args.writer (kept_of c.args.kept) c.in-Some.label.now c.requires.aim c.requires.fits c.in-Some.ensures).each
-
-pub returns : goal.returns
-returns c =
-    let walk : WalkSetting = walk_of c.args.walking.now in
-    let kept : KeptLabels = kept_of c.args.kept in
-    let vars : ℕ = region_variables walk c.args.reader.statement in
-    let point : List AffineForm = reading_point walk c.args.reader.statement in
-    let place : List Step = c.args.place.now in
-    let system : AffineSystem = record { vars = vars; rows = c.args.rows.now } in
-    let behind : List AffineForm → List AffineForm = forms_behind walk vars (map (form_at vars point) c.args.values.now) in
-    let follow : List Claim = follow_claims 14 (place ++ Key c.args.key ∷ []) system 0 (equality_rows vars (behind c.in-Some.label.now) kept.reader) c.args.shown.now in
-    let claimed : List Claim = label_claims kept.reader place c.args.key system (word_label walk kept (read_of c.args.reader) vars point (written c.args.writer c.args.values.now)) c.args.shown.now in
-    IfOk-then c.same_shown.result (λ found. Finds follow found) (λ found. Finds claimed found) c.same_shown.ensures
-    (λ found h. label-found kept.reader place c.args.key system behind (label_at kept.instances c.args.writer) c.args.shown.now c.in-Some.label.now found c.in-Some.ensures h)

@@ -1,5 +1,5 @@
 use Rattle.serde_json.specs.View.{view}
-use Rattle.cert_parts.proofs.Loop.{goes_on, ends, is_done}
+use Rattle.json_parts.proofs.Loop.{goes_on, ends, is_done}
 use Rattle.tile_sched.specs.Reading.{reads_key, reads_keys}
 use Rattle.tile_sched.proofs.reading.keys.Goals as goal
 

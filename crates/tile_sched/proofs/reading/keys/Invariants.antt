@@ -1,7 +1,7 @@
 use Rattle.std.proofs.Common.{◌≡◌, map, drop}
 use Rattle.serde_json.specs.View.{view}
-use Rattle.cert_parts.specs.Json.{each}
-use Rattle.cert_parts.proofs.Loop.{with_front}
+use Rattle.json_parts.specs.Json.{each}
+use Rattle.json_parts.proofs.Loop.{with_front}
 use Rattle.tile_sched.specs.Reading.{reads_key, reads_keys}
 use Rattle.tile_sched.proofs.reading.keys.Given as goal
 

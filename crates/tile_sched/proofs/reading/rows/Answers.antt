@@ -1,7 +1,7 @@
 use Rattle.std.proofs.Common.{◌≡◌, ℕ, Ok, subst}
 use Rattle.serde_json.specs.View.{view}
 use Rattle.affine_program.specs.Parts.{meaning}
-use Rattle.cert_parts.specs.Outcome.{Fails}
+use Rattle.json_parts.specs.Outcome.{Fails}
 use Rattle.tile_sched.specs.Schedules.{rows_of, key_variables}
 use Rattle.tile_sched.specs.Reading.{reads_keys, reads_all}
 use Rattle.tile_sched.proofs.RowLoop.{goes_on, ends, is_done, pushed}

@@ -1,7 +1,7 @@
 use Rattle.std.proofs.Common.{◌≡◌, map, drop}
 use Rattle.serde_json.specs.View.{view}
 use Rattle.affine_program.specs.Parts.{meaning}
-use Rattle.cert_parts.proofs.Loop.{with_front}
+use Rattle.json_parts.proofs.Loop.{with_front}
 use Rattle.tile_sched.specs.Schedules.{rows_of}
 use Rattle.tile_sched.specs.Reading.{reads_rows, reads_all}
 use Rattle.tile_sched.proofs.reading.rows.Given as goal

@@ -1,8 +1,8 @@
 use Rattle.std.proofs.Common.{sym, ap, subst, rules}
 use Rattle.affine_program.specs.Parts.{meaning}
-use Rattle.claims.specs.Claims.{AllHold, FirstFails, Finds, IsRefusal}
-use Rattle.claims.proofs.Found.{refused-first}
-use Rattle.claims.proofs.Laws.{AllHold-append, later-fails}
+use Rattle.claims.specs.Claims.{AllHold, IsRefusal}
+use Rattle.claims.proofs.Found.{refused-first, refused-later}
+use Rattle.claims.proofs.Laws.{AllHold-append}
 use Rattle.dep_quast.specs.Tree.{SelectionTree, tree_of}
 use Rattle.dep_quast.specs.Truth.{IsTrueTree}
 use Rattle.domain_count.specs.CountClaims.{count_claims}
@@ -19,10 +19,10 @@ use Rattle.wavefront.proofs.PiecesCover.{pieces-cover}
 use Rattle.wavefront.proofs.checker.check_cold.Goals as goal
 
 -- what is claimed past the count holds after the last condition
-holds : (c : goal.In-Ok-None) → AllHold (instance_claims (meaning c.args.program.now) c.args.place.now (tree_of c.in-Some.quast.now) (term_of c.args.term.now))
-holds c = subst (Finds (instance_claims (meaning c.args.program.now) c.args.place.now (tree_of c.in-Some.quast.now) (term_of c.args.term.now))) c.in-Ok-None.field-0-is c.in-Ok-None.ensures
+holds : (c : goal.In_ok-claims_shown) → AllHold (instance_claims (meaning c.args.program.now) c.args.place.now (tree_of c.in-Some.quast.now) (term_of c.args.term.now))
+holds c = c.in_ok-claims_shown.ensures
 
-all : (c : goal.In-Ok-None) → IsSoundCold (meaning c.args.program.now) (term_of c.args.term.now) × HasFootprint (meaning c.args.program.now) (term_of c.args.term.now)
+all : (c : goal.In_ok-claims_shown) → IsSoundCold (meaning c.args.program.now) (term_of c.args.term.now) × HasFootprint (meaning c.args.program.now) (term_of c.args.term.now)
     × CostsItsCount (meaning c.args.program.now) (term_of c.args.term.now)
 all c =
     let term : ColdTerm = term_of c.args.term.now in
@@ -31,8 +31,8 @@ all c =
     (subst (λ (t : SelectionTree). IsTrueTree (meaning c.args.program.now) term.reader t) (ap tree_or_blank c.in-Some.ensures) c.requires.true_tree)
     (holds c)
 
-pub returns-in-Ok-None-clause-holds : goal.returns-in-Ok-None-clause-holds
-returns-in-Ok-None-clause-holds c =
+pub returns-clause-holds : goal.returns-clause-holds
+returns-clause-holds c =
     let program = meaning c.args.program.now in
     let place = c.args.place.now in
     let term : ColdTerm = term_of c.args.term.now in
@@ -40,14 +40,14 @@ returns-in-Ok-None-clause-holds c =
     AllHold-append (count_claims program term.nest term.count place) (instance_claims program place tree term) c.in_ok-count.ensures.holds
     (subst (λ (t : SelectionTree). AllHold (instance_claims program place t term)) (sym (ap tree_or_blank c.in-Some.ensures)) (holds c))
 
-pub returns-in-Ok-None-clause-sound : goal.returns-in-Ok-None-clause-sound
-returns-in-Ok-None-clause-sound c = (all c).0
+pub returns-clause-sound : goal.returns-clause-sound
+returns-clause-sound c = (all c).0
 
-pub returns-in-Ok-None-clause-footprint : goal.returns-in-Ok-None-clause-footprint
-returns-in-Ok-None-clause-footprint c =
+pub returns-clause-footprint : goal.returns-clause-footprint
+returns-clause-footprint c =
     footprint-is (meaning c.args.program.now) (term_of c.args.term.now) c.in_ok-count.count c.den-den.ensures.legal c.in_ok-count.ensures.counts c.terms_have_the_value.ensures (all c).1 (all c).2
 
-covers : (c : goal.In-Ok-None) → let tree : SelectionTree = tree_for (trees_of c.args.quasts.now) (term_of c.args.term.now).reader in
+covers : (c : goal.In_ok-claims_shown) → let tree : SelectionTree = tree_for (trees_of c.args.quasts.now) (term_of c.args.term.now).reader in
     LeavesAreFew (meaning c.args.program.now) tree (term_of c.args.term.now)
     × AreCovered (meaning c.args.program.now) (footprint_of (meaning c.args.program.now) (term_of c.args.term.now)) (cold_pieces (meaning c.args.program.now) tree (term_of c.args.term.now))
 covers c =
@@ -56,21 +56,23 @@ covers c =
     pieces-cover program c.args.place.now (tree_for (trees_of c.args.quasts.now) term.reader) term c.params-params.ensures.kept.well_formed c.requires.fits c.requires.true_tree
     (subst (λ (t : SelectionTree). AllHold (instance_claims program c.args.place.now t term)) (sym (ap tree_or_blank c.in-Some.ensures)) (holds c))
 
-pub returns-in-Ok-None-clause-few : goal.returns-in-Ok-None-clause-few
-returns-in-Ok-None-clause-few c = (covers c).0
+pub returns-clause-few : goal.returns-clause-few
+returns-clause-few c = (covers c).0
 
-pub returns-in-Ok-None-clause-covered : goal.returns-in-Ok-None-clause-covered
-returns-in-Ok-None-clause-covered c = (covers c).1
+pub returns-clause-covered : goal.returns-clause-covered
+returns-clause-covered c = (covers c).1
 
-pub returns-in-Ok-Some-clause-refused : goal.returns-in-Ok-Some-clause-refused
-returns-in-Ok-Some-clause-refused c =
+pub returns-in_err-claims_shown-clause-refused : goal.returns-in_err-claims_shown-clause-refused
+returns-in_err-claims_shown-clause-refused c =
     let program = meaning c.args.program.now in
     let place = c.args.place.now in
     let term : ColdTerm = term_of c.args.term.now in
     let tree : SelectionTree = tree_for (trees_of c.args.quasts.now) term.reader in
-    later-fails (count_claims program term.nest term.count place) (instance_claims program place tree term) c.in-Ok-Some.no c.in_ok-count.ensures.holds
-    (subst (λ (t : SelectionTree). FirstFails (instance_claims program place t term) c.in-Ok-Some.no) (sym (ap tree_or_blank c.in-Some.ensures))
-    (subst (Finds (instance_claims program place (tree_of c.in-Some.quast.now) term)) c.in-Ok-Some.field-0-is c.in-Ok-Some.ensures))
+    let r = c.in_err-claims_shown.field-0.0 in
+    let refused : IsRefusal (cold_claims program place tree term) r =
+    refused-later (count_claims program term.nest term.count place) (instance_claims program place tree term) r c.in_ok-count.ensures.holds
+    (subst (λ (t : SelectionTree). IsRefusal (instance_claims program place t term) r) (sym (ap tree_or_blank c.in-Some.ensures)) c.in_err-claims_shown.ensures) in
+    search rules
 
 pub returns-in_err-count-clause-refused : goal.returns-in_err-count-clause-refused
 returns-in_err-count-clause-refused c =

@@ -1,23 +1,16 @@
-use Rattle.std.proofs.Common.{sym, ◌∙◌, ap, subst, ℕ, ◌≤◌, List, [], ◌∷◌, ◌++◌, length, map}
-use Rattle.std.specs.Prelude.{IfOk}
+use Rattle.std.proofs.Common.{sym, ◌∙◌, ap, subst, ℕ, ◌≤◌, List, length, map}
 use Rattle.std.specs.List.{AllByRecursion}
 use Rattle.iolb_model.specs.Form.{AffineForm}
 use Rattle.affine_form.specs.Rows.{IsSmallOver}
-use Rattle.affine_form.specs.System.{AffineSystem}
 use Rattle.affine_program.specs.Parts.{meaning}
-use Rattle.claims.specs.Claims.{Claim, Finds}
-use Rattle.claims.specs.declared.place.Step.{Step}
-use Rattle.claims.specs.declared.place.Step.TheVariants.{Key}
-use Rattle.claims.specs.declared.key.TheConstants.{EDGE}
 use Rattle.dep_quast.specs.Context.{variables_at}
 use Rattle.dep_quast.specs.Tree.{tree_of}
-use Rattle.domain_count.specs.Count.{rows_before}
 use Rattle.reuse_paths.specs.declared.leaf.Leaf.{Leaf}
 use Rattle.reuse_paths.specs.LeafClaims.{claim_of}
 use Rattle.reuse_paths.specs.OpenLeaves.{OpenLeaf}
 use Rattle.reuse_paths.proofs.OpenLeaves.{reader-few}
 use Rattle.wavefront.specs.EdgeViews.{AreFit}
-use Rattle.wavefront.specs.FrontClaims.{edge_leaves, edges_claims, front_system, front_variables, user_point}
+use Rattle.wavefront.specs.FrontClaims.{edge_leaves, front_variables, user_point}
 use Rattle.wavefront.specs.FrontTerm.{WavefrontTerm, user_read}
 use Rattle.wavefront.specs.View.{front_of}
 use Rattle.wavefront.proofs.EdgeFits.{edges-fit}
@@ -41,21 +34,3 @@ all_shown-requires-clause-fit c =
     (sym (c.as_slice-2.ensures.value ∙ c.in_ok-leaves.ensures))
     (subst (λ (es : List Leaf). AreFit (front_variables program term) (variables_at program (user_read term)) term.source (edge_leaves program (tree_of c.args.quast.now) term) (map claim_of es))
     (sym c.as_slice-3.ensures.value) fits)))
-
-pub returns : goal.returns
-returns c =
-    let program = meaning c.args.program.now in
-    let term : WavefrontTerm = front_of c.args.term.now in
-    let vars : ℕ = front_variables program term in
-    let rows : List AffineForm = (front_system program term).rows in
-    let point : List AffineForm = user_point program term in
-    let leaves : List OpenLeaf = edge_leaves program (tree_of c.args.quast.now) term in
-    subst (λ (cs : List Claim). IfOk c.all_shown.result (λ found. Finds cs found))
-    (ap (λ (n : ℕ). edges_claims n c.rows.result.now c.as_slice.result.now term.source c.in_ok-list.list 0 c.as_slice-2.result.now (map claim_of c.as_slice-3.result.now)) c.variables-vars.ensures.variables
-    ∙ ap (λ (rs : List AffineForm). edges_claims vars rs c.as_slice.result.now term.source c.in_ok-list.list 0 c.as_slice-2.result.now (map claim_of c.as_slice-3.result.now))
-    (c.rows.ensures.rows ∙ ap (λ (s : AffineSystem). s.rows) c.in_ok-system.ensures ∙ ap (λ (nest : List (AffineForm × AffineForm)). (rows_before program nest).rows) c.bounds.ensures)
-    ∙ ap (λ (ps : List AffineForm). edges_claims vars rows ps term.source c.in_ok-list.list 0 c.as_slice-2.result.now (map claim_of c.as_slice-3.result.now)) (c.as_slice.ensures.value ∙ c.in_ok-point.ensures.point)
-    ∙ ap (λ (place : List Step). edges_claims vars rows point term.source place 0 c.as_slice-2.result.now (map claim_of c.as_slice-3.result.now)) c.in_ok-list.ensures
-    ∙ ap (λ (ls : List OpenLeaf). edges_claims vars rows point term.source (c.args.place.now ++ Key EDGE ∷ []) 0 ls (map claim_of c.as_slice-3.result.now)) (c.as_slice-2.ensures.value ∙ c.in_ok-leaves.ensures)
-    ∙ ap (λ (es : List Leaf). edges_claims vars rows point term.source (c.args.place.now ++ Key EDGE ∷ []) 0 leaves (map claim_of es)) c.as_slice-3.ensures.value)
-    c.all_shown.ensures

@@ -1,6 +1,6 @@
 use Rattle.std.proofs.Common.{ap, subst, rules}
 use Rattle.affine_program.specs.Parts.{meaning}
-use Rattle.claims.specs.Claims.{AllHold, Finds, IsRefusal}
+use Rattle.claims.specs.Claims.{AllHold, IsRefusal}
 use Rattle.dep_quast.specs.Tree.{SelectionTree, tree_of}
 use Rattle.reuse_paths.specs.Quasts.{tree_or_blank, trees_of}
 use Rattle.wavefront.specs.FrontClaims.{front_claims, point_claims, wave_claims}
@@ -25,13 +25,15 @@ returns-in_err-counts-clause-refused c =
     stop-counts program place trees term (tree_of c.in-Some.quast.now) (ap tree_or_blank c.in-Some.ensures) c.in_err-counts.field-0.0 c.in_err-counts.ensures.refused in
     search rules
 
-pub returns-in-Some-2-clause-refused : goal.returns-in-Some-2-clause-refused
-returns-in-Some-2-clause-refused c =
+pub returns-in_err-points_shown-clause-refused : goal.returns-in_err-points_shown-clause-refused
+returns-in_err-points_shown-clause-refused c =
     let program = meaning c.args.program.now in
     let place = c.args.place.now in
+    let trees = trees_of c.args.quasts.now in
     let term = front_of c.args.term.now in
-    stop-points program place (trees_of c.args.quasts.now) term (tree_of c.in-Some.quast.now) (ap tree_or_blank c.in-Some.ensures) c.in-Some-2.no c.in_ok-counts.ensures.holds
-    (subst (Finds (point_claims program place (tree_of c.in-Some.quast.now) term)) c.in-Some-2.is c.in_ok-no.ensures)
+    let refused : IsRefusal (front_claims program place trees term) c.in_err-points_shown.field-0.0 =
+    stop-points program place trees term (tree_of c.in-Some.quast.now) (ap tree_or_blank c.in-Some.ensures) c.in_err-points_shown.field-0.0 c.in_ok-counts.ensures.holds c.in_err-points_shown.ensures in
+    search rules
 
 pub returns-in_err-source_reached-clause-refused : goal.returns-in_err-source_reached-clause-refused
 returns-in_err-source_reached-clause-refused c =
@@ -40,7 +42,7 @@ returns-in_err-source_reached-clause-refused c =
     let trees = trees_of c.args.quasts.now in
     let term = front_of c.args.term.now in
     let points : AllHold (point_claims program place (tree_of c.in-Some.quast.now) term) =
-    subst (Finds (point_claims program place (tree_of c.in-Some.quast.now) term)) c.in_default-2.is c.in_ok-no.ensures in
+    c.in_ok-points_shown.ensures in
     let refused : IsRefusal (front_claims program place trees term) c.in_err-source_reached.field-0.0 =
     stop-reach program place trees term (tree_of c.in-Some.quast.now) (ap tree_or_blank c.in-Some.ensures) c.in_err-source_reached.field-0.0 c.in_ok-counts.ensures.holds points
     c.in_err-source_reached.ensures.refused in
@@ -53,7 +55,7 @@ returns-in_err-vertex_reached-clause-refused c =
     let trees = trees_of c.args.quasts.now in
     let term = front_of c.args.term.now in
     let points : AllHold (point_claims program place (tree_of c.in-Some.quast.now) term) =
-    subst (Finds (point_claims program place (tree_of c.in-Some.quast.now) term)) c.in_default-2.is c.in_ok-no.ensures in
+    c.in_ok-points_shown.ensures in
     let refused : IsRefusal (front_claims program place trees term) c.in_err-vertex_reached.field-0.0 =
     stop-back program place trees term (tree_of c.in-Some.quast.now) (ap tree_or_blank c.in-Some.ensures) c.in_err-vertex_reached.field-0.0 c.in_ok-counts.ensures.holds points
     c.in_ok-source_reached.ensures.holds c.in_err-vertex_reached.ensures.refused in
@@ -67,7 +69,7 @@ returns-clause-holds c =
     let term = front_of c.args.term.now in
     let waves : AllHold (wave_claims program place trees term) =
     waves-hold program place trees term (tree_of c.in-Some.quast.now) (ap tree_or_blank c.in-Some.ensures)
-    (subst (Finds (point_claims program place (tree_of c.in-Some.quast.now) term)) c.in_default-2.is c.in_ok-no.ensures)
+    c.in_ok-points_shown.ensures
     c.in_ok-source_reached.ensures.holds c.in_ok-vertex_reached.ensures.holds in
     all-hold program place trees term (tree_of c.in-Some.quast.now) (ap tree_or_blank c.in-Some.ensures) c.in_ok-counts.ensures.holds waves
 
@@ -79,7 +81,7 @@ returns-clause-sound c =
     let term = front_of c.args.term.now in
     let waves : AllHold (wave_claims program place trees term) =
     waves-hold program place trees term (tree_of c.in-Some.quast.now) (ap tree_or_blank c.in-Some.ensures)
-    (subst (Finds (point_claims program place (tree_of c.in-Some.quast.now) term)) c.in_default-2.is c.in_ok-no.ensures)
+    c.in_ok-points_shown.ensures
     c.in_ok-source_reached.ensures.holds c.in_ok-vertex_reached.ensures.holds in
     fronts-sound program place trees term c.params-params.ensures.kept.well_formed c.requires.trees_fit c.requires.trees_true c.requires.fits waves
 
@@ -91,7 +93,7 @@ returns-clause-footprint c =
     let term = front_of c.args.term.now in
     let waves : AllHold (wave_claims program place trees term) =
     waves-hold program place trees term (tree_of c.in-Some.quast.now) (ap tree_or_blank c.in-Some.ensures)
-    (subst (Finds (point_claims program place (tree_of c.in-Some.quast.now) term)) c.in_default-2.is c.in_ok-no.ensures)
+    c.in_ok-points_shown.ensures
     c.in_ok-source_reached.ensures.holds c.in_ok-vertex_reached.ensures.holds in
     front-footprint-is program term c.in_ok-counts.counts.0 c.in_ok-counts.counts.1 c.in_ok-counts.ensures.legal c.in_ok-counts.ensures.outer_legal
     c.in_ok-counts.ensures.counts c.in_ok-counts.ensures.outer_counts c.terms_have_the_value.ensures

@@ -17,4 +17,4 @@ abbrev pub decreases-item : goal.decreases-item
 decreases-item l = 4 * (l.loops + l.brackets) + 2
 
 abbrev pub invariant-block_items-loop-turn : goal.invariant-block_items-loop-turn
-invariant-block_items-loop-turn l = all_block_items (item l.loops l.brackets) l.fn.self ≡ by_turns (λ turns. block_items (item l.loops l.brackets) turns l.self) l._turn-end l._turn
+invariant-block_items-loop-turn l = all_block_items (item l.loops l.brackets) l.fn.items l.fn.self ≡ by_turns (λ turns. block_items (item l.loops l.brackets) turns l.items l.self) l._turn-end l._turn

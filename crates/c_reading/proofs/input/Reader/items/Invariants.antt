@@ -4,4 +4,4 @@ use Rattle.c_reading.proofs.Turns.{by_turns}
 use Rattle.c_reading.proofs.input.Reader.items.Given as goal
 
 abbrev pub invariant-loop-turn : goal.invariant-loop-turn
-invariant-loop-turn l = all_items l.fn.self ≡ by_turns (λ turns. items turns l.self) l._turn-end l._turn
+invariant-loop-turn l = all_items l.fn.self ≡ by_turns (λ turns. items turns l.items l.self) l._turn-end l._turn

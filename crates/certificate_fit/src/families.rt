@@ -1,0 +1,372 @@
+//! Whether families of walks fit.
+#![tactic(auto, using(claims::proofs::Found::in_a_row))]
+
+ghost use Rattle.std.specs.Prelude.{◌≡◌, ◌+◌, ◌<◌, ◌≤◌, ◌↔◌, ◌∷◌, [], ◌++◌, length, map, option_map, slice_get, IsTrue};
+ghost use Rattle.affine_program.specs.Domain.{depth_of};
+ghost use Rattle.affine_program.specs.Parts.{meaning};
+ghost use Rattle.claims.specs.Claims.{numbered};
+ghost use Rattle.claims.specs.declared.key.TheConstants.{INPUTS, LABEL, NODES, SET, START};
+ghost use Rattle.claims.specs.declared.place.Step.TheVariants.{Key};
+ghost use Rattle.certificate_fit.specs.FamilyFit.{RisesBelow, families_fit, family_fit, input_fit, inputs_fit, label_fit, node_fit, node_fit_at, nodes_fit, set_fit, start_fit, subscripts_of};
+ghost use Rattle.claims.specs.Claims.{Decides};
+ghost use Rattle.reuse_paths.specs.Families.{credit_of, family_of, forms_of, node_of};
+ghost use Rattle.reuse_paths.specs.FamilyClaims.{family_setting};
+ghost use Rattle.reuse_paths.specs.Quasts.{trees_of};
+ghost use Rattle.reuse_paths.specs.WalkViews.{walk_of};
+
+use crate::counts::loops_around;
+use crate::lists::{forms_fits_in, misfit};
+use crate::walks::{region_fits, walk_fits};
+use affine_form::Form;
+use affine_program::Program;
+use claims::key::{INPUTS, LABEL, NODES, REGION, SET, START, TREE};
+use claims::{Place, Refused, Step};
+use domain_count::Nest;
+use reuse_paths::{Aim, Credit, Family, FamilyNode, Kept, Quasts, Walking};
+use std::alloc::Global;
+
+// ---- labels
+
+/// Whether what is said fits of a label, one step further in: of so many forms over so many variables.
+fn label_fits(
+    alloc: Global,
+    place: &Place,
+    step: Step,
+    size: usize,
+    variables: u128,
+    label: &[Form],
+) -> Result<(), Refused>
+    ensures { Decides (label_fit size variables (place.now ++ step ∷ []) label.now) result }
+{
+    if label.len() != size {
+        return Err(misfit(alloc, place, step));
+    }
+    forms_fits_in(alloc, place, step, variables, label)?;
+    Ok(())
+}
+
+/// How many subscripts an array has: none if it isn't there.
+fn subscripts_of(program: &Program, array: usize) -> usize
+    ensures { result ≡ subscripts_of (slice_get (meaning program.now).arrays array) }
+{
+    match program.arrays().get(array) {
+        Some((_, rank)) => usize::from(*rank),
+        None => 0,
+    }
+}
+
+/// How many variables a label of the cells of an array has: the parameters and the subscripts.
+fn cell_variables(program: &Program, array: usize) -> u128
+    ensures { result ≡ length (meaning program.now).parameters + subscripts_of (slice_get (meaning program.now).arrays array) }
+{
+    program.params().len() as u128 + subscripts_of(program, array) as u128
+}
+
+/// Whether what is said fits of the label of an array's cells, if they have one, in a list at this place.
+fn input_fits(
+    alloc: Global,
+    program: &Program,
+    list: &Place,
+    size: usize,
+    array: usize,
+    label: &Option<Vec<Form>>,
+) -> Result<(), Refused>
+    ensures { Decides (input_fit (meaning program.now) size list.now array (option_map forms_of label.now)) result }
+{
+    let Some(label) = label else {
+        return Ok(());
+    };
+    let variables = cell_variables(program, array);
+    let step = Step::Index(array as u64);
+    label_fits(alloc, list, step, size, variables, label.as_slice())
+}
+
+/// Whether what is said fits of the labels of the arrays' cells, in a list at this place.
+fn labels_fits(
+    alloc: Global,
+    program: &Program,
+    list: &Place,
+    size: usize,
+    labels: &[Option<Vec<Form>>],
+) -> Result<(), Refused>
+    ensures { Decides (numbered (input_fit (meaning program.now) size list.now) 0 (map (option_map forms_of) labels.now)) result }
+{
+    for (array, label) in labels.iter().enumerate() {
+        input_fits(alloc, program, list, size, array, label)?;
+    }
+    Ok(())
+}
+
+/// Whether what is said fits of the labels that a family gives to the arrays' cells.
+fn inputs_fits(
+    alloc: Global,
+    program: &Program,
+    place: &Place,
+    family: &Family,
+) -> Result<(), Refused>
+    ensures { Decides (inputs_fit (meaning program.now) (place.now ++ Key INPUTS ∷ []) (family_of family.now)) result }
+{
+    let labels = family.inputs.as_slice();
+    if labels.len() != program.arrays().len() {
+        return Err(misfit(alloc, place, Step::Key(INPUTS)));
+    }
+    let list = place.within(alloc, Step::Key(INPUTS))?;
+    labels_fits(alloc, program, &list, family.set.coords().len(), labels)?;
+    Ok(())
+}
+
+// ---- walks
+
+/// The walks of a family from readers with this label: there is no nest around them.
+fn walking_from<'a>(
+    program: &'a Program,
+    quasts: &'a Quasts,
+    none: &'a Nest,
+    credits: &'a [Credit],
+    family: &'a Family,
+    reader: &'a [Form],
+) -> Walking<'a>
+    requires { none.now ≡ [] }
+    ensures { walk_of result ≡ family_setting (meaning program.now) (trees_of quasts.now) (map credit_of credits.now) (family_of family.now) reader.now }
+{
+    Walking {
+        program,
+        quasts,
+        nest: none,
+        aim: Aim::Keep(Kept {
+            family,
+            credits,
+            reader,
+        }),
+        condition: 1,
+    }
+}
+
+/// How many variables a label of the instances of a statement has: the parameters and the loop values.
+fn instance_variables(program: &Program, statement: u16) -> u128
+    ensures { result ≡ length (meaning program.now).parameters + depth_of (meaning program.now) statement }
+{
+    program.params().len() as u128 + loops_around(program, statement) as u128
+}
+
+/// Whether what is said fits of the label of a statement's instances, at the key `label`.
+fn instance_label_fits(
+    alloc: Global,
+    program: &Program,
+    family: &Family,
+    place: &Place,
+    statement: u16,
+    label: &[Form],
+) -> Result<(), Refused>
+    ensures { Decides (label_fit (length (family_of family.now).set) (length (meaning program.now).parameters + depth_of (meaning program.now) statement)
+        (place.now ++ Key LABEL ∷ []) label.now) result }
+{
+    let size = family.set.coords().len();
+    let variables = instance_variables(program, statement);
+    label_fits(alloc, place, Step::Key(LABEL), size, variables, label)
+}
+
+/// Whether what is said fits of a node, at this place.
+fn node_fits(
+    alloc: Global,
+    program: &Program,
+    quasts: &Quasts,
+    credits: &[Credit],
+    family: &Family,
+    place: &Place,
+    statement: u16,
+    node: &FamilyNode,
+) -> Result<(), Refused>
+    ensures { Decides (node_fit_at (meaning program.now) (trees_of quasts.now) (map credit_of credits.now) (family_of family.now) place.now statement (node_of node.now)) result }
+{
+    let label = node.label.as_slice();
+    instance_label_fits(alloc, program, family, place, statement, label)?;
+    let none = Nest::new(Vec::new(alloc));
+    let walking = walking_from(program, quasts, &none, credits, family, label);
+    let region = place.within(alloc, Step::Key(REGION))?;
+    region_fits(alloc, &walking, statement, &region, &node.region)?;
+    Ok(())
+}
+
+/// Whether what is said fits of what a family says of a statement, if it says something, in a list at this place.
+fn node_fits_in(
+    alloc: Global,
+    program: &Program,
+    quasts: &Quasts,
+    credits: &[Credit],
+    family: &Family,
+    list: &Place,
+    statement: u16,
+    node: &Option<FamilyNode>,
+) -> Result<(), Refused>
+    ensures { Decides (node_fit (meaning program.now) (trees_of quasts.now) (map credit_of credits.now) (family_of family.now) list.now statement (option_map node_of node.now)) result }
+{
+    let Some(node) = node else {
+        return Ok(());
+    };
+    let at = list.within(alloc, Step::Index(u64::from(statement)))?;
+    node_fits(
+        alloc, program, quasts, credits, family, &at, statement, node,
+    )
+}
+
+/// Whether what is said fits of what a family says of the statements, in a list at this place.
+fn nodes_fits_in(
+    alloc: Global,
+    program: &Program,
+    quasts: &Quasts,
+    credits: &[Credit],
+    family: &Family,
+    list: &Place,
+    nodes: &[Option<FamilyNode>],
+) -> Result<(), Refused>
+    requires { length nodes.now ≡ length program.now.statements }
+    ensures { Decides (numbered (node_fit (meaning program.now) (trees_of quasts.now) (map credit_of credits.now) (family_of family.now) list.now) 0 (map (option_map node_of) nodes.now)) result }
+{
+    let _params = program.params();
+    for (statement, node) in nodes.iter().enumerate() {
+        node_fits_in(
+            alloc,
+            program,
+            quasts,
+            credits,
+            family,
+            list,
+            statement as u16,
+            node,
+        )?;
+    }
+    Ok(())
+}
+
+/// Whether what is said fits of what a family says of the statements.
+fn nodes_fits(
+    alloc: Global,
+    program: &Program,
+    quasts: &Quasts,
+    credits: &[Credit],
+    place: &Place,
+    family: &Family,
+) -> Result<(), Refused>
+    ensures { Decides (nodes_fit (meaning program.now) (trees_of quasts.now) (map credit_of credits.now) (place.now ++ Key NODES ∷ []) (family_of family.now)) result }
+{
+    let nodes = family.nodes.as_slice();
+    if nodes.len() != program.statements().len() {
+        return Err(misfit(alloc, place, Step::Key(NODES)));
+    }
+    let list = place.within(alloc, Step::Key(NODES))?;
+    nodes_fits_in(alloc, program, quasts, credits, family, &list, nodes)?;
+    Ok(())
+}
+
+/// Whether a row is at least the least that may follow, and below the depth.
+fn is_next(row: usize, least: usize, depth: usize) -> bool
+    ensures { IsTrue result ↔ ((least ≤ row) × (row < depth)) }
+{
+    least <= row && row < depth
+}
+
+/// Whether the rows of a set rise and are below the depth.
+fn rises_below(depth: usize, set: &[u8]) -> bool
+    ensures { IsTrue result ↔ RisesBelow depth 0 set.now }
+{
+    let mut least: usize = 0;
+    for member in set {
+        let row = usize::from(*member);
+        if !is_next(row, least, depth) {
+            return false;
+        }
+        least = row + 1;
+    }
+    true
+}
+
+/// Whether a set, the list with the key `set`, rises and is below the depth.
+fn set_fits(alloc: Global, place: &Place, depth: usize, set: &[u8]) -> Result<(), Refused>
+    ensures { Decides (set_fit depth (place.now ++ Key SET ∷ []) set.now) result }
+{
+    if rises_below(depth, set) {
+        return Ok(());
+    }
+    Err(misfit(alloc, place, Step::Key(SET)))
+}
+
+/// Whether what is said fits of the walk from the instances that are counted, and of its label, at this place.
+fn start_fits(
+    alloc: Global,
+    program: &Program,
+    quasts: &Quasts,
+    statement: u16,
+    credits: &[Credit],
+    place: &Place,
+    family: &Family,
+) -> Result<(), Refused>
+    ensures { Decides (start_fit (meaning program.now) (trees_of quasts.now) statement (map credit_of credits.now) place.now (family_of family.now)) result }
+{
+    let label = family.start_label.as_slice();
+    instance_label_fits(alloc, program, family, place, statement, label)?;
+    let none = Nest::new(Vec::new(alloc));
+    let walking = walking_from(program, quasts, &none, credits, family, label);
+    let tree = place.within(alloc, Step::Key(TREE))?;
+    walk_fits(alloc, &walking, statement, &tree, &family.start)?;
+    Ok(())
+}
+
+// ---- families
+
+/// Whether what is said fits of the set of a family, and of the walk from the instances that are counted.
+fn counted_fits(
+    alloc: Global,
+    program: &Program,
+    quasts: &Quasts,
+    statement: u16,
+    credits: &[Credit],
+    place: &Place,
+    family: &Family,
+) -> Result<(), Refused>
+    ensures { Decides (set_fit (depth_of (meaning program.now) statement) (place.now ++ Key SET ∷ []) (family_of family.now).set
+        ++ start_fit (meaning program.now) (trees_of quasts.now) statement (map credit_of credits.now) (place.now ++ Key START ∷ []) (family_of family.now)) result }
+{
+    let depth = loops_around(program, statement);
+    set_fits(alloc, place, depth, family.set.coords())?;
+    let start = place.within(alloc, Step::Key(START))?;
+    start_fits(alloc, program, quasts, statement, credits, &start, family)?;
+    Ok(())
+}
+
+/// Whether what is said fits of a family of counted instances of a statement, at this place.
+fn family_fits(
+    alloc: Global,
+    program: &Program,
+    quasts: &Quasts,
+    statement: u16,
+    credits: &[Credit],
+    place: &Place,
+    family: &Family,
+) -> Result<(), Refused>
+    ensures { Decides (family_fit (meaning program.now) (trees_of quasts.now) statement (map credit_of credits.now) place.now (family_of family.now)) result }
+{
+    inputs_fits(alloc, program, place, family)?;
+    nodes_fits(alloc, program, quasts, credits, place, family)?;
+    counted_fits(alloc, program, quasts, statement, credits, place, family)?;
+    Ok(())
+}
+
+/// Whether what is said fits of families of counted instances of a statement, in a list at this place.
+pub fn families_fits(
+    alloc: Global,
+    program: &Program,
+    quasts: &Quasts,
+    statement: u16,
+    credits: &[Credit],
+    list: &Place,
+    families: &[Family],
+) -> Result<(), Refused>
+    ensures { Decides (families_fit (meaning program.now) (trees_of quasts.now) statement (map credit_of credits.now) list.now (map family_of families.now)) result }
+{
+    for (index, family) in families.iter().enumerate() {
+        let at = list.within(alloc, Step::Index(index as u64))?;
+        family_fits(alloc, program, quasts, statement, credits, &at, family)?;
+    }
+    Ok(())
+}

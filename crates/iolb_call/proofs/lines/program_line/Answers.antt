@@ -1,5 +1,0 @@
-use Rattle.std.proofs.Common.{refl, ◌∙◌, append_assoc}
-use Rattle.iolb_call.proofs.lines.program_line.Goals as goal
-
-pub returns : goal.returns
-returns c = c.in_ok-from_slice.ensures.items ∙ c.as_bytes.ensures.value ∙ c.in_ok-line.ensures.ok ∙ simp append_assoc refl

@@ -1,0 +1,104 @@
+-- That a cause to stop is answered.
+use Rattle.std.proofs.Common.{◌≡◌, ◌≢◌, refl, sym, ◌∙◌, ap, subst, inl, inr, ℕ, List, length, arith}
+use Rattle.std.specs.Prelude.{◌⊎◌, ℤ, Option, Some}
+use Rattle.iolb_model.specs.Program.{AffineProgram}
+use Rattle.command_words.specs.Requests.{Request, Work, judges, replays, bounds, file_at, request_of}
+use Rattle.iolb_host.specs.Files.{FileMap, content_of}
+use Rattle.iolb_host.specs.declared.files.FileFault.{FileFault}
+use Rattle.iolb_host.specs.declared.files.FileFault.TheVariants.{Missing, TooLong, Failed, Memory as NoMemoryForFile}
+use Rattle.iolb_commands.specs.declared.status.Status.{Status}
+use Rattle.iolb_commands.specs.declared.status.Status.TheVariants.{FileAbsent, NoMemory, Words as WordsRefused}
+use Rattle.iolb_commands.specs.declared.stop.Refusal.TheVariants.{Condition}
+use Rattle.iolb_commands.specs.declared.stop.Stop.{Stop}
+use Rattle.iolb_commands.specs.declared.stop.Stop.TheVariants.{File, Refused}
+use Rattle.iolb_commands.specs.Held.{HoldsCertificate, HoldsProgram}
+use Rattle.iolb_commands.specs.Laws.{AbsentProgramsAreNamed, AbsentSecondFilesAreNamed, CausesAreAnswered, EndsWith, FailingCertificatesAreRefused, OtherWordsAreRefused}
+use Rattle.iolb_commands.specs.Lines.{file_line, usage}
+use Rattle.iolb_commands.specs.Outcome.{Call}
+use Rattle.iolb_commands.specs.Phases.{End, onward, stopping, RequestComes, RequestStop, WorkComes, stops}
+use Rattle.iolb_commands.specs.Reading.{FaultCause, IsAbsent}
+use Rattle.iolb_commands.specs.Stop.{IsPlainFault, file_status, stop_line, stop_status}
+use Rattle.iolb_commands.specs.Use.{CallUse, Gains, Stays}
+use Rattle.iolb_commands.specs.Works.{HasSizes, most_bytes}
+use Rattle.iolb_commands.proofs.Asked.{IsFormed, formed}
+use Rattle.iolb_commands.proofs.Ends.{AreExact, AreMade, request_one}
+use Rattle.iolb_commands.proofs.Notes.{nothing_more}
+use Rattle.iolb_commands.proofs.One.{Ends, Leaves, end_status, ends_so, memory_or}
+use Rattle.tile_sched.proofs.Refusals.{none_some, same_some}
+
+-- a call with a status other than want of memory ends so
+ends_with : (status wanted : Status) (left : CallUse) (line : List ℕ) → (status ≢ NoMemory → (status ≡ wanted) × Stays left.output × Gains left.error line) → EndsWith status left wanted line
+ends_with status wanted left line so = elim (memory_or status) [ inl is ↦ inr is | inr differs ↦ inl (so differs) ]
+
+pub words_refused : AreExact → OtherWordsAreRefused
+words_refused exact call map left status tells none outcome calm =
+    ends_with status WordsRefused left usage (λ differs. by (ends_so call map status left tells outcome calm differs)) where
+      by : Ends map call.words status left → (status ≡ WordsRefused) × Stays left.output × Gains left.error usage
+      by (inl refused) = (refused.status_is, nothing_more left.output refused.output, refused.error)
+      by (inr so) = absurd (none_some (request_of call.words) so.request none so.asked)
+
+pub causes_answered : AreExact → CausesAreAnswered
+causes_answered exact call map request stop left status tells asks cause plain outcome calm =
+    ends_with status (stop_status stop) left (stop_line request.files stop) (λ differs. by (ends_so call map status left tells outcome calm differs)) where
+      leaves_so : (end : End) → end_status end ≡ status → Leaves request end left → (end ≡ stops stop) ⊎ AreMade map request end (stops stop)
+          → (status ≡ stop_status stop) × Stays left.output × Gains left.error (stop_line request.files stop)
+      leaves_so end status_is leaves (inl is) =
+          let left_so : Leaves request (stops stop) left = subst (λ (e : End). Leaves request e left) is leaves in
+          (sym status_is ∙ ap end_status is, nothing_more left.output left_so.0, left_so.1)
+      leaves_so end status_is leaves (inr (works, program, holds, made, (text, note, bounded, is))) = absurd cc
+
+      by : Ends map call.words status left → (status ≡ stop_status stop) × Stays left.output × Gains left.error (stop_line request.files stop)
+      by (inl refused) = absurd (none_some (request_of call.words) request refused.asked asks)
+      by (inr so) =
+          let same : so.request ≡ request = same_some so.request request (sym so.asked ∙ asks) in
+          leaves_so so.end so.status_is (subst (λ (r : Request). Leaves r so.end left) same so.leaves)
+          (request_one exact map request so.end (stops stop) so.ok plain (subst (λ (r : Request). RequestComes (Some map) r so.end) same so.comes) cause)
+
+-- ---- single causes
+
+pub absent_programs : CausesAreAnswered → AbsentProgramsAreNamed
+absent_programs causes call map request Missing left status tells asks absent outcome calm =
+    causes call map request (File 0 Missing) left status tells asks (stopping Missing absent refl) tt outcome calm
+absent_programs causes call map request TooLong left status tells asks absent outcome calm =
+    causes call map request (File 0 TooLong) left status tells asks (stopping TooLong absent refl) tt outcome calm
+absent_programs causes call map request Failed left status tells asks absent outcome calm = absurd absent
+absent_programs causes call map request NoMemoryForFile left status tells asks absent outcome calm = absurd absent
+
+-- a request whose work stops
+work_stops : (call : Call) (map : FileMap) (request : Request) (program : AffineProgram) (stop : Stop) → call.files ≡ Some map → HoldsProgram call.files (file_at request.files 0) program
+    → (has : HasSizes request.work program.parameters) → WorkComes (Some map) request.files request.work program has.0 (stops stop) → RequestStop (Some map) request stop
+work_stops call map request program stop tells holds has comes =
+    let there = subst (λ (files : Option FileMap). HoldsProgram files (file_at request.files 0) program) tells holds in
+    onward there.source there.content (onward program there.means (onward has.0 has.1 comes))
+
+second_unread : (map : FileMap) (names : List (List ℕ)) (work : Work) (program : AffineProgram) (sizes : List ℤ) (fault : FileFault) → ¬ (work ≡ bounds)
+    → FaultCause (Some map) (file_at names 1) (most_bytes work 1) fault → WorkComes (Some map) names work program sizes (stops (File 1 fault))
+second_unread map names (judges task) program sizes fault second cause = stopping fault cause refl
+second_unread map names (replays s named) program sizes fault second cause = stopping fault cause refl
+second_unread map names bounds program sizes fault second cause = absurd (second refl)
+
+pub absent_seconds : CausesAreAnswered → AbsentSecondFilesAreNamed
+absent_seconds causes call map request program fault left status tells asks holds several sizes absent outcome calm = by fault absent where
+  second : ¬ (request.work ≡ bounds)
+  second is = let one : length request.files ≡ 1 = subst (IsFormed request) is (formed call.words request asks) in omega (arith, one, several)
+
+  named : (fault : FileFault) → FaultCause (Some map) (file_at request.files 1) (most_bytes request.work 1) fault → IsPlainFault fault
+      → EndsWith status left (file_status fault) (file_line (file_at request.files 1) fault)
+  named fault cause plain = causes call map request (File 1 fault) left status tells asks
+      (work_stops call map request program (File 1 fault) tells holds sizes (second_unread map request.files request.work program sizes.0 fault second cause)) plain outcome calm
+
+  by : (fault : FileFault) → IsAbsent (content_of map (file_at request.files 1)) (most_bytes request.work 1) fault → EndsWith status left FileAbsent (file_line (file_at request.files 1) fault)
+  by Missing absent = named Missing absent tt
+  by TooLong absent = named TooLong absent tt
+  by Failed absent = absurd absent
+  by NoMemoryForFile absent = absurd absent
+
+pub failing_refused : CausesAreAnswered → FailingCertificatesAreRefused
+failing_refused causes call request task program certificate failed left status reads sizes fails outcome calm =
+    let held = subst (λ (files : Option FileMap). HoldsCertificate files (file_at request.files 1) certificate) reads.told reads.holds_certificate in
+    let stop : Stop = Refused (Condition failed) in
+    let has : HasSizes request.work program.parameters = subst (λ (w : Work). HasSizes w program.parameters) (sym reads.judges_it) sizes in
+    causes call reads.map request stop left status reads.told reads.asked
+    (work_stops call reads.map request program stop reads.told reads.holds_program has
+    (subst (λ (w : Work). WorkComes (Some reads.map) request.files w program has.0 (stops stop)) (sym reads.judges_it)
+    (onward held.bytes held.content (onward certificate held.has (stopping failed fails refl))))) tt outcome calm

@@ -1,0 +1,173 @@
+-- That a request comes to one end over files that tell what they hold.
+use Rattle.std.proofs.Common.{◌≡◌, refl, sym, ◌∙◌, ap, subst, inr, ℕ, ◌<◌, ◌≤◌, List, length, arith}
+use Rattle.std.specs.Prelude.{ℤ, Option, Some, None, Result, Ok, Err, IsSomeAnd}
+use Rattle.iolb_model.specs.Bound.{AreMet}
+use Rattle.iolb_model.specs.Form.{AffineForm}
+use Rattle.iolb_model.specs.Program.{AffineProgram}
+use Rattle.affine_c.specs.declared.fault.ProgramFault.{ProgramFault}
+use Rattle.affine_c.specs.Laws.{TextsMeanOneProgram}
+use Rattle.c_grammar.specs.Program.{Means}
+use Rattle.affine_c.specs.Meaning.{HasFault}
+use Rattle.affine_c.proofs.OneProgram.{meant_without_fault}
+use Rattle.iolb_cert.specs.OneCertificate.{TextsHaveOneCertificate, TextsHaveOneAnswer}
+use Rattle.command_words.specs.Requests.{Request, Task, checks, evaluates, Work, judges, replays, bounds, file_at}
+use Rattle.iolb_check.specs.declared.bound.Value.{Value}
+use Rattle.iolb_check.specs.Exact.{RefusalsAreOne, ValidCertificatesGiveOne, ValidCertificatesHaveValues, ValidCertificatesStand}
+use Rattle.iolb_host.specs.declared.files.FileFault.{FileFault}
+use Rattle.iolb_host.specs.declared.files.FileFault.TheVariants.{Missing, TooLong, Failed, Memory as NoMemoryForFile}
+use Rattle.iolb_host.specs.Files.{FileMap, Answers, content_of}
+use Rattle.iolb_commands.specs.Bounded.{IsBounded}
+use Rattle.iolb_commands.specs.Held.{HoldsProgram}
+use Rattle.iolb_commands.specs.Phases.{End, answers, unsaid, saying, AtSizes, Narrow, FileComes, TaskComes, CertificateComes, ScheduleComes, WorkComes, RequestComes}
+use Rattle.iolb_commands.specs.Reading.{IsContent}
+use Rattle.iolb_commands.specs.Stop.{IsPlainFault}
+use Rattle.iolb_commands.specs.Works.{most_bytes, sizes_for}
+use Rattle.iolb_commands.proofs.Phases.{IsPlainEnd, One, phase_one, says_one, through}
+use Rattle.tile_sched.specs.OneSchedule.{TextsHaveOneSchedule}
+use Rattle.tile_sched.specs.ReplayLaws.{PlayedOrdersAreOne, PlayedOrRefused, UnplayedAreOne}
+use Rattle.tile_sched.proofs.Refusals.{first_one, met_first, none_some, same_some}
+
+-- What the crates below say: texts, conditions and schedules have one answer.
+pub record AreExact : Type 0 where
+  pub one_program : TextsMeanOneProgram
+  pub one_certificate : TextsHaveOneCertificate
+  pub one_answer : TextsHaveOneAnswer
+  pub stand : ValidCertificatesStand
+  pub have_values : ValidCertificatesHaveValues
+  pub one_values : ValidCertificatesGiveOne
+  pub one_refusal : RefusalsAreOne
+  pub schedules : TextsHaveOneSchedule
+  pub one_order : PlayedOrdersAreOne
+  pub one_unplayed : UnplayedAreOne
+  pub played_or_refused : PlayedOrRefused
+
+-- ---- files and programs
+
+absent_one : (content : Option (List ℕ)) (most : ℕ) (f g : FileFault) → Answers content most (Err f) → Answers content most (Err g) → IsPlainFault f → IsPlainFault g → f ≡ g
+absent_one content most Missing Missing absent again ok fine = refl
+absent_one content most TooLong TooLong absent again ok fine = refl
+absent_one None most Missing TooLong absent again ok fine = absurd again
+absent_one (Some bytes) most Missing TooLong absent again ok fine = absurd cc
+absent_one None most TooLong Missing absent again ok fine = absurd absent
+absent_one (Some bytes) most TooLong Missing absent again ok fine = absurd cc
+absent_one content most Failed g absent again ok fine = absurd ok
+absent_one content most NoMemoryForFile g absent again ok fine = absurd ok
+absent_one content most Missing Failed absent again ok fine = absurd fine
+absent_one content most Missing NoMemoryForFile absent again ok fine = absurd fine
+absent_one content most TooLong Failed absent again ok fine = absurd fine
+absent_one content most TooLong NoMemoryForFile absent again ok fine = absurd fine
+
+absent_there : (content : Option (List ℕ)) (most : ℕ) (fault : FileFault) (bytes : List ℕ) → Answers content most (Err fault) → content ≡ Some bytes → length bytes ≤ most → IsPlainFault fault → ⊥
+absent_there content most Missing bytes absent is few ok = none_some content bytes absent is
+absent_there content most TooLong bytes absent is few ok =
+    let long : most < length bytes = subst (λ (o : Option (List ℕ)). IsSomeAnd o (λ b. most < length b)) is absent in omega (arith, long, few)
+absent_there content most Failed bytes absent is few ok = ok
+absent_there content most NoMemoryForFile bytes absent is few ok = ok
+
+same_fault : (source : List ℕ) (f g : ProgramFault) → HasFault source f → HasFault source g → f ≡ g
+same_fault source f g has again =
+    ap (λ read. let fault : ProgramFault = record { number = read.number; place = read.place } in fault) (injective _ _ _ has again) where
+      injective : {T E : Type 0} (r : Result T E) (a b : E) → r ≡ Err a → r ≡ Err b → a ≡ b
+      injective r a b e f = cc
+
+-- ---- each phase has one end
+
+-- it made a certificate for this program
+abbrev pub IsMade : AffineProgram → End → Type 0
+IsMade program end = (text note : List ℕ) × IsBounded program text note × (end ≡ answers text note)
+
+module _ (Both : End → End → Type 0) where
+  sizes_one : (assumptions : List AffineForm) (sizes : List ℤ) (Onward : End → Type 0) → One Both Onward → One Both (AtSizes assumptions sizes Onward)
+  sizes_one assumptions sizes Onward on = phase_one Both (λ n m unmet again _ _. first_one assumptions sizes n m unmet again)
+      (λ n _ unmet met _. met_first assumptions sizes n met unmet) (λ _ _ _ _. refl) (λ _ _. on)
+
+  narrow_one : (IsWide : Type 0) (Onward : End → Type 0) → One Both Onward → One Both (Narrow IsWide Onward)
+  narrow_one IsWide Onward on = phase_one Both (λ _ _ _ _ _ _. refl) (λ _ _ wide narrow _. narrow wide) (λ _ _ _ _. refl) (λ _ _. on)
+
+  task_one : (task : Task) (program : AffineProgram) (sizes : List ℤ) (values : List (List Value)) → One Both (TaskComes task program sizes values)
+  task_one checks program sizes values = says_one Both
+  task_one (evaluates s named) program sizes values = sizes_one _ _ _ (narrow_one _ _ (says_one Both))
+
+  certificate_one : AreExact → (task : Task) (program : AffineProgram) (sizes : List ℤ) (bytes : List ℕ) → One Both (CertificateComes task program sizes bytes)
+  certificate_one exact task program sizes bytes = phase_one Both
+      (λ f g has again _ _. exact.one_answer.one_fault bytes f g has again)
+      (λ fault claim faulty has _. exact.one_answer.either bytes claim fault has faulty)
+      (λ a b has again. exact.one_certificate bytes a b has again)
+      (λ claim _. phase_one Both
+      (λ f g fails again _ _. exact.one_refusal program claim f g fails again)
+      (λ failed values fails valid _. exact.stand program claim failed valid.accepted fails)
+      (λ v w valid again. exact.one_values program claim v w valid again)
+      (λ values _. task_one task program sizes values))
+
+  schedule_one : AreExact → (s : ℕ) (program : AffineProgram) (sizes : List ℤ) (bytes : List ℕ) → One Both (ScheduleComes s program sizes bytes)
+  schedule_one exact s program sizes bytes = phase_one Both
+      (λ f g has again _ _. exact.schedules.one_fault program bytes f g has again)
+      (λ fault schedule faulty has _. exact.schedules.either program bytes schedule fault has faulty)
+      (λ a b has again. exact.schedules.one_schedule program bytes a b has again)
+      (λ schedule _. phase_one Both
+      (λ u v held again _ _. exact.one_unplayed program schedule sizes s u v held again)
+      (λ unplayed order held can _. exact.played_or_refused program schedule sizes s order unplayed can held)
+      (λ p q can again. exact.one_order program schedule sizes s p q can again)
+      (λ order _. says_one Both))
+
+  file_one : (map : FileMap) (names : List (List ℕ)) (work : Work) (place : ℕ) (Onward : List ℕ → End → Type 0)
+      → ((bytes : List ℕ) → IsContent (Some map) (file_at names place) (most_bytes work place) bytes → One Both (Onward bytes)) → One Both (FileComes (Some map) names work place Onward)
+  file_one map names work place Onward on = phase_one Both
+      (λ f g absent again ok fine. absent_one (content_of map (file_at names place)) (most_bytes work place) f g absent again ok fine)
+      (λ fault bytes absent found ok. absent_there (content_of map (file_at names place)) (most_bytes work place) fault bytes absent found.told found.few ok)
+      (λ a b found again. same_some a b (sym found.told ∙ again.told)) on
+
+  work_one : AreExact → (map : FileMap) (names : List (List ℕ)) (work : Work) (program : AffineProgram) (sizes : List ℤ)
+      → (work ≡ bounds → (one other : End) → IsMade program one → IsMade program other → Both one other) → One Both (WorkComes (Some map) names work program sizes)
+  work_one exact map names (judges task) program sizes both one other ok fine here there =
+      file_one map names (judges task) 1 _ (λ bytes _. certificate_one exact task program sizes bytes) one other ok fine here there
+  work_one exact map names (replays s named) program sizes both one other ok fine here there =
+      file_one map names (replays s named) 1 _ (λ bytes _. schedule_one exact s program sizes bytes) one other ok fine here there
+  work_one exact map names bounds program sizes both one other ok fine (unsaid is) there = absurd (subst IsPlainEnd is ok)
+  work_one exact map names bounds program sizes both one other ok fine here (unsaid is) = absurd (subst IsPlainEnd is fine)
+  work_one exact map names bounds program sizes both one other ok fine (saying text note so is) (saying another beside too does) =
+      inr (both refl one other (text, note, so, is) (another, beside, too, does))
+
+-- both made a certificate of the program of a request for one
+abbrev pub AreMade : FileMap → Request → End → End → Type 0
+AreMade map request one other = (request.work ≡ bounds) × (program : AffineProgram) × HoldsProgram (Some map) (file_at request.files 0) program
+    × IsMade program one × IsMade program other
+
+pub request_one : AreExact → (map : FileMap) (request : Request) → One (AreMade map request) (RequestComes (Some map) request)
+request_one exact map request =
+    let Both = AreMade map request in
+    file_one Both map request.files request.work 0 _ (λ source content. phase_one Both
+    (λ f g has again _ _. same_fault source f g has again)
+    (λ fault program has means _. meant_without_fault source fault program has means)
+    (λ p q means again. exact.one_program source p q means again)
+    (λ program means. phase_one Both (λ _ _ _ _ _ _. refl)
+    (λ _ sizes lacking has _. none_some (sizes_for request.work program.parameters) sizes lacking has)
+    (λ a b has again. same_some a b (sym has ∙ again))
+    (λ sizes _. work_one Both exact map request.files request.work program sizes
+    (λ works one other here there. (works, program, record { source = source; content = content; means = means }, here, there)))))
+
+-- ---- what files hold goes on
+
+module _ (end : End) (ok : IsPlainEnd end) where
+  pub through_sizes : (assumptions : List AffineForm) (sizes : List ℤ) (Onward : End → Type 0) → AreMet assumptions sizes → AtSizes assumptions sizes Onward end → Onward end
+  through_sizes assumptions sizes Onward met = through tt
+      (λ n unmet _. met_first assumptions sizes n met unmet) (λ _ _. refl) end ok
+
+  pub through_narrow : (IsWide : Type 0) (Onward : End → Type 0) → ¬ IsWide → Narrow IsWide Onward end → Onward end
+  through_narrow IsWide Onward narrow = through tt (λ _ wide _. narrow wide) (λ _ _. refl) end ok
+
+module _ (exact : AreExact) (map : FileMap) (end : End) (ok : IsPlainEnd end) where
+  pub through_file : (names : List (List ℕ)) (work : Work) (place : ℕ) (Onward : List ℕ → End → Type 0) (bytes : List ℕ)
+      → IsContent (Some map) (file_at names place) (most_bytes work place) bytes → FileComes (Some map) names work place Onward end → Onward bytes end
+  through_file names work place Onward bytes content = through bytes
+      (λ fault absent plain. absent_there (content_of map (file_at names place)) (most_bytes work place) fault bytes absent content.told content.few plain)
+      (λ other found. same_some other bytes (sym found.told ∙ content.told)) end ok
+
+  pub to_work : (request : Request) (program : AffineProgram) (sizes : List ℤ) → HoldsProgram (Some map) (file_at request.files 0) program
+      → sizes_for request.work program.parameters ≡ Some sizes → RequestComes (Some map) request end → WorkComes (Some map) request.files request.work program sizes end
+  to_work request program sizes holds given comes =
+      through sizes (λ _ lacking _. none_some (sizes_for request.work program.parameters) sizes lacking given)
+      (λ other has. same_some other sizes (sym has ∙ given)) end ok
+      (through program (λ fault has _. meant_without_fault holds.source fault program has holds.means)
+      (λ other means. exact.one_program holds.source other program means holds.means) end ok
+      (through_file request.files request.work 0 _ holds.source holds.content comes))

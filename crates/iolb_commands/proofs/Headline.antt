@@ -1,0 +1,142 @@
+-- What status 0 says.
+use Rattle.std.proofs.Common.{◌≡◌, refl, sym, ◌∙◌, ap, subst, ℕ, Bool, true, false, List, [], length, map}
+use Rattle.std.specs.Prelude.{ℤ, ◌==◌, ◌&&◌, if◌then◌else◌, bytes_eq, Some, None}
+use Rattle.std.specs.List.{list_all, list_any}
+use Rattle.std.proofs.lemmas.List.{length-map}
+use Rattle.iolb_model.specs.Bound.{IsAdmitted}
+use Rattle.iolb_model.specs.Graph.{computation_graph}
+use Rattle.iolb_model.specs.Headline.{BoundHolds}
+use Rattle.iolb_model.specs.Program.{AffineProgram}
+use Rattle.command_words.specs.Requests.{Request, Task, checks, evaluates, Work, judges, replays, bounds, file_at}
+use Rattle.command_words.specs.Sizes.{NamedSize, times, value_for, values_for}
+use Rattle.pebble_replay.specs.Played.{played}
+use Rattle.tile_sched.proofs.Refusals.{same_some}
+use Rattle.tile_sched.specs.ReplayLaws.{PlaysAreComplete}
+use Rattle.iolb_check.specs.declared.bound.Value.{Value}
+use Rattle.iolb_commands.specs.declared.status.Status.{Status}
+use Rattle.iolb_commands.specs.declared.status.Status.TheVariants.{Done}
+use Rattle.iolb_commands.specs.Held.{HoldsProgram}
+use Rattle.iolb_commands.specs.Phases.{TaskComes, WorkComes, answers}
+use Rattle.iolb_commands.specs.Task.{IsAnswer, LoadsAtLeast, bound_with}
+use Rattle.iolb_commands.specs.Works.{sizes_for}
+use Rattle.iolb_commands.specs.Outcome.{Call, Outcome}
+use Rattle.iolb_commands.specs.Headline.{IsDoneAsAsked, IsPrinted}
+use Rattle.iolb_commands.specs.Use.{CallUse, Gains}
+use Rattle.iolb_commands.proofs.Asked.{IsFormed, formed}
+use Rattle.iolb_commands.proofs.Notes.{nothing_more}
+use Rattle.iolb_commands.proofs.Phases.{answered, found, said}
+
+-- ---- status 0
+
+at_least : (task : Task) (program : AffineProgram) (values : List (List Value)) (text : List ℕ) → IsAnswer task program values text → BoundHolds program (bound_with program values)
+    → LoadsAtLeast task program values
+at_least checks program values text answer holds = tt
+at_least (evaluates s named) program values text answer holds = λ sizes moves given game.
+    holds sizes s moves (subst (IsAdmitted program) (same_some answer.sizes sizes (sym answer.given ∙ given)) answer.admitted) answer.some game
+
+if_some : (test : Bool) (these sizes : List ℤ) → (if test then Some these else None) ≡ Some sizes → these ≡ sizes
+if_some true these sizes e = same_some these sizes e
+if_some false these sizes e = absurd cc
+
+-- sizes that are named are as many as the parameters
+pub sizes_many : (names : List (List ℕ)) (named : List NamedSize) (sizes : List ℤ) → values_for names named ≡ Some sizes → length sizes ≡ length names
+sizes_many names named sizes given =
+    ap length (sym (if_some (list_all (λ (size : NamedSize). list_any (λ name. bytes_eq size.name name) names) named && list_all (λ name. times name named == 1) names)
+    (map (λ name. value_for name named) names) sizes given))
+    ∙ length-map names (λ name. value_for name named)
+
+-- what answers a task
+task_answer : (request : Request) (task : Task) (program : AffineProgram) (sizes : List ℤ) (values : List (List Value)) (text note : List ℕ) → IsFormed request (judges task)
+    → sizes_for (judges task) program.parameters ≡ Some sizes → TaskComes task program sizes values (answers text note)
+    → BoundHolds program (bound_with program values) × IsAnswer task program values text × (note ≡ [])
+task_answer request checks program sizes values text note some given comes = said text note comes
+task_answer request (evaluates s named) program sizes values text note some given comes =
+    let met = found text note comes in
+    let narrow = found text note met.2 in
+    let says = said text note narrow.2 in (
+      says.0,
+      record {
+        sizes = sizes;
+        given = given;
+        some = some;
+        admitted = record { each = sizes_many program.parameters named sizes given; met = met.1 };
+        narrow = narrow.1;
+        printed = says.1;
+      },
+      says.2,
+    )
+
+printed : PlaysAreComplete → (call : Call) (left : CallUse) (request : Request) (program : AffineProgram) (sizes : List ℤ) (text note : List ℕ) (work : Work) → IsFormed request work
+    → HoldsProgram call.files (file_at request.files 0) program → sizes_for work program.parameters ≡ Some sizes
+    → WorkComes call.files request.files work program sizes (answers text note) → Gains left.output text → Gains left.error note → IsPrinted call left request work
+printed complete call left request program sizes text note (judges task) some there given comes gains noted =
+    let file = found text note comes in
+    let read = found text note file.2 in
+    let checked = found text note read.2 in
+    let answer = task_answer request task program sizes checked.0 text note some given checked.2 in record {
+      program = program;
+      holds_program = there;
+      certificate = read.0;
+      holds_certificate = record { bytes = file.0; content = file.1; has = read.1 };
+      values = checked.0;
+      valid = checked.1;
+      holds = answer.0;
+      text = text;
+      answer = answer.1;
+      printed = gains;
+      error_stays = nothing_more left.error (subst (λ (n : List ℕ). Gains left.error n) answer.2 noted);
+      loads_at_least = at_least task program checked.0 text answer.1 answer.0;
+    }
+printed complete call left request program sizes text note (replays s named) some there given comes gains noted =
+    let file = found text note comes in
+    let read = found text note file.2 in
+    let can = found text note read.2 in
+    let says = said text note can.2 in record {
+      program = program;
+      holds_program = there;
+      schedule = read.0;
+      holds_schedule = record { bytes = file.0; content = file.1; has = read.1 };
+      sizes = sizes;
+      given = given;
+      admitted = record { each = sizes_many program.parameters named sizes given; met = can.1.ordered.met };
+      order = can.0;
+      order_is = can.1.ordered.order_is;
+      moves = played (computation_graph program sizes) s can.0;
+      plays = refl;
+      complete = complete program read.0 sizes s can.0 can.1;
+      printed = subst (λ (t : List ℕ). Gains left.output t) says.1 gains;
+      error_stays = nothing_more left.error (subst (λ (n : List ℕ). Gains left.error n) says.2 noted);
+    }
+printed complete call left request program sizes text note bounds some there given comes gains noted =
+    let made = answered (answers text note) tt comes in
+    let bound = made.2 in
+    let texts : text ≡ made.0 = cc in
+    let notes : note ≡ made.1 = cc in record {
+      program = program;
+      holds_program = there;
+      certificate = bound.certificate;
+      text = made.0;
+      text_is = bound.written;
+      values = bound.values;
+      valid = bound.valid;
+      holds = bound.holds;
+      printed = subst (λ (t : List ℕ). Gains left.output t) texts gains;
+      noted = subst (λ (n : List ℕ). Gains left.error n) (notes ∙ bound.noted) noted;
+      made = bound.made;
+    }
+
+-- what status 0 says
+pub headline : PlaysAreComplete → (call : Call) (left : CallUse) (status : Status) → Outcome status call left → status ≡ Done → IsDoneAsAsked call left
+headline complete call left status outcome e = by (subst (λ (s : Status). Outcome s call left) e outcome) where
+  by : Outcome Done call left → IsDoneAsAsked call left
+  by (text, note, done, gains, noted) =
+      let request : Request = done.request in
+      let file = found text note done.answered in
+      let read = found text note file.2 in
+      let named = found text note read.2 in record {
+        request = request;
+        asked = done.asked;
+        printed = printed complete call left request read.0 named.0 text note request.work (formed call.words request done.asked)
+            (record { source = file.0; content = file.1; means = read.1 }) named.1 named.2 gains noted;
+        read = done.read;
+      }

@@ -1,0 +1,33 @@
+use Rattle.iolb_commands.proofs.Causes.{absent_programs, absent_seconds, causes_answered, failing_refused, words_refused}
+use Rattle.iolb_commands.proofs.Ends.{AreExact}
+use Rattle.iolb_commands.proofs.law.causes_are_answered.Goals as goal
+
+exact : goal.After-replays_are_one → AreExact
+exact c = record {
+  one_program = c.texts_mean_one_program.ensures;
+  one_certificate = c.texts_have_one_certificate.ensures;
+  one_answer = c.texts_have_one_answer.ensures;
+  stand = c.answers_are_exact.ensures.stand;
+  have_values = c.answers_are_exact.ensures.values;
+  one_values = c.answers_are_exact.ensures.one;
+  one_refusal = c.answers_are_exact.ensures.refused;
+  schedules = c.schedules_are_one.ensures.texts;
+  one_order = c.replays_are_one.ensures.orders;
+  one_unplayed = c.replays_are_one.ensures.refusals;
+  played_or_refused = c.replays_are_one.ensures.apart;
+}
+
+pub returns-clause-words : goal.returns-clause-words
+returns-clause-words c = words_refused (exact c)
+
+pub returns-clause-causes : goal.returns-clause-causes
+returns-clause-causes c = causes_answered (exact c)
+
+pub returns-clause-programs : goal.returns-clause-programs
+returns-clause-programs c = absent_programs (returns-clause-causes c)
+
+pub returns-clause-seconds : goal.returns-clause-seconds
+returns-clause-seconds c = absent_seconds (returns-clause-causes c)
+
+pub returns-clause-failing : goal.returns-clause-failing
+returns-clause-failing c = failing_refused (returns-clause-causes c)

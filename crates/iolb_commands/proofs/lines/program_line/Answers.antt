@@ -1,0 +1,5 @@
+use Rattle.std.proofs.Common.{refl, ◌∙◌, append_assoc}
+use Rattle.iolb_commands.proofs.lines.program_line.Goals as goal
+
+pub returns : goal.returns
+returns c = c.in_ok-from_slice.ensures.items ∙ c.as_bytes.ensures.value ∙ c.in_ok-line.ensures.ok ∙ simp append_assoc refl

@@ -1,0 +1,214 @@
+-- A call has one outcome.
+use Rattle.std.specs.Prelude.{◌≡◌, ◌≢◌, ◌⊎◌, ⊤, ℕ, ◌≤◌, ◌<◌, ℤ, List, length, Some, None}
+use Rattle.iolb_model.specs.declared.game.Move.{Move}
+use Rattle.iolb_model.specs.Bound.{Bound, IsAdmitted, bound_value}
+use Rattle.iolb_model.specs.Game.{loads}
+use Rattle.iolb_model.specs.Program.{AffineProgram}
+use Rattle.iolb_check.specs.Claims.{CertificateClaim}
+use Rattle.command_words.specs.Requests.{Request, Task, checks, evaluates, judges, replays, bounds, file_at, request_of}
+use Rattle.command_words.specs.Sizes.{NamedSize, values_for}
+use Rattle.iolb_check.specs.declared.bound.Value.{Value}
+use Rattle.iolb_check.specs.Bounds.{HasWideBranch}
+use Rattle.iolb_host.specs.declared.files.FileFault.{FileFault}
+use Rattle.iolb_host.specs.Faults.{absences, failure_count}
+use Rattle.iolb_host.specs.Files.{FileMap, content_of}
+use Rattle.iolb_host.specs.MemFiles.{SureStore}
+use Rattle.iolb_host.specs.MemSink.{SureBytes}
+use Rattle.iolb_commands.specs.declared.status.Status.{Status}
+use Rattle.iolb_commands.specs.declared.status.Status.TheVariants.{Done, Refused, Words as WordsRefused, FileAbsent, ReadFault, WriteFault, NoMemory}
+use Rattle.iolb_commands.specs.declared.stop.Stop.{Stop}
+use Rattle.tile_sched.specs.declared.schedule.Key.{Key}
+use Rattle.tile_sched.specs.Lines.{play_text}
+use Rattle.tile_sched.specs.Plays.{CanBePlayed}
+use Rattle.iolb_commands.specs.Bounded.{IsBounded}
+use Rattle.iolb_commands.specs.Held.{HoldsCertificate, HoldsProgram, HoldsSchedule}
+use Rattle.iolb_commands.specs.Outcome.{Call, Outcome}
+use Rattle.iolb_commands.specs.Phases.{RequestStop}
+use Rattle.iolb_commands.specs.Lines.{condition_line, file_line, usage}
+use Rattle.iolb_commands.specs.Reading.{IsAbsent}
+use Rattle.iolb_commands.specs.Stop.{IsPlain, stop_line, stop_status}
+use Rattle.iolb_commands.specs.Use.{CallUse, SinkUse, Fails, Gains, Stays, files_use, sink_use}
+use Rattle.iolb_commands.specs.Works.{HasSizes, most_bytes}
+use Rattle.iolb_commands.specs.Values.{values_text}
+use Rattle.iolb_check.specs.Conditions.{MeetsConditions, conditions}
+use Rattle.claims.specs.Claims.{AllHold, FirstFails}
+use Rattle.claims.specs.declared.refused.No.{No}
+use Rattle.iolb_model.specs.declared.limits.TheConstants.{PROGRAM_BYTES}
+
+-- No read failed in a call, and no write: no count of faults rose.
+pub record IsUndisturbed (left : CallUse) : Type 0 where
+  pub files : failure_count left.files.after ≡ failure_count left.files.before
+  pub output : ¬ Fails left.output
+  pub error : ¬ Fails left.error
+
+-- two sinks have gained the same bytes
+abbrev pub GainSame : SinkUse → SinkUse → Type 0
+GainSame one other = (bytes : List ℕ) × Gains one bytes × Gains other bytes
+
+-- A certificate was printed that meets the conditions for a program: its text to the output, and that of its bound, which holds,
+-- to the standard error.
+pub record PrintsBound (program : AffineProgram) (left : CallUse) : Type 0 where
+  pub text : List ℕ
+  pub note : List ℕ
+  pub bounded : IsBounded program text note
+  pub output : Gains left.output text
+  pub error : Gains left.error note
+
+-- The words ask for a certificate of the program that their file holds, and both times one was printed. (Which one isn't said.)
+pub record BothPrintBounds (call : Call) (one other : CallUse) : Type 0 where
+  pub request : Request
+  pub asked : request_of call.words ≡ Some request
+  pub bounds_it : request.work ≡ bounds
+  pub program : AffineProgram
+  pub holds_program : HoldsProgram call.files (file_at request.files 0) program
+  pub first : PrintsBound program one
+  pub second : PrintsBound program other
+
+-- Two calls have written the same bytes, or both are done and have printed certificates of the program of the words.
+abbrev pub WriteAlike : Call → Status → CallUse → CallUse → Type 0
+WriteAlike call status one other =
+    (GainSame one.output other.output × GainSame one.error other.error) ⊎ ((status ≡ Done) × BothPrintBounds call one other)
+
+-- Of a call over files that tell what they hold: two outcomes of which none was disturbed, and none is want of memory, have
+-- the same status, and the output and the standard error have gained the same bytes. Only where a certificate was to be made,
+-- and was, the bytes may differ: both times they are those of a certificate that meets the conditions, and of its bound.
+abbrev pub OutcomesAreOne : Type 0
+OutcomesAreOne = (call : Call) (map : FileMap) (one other : CallUse) (status another : Status) → call.files ≡ Some map
+    → Outcome status call one → Outcome another call other → IsUndisturbed one → IsUndisturbed other
+    → status ≢ NoMemory → another ≢ NoMemory
+    → (status ≡ another) × WriteAlike call status one other
+
+-- ---- readable programs and certificates
+
+-- The words make this request with this task, and its two files hold this program and this certificate.
+pub record Reads (call : Call) (request : Request) (task : Task) (program : AffineProgram) (certificate : CertificateClaim) : Type 0 where
+  pub map : FileMap
+  pub told : call.files ≡ Some map
+  pub asked : request_of call.words ≡ Some request
+  pub judges_it : request.work ≡ judges task
+  pub holds_program : HoldsProgram call.files (file_at request.files 0) program
+  pub holds_certificate : HoldsCertificate call.files (file_at request.files 1) certificate
+
+-- A task can be answered with these values of terms: an evaluation has sizes that meet the assumptions, at which no value is
+-- beyond 128 bits.
+abbrev pub HasAnswer : Task → AffineProgram → List (List Value) → Type 0
+HasAnswer checks program values = ⊤
+HasAnswer (evaluates s named) program values = (sizes : List ℤ) × (values_for program.parameters named ≡ Some sizes)
+    × IsAdmitted program sizes × (¬ HasWideBranch sizes s values)
+
+-- A call about a certificate of which all conditions hold, and that can be answered with the values that the conditions give, ends
+-- with 0 or for want of memory, where it wasn't disturbed. For `check` there is no more to be answered.
+abbrev pub ValidCertificatesPass : Type 0
+ValidCertificatesPass = (call : Call) (request : Request) (task : Task) (program : AffineProgram) (certificate : CertificateClaim) (left : CallUse) (status : Status)
+    → Reads call request task program certificate → AllHold (conditions program certificate)
+    → ((values : List (List Value)) → MeetsConditions program certificate values → HasAnswer task program values)
+    → Outcome status call left → IsUndisturbed left → (status ≡ Done) ⊎ (status ≡ NoMemory)
+
+-- A call about a certificate that doesn't meet the conditions never ends with 0.
+abbrev pub OthersNeverPass : Type 0
+OthersNeverPass = (call : Call) (request : Request) (task : Task) (program : AffineProgram) (certificate : CertificateClaim) (left : CallUse) (status : Status)
+    → Reads call request task program certificate → ((values : List (List Value)) → MeetsConditions program certificate values → ⊥)
+    → Outcome status call left → status ≢ Done
+
+-- ---- readable programs and schedules
+
+-- The words make this request, a replay, and its two files hold this program and this schedule of it.
+pub record ReadsSchedule (call : Call) (request : Request) (s : ℕ) (named : List NamedSize) (program : AffineProgram) (schedule : List (List Key)) : Type 0 where
+  pub map : FileMap
+  pub told : call.files ≡ Some map
+  pub asked : request_of call.words ≡ Some request
+  pub replays_it : request.work ≡ replays s named
+  pub holds_program : HoldsProgram call.files (file_at request.files 0) program
+  pub holds_schedule : HoldsSchedule call.files (file_at request.files 1) program schedule
+
+-- A call about a schedule that can be played at the sizes ends with 0 or for want of memory, where it wasn't disturbed.
+abbrev pub PlayableSchedulesPass : Type 0
+PlayableSchedulesPass = (call : Call) (request : Request) (s : ℕ) (named : List NamedSize) (program : AffineProgram) (schedule : List (List Key)) (sizes : List ℤ) (order : List ℕ)
+    (left : CallUse) (status : Status)
+    → ReadsSchedule call request s named program schedule → values_for program.parameters named ≡ Some sizes → CanBePlayed program schedule sizes s order
+    → Outcome status call left → IsUndisturbed left → (status ≡ Done) ⊎ (status ≡ NoMemory)
+
+-- ---- readable programs
+
+-- A call for a certificate of a readable program ends with 0 or for want of memory, where it wasn't disturbed.
+abbrev pub ReadableProgramsHaveCertificates : Type 0
+ReadableProgramsHaveCertificates = (call : Call) (map : FileMap) (request : Request) (program : AffineProgram) (left : CallUse) (status : Status)
+    → call.files ≡ Some map → request_of call.words ≡ Some request → request.work ≡ bounds → HoldsProgram call.files (file_at request.files 0) program
+    → Outcome status call left → IsUndisturbed left → (status ≡ Done) ⊎ (status ≡ NoMemory)
+
+-- ---- causes
+
+-- A call ends with this status, has written this line to the standard error, and nothing to the output; or it ends for want of
+-- memory.
+abbrev pub EndsWith : Status → CallUse → Status → List ℕ → Type 0
+EndsWith status left wanted line = ((status ≡ wanted) × Stays left.output × Gains left.error line) ⊎ (status ≡ NoMemory)
+
+-- A call with words that ask for nothing that the program does ends with 2 and the usage text, or for want of memory, where it
+-- wasn't disturbed.
+abbrev pub OtherWordsAreRefused : Type 0
+OtherWordsAreRefused = (call : Call) (map : FileMap) (left : CallUse) (status : Status) → call.files ≡ Some map → request_of call.words ≡ None
+    → Outcome status call left → IsUndisturbed left → EndsWith status left WordsRefused usage
+
+-- A call about a request with a cause to stop, other than a failed read and want of memory, ends with the status of that cause and
+-- its line, or for want of memory, where it wasn't disturbed.
+abbrev pub CausesAreAnswered : Type 0
+CausesAreAnswered = (call : Call) (map : FileMap) (request : Request) (stop : Stop) (left : CallUse) (status : Status)
+    → call.files ≡ Some map → request_of call.words ≡ Some request → RequestStop (Some map) request stop → IsPlain stop
+    → Outcome status call left → IsUndisturbed left → EndsWith status left (stop_status stop) (stop_line request.files stop)
+
+-- Where the program's file isn't there, or is longer than a program's may be, the call ends with 5 and its name, or for want of
+-- memory, where it wasn't disturbed.
+abbrev pub AbsentProgramsAreNamed : Type 0
+AbsentProgramsAreNamed = (call : Call) (map : FileMap) (request : Request) (fault : FileFault) (left : CallUse) (status : Status)
+    → call.files ≡ Some map → request_of call.words ≡ Some request → IsAbsent (content_of map (file_at request.files 0)) PROGRAM_BYTES fault
+    → Outcome status call left → IsUndisturbed left → EndsWith status left FileAbsent (file_line (file_at request.files 0) fault)
+
+-- The same of the second file, where there is one, the program is readable, and its parameters are named.
+abbrev pub AbsentSecondFilesAreNamed : Type 0
+AbsentSecondFilesAreNamed = (call : Call) (map : FileMap) (request : Request) (program : AffineProgram) (fault : FileFault) (left : CallUse) (status : Status)
+    → call.files ≡ Some map → request_of call.words ≡ Some request → HoldsProgram call.files (file_at request.files 0) program
+    → 1 < length request.files → HasSizes request.work program.parameters → IsAbsent (content_of map (file_at request.files 1)) (most_bytes request.work 1) fault
+    → Outcome status call left → IsUndisturbed left → EndsWith status left FileAbsent (file_line (file_at request.files 1) fault)
+
+-- A call about a certificate of which a condition fails ends with 1 and the first that does, or for want of memory, where it wasn't
+-- disturbed. (An evaluation names the program's parameters.)
+abbrev pub FailingCertificatesAreRefused : Type 0
+FailingCertificatesAreRefused = (call : Call) (request : Request) (task : Task) (program : AffineProgram) (certificate : CertificateClaim) (failed : No) (left : CallUse) (status : Status)
+    → Reads call request task program certificate → HasSizes (judges task) program.parameters → FirstFails (conditions program certificate) failed
+    → Outcome status call left → IsUndisturbed left → EndsWith status left Refused (condition_line failed.condition failed.place)
+
+-- ---- calls that nothing disturbs
+
+-- A call in which no read and no write failed doesn't end with 6 or 7.
+abbrev pub UndisturbedCallsHaveNoFault : Type 0
+UndisturbedCallsHaveNoFault = (call : Call) (left : CallUse) (status : Status) → Outcome status call left → IsUndisturbed left → (status ≢ ReadFault) × (status ≢ WriteFault)
+
+-- the use of a sink in memory of which every write succeeds
+abbrev pub sure_sink : SureBytes → SureBytes → SinkUse
+sure_sink old new = sink_use (λ (sink : SureBytes). Some sink.written) (λ _. 0) old new
+
+-- Over files and sinks in memory of which every read and every write succeeds no call is disturbed.
+abbrev pub SureCallsAreUndisturbed : Type 0
+SureCallsAreUndisturbed = (files files_after : SureStore) (output output_after error error_after : SureBytes) → IsUndisturbed (record {
+  files = files_use (λ (store : SureStore). absences store.faults) files files_after;
+  output = sure_sink output output_after;
+  error = sure_sink error error_after;
+})
+
+-- ---- bounds and plays
+
+-- Two requests with the same S and the same sizes of a program's parameters: an evaluation and a replay.
+pub record AreBeside (evaluation replay : Request) (program : AffineProgram) (s : ℕ) (named other : List NamedSize) : Type 0 where
+  pub evaluates_it : evaluation.work ≡ judges (evaluates s named)
+  pub replays_it : replay.work ≡ replays s other
+  pub sizes : values_for program.parameters named ≡ values_for program.parameters other
+
+-- Where one program stands in the first file of both, in whatever files and under whatever names, and both end with 0, the value
+-- that the evaluation prints is at most the loads that the replay prints.
+abbrev pub BoundsAreBelowPlays : Type 0
+BoundsAreBelowPlays = (map map_other : FileMap) (words other : List (List ℕ)) (evaluation replay : Request) (program : AffineProgram) (s : ℕ) (named named_other : List NamedSize)
+    (bounded played : CallUse) → request_of words ≡ Some evaluation → request_of other ≡ Some replay → AreBeside evaluation replay program s named named_other
+    → HoldsProgram (Some map) (file_at evaluation.files 0) program → HoldsProgram (Some map_other) (file_at replay.files 0) program
+    → Outcome Done (record { words = words; files = Some map }) bounded → Outcome Done (record { words = other; files = Some map_other }) played
+    → (bound : Bound) × (sizes : List ℤ) × (moves : List Move)
+    × Gains bounded.output (values_text bound sizes s) × Gains played.output (play_text moves) × (bound_value bound sizes s ≤ loads moves)

@@ -1,0 +1,17 @@
+pub mod Status
+pub mod Use
+pub mod Reading
+pub mod PointerText
+pub mod Lines
+pub mod Values
+pub mod Task
+pub mod Works
+pub mod Held
+pub mod Bounded
+pub mod Stop
+pub mod Phases
+pub mod Outcome
+pub mod Written
+pub mod Headline
+pub mod Called
+pub mod Laws

@@ -1,0 +1,67 @@
+-- The lines that are written to the standard error.
+use Rattle.std.specs.Prelude.{ℕ, ◌==◌, if◌then◌else◌, List, ◌++◌, codes, decimal}
+use Rattle.iolb_host.specs.declared.files.FileFault.{FileFault}
+use Rattle.iolb_host.specs.declared.files.FileFault.TheVariants.{Missing, TooLong, Failed, Memory}
+use Rattle.affine_c.specs.declared.fault.ProgramFault.{ProgramFault}
+use Rattle.claims.specs.declared.place.Step.{Step}
+use Rattle.tile_sched.specs.declared.unplayed.Unplayed.{Unplayed as NoPlay}
+use Rattle.tile_sched.specs.declared.unplayed.Unplayed.TheVariants.{Assumption, TooMany, OutOfOrder, TooSmall}
+use Rattle.iolb_commands.specs.declared.stop.OtherFault.{OtherFault}
+use Rattle.iolb_commands.specs.declared.stop.OtherFault.TheVariants.{Certificate, Schedule}
+use Rattle.iolb_commands.specs.declared.stop.Refusal.{Refusal}
+use Rattle.iolb_commands.specs.declared.stop.Refusal.TheVariants.{Assumption as OutsideAssumption, Condition, Unplayed as NotPlayed}
+use Rattle.iolb_commands.specs.PointerText.{pointer_text}
+
+-- the usage text
+abbrev pub usage : List ℕ
+usage = codes "usage: iolb check PROGRAM CERTIFICATE\n       iolb bound PROGRAM\n       iolb eval PROGRAM CERTIFICATE S NAME=NUMBER...\n       iolb replay PROGRAM SCHEDULE S NAME=NUMBER...\n       iolb sample N\n"
+
+abbrev pub out_of_memory : List ℕ
+out_of_memory = codes "out of memory\n"
+
+-- why the file of this name was not read
+abbrev pub file_line : List ℕ → FileFault → List ℕ
+file_line name Missing = codes "file missing: " ++ name ++ codes "\n"
+file_line name TooLong = codes "file too long: " ++ name ++ codes "\n"
+file_line name Failed = codes "read failed: " ++ name ++ codes "\n"
+file_line name Memory = out_of_memory
+
+abbrev pub program_line : ProgramFault → List ℕ
+program_line fault = codes "program refused: fault " ++ decimal fault.number ++ codes " at byte " ++ decimal fault.place ++ codes "\n"
+
+-- fault 1 has no place
+abbrev pub place_part : ℕ → List Step → List ℕ
+place_part number place = if number == 1 then codes "" else codes " at " ++ pointer_text place
+
+-- the fault of this number at this place of a text
+abbrev pub text_line : List ℕ → ℕ → List Step → List ℕ
+text_line words number place = words ++ decimal number ++ place_part number place ++ codes "\n"
+
+-- the fault of a text other than the program's
+abbrev pub other_line : OtherFault → List ℕ
+other_line (Certificate fault) = text_line (codes "certificate text refused: fault ") fault.number fault.place
+other_line (Schedule fault) = text_line (codes "schedule text refused: fault ") fault.number fault.place
+
+abbrev pub condition_line : ℕ → List Step → List ℕ
+condition_line condition place = codes "certificate refused: condition " ++ decimal condition ++ codes " at " ++ pointer_text place ++ codes "\n"
+
+-- the assumption of this number is false at the sizes
+abbrev pub assumption_line : ℕ → List ℕ
+assumption_line number = codes "assumption " ++ decimal number ++ codes " is false\n"
+
+-- a value is beyond 128 bits
+abbrev pub wide_line : List ℕ
+wide_line = codes "value beyond 128 bits\n"
+
+-- why a schedule isn't played
+abbrev pub unplayed_line : NoPlay → List ℕ
+unplayed_line (Assumption number) = assumption_line number
+unplayed_line TooMany = codes "too many vertices\n"
+unplayed_line (OutOfOrder vertex source) = codes "out of order: " ++ decimal vertex ++ codes " before " ++ decimal source ++ codes "\n"
+unplayed_line (TooSmall vertex need) = codes "too small: " ++ decimal vertex ++ codes " needs " ++ decimal need ++ codes "\n"
+
+-- why what was read isn't answered
+abbrev pub refusal_line : Refusal → List ℕ
+refusal_line (Condition failed) = condition_line failed.condition failed.place
+refusal_line (OutsideAssumption number) = assumption_line number
+refusal_line (NotPlayed unplayed) = unplayed_line unplayed

@@ -1,0 +1,120 @@
+-- What a request comes to, phase by phase. Each phase stops the work for a cause, or finds something and hands it on.
+use Rattle.std.specs.Prelude.{◌≡◌, ⊤, ℕ, ℤ, List, [], Option, Some, None}
+use Rattle.iolb_model.specs.Bound.{AreMet}
+use Rattle.iolb_model.specs.Form.{AffineForm}
+use Rattle.iolb_model.specs.Graph.{computation_graph}
+use Rattle.iolb_model.specs.Headline.{BoundHolds}
+use Rattle.iolb_model.specs.Printed.{bound_text}
+use Rattle.iolb_model.specs.Program.{AffineProgram}
+use Rattle.affine_c.specs.Meaning.{HasFault}
+use Rattle.affine_program.specs.Assumptions.{IsFirstUnmet}
+use Rattle.c_grammar.specs.Program.{Means}
+use Rattle.claims.specs.Claims.{FirstFails}
+use Rattle.command_words.specs.Requests.{Request, Task, checks, evaluates, Work, judges, replays, bounds, file_at}
+use Rattle.iolb_cert.specs.OneCertificate.{HasCertificate}
+use Rattle.iolb_cert.specs.Texts.{IsTextFault}
+use Rattle.iolb_check.specs.declared.bound.Value.{Value}
+use Rattle.iolb_check.specs.Bounds.{HasWideBranch}
+use Rattle.iolb_check.specs.Conditions.{MeetsConditions, conditions}
+use Rattle.iolb_host.specs.declared.files.FileFault.{FileFault}
+use Rattle.iolb_host.specs.Files.{FileMap}
+use Rattle.pebble_replay.specs.Played.{played}
+use Rattle.tile_sched.specs.Lines.{play_text}
+use Rattle.tile_sched.specs.OneSchedule.{IsTextFault as IsScheduleFault}
+use Rattle.tile_sched.specs.Plays.{CanBePlayed, IsUnplayed}
+use Rattle.tile_sched.specs.Texts.{IsTextOf}
+use Rattle.iolb_commands.specs.declared.stop.OtherFault.TheVariants.{Certificate, Schedule}
+use Rattle.iolb_commands.specs.declared.stop.Refusal.TheVariants.{Assumption, Condition, Unplayed}
+use Rattle.iolb_commands.specs.declared.stop.Stop.{Stop}
+use Rattle.iolb_commands.specs.declared.stop.Stop.TheVariants.{Words, File, ProgramText, OtherText, Refused, Wide, Memory}
+use Rattle.iolb_commands.specs.Bounded.{IsBounded}
+use Rattle.iolb_commands.specs.Reading.{FaultCause, IsContent}
+use Rattle.iolb_commands.specs.Task.{bound_with}
+use Rattle.iolb_commands.specs.Values.{values_text}
+use Rattle.iolb_commands.specs.Works.{most_bytes, sizes_for}
+
+-- How work ends: it stops, or a text answers it, with a note for the standard error.
+pub data End : Type 0 where
+  stops : Stop → End
+  answers : List ℕ → List ℕ → End
+
+-- Memory may always be wanted. Else a phase stops for a cause, or finds something and hands it on.
+pub data Phase {X Y : Type 0} (Cause : X → Type 0) (stop : X → Stop) (Found : Y → Type 0) (Onward : Y → End → Type 0) (end : End) : Type 0 where
+  wanting : end ≡ stops Memory → Phase Cause stop Found Onward end
+  stopping : (x : X) → Cause x → end ≡ stops (stop x) → Phase Cause stop Found Onward end
+  onward : (y : Y) → Found y → Onward y end → Phase Cause stop Found Onward end
+
+-- The last phase: such a text answers the work, with such a note.
+pub data Answered (IsSo : List ℕ → List ℕ → Type 0) (end : End) : Type 0 where
+  unsaid : end ≡ stops Memory → Answered IsSo end
+  saying : (text note : List ℕ) → IsSo text note → end ≡ answers text note → Answered IsSo end
+
+-- This text answers the work, without a note, and something holds beside it.
+abbrev pub Says : Type 0 → List ℕ → End → Type 0
+Says Holds text = Answered (λ said note. Holds × (said ≡ text) × (note ≡ []))
+
+-- ---- its parts
+
+-- the assumptions at sizes
+abbrev pub AtSizes : List AffineForm → List ℤ → (End → Type 0) → End → Type 0
+AtSizes assumptions sizes Onward =
+    Phase (IsFirstUnmet assumptions sizes) (λ number. Refused (Assumption number)) (λ (met : ⊤). AreMet assumptions sizes) (λ _. Onward)
+
+-- values, some of which may be beyond 128 bits
+abbrev pub Narrow : Type 0 → (End → Type 0) → End → Type 0
+Narrow IsWide Onward = Phase (λ (wide : ⊤). IsWide) (λ _. Wide) (λ (narrow : ⊤). ¬ IsWide) (λ _. Onward)
+
+-- why the file at a place of the words isn't read
+abbrev pub IsUnread : Option FileMap → List (List ℕ) → Work → ℕ → Stop → Type 0
+IsUnread files names work place stop = (fault : FileFault) × (stop ≡ File place fault) × FaultCause files (file_at names place) (most_bytes work place) fault
+
+-- the file at a place of the words
+abbrev pub FileComes : Option FileMap → List (List ℕ) → Work → ℕ → (List ℕ → End → Type 0) → End → Type 0
+FileComes files names work place =
+    Phase (FaultCause files (file_at names place) (most_bytes work place)) (File place) (IsContent files (file_at names place) (most_bytes work place))
+
+-- ---- a request, the last phase first
+
+-- a task, where the certificate meets the conditions with these values of terms
+abbrev pub TaskComes : Task → AffineProgram → List ℤ → List (List Value) → End → Type 0
+TaskComes checks program sizes values =
+    Says (BoundHolds program (bound_with program values)) (bound_text program.parameters (bound_with program values))
+TaskComes (evaluates s named) program sizes values =
+    AtSizes program.assumptions sizes (Narrow (HasWideBranch sizes s values)
+    (Says (BoundHolds program (bound_with program values)) (values_text (bound_with program values) sizes s)))
+
+-- a certificate: its text, the conditions, the task
+abbrev pub CertificateComes : Task → AffineProgram → List ℤ → List ℕ → End → Type 0
+CertificateComes task program sizes bytes = Phase (IsTextFault bytes) (λ fault. OtherText (Certificate fault)) (HasCertificate bytes)
+    (λ certificate. Phase (FirstFails (conditions program certificate)) (λ failed. Refused (Condition failed))
+    (MeetsConditions program certificate) (TaskComes task program sizes))
+
+-- a schedule: its text, and what keeps it from being played
+abbrev pub ScheduleComes : ℕ → AffineProgram → List ℤ → List ℕ → End → Type 0
+ScheduleComes s program sizes bytes = Phase (IsScheduleFault program bytes) (λ fault. OtherText (Schedule fault)) (IsTextOf program bytes)
+    (λ schedule. Phase (IsUnplayed program schedule sizes s) (λ unplayed. Refused (Unplayed unplayed)) (CanBePlayed program schedule sizes s)
+    (λ order. Says ⊤ (play_text (played (computation_graph program sizes) s order))))
+
+-- the work on a program, at the sizes that the words give
+abbrev pub WorkComes : Option FileMap → List (List ℕ) → Work → AffineProgram → List ℤ → End → Type 0
+WorkComes files names (judges task) program sizes = FileComes files names (judges task) 1 (CertificateComes task program sizes)
+WorkComes files names (replays s named) program sizes = FileComes files names (replays s named) 1 (ScheduleComes s program sizes)
+WorkComes files names bounds program sizes = Answered (IsBounded program)
+
+-- the names of the program's parameters, and the work
+abbrev pub NamesCome : Option FileMap → List (List ℕ) → Work → AffineProgram → End → Type 0
+NamesCome files names work program = Phase (λ (nameless : ⊤). sizes_for work program.parameters ≡ None) (λ _. Words)
+    (λ sizes. sizes_for work program.parameters ≡ Some sizes) (WorkComes files names work program)
+
+-- the program's file, its text, and what is to be done with it
+abbrev pub RequestComes : Option FileMap → Request → End → Type 0
+RequestComes files request = FileComes files request.files request.work 0
+    (λ source. Phase (HasFault source) ProgramText (Means source) (NamesCome files request.files request.work))
+
+-- why a request stops
+abbrev pub RequestStop : Option FileMap → Request → Stop → Type 0
+RequestStop files request stop = RequestComes files request (stops stop)
+
+-- this text answers a request, with this note for the standard error
+abbrev pub IsAnswered : Option FileMap → Request → List ℕ → List ℕ → Type 0
+IsAnswered files request text note = RequestComes files request (answers text note)

@@ -1,0 +1,61 @@
+//! That a call has one outcome, that causes are answered, and that bounds are below plays.
+
+ghost use Rattle.iolb_commands.specs.Laws.{AbsentProgramsAreNamed, AbsentSecondFilesAreNamed, BoundsAreBelowPlays, CausesAreAnswered, FailingCertificatesAreRefused, OtherWordsAreRefused, OthersNeverPass, OutcomesAreOne, PlayableSchedulesPass, ReadableProgramsHaveCertificates, SureCallsAreUndisturbed, UndisturbedCallsHaveNoFault, ValidCertificatesPass};
+
+use affine_c::texts_mean_one_program;
+use iolb_cert::{texts_have_one_answer, texts_have_one_certificate};
+use iolb_check::law::answers_are_exact;
+use iolb_host::sure_files_never_fail;
+use tile_sched::{replays_are_one, schedules_are_one};
+
+/// A law of `run`'s outcomes, over files that tell what they hold. Two outcomes of one call in which no read and no write
+/// failed, and that aren't want of memory, have the same status, and the output and the standard error have gained the
+/// same bytes; only where `bound` gives 0 the bytes may be those of another certificate that meets the conditions, and of its
+/// bound. So where the program and the certificate are readable, and the certificate meets the conditions, `check`
+/// gives 0 or 9, and with sizes that meet the assumptions and no wide value `eval` gives 0 or 9; where it doesn't meet
+/// them, neither gives 0. Where the program and the schedule are readable and the schedule can be played at the sizes,
+/// `replay` gives 0 or 9. Where the program is readable `bound` gives 0 or 9. And where an `eval` and a `replay` about one program, at the same sizes and with as many red pebbles,
+/// both give 0, the value of the first is at most the loads of the second.
+pub fn outcomes_are_one()
+    ensures one { OutcomesAreOne }
+    ensures valid { ValidCertificatesPass }
+    ensures others { OthersNeverPass }
+    ensures playable { PlayableSchedulesPass }
+    ensures bounded { ReadableProgramsHaveCertificates }
+    ensures below { BoundsAreBelowPlays }
+{
+    texts_mean_one_program();
+    texts_have_one_certificate();
+    texts_have_one_answer();
+    answers_are_exact();
+    schedules_are_one();
+    replays_are_one();
+}
+
+/// Laws of `run`'s outcomes, over files that tell what they hold, where no read and no write failed: what there is to say against
+/// a call is said, or memory is wanted. Words that ask for nothing give 2 and the usage text. A cause to stop gives its
+/// status and its line; so a file that isn't there, or is too long, gives 5 and its name, and a certificate of which a
+/// condition fails gives 1 and the first that does.
+pub fn causes_are_answered()
+    ensures words { OtherWordsAreRefused }
+    ensures causes { CausesAreAnswered }
+    ensures programs { AbsentProgramsAreNamed }
+    ensures seconds { AbsentSecondFilesAreNamed }
+    ensures failing { FailingCertificatesAreRefused }
+{
+    texts_mean_one_program();
+    texts_have_one_certificate();
+    texts_have_one_answer();
+    answers_are_exact();
+    schedules_are_one();
+    replays_are_one();
+}
+
+/// A call in which no read and no write failed doesn't end with 6 or 7, whatever files and sinks tell, and over files and sinks
+/// in memory of which every read and every write succeeds each call is such a one.
+pub fn sure_calls_have_no_fault()
+    ensures calm { UndisturbedCallsHaveNoFault }
+    ensures sure { SureCallsAreUndisturbed }
+{
+    sure_files_never_fail();
+}

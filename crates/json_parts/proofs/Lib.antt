@@ -1,0 +1,10 @@
+pub mod Back
+pub mod FieldsBack
+pub mod Keys
+pub mod Items
+pub mod Loop
+pub mod LoopBy
+pub mod Failing
+pub mod Read
+pub mod Rest
+pub mod Texts

@@ -1,0 +1,14 @@
+use Rattle.std.proofs.Common.{ℕ, List}
+use Rattle.serde_json.specs.View.{view}
+use Rattle.json_parts.proofs.Read.{more-read}
+use Rattle.json_parts.proofs.members.Tuple2Members.read.Goals as goal
+
+pub returns : goal.returns
+returns g c =
+    let first = c.in_ok-first.ensures in
+    let rest = c.in_ok-rest.ensures in (
+      (first.0, rest.0),
+      more-read g.R.Members.COUNT c.args.names.now _ c.args.numbers.now g.S.Part.shape.reads (λ (names : List (List ℕ)) (numbers : List ℕ). (g.R.Members.fields names numbers).reads (view c.args.value.now)) (view c.args.value.now) first.0 rest.0
+          c.requires.names c.requires.numbers first.1 rest.1,
+      (first.2, rest.2),
+    )

@@ -1,0 +1,10 @@
+pub mod Outcome
+pub mod Json
+pub mod Written
+pub mod Truths
+pub mod Given
+pub mod Related
+pub mod Shape
+pub mod Names
+pub mod Fields
+pub mod Texts

@@ -1,0 +1,108 @@
+//! Whole numbers in a range.
+
+ghost use Rattle.std.specs.Prelude.{◌≤◌, ℕ, min};
+ghost use Rattle.json_parts.specs.Related.{same_link};
+ghost use Rattle.json_parts.specs.Shape.{natural_shape};
+
+use crate::error::CertError;
+use crate::json::natural;
+use crate::part::Part;
+use affine_form::Memory;
+use serde_json::Value;
+use std::alloc::Global;
+
+/// A number of 8 bits, from a least one to a greatest one.
+pub struct Number8<const LEAST: u64, const MOST: u64> {}
+
+impl<const LEAST: u64, const MOST: u64> Part for Number8<LEAST, MOST> {
+    type Value = u8;
+
+    ghost Said = { ℕ };
+
+    ghost shape = { natural_shape LEAST (min MOST 255) };
+
+    ghost link = { same_link };
+
+    ghost Fits = { λ n. (LEAST ≤ n) × (n ≤ MOST) };
+
+    fn read(alloc: Global, value: &Value) -> Result<u8, CertError> {
+        Ok(natural(alloc, value, LEAST, MOST.min(255))? as u8)
+    }
+
+    #[tactic(auto, using(crate::proofs::Back::natural_read))]
+    fn write(_alloc: Global, part: &u8) -> Result<Value, Memory> {
+        Ok(Value::from(*part))
+    }
+}
+
+/// Any number of 8 bits.
+pub struct Any8 {}
+
+impl Part for Any8 {
+    type Value = u8;
+
+    ghost Said = { ℕ };
+
+    ghost shape = { natural_shape 0 255 };
+
+    ghost link = { same_link };
+
+    ghost Fits = { λ _. Unit {0} };
+
+    fn read(alloc: Global, value: &Value) -> Result<u8, CertError> {
+        Ok(natural(alloc, value, 0, 255)? as u8)
+    }
+
+    #[tactic(auto, using(crate::proofs::Back::natural_read))]
+    fn write(_alloc: Global, part: &u8) -> Result<Value, Memory> {
+        Ok(Value::from(*part))
+    }
+}
+
+/// Any number of 16 bits.
+pub struct Any16 {}
+
+impl Part for Any16 {
+    type Value = u16;
+
+    ghost Said = { ℕ };
+
+    ghost shape = { natural_shape 0 65535 };
+
+    ghost link = { same_link };
+
+    ghost Fits = { λ _. Unit {0} };
+
+    fn read(alloc: Global, value: &Value) -> Result<u16, CertError> {
+        Ok(natural(alloc, value, 0, 65535)? as u16)
+    }
+
+    #[tactic(auto, using(crate::proofs::Back::natural_read))]
+    fn write(_alloc: Global, part: &u16) -> Result<Value, Memory> {
+        Ok(Value::from(*part))
+    }
+}
+
+/// A number of 32 bits, from a least one to a greatest one.
+pub struct Number32<const LEAST: u64, const MOST: u64> {}
+
+impl<const LEAST: u64, const MOST: u64> Part for Number32<LEAST, MOST> {
+    type Value = u32;
+
+    ghost Said = { ℕ };
+
+    ghost shape = { natural_shape LEAST (min MOST 4294967295) };
+
+    ghost link = { same_link };
+
+    ghost Fits = { λ n. (LEAST ≤ n) × (n ≤ MOST) };
+
+    fn read(alloc: Global, value: &Value) -> Result<u32, CertError> {
+        Ok(natural(alloc, value, LEAST, MOST.min(4294967295))? as u32)
+    }
+
+    #[tactic(auto, using(crate::proofs::Back::natural_read))]
+    fn write(_alloc: Global, part: &u32) -> Result<Value, Memory> {
+        Ok(Value::from(*part))
+    }
+}

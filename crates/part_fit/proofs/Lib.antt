@@ -1,8 +1,0 @@
-pub mod FitFound
-pub mod FitSides
-pub mod Missing
-pub mod TreeParts
-pub mod ReadTrees
-pub mod WalkParts
-pub mod FamilyParts
-pub mod FormsFit

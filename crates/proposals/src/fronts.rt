@@ -1,0 +1,8 @@
+//! Wavefront terms that are likely to be strong. Nothing is promised of them.
+
+mod claims_shown;
+mod outlines;
+mod terms;
+mod ways;
+
+pub use terms::{Proposed, wavefronts};

@@ -1,9 +1,0 @@
-//! Wavefront terms that are likely to be strong. Nothing is promised of them.
-#![tactic(auto)]
-
-mod claims_shown;
-mod outlines;
-mod terms;
-mod ways;
-
-pub use terms::{Proposed, wavefronts};
