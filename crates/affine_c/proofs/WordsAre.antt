@@ -23,7 +23,7 @@ use Rattle.c_grammar.specs.Affine.{affine_words}
 use Rattle.c_grammar.specs.Item.{items_words}
 use Rattle.c_grammar.specs.Text.{line_none, compares_words, lines_words, text_words}
 use Rattle.c_grammar.specs.Program.{Means}
-use Rattle.affine_c.specs.Text.{row_text, parameters_text, assumption_text, program_text}
+use Rattle.affine_c.specs.Text.{row_text, parameters_text, assumption_pragma, program_text}
 use Rattle.affine_c.specs.Tree.{form_tree, row_tree, parameters_tree, assumption_tree, assumptions_tree, program_tree}
 use Rattle.affine_c.proofs.Roles.{IsSmallForm, HasRoles}
 use Rattle.affine_c.proofs.LexedForms.{Lexes, Follows, lexes_as, word_then, space_then, name_lexes, none_lexes, form_lexes, AreVariables, are_variables, row_lexes}
@@ -246,26 +246,26 @@ assumes = record { kind = Assumptions; bytes = codes "#pragma iolb assume" }
 
 -- an assumption's line
 passes_assumption : (place : ℕ) (names : List (List ℕ)) (row : AffineForm) (more : List ℕ) → AreVariables names [] → IsSmallForm (length names) 0 row
-    → Passes place (assumption_text names row ++ more) more (assumes ∷ (compares_words (assumption_tree names row) ++ (line_end ∷ [])))
+    → Passes place (assumption_pragma names row ++ more) more (assumes ∷ (compares_words (assumption_tree names row) ++ (line_end ∷ [])))
 passes_assumption place names row more are small =
     let none : names ++ [] ≡ names = append-nil names in
     let form = lexes_as (form_lexes {around = []} row are small at_least_follows) (ap (λ ns. form_text ns row ++ codes " >= 0") none) (ap (λ ns. affine_words (form_tree ns row) ++ at_least_words) none) in
     let line = line_passes Assumptions (codes "#pragma iolb assume") (32 ∷ (form_text names row ++ codes " >= 0")) more (affine_words (form_tree names row) ++ at_least_words) place (record { in_line = refl; no_opening = λ place rest. refl; tokens = λ place rest. refl }) (space_then form).lexes in
-    let written : codes "#pragma iolb assume" ++ ((32 ∷ (form_text names row ++ codes " >= 0")) ++ 10 ∷ more) ≡ assumption_text names row ++ more = simp append_assoc in
+    let written : codes "#pragma iolb assume" ++ ((32 ∷ (form_text names row ++ codes " >= 0")) ++ 10 ∷ more) ≡ assumption_pragma names row ++ more = simp append_assoc in
     let said : affine_words (form_tree names row) ++ at_least_words ≡ compares_words (assumption_tree names row) ++ (line_end ∷ []) = simp append_assoc in
-    subst (λ ws. Passes place (assumption_text names row ++ more) more (assumes ∷ ws)) said (subst (λ t. Passes place t more (assumes ∷ (affine_words (form_tree names row) ++ at_least_words))) written line)
+    subst (λ ws. Passes place (assumption_pragma names row ++ more) more (assumes ∷ ws)) said (subst (λ t. Passes place t more (assumes ∷ (affine_words (form_tree names row) ++ at_least_words))) written line)
 
 -- the lines of the assumptions
 passes_assumptions : (place : ℕ) (names : List (List ℕ)) (rows : List AffineForm) (more : List ℕ) → AreVariables names [] → AllByRecursion (IsSmallForm (length names) 0) rows
-    → Passes place (flat_map (assumption_text names) rows ++ more) more (lines_words (assumptions_tree names rows))
+    → Passes place (flat_map (assumption_pragma names) rows ++ more) more (lines_words (assumptions_tree names rows))
 passes_assumptions place names [] more are small = passes_none place more
 passes_assumptions place names (row ∷ rows) more are small =
-    let first = passes_assumption place names row (flat_map (assumption_text names) rows ++ more) are small.0 in
+    let first = passes_assumption place names row (flat_map (assumption_pragma names) rows ++ more) are small.0 in
     let both = passes_both first (passes_assumptions (place + first.count) names rows more are small.1) in
     let words : List Word = (assumes ∷ (compares_words (assumption_tree names row) ++ (line_end ∷ []))) ++ lines_words (assumptions_tree names rows) in
     let said : words ≡ lines_words (assumptions_tree names (row ∷ rows)) = simp append_assoc in
-    subst (λ ws. Passes place (flat_map (assumption_text names) (row ∷ rows) ++ more) more ws) said
-    (subst (λ t. Passes place t more words) (sym (append_assoc (assumption_text names row) (flat_map (assumption_text names) rows) more)) both)
+    subst (λ ws. Passes place (flat_map (assumption_pragma names) (row ∷ rows) ++ more) more ws) said
+    (subst (λ t. Passes place t more words) (sym (append_assoc (assumption_pragma names row) (flat_map (assumption_pragma names) rows) more)) both)
 
 -- the line of parameters, and those behind it
 parameters_words : (names params : List (List ℕ)) (rows : List AffineForm) → lines_words (parameters_tree names line_none) ++ lines_words (assumptions_tree params rows) ≡ lines_words (parameters_tree names (assumptions_tree params rows))
@@ -283,10 +283,10 @@ words_are p is =
     let none : ps ++ [] ≡ ps = append-nil ps in
     let body = lexes_as (row_lexes p is [] are 0 p.tree refl is.tree ends) (ap (λ ns. row_text p ns p.tree ++ []) none ∙ append-nil (row_text p ps p.tree)) (ap (λ ns. items_words (row_tree p ns p.tree) ++ (program_end ∷ [])) none) in
     let scop : List ℕ = codes "#pragma scop" ++ 10 ∷ (text_in body.pieces ++ tail) in
-    let first = passes_parameters 0 ps (flat_map (assumption_text ps) p.assumptions ++ scop) is.parameters in
+    let first = passes_parameters 0 ps (flat_map (assumption_pragma ps) p.assumptions ++ scop) is.parameters in
     let passes = passes_both first (passes_assumptions (0 + first.count) ps p.assumptions scop are is.assumptions) in
-    let whole : parameters_text ps ++ (flat_map (assumption_text ps) p.assumptions ++ (codes "#pragma scop" ++ 10 ∷ (row_text p ps p.tree ++ tail))) ≡ program_text p = simp append_assoc in
-    let text_is = ap (λ t. parameters_text ps ++ (flat_map (assumption_text ps) p.assumptions ++ (codes "#pragma scop" ++ 10 ∷ (t ++ tail)))) body.text_is ∙ whole in
+    let whole : parameters_text ps ++ (flat_map (assumption_pragma ps) p.assumptions ++ (codes "#pragma scop" ++ 10 ∷ (row_text p ps p.tree ++ tail))) ≡ program_text p = simp append_assoc in
+    let text_is = ap (λ t. parameters_text ps ++ (flat_map (assumption_pragma ps) p.assumptions ++ (codes "#pragma scop" ++ 10 ∷ (t ++ tail)))) body.text_is ∙ whole in
     ap words_of (sym text_is) ∙ whole_words _ body.pieces _ passes body.lexed
     ∙ ap (λ ws. Some ((lines_words (parameters_tree ps line_none) ++ lines_words (assumptions_tree ps p.assumptions)) ++ ws)) body.words_are
     ∙ ap (λ ls. Some (ls ++ (items_words (row_tree p ps p.tree) ++ (program_end ∷ [])))) (parameters_words ps ps p.assumptions)

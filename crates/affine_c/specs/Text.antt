@@ -49,11 +49,11 @@ parameters_text [] = []
 parameters_text (name ∷ names) = codes "#pragma iolb param" ++ flat_map (λ (n : List ℕ). codes " " ++ n) (name ∷ names) ++ codes "\n"
 
 -- an assumption, on a line
-abbrev pub assumption_text : List (List ℕ) → AffineForm → List ℕ
-assumption_text names row = codes "#pragma iolb assume " ++ form_text names row ++ codes " >= 0\n"
+abbrev pub assumption_pragma : List (List ℕ) → AffineForm → List ℕ
+assumption_pragma names row = codes "#pragma iolb assume " ++ form_text names row ++ codes " >= 0\n"
 
 -- a program: its parameters, its assumptions, and its items between the line that opens and the line that closes
 abbrev pub program_text : AffineProgram → List ℕ
 program_text program =
-    parameters_text program.parameters ++ flat_map (assumption_text program.parameters) program.assumptions
+    parameters_text program.parameters ++ flat_map (assumption_pragma program.parameters) program.assumptions
     ++ codes "#pragma scop\n" ++ row_text program program.parameters program.tree ++ codes "#pragma endscop\n"

@@ -6,7 +6,7 @@ ghost use Rattle.iolb_model.specs.Printed.{form_text};
 ghost use Rattle.iolb_model.specs.Program.{IsOver};
 ghost use Rattle.affine_program.specs.Parts.{meaning};
 ghost use Rattle.c_grammar.specs.Program.{Means};
-ghost use Rattle.affine_c.specs.Text.{assumption_text, parameters_text, program_text as text_of_program};
+ghost use Rattle.affine_c.specs.Text.{assumption_pragma, parameters_text, program_text as text_of_program};
 
 use crate::items::push_items;
 use affine_form::{Form, Memory, Name};
@@ -71,7 +71,7 @@ fn push_assumptions(
     rows: &[Form],
 ) -> Result<(), Memory>
     requires { AllByRecursion (IsOver (length names.now)) rows.now }
-    ensures { OnOk result (text.new.items ≡ text.old.items ++ flat_map (assumption_text names.now) rows.now) }
+    ensures { OnOk result (text.new.items ≡ text.old.items ++ flat_map (assumption_pragma names.now) rows.now) }
 {
     for row in rows {
         push_assumption(alloc, text, names, row)?;
@@ -87,7 +87,7 @@ fn push_assumption(
     row: &Form,
 ) -> Result<(), Memory>
     requires { IsOver (length names.now) row.now }
-    ensures { OnOk result (text.new.items ≡ text.old.items ++ assumption_text names.now row.now) }
+    ensures { OnOk result (text.new.items ≡ text.old.items ++ assumption_pragma names.now row.now) }
 {
     push_between(alloc, text, b"#pragma iolb assume ", names, row, b" >= 0\n")?;
     Ok(())

@@ -1,6 +1,6 @@
 -- Where what is asked of families and credits holds, they fit the program.
 use Rattle.std.proofs.Common.{◌≡◌, sym, ◌∙◌, ap, subst, ℕ, suc, ◌+◌, ◌<◌, ◌≤◌, List, [], ◌∷◌, ◌++◌, length, map, arith, zero-add}
-use Rattle.std.specs.Prelude.{Option, Some, None, slice_get}
+use Rattle.std.specs.Prelude.{Option, Some, None, slice_get, codes}
 use Rattle.std.specs.List.{AllByRecursion}
 use Rattle.std.proofs.lemmas.List.{length-map}
 use Rattle.std.proofs.Math.Nat.{add-zero}
@@ -10,7 +10,6 @@ use Rattle.iolb_model.specs.declared.limits.TheConstants.{NEST_VARIABLES, TREE_T
 use Rattle.claims.specs.Claims.{Claim, AllHold, numbered}
 use Rattle.claims.specs.declared.place.Step.{Step}
 use Rattle.claims.specs.declared.place.Step.TheVariants.{Key, Index}
-use Rattle.claims.specs.declared.key.TheConstants.{INPUTS, LABEL, NEST, NODES, REGION, SET, START, TREE}
 use Rattle.claims.proofs.Laws.{AllHold-left, AllHold-right}
 use Rattle.claims.proofs.Members.{suc-moved}
 use Rattle.affine_form.specs.Matrix.{IntegerMatrix}
@@ -23,7 +22,7 @@ use Rattle.reuse_paths.specs.declared.family.Credit.{Credit}
 use Rattle.reuse_paths.specs.Families.{CreditedNest, NodeForms, FamilyForms, credit_of, node_label}
 use Rattle.reuse_paths.specs.FamilyClaims.{family_setting}
 use Rattle.reuse_paths.specs.FamilyFits.{CountedFits, NodesFit, FamilyFits}
-use Rattle.reuse_paths.specs.Trees.{RowsFit}
+use Rattle.dep_quast.specs.Trees.{RowsFit}
 use Rattle.reuse_paths.specs.WalkFits.{IsLabel, AreInstanceLabels, AreCellLabels, CreditFits}
 use Rattle.reuse_paths.specs.WalkSettings.{WalkSetting}
 use Rattle.certificate_fit.specs.FamilyFit.{RisesBelow, label_fit, subscripts_of, input_fit, inputs_fit, node_fit, nodes_fit, set_fit, start_fit, family_fit, family_at, credit_nest_fit, credit_count_fit, credit_fit}
@@ -77,11 +76,11 @@ module _ (program : AffineProgram) (trees : List (List SelectionTree)) (fit : Al
 
     abbrev labelled : ℕ → NodeForms → List Claim
     labelled statement node =
-        label_fit (length family.set) (length program.parameters + depth_of program statement) ((place ++ Index statement ∷ []) ++ Key LABEL ∷ []) node.label
+        label_fit (length family.set) (length program.parameters + depth_of program statement) ((place ++ Index statement ∷ []) ++ Key (codes "label") ∷ []) node.label
 
     abbrev regioned : ℕ → NodeForms → List Claim
     regioned statement node =
-        region_fit_at (family_setting program trees credits family node.label) statement ((place ++ Index statement ∷ []) ++ Key REGION ∷ []) node.region
+        region_fit_at (family_setting program trees credits family node.label) statement ((place ++ Index statement ∷ []) ++ Key (codes "region") ∷ []) node.region
 
     instance-labels : (statement : ℕ) (nodes : List (Option NodeForms)) → AllByRecursion IsSmallFamilyNode nodes → AllHold (numbered each statement nodes)
         → AreInstanceLabels program (length family.set) statement (map node_label nodes)
@@ -90,7 +89,7 @@ module _ (program : AffineProgram) (trees : List (List SelectionTree)) (fit : Al
     instance-labels statement (Some node ∷ nodes) small h =
         let here : List Claim = each statement (Some node) in
         let rest : List Claim = numbered each (suc statement) nodes in (
-          label-is (length family.set) (length program.parameters + depth_of program statement) ((place ++ Index statement ∷ []) ++ Key LABEL ∷ []) node.label small.0.0
+          label-is (length family.set) (length program.parameters + depth_of program statement) ((place ++ Index statement ∷ []) ++ Key (codes "label") ∷ []) node.label small.0.0
               (AllHold-left (labelled statement node) (regioned statement node) (AllHold-left here rest h)),
           instance-labels (suc statement) nodes small.1 (AllHold-right here rest h),
         )
@@ -102,7 +101,7 @@ module _ (program : AffineProgram) (trees : List (List SelectionTree)) (fit : Al
     regions-fit statement (Some node ∷ nodes) le small h =
         let here : List Claim = each statement (Some node) in
         let rest : List Claim = numbered each (suc statement) nodes in (
-          region-fits (family_setting program trees credits family node.label) fit rows ((place ++ Index statement ∷ []) ++ Key REGION ∷ []) statement node.region (omega (arith, le)) small.0.1
+          region-fits (family_setting program trees credits family node.label) fit rows ((place ++ Index statement ∷ []) ++ Key (codes "region") ∷ []) statement node.region (omega (arith, le)) small.0.1
               (AllHold-right (labelled statement node) (regioned statement node) (AllHold-left here rest h)),
           regions-fit (suc statement) nodes (omega (arith, le)) small.1 (AllHold-right here rest h),
         )
@@ -116,12 +115,12 @@ module _ (program : AffineProgram) (trees : List (List SelectionTree)) (fit : Al
         let size : ℕ = length family.set in
         let vars : ℕ = length program.parameters + depth_of program statement in
         let walk : WalkSetting = family_setting program trees credits family family.start_label in
-        let inputs : List Claim = inputs_fit program (place ++ Key INPUTS ∷ []) family in
-        let nodes : List Claim = nodes_fit program trees credits (place ++ Key NODES ∷ []) family in
-        let set : List Claim = set_fit (depth_of program statement) (place ++ Key SET ∷ []) family.set in
-        let start : List Claim = start_fit program trees statement credits (place ++ Key START ∷ []) family in
-        let label : List Claim = label_fit size vars ((place ++ Key START ∷ []) ++ Key LABEL ∷ []) family.start_label in
-        let tree : List Claim = walk_fit walk statement ((place ++ Key START ∷ []) ++ Key TREE ∷ []) family.start in
+        let inputs : List Claim = inputs_fit program (place ++ Key (codes "inputs") ∷ []) family in
+        let nodes : List Claim = nodes_fit program trees credits (place ++ Key (codes "nodes") ∷ []) family in
+        let set : List Claim = set_fit (depth_of program statement) (place ++ Key (codes "set") ∷ []) family.set in
+        let start : List Claim = start_fit program trees statement credits (place ++ Key (codes "start") ∷ []) family in
+        let label : List Claim = label_fit size vars ((place ++ Key (codes "start") ∷ []) ++ Key (codes "label") ∷ []) family.start_label in
+        let tree : List Claim = walk_fit walk statement ((place ++ Key (codes "start") ∷ []) ++ Key (codes "tree") ∷ []) family.start in
         let in_inputs : AllHold inputs = AllHold-left inputs (nodes ++ (set ++ start)) h in
         let past_inputs : AllHold (nodes ++ (set ++ start)) = AllHold-right inputs (nodes ++ (set ++ start)) h in
         let in_nodes : AllHold nodes = AllHold-left nodes (set ++ start) past_inputs in
@@ -131,15 +130,15 @@ module _ (program : AffineProgram) (trees : List (List SelectionTree)) (fit : Al
           counted = counted;
           scale = small.some_scale;
           set = set-below (depth_of program statement) matrix.rows 0 family.set counted.rows in_set.0;
-          start_label = label-is size vars ((place ++ Key START ∷ []) ++ Key LABEL ∷ []) family.start_label small.start_label (AllHold-left label tree in_start);
+          start_label = label-is size vars ((place ++ Key (codes "start") ∷ []) ++ Key (codes "label") ∷ []) family.start_label small.start_label (AllHold-left label tree in_start);
           labels = record {
-            instances = instance-labels family (place ++ Key NODES ∷ []) 0 family.nodes small.nodes in_nodes.1;
+            instances = instance-labels family (place ++ Key (codes "nodes") ∷ []) 0 family.nodes small.nodes in_nodes.1;
             each = length-map family.nodes node_label ∙ in_nodes.0;
-            cells = cell-labels program size (place ++ Key INPUTS ∷ []) 0 program.arrays family.inputs same in_inputs.0 small.inputs in_inputs.1;
+            cells = cell-labels program size (place ++ Key (codes "inputs") ∷ []) 0 program.arrays family.inputs same in_inputs.0 small.inputs in_inputs.1;
             credits = credits_fit;
           };
-          start = walk-fits walk fit rows TREE_TESTS ((place ++ Key START ∷ []) ++ Key TREE ∷ []) statement family.start counted.there small.start.nested (AllHold-right label tree in_start);
-          regions = regions-fit family (place ++ Key NODES ∷ []) 0 family.nodes (omega (arith, in_nodes.0)) small.nodes in_nodes.1;
+          start = walk-fits walk fit rows TREE_TESTS ((place ++ Key (codes "start") ∷ []) ++ Key (codes "tree") ∷ []) statement family.start counted.there small.start.nested (AllHold-right label tree in_start);
+          regions = regions-fit family (place ++ Key (codes "nodes") ∷ []) 0 family.nodes (omega (arith, in_nodes.0)) small.nodes in_nodes.1;
         }
 
     -- families do, from an index on
@@ -160,7 +159,7 @@ module _ (program : AffineProgram) (trees : List (List SelectionTree)) (fit : Al
 credit-bounds : (program : AffineProgram) (place : List Step) (credit : CreditedNest) → AreSmallBounds credit.nest → AllHold (credit_nest_fit program place credit)
     → BoundsFit (length program.parameters) credit.nest
 credit-bounds program place credit small h =
-    subst (λ (n : ℕ). BoundsFit n credit.nest) (add-zero (length program.parameters)) (bounds-fit (length program.parameters) 0 (place ++ Key NEST ∷ []) credit.nest small h.1)
+    subst (λ (n : ℕ). BoundsFit n credit.nest) (add-zero (length program.parameters)) (bounds-fit (length program.parameters) 0 (place ++ Key (codes "nest") ∷ []) credit.nest small h.1)
 
 -- a credit fits
 pub credit-fits : (program : AffineProgram) (place : List Step) (credit : CreditedNest) (count : SumClaims) → AreSmallBounds credit.nest → AllHold (credit_fit program place credit count)

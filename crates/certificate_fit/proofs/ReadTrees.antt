@@ -1,6 +1,6 @@
 -- What the source trees of reads have, where they fit a program: their leaves, their tests, and a tree for each read.
 use Rattle.std.proofs.Common.{Bool, true, false, ◌≡◌, refl, sym, ◌∙◌, ap, subst, ℕ, zero, suc, ◌+◌, ◌<◌, ◌≤◌, List, [], ◌∷◌, ◌++◌, length, arith, zero-add}
-use Rattle.std.specs.Prelude.{Option, Some, option_and_then, slice_get, ◌==◌, if◌then◌else◌}
+use Rattle.std.specs.Prelude.{Option, Some, option_and_then, slice_get, ◌==◌, if◌then◌else◌, codes}
 use Rattle.std.proofs.lemmas.Bool.{eqb-true, lt-ltb}
 use Rattle.std.proofs.lemmas.List.{length-append}
 use Rattle.std.proofs.Math.Nat.{add-suc, add-zero}
@@ -8,14 +8,13 @@ use Rattle.iolb_model.specs.Form.{AffineForm}
 use Rattle.iolb_model.specs.Program.{AffineProgram, statement_at}
 use Rattle.claims.specs.declared.place.Step.{Step}
 use Rattle.claims.specs.declared.place.Step.TheVariants.{Key}
-use Rattle.claims.specs.declared.key.TheConstants.{QUASTS}
 use Rattle.affine_form.specs.Rows.{BoundsFit}
 use Rattle.dep_quast.specs.Context.{ReadOf}
 use Rattle.dep_quast.specs.Tree.{source, input, empty, blank, SelectionTree, leaf, test}
 use Rattle.dep_quast.specs.Truth.{ReadFits, TreeFits}
-use Rattle.reuse_paths.specs.OpenLeaves.{open_leaves, form_at, no_at}
-use Rattle.reuse_paths.specs.Quasts.{tree_at as tree_of_read}
-use Rattle.reuse_paths.specs.Trees.{RowFits, RowsFit, read_of}
+use Rattle.dep_quast.specs.OpenLeaves.{open_leaves, form_at, no_at}
+use Rattle.dep_quast.specs.Quasts.{tree_at as tree_of_read}
+use Rattle.dep_quast.specs.Trees.{RowFits, RowsFit, read_of}
 use Rattle.claims.specs.Claims.{AllHold, numbered}
 use Rattle.claims.proofs.Laws.{AllHold-left, AllHold-right}
 use Rattle.claims.proofs.Members.{suc-moved}
@@ -107,7 +106,7 @@ module _ (program : AffineProgram) where
   pub tree-of : (trees : List (List SelectionTree)) (reader : ReadOf) → ReadFits program reader → AllHold (trees_fit program trees) → RowsFit program 0 trees
       → (tree : SelectionTree) × TreeOfRead program trees reader tree
   tree-of trees reader read h fits =
-      let row = row-of (Key QUASTS ∷ []) 0 reader.statement trees (omega (arith, h.0, read.statement)) h.1 fits in
+      let row = row-of (Key (codes "quasts") ∷ []) 0 reader.statement trees (omega (arith, h.0, read.statement)) h.1 fits in
       let row_fits : RowFits program reader.statement 0 row.0 = subst (λ (n : ℕ). RowFits program n 0 row.0) (zero-add reader.statement) row.1.fits in
       let many : length row.0 ≡ length (statement_at program reader.statement).reads =
       subst (λ (n : ℕ). length row.0 ≡ length (statement_at program n).reads) (zero-add reader.statement) row.1.many in

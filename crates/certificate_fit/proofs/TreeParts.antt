@@ -1,6 +1,6 @@
 -- Where what is asked of source trees holds, they fit the program.
 use Rattle.std.proofs.Common.{Bool, true, false, ◌≡◌, refl, sym, ◌∙◌, ap, inl, inr, ℕ, zero, suc, ◌+◌, ◌<◌, ◌≤◌, List, [], ◌∷◌, ◌++◌, length, map, arith, Vec, Global}
-use Rattle.std.specs.Prelude.{nat_lt, if◌then◌else◌, ◌⊎◌}
+use Rattle.std.specs.Prelude.{nat_lt, if◌then◌else◌, ◌⊎◌, codes}
 use Rattle.std.specs.List.{AllByRecursion}
 use Rattle.std.proofs.lemmas.Bool.{lt-ltb, ltb-true}
 use Rattle.iolb_model.specs.Form.{AffineForm}
@@ -8,7 +8,6 @@ use Rattle.iolb_model.specs.Program.{AffineProgram, IsWellFormed, statement_at}
 use Rattle.iolb_model.specs.Order.{common_loops}
 use Rattle.claims.specs.declared.place.Step.{Step}
 use Rattle.claims.specs.declared.place.Step.TheVariants.{Key, Index}
-use Rattle.claims.specs.declared.key.TheConstants.{NO, POINT, STATEMENT, YES}
 use Rattle.affine_form.specs.Rows.{IsSmallOver}
 use Rattle.affine_form.proofs.RowLemmas.{length-variables}
 use Rattle.affine_program.specs.Domain.{depth_of}
@@ -22,8 +21,8 @@ use Rattle.dep_quast.proofs.Counts.{earlier-many, between-many, order-many, leve
 use Rattle.dep_quast.proofs.Fits.{common-first, common-second}
 use Rattle.claims.proofs.Laws.{AllHold-left, AllHold-right}
 use Rattle.std.proofs.lemmas.List.{length-map}
-use Rattle.reuse_paths.specs.Quasts.{row_trees}
-use Rattle.reuse_paths.specs.Trees.{RowFits, RowsFit}
+use Rattle.dep_quast.specs.Quasts.{row_trees}
+use Rattle.dep_quast.specs.Trees.{RowFits, RowsFit}
 use Rattle.certificate_fit.specs.Limits.{AreSmall, IsSmallTreeLeaf, IsNestedTree, IsSmallTree}
 use Rattle.claims.specs.Claims.{Claim, AllHold, numbered}
 use Rattle.certificate_fit.specs.FitClaims.{names}
@@ -71,8 +70,8 @@ module _ (program : AffineProgram) (well : IsWellFormed program) where
     leaf-fits : (place : List Step) (tests : List AffineForm) (chosen : TreeLeaf) → IsSmallTreeLeaf chosen → AllHold (leaf_fit program reader place chosen) → LeafFits program reader tests chosen
     leaf-fits place tests (source claim) small h =
         let lists : List Claim = source_lists_fit program reader claim place in
-        let forms : List Claim = forms_fit (variables_at program reader) (place ++ Key POINT ∷ []) claim.point in
-        let last : List Claim = names (place ++ Key STATEMENT ∷ []) claim.statement (length program.statements) ∷ [] in
+        let forms : List Claim = forms_fit (variables_at program reader) (place ++ Key (codes "point") ∷ []) claim.point in
+        let last : List Claim = names (place ++ Key (codes "statement") ∷ []) claim.statement (length program.statements) ∷ [] in
         let front : AllHold (lists ++ forms) = AllHold-left (lists ++ forms) last h in
         let each : AllHold lists = AllHold-left lists forms front in
         let there : claim.statement < length program.statements = (AllHold-right (lists ++ forms) last h).0 in
@@ -83,7 +82,7 @@ module _ (program : AffineProgram) (well : IsWellFormed program) where
             statement = there;
             level = level-is program claim.statement reader.statement claim.level below;
             point = point;
-            forms = forms-over (variables_at program reader) (place ++ Key POINT ∷ []) 0 claim.point small.point (AllHold-right lists forms front);
+            forms = forms-over (variables_at program reader) (place ++ Key (codes "point") ∷ []) 0 claim.point small.point (AllHold-right lists forms front);
           };
           lists = record {
             inside = each.1.1.1.0;
@@ -100,11 +99,11 @@ module _ (program : AffineProgram) (well : IsWellFormed program) where
     tree-fits nested place tests (leaf chosen) small h = leaf-fits place tests chosen small h
     tree-fits zero place tests (test form above below) small h = absurd small
     tree-fits (suc nested) place tests (test form above below) small h =
-        let low : List Claim = tree_fit program reader (place ++ Key NO ∷ []) below in
-        let high : List Claim = tree_fit program reader (place ++ Key YES ∷ []) above in (
+        let low : List Claim = tree_fit program reader (place ++ Key (codes "no") ∷ []) below in
+        let high : List Claim = tree_fit program reader (place ++ Key (codes "yes") ∷ []) above in (
           record { over = h.0; small = small.0 },
-          tree-fits nested (place ++ Key YES ∷ []) (tests ++ form ∷ []) above small.1 (AllHold-right low high h.1),
-          tree-fits nested (place ++ Key NO ∷ []) (tests ++ no_row (variables_at program reader) form ∷ []) below small.2 (AllHold-left low high h.1),
+          tree-fits nested (place ++ Key (codes "yes") ∷ []) (tests ++ form ∷ []) above small.1 (AllHold-right low high h.1),
+          tree-fits nested (place ++ Key (codes "no") ∷ []) (tests ++ no_row (variables_at program reader) form ∷ []) below small.2 (AllHold-left low high h.1),
         )
 
   -- the trees of a statement's reads

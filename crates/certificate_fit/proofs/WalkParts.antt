@@ -1,6 +1,6 @@
 -- Where what is asked of a walk holds, it fits the program.
 use Rattle.std.proofs.Common.{Bool, ◌≡◌, refl, sym, ◌∙◌, ap, subst, ℕ, zero, suc, ◌+◌, ◌*◌, ◌<◌, ◌≤◌, List, [], ◌∷◌, ◌++◌, length, map, arith, zero-add}
-use Rattle.std.specs.Prelude.{if◌then◌else◌, Option, Some, None, slice_get, slice_index_or, IsSomeAnd}
+use Rattle.std.specs.Prelude.{if◌then◌else◌, Option, Some, None, slice_get, slice_index_or, IsSomeAnd, codes}
 use Rattle.std.specs.List.{AllByRecursion}
 use Rattle.std.proofs.lemmas.Bool.{eq-eqb}
 use Rattle.std.proofs.lemmas.List.{length-map}
@@ -10,7 +10,6 @@ use Rattle.iolb_model.specs.Program.{AffineProgram, statement_at}
 use Rattle.claims.specs.Claims.{Claim, AllHold, numbered}
 use Rattle.claims.specs.declared.place.Step.{Step}
 use Rattle.claims.specs.declared.place.Step.TheVariants.{Key, Index}
-use Rattle.claims.specs.declared.key.TheConstants.{LEAVES, NO, NODES, POINT, READ, ROWS, START, STATEMENT, TREE, YES}
 use Rattle.claims.proofs.Laws.{AllHold-left, AllHold-right}
 use Rattle.claims.proofs.Members.{suc-moved}
 use Rattle.affine_form.specs.Rows.{variables_from}
@@ -21,13 +20,13 @@ use Rattle.dep_quast.specs.Truth.{ReadFits}
 use Rattle.affine_form.specs.Multipliers.{FarkasMultipliers}
 use Rattle.reuse_paths.specs.Families.{CreditedNest}
 use Rattle.reuse_paths.specs.LeafClaims.{LeafClaim, no_point, stops, is_credited, goes_on, arrives}
-use Rattle.reuse_paths.specs.OpenLeaves.{LeafOrigin, OpenLeaf, form_at, no_at, open_leaves}
-use Rattle.reuse_paths.specs.Quasts.{tree_or_blank, tree_for}
+use Rattle.dep_quast.specs.OpenLeaves.{LeafOrigin, OpenLeaf, form_at, no_at, open_leaves}
+use Rattle.dep_quast.specs.Quasts.{tree_or_blank, tree_for}
 use Rattle.reuse_paths.specs.EntryClaims.{going_goals}
 use Rattle.reuse_paths.specs.WalkSettings.{WalkSetting, spot_variables, region_variables, reading_point, region_at, entering_rows, WalkAim, arrives_at, keeps}
 use Rattle.reuse_paths.specs.ReachFits.{ShownFits, FitsIn}
 use Rattle.reuse_paths.specs.WalkFits.{NestFits, SpotFits, EntriesFit, TakeFits, WalkFits, RegionFits, RegionsFit, AimedFits}
-use Rattle.reuse_paths.specs.Trees.{RowsFit, read_of}
+use Rattle.dep_quast.specs.Trees.{RowsFit, read_of}
 use Rattle.reuse_paths.specs.Walks.{WalkTree, take, test as walk_test, WalkRegion, SpotForms, ReachClaim, same, walked}
 use Rattle.certificate_fit.specs.EntryFit.{nest_variables, aimed_fit, aimed_at, aimed_entries_fit, names_in, leaf_names}
 use Rattle.certificate_fit.specs.FitClaims.{names}
@@ -42,11 +41,11 @@ use Rattle.certificate_fit.proofs.TreeParts.{forms-over}
 -- a spot fits
 pub spot-fits : (program : AffineProgram) (vars : ℕ) (place : List Step) (spot : SpotForms) → AreSmall spot.point → AllHold (spot_fit program vars place spot) → SpotFits program vars spot
 spot-fits program vars place spot small h =
-    let forms : List Claim = forms_fit vars (place ++ Key POINT ∷ []) spot.point in
-    let last : List Claim = names (place ++ Key STATEMENT ∷ []) spot.statement (length program.statements) ∷ [] in record {
+    let forms : List Claim = forms_fit vars (place ++ Key (codes "point") ∷ []) spot.point in
+    let last : List Claim = names (place ++ Key (codes "statement") ∷ []) spot.statement (length program.statements) ∷ [] in record {
       there = (AllHold-right forms last h.1).0;
       point = h.0;
-      forms = forms-over vars (place ++ Key POINT ∷ []) 0 spot.point small (AllHold-left forms last h.1);
+      forms = forms-over vars (place ++ Key (codes "point") ∷ []) 0 spot.point small (AllHold-left forms last h.1);
     }
 
 -- a credit that is there has as many variables as its number gives
@@ -137,8 +136,8 @@ module _ (walk : WalkSetting) where
     take-fits place statement read entries there h =
         let reader : ReadOf = read_of statement read in
         let asked : List (Option ℕ) = leaf_names walk.program walk.trees reader in
-        let middle : List Claim = aimed_entries_fit (entry_aim walk) (map (rows_called walk.nodes) asked) (place ++ Key LEAVES ∷ []) entries in
-        let last : List Claim = names (place ++ Key READ ∷ []) read (length (statement_at walk.program statement).reads) ∷ [] in
+        let middle : List Claim = aimed_entries_fit (entry_aim walk) (map (rows_called walk.nodes) asked) (place ++ Key (codes "leaves") ∷ []) entries in
+        let last : List Claim = names (place ++ Key (codes "read") ∷ []) read (length (statement_at walk.program statement).reads) ∷ [] in
         let read_fits : ReadFits walk.program reader = record { statement = there; read = (AllHold-right middle last h.1).0 } in
         let chosen = tree-of walk.program walk.trees reader read_fits fit rows in
         let is : tree_for walk.trees reader ≡ chosen.0 = ap tree_or_blank chosen.1.there in
@@ -146,7 +145,7 @@ module _ (walk : WalkSetting) where
         let point : List AffineForm = reading_point walk statement in
         let in_tree : asked ≡ names_in chosen.0 = names-of walk.program walk.trees reader chosen.0 read_fits.read chosen.1.there in
         let entries_in : EntriesFit walk reader (open_leaves vars point [] chosen.0) entries =
-        entries-fit reader (place ++ Key LEAVES ∷ []) (map (rows_called walk.nodes) asked) 0 (open_leaves vars point [] chosen.0) (names_in chosen.0) entries (called vars point [] chosen.0)
+        entries-fit reader (place ++ Key (codes "leaves") ∷ []) (map (rows_called walk.nodes) asked) 0 (open_leaves vars point [] chosen.0) (names_in chosen.0) entries (called vars point [] chosen.0)
         (λ k. ap (λ (n : ℕ). slice_index_or (map (rows_called walk.nodes) asked) n 0) (zero-add k) ∙ ap (λ (l : List (Option ℕ)). slice_index_or (map (rows_called walk.nodes) l) k 0) in_tree)
         (h.0 ∙ ap length in_tree) (AllHold-left middle last h.1) in record {
           read_fits = read_fits;
@@ -159,11 +158,11 @@ module _ (walk : WalkSetting) where
     walk-fits nested place statement (take read entries) there small h = take-fits place statement read entries there h
     walk-fits zero place statement (walk_test form above below) there small h = absurd small
     walk-fits (suc nested) place statement (walk_test form above below) there small h =
-        let no : List Claim = walk_fit walk statement (place ++ Key NO ∷ []) below in
-        let yes : List Claim = walk_fit walk statement (place ++ Key YES ∷ []) above in (
+        let no : List Claim = walk_fit walk statement (place ++ Key (codes "no") ∷ []) below in
+        let yes : List Claim = walk_fit walk statement (place ++ Key (codes "yes") ∷ []) above in (
           record { over = h.0; small = small.0 },
-          walk-fits nested (place ++ Key YES ∷ []) statement above there small.1 (AllHold-right no yes h.1),
-          walk-fits nested (place ++ Key NO ∷ []) statement below there small.2 (AllHold-left no yes h.1),
+          walk-fits nested (place ++ Key (codes "yes") ∷ []) statement above there small.1 (AllHold-right no yes h.1),
+          walk-fits nested (place ++ Key (codes "no") ∷ []) statement below there small.2 (AllHold-left no yes h.1),
         )
 
     pub region-fits : (place : List Step) (statement : ℕ) (region : Option WalkRegion) → statement < length walk.program.statements → IsSmallNode region
@@ -171,10 +170,10 @@ module _ (walk : WalkSetting) where
     region-fits place statement None there small h = tt
     region-fits place statement (Some region) there small h =
         let vars : ℕ = region_variables walk statement in
-        let forms : List Claim = forms_fit vars (place ++ Key ROWS ∷ []) region.rows in
-        let tree : List Claim = walk_fit walk statement (place ++ Key TREE ∷ []) region.tree in (
-          forms-over vars (place ++ Key ROWS ∷ []) 0 region.rows small.rows (AllHold-left forms tree h),
-          walk-fits TREE_TESTS (place ++ Key TREE ∷ []) statement region.tree there small.tree.nested (AllHold-right forms tree h),
+        let forms : List Claim = forms_fit vars (place ++ Key (codes "rows") ∷ []) region.rows in
+        let tree : List Claim = walk_fit walk statement (place ++ Key (codes "tree") ∷ []) region.tree in (
+          forms-over vars (place ++ Key (codes "rows") ∷ []) 0 region.rows small.rows (AllHold-left forms tree h),
+          walk-fits TREE_TESTS (place ++ Key (codes "tree") ∷ []) statement region.tree there small.tree.nested (AllHold-right forms tree h),
         )
 
     regions-fit : (place : List Step) (statement : ℕ) (nodes : List (Option WalkRegion)) → statement + length nodes ≤ length walk.program.statements → AllByRecursion IsSmallNode nodes
@@ -192,11 +191,11 @@ module _ (walk : WalkSetting) (target : SpotForms) (aim : walk.aim ≡ arrives_a
   shown-fits place from (same equal) small h = λ e.
       h.0 ∙ ap (λ (b : Bool). if b then 2 * depth_of walk.program from.statement else 0) (eq-eqb from.statement target.statement e)
   shown-fits place from (walked start nodes) small h =
-      let regions : List Claim = numbered (region_fit walk (place ++ Key NODES ∷ [])) 0 nodes in
-      let last : List Claim = shown_fit (row_count (region_at nodes from.statement)) (place ++ Key START ∷ []) start ∷ [] in (
+      let regions : List Claim = numbered (region_fit walk (place ++ Key (codes "nodes") ∷ [])) 0 nodes in
+      let last : List Claim = shown_fit (row_count (region_at nodes from.statement)) (place ++ Key (codes "start") ∷ []) start ∷ [] in (
         (AllHold-right regions last h.1).0 ∙ sym (entering-many walk (spot_variables walk) (region_at nodes from.statement) from.point),
         h.0,
-        regions-fit walk fit rows (place ++ Key NODES ∷ []) 0 nodes (omega (arith, h.0)) small.1 (AllHold-left regions last h.1),
+        regions-fit walk fit rows (place ++ Key (codes "nodes") ∷ []) 0 nodes (omega (arith, h.0)) small.1 (AllHold-left regions last h.1),
       )
 
   -- a walk between two spots that fit does

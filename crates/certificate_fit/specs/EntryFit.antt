@@ -1,14 +1,13 @@
 -- What is asked of entries at the leaves of source trees. A read that isn't there counts as one without leaves.
-use Rattle.std.specs.Prelude.{ℕ, ◌*◌, nat_lt, if◌then◌else◌, List, [], ◌∷◌, ◌++◌, length, Option, None, Some, slice_get, slice_index_or}
+use Rattle.std.specs.Prelude.{ℕ, ◌*◌, nat_lt, if◌then◌else◌, List, [], ◌∷◌, ◌++◌, length, Option, None, Some, slice_get, slice_index_or, codes}
 use Rattle.iolb_model.specs.Program.{AffineProgram, statement_at}
 use Rattle.claims.specs.declared.place.Step.{Step}
 use Rattle.claims.specs.declared.place.Step.TheVariants.{Key, Index}
-use Rattle.claims.specs.declared.key.TheConstants.{ARRIVE, CREDIT, LABEL, ROWS, STOP}
 use Rattle.dep_quast.specs.Context.{ReadOf}
 use Rattle.dep_quast.specs.Tree.{Leaf as TreeLeaf, SelectionTree, leaf, test, source, input, empty, blank}
 use Rattle.reuse_paths.specs.Families.{CreditedNest}
 use Rattle.reuse_paths.specs.LeafClaims.{LeafClaim, no_point, stops, is_credited, goes_on, arrives}
-use Rattle.reuse_paths.specs.Quasts.{tree_at}
+use Rattle.dep_quast.specs.Quasts.{tree_at}
 use Rattle.claims.specs.Claims.{Claim, numbered}
 use Rattle.certificate_fit.specs.FitClaims.{names}
 use Rattle.certificate_fit.specs.PartFit.{shown_fit}
@@ -56,12 +55,12 @@ nest_variables (Some credit) = length credit.nest
 -- each variable of a credited nest and for each loop around the target.
 abbrev pub aimed_fit : EntryAim → ℕ → LeafClaim → List Step → List Claim
 aimed_fit aim called (no_point shown) place = []
-aimed_fit aim called (stops label) place = shown_fit (2 * aim.label) (place ++ Key STOP ∷ []) label ∷ []
+aimed_fit aim called (stops label) place = shown_fit (2 * aim.label) (place ++ Key (codes "stop") ∷ []) label ∷ []
 aimed_fit aim called (is_credited credit rows label) place =
-    names (place ++ Key CREDIT ∷ []) credit (length aim.credits) ∷ shown_fit (2 * aim.label) (place ++ Key LABEL ∷ []) label
-    ∷ shown_fit (2 * nest_variables (slice_get aim.credits credit)) (place ++ Key ROWS ∷ []) rows ∷ []
-aimed_fit aim called (goes_on rows label) place = shown_fit (2 * aim.label) (place ++ Key LABEL ∷ []) label ∷ shown_fit called (place ++ Key ROWS ∷ []) rows ∷ []
-aimed_fit aim called (arrives equal) place = shown_fit (2 * aim.loops) (place ++ Key ARRIVE ∷ []) equal ∷ []
+    names (place ++ Key (codes "credit") ∷ []) credit (length aim.credits) ∷ shown_fit (2 * aim.label) (place ++ Key (codes "label") ∷ []) label
+    ∷ shown_fit (2 * nest_variables (slice_get aim.credits credit)) (place ++ Key (codes "rows") ∷ []) rows ∷ []
+aimed_fit aim called (goes_on rows label) place = shown_fit (2 * aim.label) (place ++ Key (codes "label") ∷ []) label ∷ shown_fit called (place ++ Key (codes "rows") ∷ []) rows ∷ []
+aimed_fit aim called (arrives equal) place = shown_fit (2 * aim.loops) (place ++ Key (codes "arrive") ∷ []) equal ∷ []
 
 abbrev pub aimed_at : EntryAim → List ℕ → List Step → ℕ → LeafClaim → List Claim
 aimed_at aim called place index entry = aimed_fit aim (slice_index_or called index 0) entry (place ++ Index index ∷ [])

@@ -1,12 +1,11 @@
 -- What is asked of families of walks and of credited nests. A statement that isn't there counts as one without loops and
 -- reads, and an array that isn't there as one without subscripts. A list is looked at before its members.
-use Rattle.std.specs.Prelude.{⊤, ℕ, suc, ◌+◌, ◌<◌, ◌≤◌, List, [], ◌∷◌, ◌++◌, length, Option, None, Some, slice_get}
+use Rattle.std.specs.Prelude.{⊤, ℕ, suc, ◌+◌, ◌<◌, ◌≤◌, List, [], ◌∷◌, ◌++◌, length, Option, None, Some, slice_get, codes}
 use Rattle.iolb_model.specs.Form.{AffineForm}
 use Rattle.iolb_model.specs.Program.{Array, AffineProgram}
 use Rattle.claims.specs.Claims.{Claim, numbered}
 use Rattle.claims.specs.declared.place.Step.{Step}
 use Rattle.claims.specs.declared.place.Step.TheVariants.{Key, Index}
-use Rattle.claims.specs.declared.key.TheConstants.{INPUTS, LABEL, NEST, NODES, REGION, SET, SHOWN, START, STATEMENT, SUMS, TREE}
 use Rattle.affine_program.specs.Domain.{depth_of}
 use Rattle.dep_quast.specs.Tree.{SelectionTree}
 use Rattle.domain_count.specs.Claims.{SumClaims}
@@ -38,8 +37,8 @@ input_fit program size place array (Some label) =
 -- a node of a statement: the label of its instances, over the parameters and the loop values, and the region
 abbrev pub node_fit_at : AffineProgram → List (List SelectionTree) → List CreditedNest → FamilyForms → List Step → ℕ → NodeForms → List Claim
 node_fit_at program trees credits family place statement node =
-    label_fit (length family.set) (length program.parameters + depth_of program statement) (place ++ Key LABEL ∷ []) node.label
-    ++ region_fit_at (family_setting program trees credits family node.label) statement (place ++ Key REGION ∷ []) node.region
+    label_fit (length family.set) (length program.parameters + depth_of program statement) (place ++ Key (codes "label") ∷ []) node.label
+    ++ region_fit_at (family_setting program trees credits family node.label) statement (place ++ Key (codes "region") ∷ []) node.region
 
 -- what a family says of a statement, in a list at a place
 abbrev pub node_fit : AffineProgram → List (List SelectionTree) → List CreditedNest → FamilyForms → List Step → ℕ → Option NodeForms → List Claim
@@ -58,8 +57,8 @@ set_fit depth place set = record { condition = 1; place = place; statement = Ris
 -- the walk from the instances that are counted, and the label that it begins with
 abbrev pub start_fit : AffineProgram → List (List SelectionTree) → ℕ → List CreditedNest → List Step → FamilyForms → List Claim
 start_fit program trees statement credits place family =
-    label_fit (length family.set) (length program.parameters + depth_of program statement) (place ++ Key LABEL ∷ []) family.start_label
-    ++ walk_fit (family_setting program trees credits family family.start_label) statement (place ++ Key TREE ∷ []) family.start
+    label_fit (length family.set) (length program.parameters + depth_of program statement) (place ++ Key (codes "label") ∷ []) family.start_label
+    ++ walk_fit (family_setting program trees credits family family.start_label) statement (place ++ Key (codes "tree") ∷ []) family.start
 
 -- the labels of the arrays' cells, one or none for each array
 abbrev pub inputs_fit : AffineProgram → List Step → FamilyForms → List Claim
@@ -74,10 +73,10 @@ nodes_fit program trees credits place family =
 -- A family of counted instances of a statement, its members in the order of their keys.
 abbrev pub family_fit : AffineProgram → List (List SelectionTree) → ℕ → List CreditedNest → List Step → FamilyForms → List Claim
 family_fit program trees statement credits place family =
-    inputs_fit program (place ++ Key INPUTS ∷ []) family
-    ++ (nodes_fit program trees credits (place ++ Key NODES ∷ []) family
-    ++ (set_fit (depth_of program statement) (place ++ Key SET ∷ []) family.set
-    ++ start_fit program trees statement credits (place ++ Key START ∷ []) family))
+    inputs_fit program (place ++ Key (codes "inputs") ∷ []) family
+    ++ (nodes_fit program trees credits (place ++ Key (codes "nodes") ∷ []) family
+    ++ (set_fit (depth_of program statement) (place ++ Key (codes "set") ∷ []) family.set
+    ++ start_fit program trees statement credits (place ++ Key (codes "start") ∷ []) family))
 
 -- families, each at its index in a list
 abbrev pub family_at : AffineProgram → List (List SelectionTree) → ℕ → List CreditedNest → List Step → ℕ → FamilyForms → List Claim
@@ -91,14 +90,14 @@ families_fit program trees statement credits place families = numbered (family_a
 -- the nest of a credit: a variable for each loop around the statement
 abbrev pub credit_nest_fit : AffineProgram → List Step → CreditedNest → List Claim
 credit_nest_fit program place credit =
-    so_many (place ++ Key NEST ∷ []) (length credit.nest) (depth_of program credit.statement) ∷ bounds_fit (length program.parameters) (place ++ Key NEST ∷ []) credit.nest
+    so_many (place ++ Key (codes "nest") ∷ []) (length credit.nest) (depth_of program credit.statement) ∷ bounds_fit (length program.parameters) (place ++ Key (codes "nest") ∷ []) credit.nest
 
 -- the statement, and what is claimed of how many instances are in the nest
 abbrev pub credit_count_fit : AffineProgram → List Step → CreditedNest → SumClaims → List Claim
 credit_count_fit program place credit count =
-    shown_fit (length credit.nest) (place ++ Key SHOWN ∷ []) count.shown
-    ∷ names (place ++ Key STATEMENT ∷ []) credit.statement (length program.statements)
-    ∷ polynomials_fit (length program.parameters) (place ++ Key SUMS ∷ []) count.sums (length credit.nest)
+    shown_fit (length credit.nest) (place ++ Key (codes "shown") ∷ []) count.shown
+    ∷ names (place ++ Key (codes "statement") ∷ []) credit.statement (length program.statements)
+    ∷ polynomials_fit (length program.parameters) (place ++ Key (codes "sums") ∷ []) count.sums (length credit.nest)
 
 -- A credit, its members in the order of their keys.
 abbrev pub credit_fit : AffineProgram → List Step → CreditedNest → SumClaims → List Claim

@@ -74,9 +74,6 @@ IsSmallEntry (is_credited credit rows label) = NameRows rows × NameRows label
 IsSmallEntry (goes_on rows label) = NameRows rows × NameRows label
 IsSmallEntry (arrives equal) = NameRows equal
 
-abbrev pub IsSmallLeaf : Leaf → Type 0
-IsSmallLeaf entry = IsSmallEntry (claim_of entry)
-
 -- ---- walks
 
 -- a walk whose tests are nested so many deep at most, its forms and claims within their limits

@@ -1,11 +1,10 @@
 -- What is asked of source trees: that their lists and forms have the lengths that the program calls for, and what they
 -- name is there. A statement that isn't there counts as one without loops.
-use Rattle.std.specs.Prelude.{ℕ, ◌*◌, nat_lt, if◌then◌else◌, List, [], ◌∷◌, ◌++◌, length}
+use Rattle.std.specs.Prelude.{ℕ, ◌*◌, nat_lt, if◌then◌else◌, List, [], ◌∷◌, ◌++◌, length, codes}
 use Rattle.iolb_model.specs.Program.{AffineProgram, statement_at}
 use Rattle.iolb_model.specs.Order.{common_loops}
 use Rattle.claims.specs.declared.place.Step.{Step}
 use Rattle.claims.specs.declared.place.Step.TheVariants.{Key, Index}
-use Rattle.claims.specs.declared.key.TheConstants.{BEFORE, BETWEEN, CELL, DOMAIN, FORM, INPUT, LEVEL, NO, POINT, QUASTS, STATEMENT, YES}
 use Rattle.affine_program.specs.Domain.{depth_of}
 use Rattle.dep_quast.specs.Context.{ReadOf, reference_of, variables_at}
 use Rattle.dep_quast.specs.Levels.{level_count, writers, order_count, levels_before, levels_between}
@@ -24,23 +23,23 @@ abbrev pub source_lists_fit : AffineProgram → ReadOf → SourceClaim → List 
 source_lists_fit program reader claim place =
     let t = claim.statement in
     let s = reader.statement in
-    shown_fit (order_rows_at program t s claim.level) (place ++ Key BEFORE ∷ []) claim.before
-    ∷ shown_fit (length (levels_between program t (writers program (reference_of program reader).array) s)) (place ++ Key BETWEEN ∷ []) claim.between
-    ∷ shown_fit (2 * length (reference_of program reader).subscripts) (place ++ Key CELL ∷ []) claim.cell
-    ∷ shown_fit (2 * depth_of program t) (place ++ Key DOMAIN ∷ []) claim.inside
-    ∷ names (place ++ Key LEVEL ∷ []) claim.level (level_count program t s)
-    ∷ so_many (place ++ Key POINT ∷ []) (length claim.point) (depth_of program t) ∷ []
+    shown_fit (order_rows_at program t s claim.level) (place ++ Key (codes "before") ∷ []) claim.before
+    ∷ shown_fit (length (levels_between program t (writers program (reference_of program reader).array) s)) (place ++ Key (codes "between") ∷ []) claim.between
+    ∷ shown_fit (2 * length (reference_of program reader).subscripts) (place ++ Key (codes "cell") ∷ []) claim.cell
+    ∷ shown_fit (2 * depth_of program t) (place ++ Key (codes "domain") ∷ []) claim.inside
+    ∷ names (place ++ Key (codes "level") ∷ []) claim.level (level_count program t s)
+    ∷ so_many (place ++ Key (codes "point") ∷ []) (length claim.point) (depth_of program t) ∷ []
 
 -- A source, its members in the order of their keys.
 abbrev pub source_fit : AffineProgram → ReadOf → List Step → SourceClaim → List Claim
 source_fit program reader place claim =
-    source_lists_fit program reader claim place ++ forms_fit (variables_at program reader) (place ++ Key POINT ∷ []) claim.point
-    ++ names (place ++ Key STATEMENT ∷ []) claim.statement (length program.statements) ∷ []
+    source_lists_fit program reader claim place ++ forms_fit (variables_at program reader) (place ++ Key (codes "point") ∷ []) claim.point
+    ++ names (place ++ Key (codes "statement") ∷ []) claim.statement (length program.statements) ∷ []
 
 abbrev pub leaf_fit : AffineProgram → ReadOf → List Step → Leaf → List Claim
 leaf_fit program reader place (source claim) = source_fit program reader place claim
 leaf_fit program reader place (input shown) =
-    shown_fit (length (levels_before program (writers program (reference_of program reader).array) reader.statement)) (place ++ Key INPUT ∷ []) shown ∷ []
+    shown_fit (length (levels_before program (writers program (reference_of program reader).array) reader.statement)) (place ++ Key (codes "input") ∷ []) shown ∷ []
 leaf_fit program reader place (empty shown) = []
 leaf_fit program reader place blank = []
 
@@ -48,8 +47,8 @@ leaf_fit program reader place blank = []
 abbrev pub tree_fit : AffineProgram → ReadOf → List Step → SelectionTree → List Claim
 tree_fit program reader place (leaf chosen) = leaf_fit program reader place chosen
 tree_fit program reader place (test form above below) =
-    form_fits (variables_at program reader) (place ++ Key FORM ∷ []) form
-    ∷ tree_fit program reader (place ++ Key NO ∷ []) below ++ tree_fit program reader (place ++ Key YES ∷ []) above
+    form_fits (variables_at program reader) (place ++ Key (codes "form") ∷ []) form
+    ∷ tree_fit program reader (place ++ Key (codes "no") ∷ []) below ++ tree_fit program reader (place ++ Key (codes "yes") ∷ []) above
 
 -- the trees of a statement's reads
 abbrev pub tree_at : AffineProgram → List Step → ℕ → ℕ → SelectionTree → List Claim
@@ -67,4 +66,4 @@ row_at program place statement row =
 -- the source trees: a row for each statement
 abbrev pub trees_fit : AffineProgram → List (List SelectionTree) → List Claim
 trees_fit program trees =
-    so_many (Key QUASTS ∷ []) (length trees) (length program.statements) ∷ numbered (row_at program (Key QUASTS ∷ [])) 0 trees
+    so_many (Key (codes "quasts") ∷ []) (length trees) (length program.statements) ∷ numbered (row_at program (Key (codes "quasts") ∷ [])) 0 trees

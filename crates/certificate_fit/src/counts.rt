@@ -12,7 +12,7 @@ ghost use Rattle.dep_quast.specs.Truth.{ReadFits};
 ghost use Rattle.dep_quast.specs.Views.{read_of};
 ghost use Rattle.iolb_model.specs.Program.{statement_at};
 ghost use Rattle.iolb_model.specs.declared.limits.TheConstants.{LOOPS};
-ghost use Rattle.reuse_paths.specs.Quasts.{trees_of};
+ghost use Rattle.dep_quast.specs.Quasts.{trees_of};
 
 use affine_program::Program;
 use dep_quast::Quast;

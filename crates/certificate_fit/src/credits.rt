@@ -4,7 +4,6 @@
 ghost use Rattle.claims.specs.Claims.{Decides};
 ghost use Rattle.std.specs.Prelude.{◌≡◌, ◌∷◌, [], ◌++◌, length};
 ghost use Rattle.affine_program.specs.Parts.{meaning};
-ghost use Rattle.claims.specs.declared.key.TheConstants.{NEST, SHOWN, STATEMENT, SUMS};
 ghost use Rattle.claims.specs.declared.place.Step.TheVariants.{Key};
 ghost use Rattle.certificate_fit.specs.FamilyFit.{credit_fit, credit_nest_fit, credit_count_fit};
 ghost use Rattle.certificate_fit.specs.FamilyViews.{credits_fit};
@@ -13,10 +12,9 @@ ghost use Rattle.certificate_fit.specs.PartFit.{polynomials_fit};
 ghost use Rattle.reuse_paths.specs.Families.{credit_of};
 
 use crate::counts::loops_around;
-use crate::lists::{bounds_fits, list_fits, misfit, name_fits, polynomials_fits};
+use crate::lists::{all_bounds_fit, all_polynomials_fit, list_fits, misfit, name_fits};
 use affine_program::Program;
-use claims::key::{NEST, SHOWN, STATEMENT, SUMS};
-use claims::{Place, Refused, Step};
+use claims::{ObjectKey, Place, Refused, Step};
 use reuse_paths::Credit;
 use std::alloc::Global;
 
@@ -31,9 +29,15 @@ fn nest_fits(
 {
     let bounds = credit.nest.bounds();
     if bounds.len() != loops_around(program, credit.statement) {
-        return Err(misfit(alloc, place, Step::Key(NEST)));
+        return Err(misfit(alloc, place, Step::Key(ObjectKey("nest"))));
     }
-    bounds_fits(alloc, place, NEST, program.params().len(), bounds)?;
+    all_bounds_fit(
+        alloc,
+        place,
+        ObjectKey("nest"),
+        program.params().len(),
+        bounds,
+    )?;
     Ok(())
 }
 
@@ -48,13 +52,20 @@ fn count_fits(
 {
     let depth = credit.nest.bounds().len();
     if credit.sums.shown().len() != depth {
-        return Err(misfit(alloc, place, Step::Key(SHOWN)));
+        return Err(misfit(alloc, place, Step::Key(ObjectKey("shown"))));
     }
     if usize::from(credit.statement) >= program.statements().len() {
-        return Err(misfit(alloc, place, Step::Key(STATEMENT)));
+        return Err(misfit(alloc, place, Step::Key(ObjectKey("statement"))));
     }
     let parameters = program.params().len();
-    polynomials_fits(alloc, place, SUMS, parameters, credit.sums.sums(), depth)?;
+    all_polynomials_fit(
+        alloc,
+        place,
+        ObjectKey("sums"),
+        parameters,
+        credit.sums.sums(),
+        depth,
+    )?;
     Ok(())
 }
 
@@ -73,7 +84,7 @@ fn credit_fits(
 }
 
 /// Whether what is said fits of credits, in a list at this place.
-pub fn credits_fits(
+pub fn all_credits_fit(
     alloc: Global,
     program: &Program,
     list: &Place,

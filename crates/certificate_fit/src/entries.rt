@@ -13,8 +13,7 @@ ghost use Rattle.reuse_paths.specs.LeafClaims.{claim_of, goes_on, is_credited};
 use crate::counts::is_twice;
 use crate::lists::{member_at, misfit};
 use affine_form::Multipliers;
-use claims::key::{ARRIVE, CREDIT, LABEL, ROWS, STOP};
-use claims::{Place, Refused, Step};
+use claims::{ObjectKey, Place, Refused, Step};
 use reuse_paths::{Credit, Leaf};
 use std::alloc::Global;
 
@@ -49,10 +48,10 @@ fn going_fits(
     ensures { Decides (aimed_fit (aim_of aimed.entry) called (goes_on rows.now label.now) place.now) result }
 {
     if !is_twice(label.len(), aimed.label) {
-        return Err(misfit(alloc, place, Step::Key(LABEL)));
+        return Err(misfit(alloc, place, Step::Key(ObjectKey("label"))));
     }
     if rows.len() != called {
-        return Err(misfit(alloc, place, Step::Key(ROWS)));
+        return Err(misfit(alloc, place, Step::Key(ObjectKey("rows"))));
     }
     Ok(())
 }
@@ -70,13 +69,13 @@ fn credited_fits(
     ensures { Decides (aimed_fit (aim_of aimed.entry) called (is_credited credit rows.now label.now) place.now) result }
 {
     if usize::from(credit) >= aimed.credits.len() {
-        return Err(misfit(alloc, place, Step::Key(CREDIT)));
+        return Err(misfit(alloc, place, Step::Key(ObjectKey("credit"))));
     }
     if !is_twice(label.len(), aimed.label) {
-        return Err(misfit(alloc, place, Step::Key(LABEL)));
+        return Err(misfit(alloc, place, Step::Key(ObjectKey("label"))));
     }
     if !is_twice(rows.len(), nest_variables(aimed.credits, credit)) {
-        return Err(misfit(alloc, place, Step::Key(ROWS)));
+        return Err(misfit(alloc, place, Step::Key(ObjectKey("rows"))));
     }
     Ok(())
 }
@@ -85,7 +84,7 @@ fn credited_fits(
 fn twice_fits(
     alloc: Global,
     place: &Place,
-    key: u8,
+    key: ObjectKey,
     shown: &[Multipliers],
     called: usize,
 ) -> Result<(), Refused>
@@ -110,7 +109,13 @@ fn entry_fits(
 {
     match entry {
         Leaf::Empty(_) => Ok(()),
-        Leaf::Stop { label } => twice_fits(alloc, place, STOP, label.as_slice(), aimed.label),
+        Leaf::Stop { label } => twice_fits(
+            alloc,
+            place,
+            ObjectKey("stop"),
+            label.as_slice(),
+            aimed.label,
+        ),
         Leaf::Credit {
             credit,
             rows,
@@ -129,7 +134,13 @@ fn entry_fits(
                 label.as_slice(),
             )
         }
-        Leaf::Arrive { equal } => twice_fits(alloc, place, ARRIVE, equal.as_slice(), aimed.loops),
+        Leaf::Arrive { equal } => twice_fits(
+            alloc,
+            place,
+            ObjectKey("arrive"),
+            equal.as_slice(),
+            aimed.loops,
+        ),
     }
 }
 
@@ -145,10 +156,10 @@ fn called_at(called: &[usize], index: usize) -> usize
 
 /// Whether what is said fits of entries, in the list with this key: where so many rows say that a walk may go on
 /// behind each, or none behind the list's end.
-pub(crate) fn aimed_entries_fits(
+pub(crate) fn all_aimed_entries_fit(
     alloc: Global,
     place: &Place,
-    key: u8,
+    key: ObjectKey,
     aimed: Aimed,
     called: &[usize],
     entries: &[Leaf],
@@ -156,17 +167,17 @@ pub(crate) fn aimed_entries_fits(
     ensures { Decides (aimed_entries_fit (aim_of aimed.entry) called.now (place.now ++ Key key ∷ []) (map claim_of entries.now)) result }
 {
     for (index, entry) in entries.iter().enumerate() {
-        let at = member_at(alloc, place, Step::Key(key), index)?;
+        let at = member_at(alloc, place, Step::Key(key.same()), index)?;
         entry_fits(alloc, &at, aimed, called_at(called, index), entry)?;
     }
     Ok(())
 }
 
 /// The same where there are no labels and no credits, for so many loops around the target.
-pub fn entries_fits(
+pub fn all_entries_fit(
     alloc: Global,
     place: &Place,
-    key: u8,
+    key: ObjectKey,
     loops: usize,
     called: &[usize],
     entries: &[Leaf],
@@ -178,5 +189,5 @@ pub fn entries_fits(
         label: 0,
         credits: &[],
     };
-    aimed_entries_fits(alloc, place, key, aimed, called, entries)
+    all_aimed_entries_fit(alloc, place, key, aimed, called, entries)
 }

@@ -1,26 +1,23 @@
 //! Whether families of walks fit.
 #![tactic(auto, using(claims::proofs::Found::in_a_row))]
 
-ghost use Rattle.std.specs.Prelude.{◌≡◌, ◌+◌, ◌<◌, ◌≤◌, ◌↔◌, ◌∷◌, [], ◌++◌, length, map, option_map, slice_get, IsTrue};
+ghost use Rattle.std.specs.Prelude.{◌≡◌, ◌+◌, ◌<◌, ◌≤◌, ◌↔◌, ◌∷◌, [], ◌++◌, length, map, option_map, slice_get, IsTrue, codes};
 ghost use Rattle.affine_program.specs.Domain.{depth_of};
 ghost use Rattle.affine_program.specs.Parts.{meaning};
-ghost use Rattle.claims.specs.Claims.{numbered};
-ghost use Rattle.claims.specs.declared.key.TheConstants.{INPUTS, LABEL, NODES, SET, START};
+ghost use Rattle.claims.specs.Claims.{numbered, Decides};
 ghost use Rattle.claims.specs.declared.place.Step.TheVariants.{Key};
 ghost use Rattle.certificate_fit.specs.FamilyFit.{RisesBelow, families_fit, family_fit, input_fit, inputs_fit, label_fit, node_fit, node_fit_at, nodes_fit, set_fit, start_fit, subscripts_of};
-ghost use Rattle.claims.specs.Claims.{Decides};
 ghost use Rattle.reuse_paths.specs.Families.{credit_of, family_of, forms_of, node_of};
 ghost use Rattle.reuse_paths.specs.FamilyClaims.{family_setting};
-ghost use Rattle.reuse_paths.specs.Quasts.{trees_of};
+ghost use Rattle.dep_quast.specs.Quasts.{trees_of};
 ghost use Rattle.reuse_paths.specs.WalkViews.{walk_of};
 
 use crate::counts::loops_around;
-use crate::lists::{forms_fits_in, misfit};
+use crate::lists::{all_forms_fit_in, misfit};
 use crate::walks::{region_fits, walk_fits};
 use affine_form::Form;
 use affine_program::Program;
-use claims::key::{INPUTS, LABEL, NODES, REGION, SET, START, TREE};
-use claims::{Place, Refused, Step};
+use claims::{ObjectKey, Place, Refused, Step};
 use domain_count::Nest;
 use reuse_paths::{Aim, Credit, Family, FamilyNode, Kept, Quasts, Walking};
 use std::alloc::Global;
@@ -41,7 +38,7 @@ fn label_fits(
     if label.len() != size {
         return Err(misfit(alloc, place, step));
     }
-    forms_fits_in(alloc, place, step, variables, label)?;
+    all_forms_fit_in(alloc, place, step, variables, label)?;
     Ok(())
 }
 
@@ -82,7 +79,7 @@ fn input_fits(
 }
 
 /// Whether what is said fits of the labels of the arrays' cells, in a list at this place.
-fn labels_fits(
+fn all_labels_fit(
     alloc: Global,
     program: &Program,
     list: &Place,
@@ -98,20 +95,20 @@ fn labels_fits(
 }
 
 /// Whether what is said fits of the labels that a family gives to the arrays' cells.
-fn inputs_fits(
+fn all_inputs_fit(
     alloc: Global,
     program: &Program,
     place: &Place,
     family: &Family,
 ) -> Result<(), Refused>
-    ensures { Decides (inputs_fit (meaning program.now) (place.now ++ Key INPUTS ∷ []) (family_of family.now)) result }
+    ensures { Decides (inputs_fit (meaning program.now) (place.now ++ Key (codes "inputs") ∷ []) (family_of family.now)) result }
 {
     let labels = family.inputs.as_slice();
     if labels.len() != program.arrays().len() {
-        return Err(misfit(alloc, place, Step::Key(INPUTS)));
+        return Err(misfit(alloc, place, Step::Key(ObjectKey("inputs"))));
     }
-    let list = place.within(alloc, Step::Key(INPUTS))?;
-    labels_fits(alloc, program, &list, family.set.coords().len(), labels)?;
+    let list = place.within(alloc, Step::Key(ObjectKey("inputs")))?;
+    all_labels_fit(alloc, program, &list, family.set.coords().len(), labels)?;
     Ok(())
 }
 
@@ -159,11 +156,18 @@ fn instance_label_fits(
     label: &[Form],
 ) -> Result<(), Refused>
     ensures { Decides (label_fit (length (family_of family.now).set) (length (meaning program.now).parameters + depth_of (meaning program.now) statement)
-        (place.now ++ Key LABEL ∷ []) label.now) result }
+        (place.now ++ Key (codes "label") ∷ []) label.now) result }
 {
     let size = family.set.coords().len();
     let variables = instance_variables(program, statement);
-    label_fits(alloc, place, Step::Key(LABEL), size, variables, label)
+    label_fits(
+        alloc,
+        place,
+        Step::Key(ObjectKey("label")),
+        size,
+        variables,
+        label,
+    )
 }
 
 /// Whether what is said fits of a node, at this place.
@@ -183,7 +187,7 @@ fn node_fits(
     instance_label_fits(alloc, program, family, place, statement, label)?;
     let none = Nest::new(Vec::new(alloc));
     let walking = walking_from(program, quasts, &none, credits, family, label);
-    let region = place.within(alloc, Step::Key(REGION))?;
+    let region = place.within(alloc, Step::Key(ObjectKey("region")))?;
     region_fits(alloc, &walking, statement, &region, &node.region)?;
     Ok(())
 }
@@ -211,7 +215,7 @@ fn node_fits_in(
 }
 
 /// Whether what is said fits of what a family says of the statements, in a list at this place.
-fn nodes_fits_in(
+fn all_nodes_fit_in(
     alloc: Global,
     program: &Program,
     quasts: &Quasts,
@@ -240,7 +244,7 @@ fn nodes_fits_in(
 }
 
 /// Whether what is said fits of what a family says of the statements.
-fn nodes_fits(
+fn all_nodes_fit(
     alloc: Global,
     program: &Program,
     quasts: &Quasts,
@@ -248,14 +252,14 @@ fn nodes_fits(
     place: &Place,
     family: &Family,
 ) -> Result<(), Refused>
-    ensures { Decides (nodes_fit (meaning program.now) (trees_of quasts.now) (map credit_of credits.now) (place.now ++ Key NODES ∷ []) (family_of family.now)) result }
+    ensures { Decides (nodes_fit (meaning program.now) (trees_of quasts.now) (map credit_of credits.now) (place.now ++ Key (codes "nodes") ∷ []) (family_of family.now)) result }
 {
     let nodes = family.nodes.as_slice();
     if nodes.len() != program.statements().len() {
-        return Err(misfit(alloc, place, Step::Key(NODES)));
+        return Err(misfit(alloc, place, Step::Key(ObjectKey("nodes"))));
     }
-    let list = place.within(alloc, Step::Key(NODES))?;
-    nodes_fits_in(alloc, program, quasts, credits, family, &list, nodes)?;
+    let list = place.within(alloc, Step::Key(ObjectKey("nodes")))?;
+    all_nodes_fit_in(alloc, program, quasts, credits, family, &list, nodes)?;
     Ok(())
 }
 
@@ -283,12 +287,12 @@ fn rises_below(depth: usize, set: &[u8]) -> bool
 
 /// Whether a set, the list with the key `set`, rises and is below the depth.
 fn set_fits(alloc: Global, place: &Place, depth: usize, set: &[u8]) -> Result<(), Refused>
-    ensures { Decides (set_fit depth (place.now ++ Key SET ∷ []) set.now) result }
+    ensures { Decides (set_fit depth (place.now ++ Key (codes "set") ∷ []) set.now) result }
 {
     if rises_below(depth, set) {
         return Ok(());
     }
-    Err(misfit(alloc, place, Step::Key(SET)))
+    Err(misfit(alloc, place, Step::Key(ObjectKey("set"))))
 }
 
 /// Whether what is said fits of the walk from the instances that are counted, and of its label, at this place.
@@ -307,7 +311,7 @@ fn start_fits(
     instance_label_fits(alloc, program, family, place, statement, label)?;
     let none = Nest::new(Vec::new(alloc));
     let walking = walking_from(program, quasts, &none, credits, family, label);
-    let tree = place.within(alloc, Step::Key(TREE))?;
+    let tree = place.within(alloc, Step::Key(ObjectKey("tree")))?;
     walk_fits(alloc, &walking, statement, &tree, &family.start)?;
     Ok(())
 }
@@ -324,12 +328,12 @@ fn counted_fits(
     place: &Place,
     family: &Family,
 ) -> Result<(), Refused>
-    ensures { Decides (set_fit (depth_of (meaning program.now) statement) (place.now ++ Key SET ∷ []) (family_of family.now).set
-        ++ start_fit (meaning program.now) (trees_of quasts.now) statement (map credit_of credits.now) (place.now ++ Key START ∷ []) (family_of family.now)) result }
+    ensures { Decides (set_fit (depth_of (meaning program.now) statement) (place.now ++ Key (codes "set") ∷ []) (family_of family.now).set
+        ++ start_fit (meaning program.now) (trees_of quasts.now) statement (map credit_of credits.now) (place.now ++ Key (codes "start") ∷ []) (family_of family.now)) result }
 {
     let depth = loops_around(program, statement);
     set_fits(alloc, place, depth, family.set.coords())?;
-    let start = place.within(alloc, Step::Key(START))?;
+    let start = place.within(alloc, Step::Key(ObjectKey("start")))?;
     start_fits(alloc, program, quasts, statement, credits, &start, family)?;
     Ok(())
 }
@@ -346,14 +350,14 @@ fn family_fits(
 ) -> Result<(), Refused>
     ensures { Decides (family_fit (meaning program.now) (trees_of quasts.now) statement (map credit_of credits.now) place.now (family_of family.now)) result }
 {
-    inputs_fits(alloc, program, place, family)?;
-    nodes_fits(alloc, program, quasts, credits, place, family)?;
+    all_inputs_fit(alloc, program, place, family)?;
+    all_nodes_fit(alloc, program, quasts, credits, place, family)?;
     counted_fits(alloc, program, quasts, statement, credits, place, family)?;
     Ok(())
 }
 
 /// Whether what is said fits of families of counted instances of a statement, in a list at this place.
-pub fn families_fits(
+pub fn all_families_fit(
     alloc: Global,
     program: &Program,
     quasts: &Quasts,

@@ -9,7 +9,7 @@ ghost use Rattle.certificate_fit.specs.PartFit.{bounds_fit, forms_fit, polynomia
 ghost use Rattle.iolb_model.specs.declared.limits.TheConstants.{PARAMETERS};
 
 use affine_form::{Form, Memory};
-use claims::{No, Place, Refused, Step, refusal};
+use claims::{FailedCondition, ObjectKey, Place, Refused, Step, refusal};
 use poly_tree::Poly;
 use std::alloc::Global;
 
@@ -18,7 +18,7 @@ pub fn misfit(alloc: Global, place: &Place, step: Step) -> Refused
     ensures { IsRefusalAt 1 (place.now ++ step ∷ []) result }
 {
     match place.within(alloc, step) {
-        Ok(place) => Refused::No(No {
+        Ok(place) => Refused::Failed(FailedCondition {
             condition: 1,
             place,
         }),
@@ -72,7 +72,7 @@ pub(crate) fn member_at(
 }
 
 /// Whether the forms in the list one step further in are over so many variables.
-pub(crate) fn forms_fits_in(
+pub(crate) fn all_forms_fit_in(
     alloc: Global,
     place: &Place,
     step: Step,
@@ -91,24 +91,24 @@ pub(crate) fn forms_fits_in(
 }
 
 /// Whether the forms in the list with this key are over so many variables.
-pub fn forms_fits(
+pub fn all_forms_fit(
     alloc: Global,
     place: &Place,
-    key: u8,
+    key: ObjectKey,
     variables: u128,
     forms: &[Form],
 ) -> Result<(), Refused>
     ensures { Decides (forms_fit variables (place.now ++ Key key ∷ []) forms.now) result }
 {
-    forms_fits_in(alloc, place, Step::Key(key), variables, forms)
+    all_forms_fit_in(alloc, place, Step::Key(key), variables, forms)
 }
 
 /// Whether the bounds of a nest's variables, in the list with this key, are over so many variables and one more for each
 /// variable before their own.
-pub fn bounds_fits(
+pub fn all_bounds_fit(
     alloc: Global,
     place: &Place,
-    key: u8,
+    key: ObjectKey,
     variables: usize,
     bounds: &[(Form, Form)],
 ) -> Result<(), Refused>
@@ -129,7 +129,13 @@ pub fn bounds_fits(
 }
 
 /// The place of a variable's lower bound (0) or upper bound (1), in the list with this key.
-fn bound_at(alloc: Global, place: &Place, key: u8, index: usize, side: u64) -> Result<Place, Memory>
+fn bound_at(
+    alloc: Global,
+    place: &Place,
+    key: ObjectKey,
+    index: usize,
+    side: u64,
+) -> Result<Place, Memory>
     ensures { IfOk result (λ bound. bound ≡ (place.now ++ Key key ∷ []) ++ Index index ∷ Index side ∷ []) }
 {
     let list = place.within(alloc, Step::Key(key))?;
@@ -138,10 +144,10 @@ fn bound_at(alloc: Global, place: &Place, key: u8, index: usize, side: u64) -> R
 }
 
 /// Whether the polynomials in the list with this key use only so many variables and one more for each polynomial before.
-pub fn sums_fits(
+pub fn all_sums_fit(
     alloc: Global,
     place: &Place,
-    key: u8,
+    key: ObjectKey,
     variables: usize,
     sums: &[Poly],
 ) -> Result<(), Refused>
@@ -159,10 +165,10 @@ pub fn sums_fits(
 
 /// Whether what is said fits of polynomials in the list with this key, of which so many are called for, over so
 /// many parameters.
-pub fn polynomials_fits(
+pub fn all_polynomials_fit(
     alloc: Global,
     place: &Place,
-    key: u8,
+    key: ObjectKey,
     parameters: usize,
     sums: &[Poly],
     called: usize,
@@ -173,6 +179,6 @@ pub fn polynomials_fits(
     if sums.len() != called {
         return Err(misfit(alloc, place, Step::Key(key)));
     }
-    sums_fits(alloc, place, key, parameters + 1, sums)?;
+    all_sums_fit(alloc, place, key, parameters + 1, sums)?;
     Ok(())
 }

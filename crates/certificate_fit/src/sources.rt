@@ -9,10 +9,9 @@ ghost use Rattle.dep_quast.specs.Truth.{ReadFits};
 ghost use Rattle.dep_quast.specs.Views.{claim_of, read_of};
 
 use crate::counts::{is_twice, levels, loops_around, order_rows, pairs_between, subscript_count};
-use crate::lists::{forms_fits, misfit};
+use crate::lists::{all_forms_fit, misfit};
 use affine_program::Program;
-use claims::key::{BEFORE, BETWEEN, CELL, DOMAIN, LEVEL, POINT, STATEMENT};
-use claims::{Place, Refused, Step};
+use claims::{ObjectKey, Place, Refused, Step};
 use dep_quast::claimed::Claimed;
 use dep_quast::reader::{Reader, variables};
 use std::alloc::Global;
@@ -33,22 +32,22 @@ fn lists_fit(
     let s = reader.statement;
     let depth = loops_around(program, t);
     if claimed.before.len() != order_rows(program, t, s, claimed.level) {
-        return Err(misfit(alloc, place, Step::Key(BEFORE)));
+        return Err(misfit(alloc, place, Step::Key(ObjectKey("before"))));
     }
     if claimed.between.len() != pairs_between(program, reader, t) {
-        return Err(misfit(alloc, place, Step::Key(BETWEEN)));
+        return Err(misfit(alloc, place, Step::Key(ObjectKey("between"))));
     }
     if !is_twice(claimed.cell.len(), subscript_count(program, reader)) {
-        return Err(misfit(alloc, place, Step::Key(CELL)));
+        return Err(misfit(alloc, place, Step::Key(ObjectKey("cell"))));
     }
     if claimed.domain.len() != 2 * depth {
-        return Err(misfit(alloc, place, Step::Key(DOMAIN)));
+        return Err(misfit(alloc, place, Step::Key(ObjectKey("domain"))));
     }
     if usize::from(claimed.level) >= levels(program, t, s) {
-        return Err(misfit(alloc, place, Step::Key(LEVEL)));
+        return Err(misfit(alloc, place, Step::Key(ObjectKey("level"))));
     }
     if claimed.point.len() != depth {
-        return Err(misfit(alloc, place, Step::Key(POINT)));
+        return Err(misfit(alloc, place, Step::Key(ObjectKey("point"))));
     }
     Ok(())
 }
@@ -66,9 +65,9 @@ pub fn source_fits(
 {
     lists_fit(alloc, program, reader, place, claimed)?;
     let vars = variables(program, reader) as u128;
-    forms_fits(alloc, place, POINT, vars, claimed.point)?;
+    all_forms_fit(alloc, place, ObjectKey("point"), vars, claimed.point)?;
     if usize::from(claimed.statement) >= program.statements().len() {
-        return Err(misfit(alloc, place, Step::Key(STATEMENT)));
+        return Err(misfit(alloc, place, Step::Key(ObjectKey("statement"))));
     }
     Ok(())
 }

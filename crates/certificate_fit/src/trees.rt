@@ -3,22 +3,20 @@
 
 ghost use Rattle.std.specs.Prelude.{◌≡◌, ◌<◌, length, map};
 ghost use Rattle.affine_program.specs.Parts.{meaning};
-ghost use Rattle.claims.specs.Claims.{numbered};
-ghost use Rattle.claims.specs.Claims.{Decides};
+ghost use Rattle.claims.specs.Claims.{numbered, Decides};
 ghost use Rattle.certificate_fit.specs.TreeFit.{trees_fit, leaf_fit, row_at, row_fit, tree_fit};
 ghost use Rattle.dep_quast.specs.Tree.{input, tree_of};
 ghost use Rattle.dep_quast.specs.Truth.{ReadFits};
 ghost use Rattle.dep_quast.specs.Views.{read_of};
 ghost use Rattle.iolb_model.specs.Program.{statement_at};
-ghost use Rattle.reuse_paths.specs.Quasts.{row_trees, trees_of};
+ghost use Rattle.dep_quast.specs.Quasts.{row_trees, trees_of};
 
 use crate::counts::read_count;
 use crate::lists::{list_fits, misfit};
 use crate::sources::source_fits;
 use affine_form::Multipliers;
 use affine_program::Program;
-use claims::key::{FORM, INPUT, NO, QUASTS, YES};
-use claims::{Place, Refused, Step, refusal};
+use claims::{ObjectKey, Place, Refused, Step, refusal};
 use dep_quast::Quast;
 use dep_quast::claimed::Claimed;
 use dep_quast::fitting::earlier_count;
@@ -38,7 +36,13 @@ fn input_fits(
     ensures { Decides (leaf_fit (meaning program.now) (read_of reader) place.now (input earlier.now)) result }
 {
     let called = earlier_count(program, reader);
-    list_fits(alloc, place, Step::Key(INPUT), earlier.len(), called)
+    list_fits(
+        alloc,
+        place,
+        Step::Key(ObjectKey("input")),
+        earlier.len(),
+        called,
+    )
 }
 
 /// Whether what is said fits of a tree at this place.
@@ -55,11 +59,11 @@ fn tree_fits(
     match quast {
         Quast::Test { form, yes, no } => {
             if form.coef().len() != variables(program, reader) {
-                return Err(misfit(alloc, place, Step::Key(FORM)));
+                return Err(misfit(alloc, place, Step::Key(ObjectKey("form"))));
             }
-            let side = place.within(alloc, Step::Key(NO))?;
+            let side = place.within(alloc, Step::Key(ObjectKey("no")))?;
             tree_fits(alloc, program, reader, &side, no)?;
-            let side = place.within(alloc, Step::Key(YES))?;
+            let side = place.within(alloc, Step::Key(ObjectKey("yes")))?;
             tree_fits(alloc, program, reader, &side, yes)?;
             Ok(())
         }
@@ -136,7 +140,7 @@ fn row_at_fits(
 }
 
 /// Whether what is said fits of the rows of trees, one for each statement, which stand in a list at this place.
-fn rows_fits(
+fn all_rows_fit(
     alloc: Global,
     program: &Program,
     place: &Place,
@@ -153,14 +157,14 @@ fn rows_fits(
 }
 
 /// Whether what is said fits of the source trees.
-pub fn quasts_fits(alloc: Global, program: &Program, quasts: &Quasts) -> Result<(), Refused>
+pub fn all_quasts_fit(alloc: Global, program: &Program, quasts: &Quasts) -> Result<(), Refused>
     ensures { Decides (trees_fit (meaning program.now) (trees_of quasts.now)) result }
 {
-    let place = Place::new(Vec::new(alloc)).within(alloc, Step::Key(QUASTS))?;
+    let place = Place::new(Vec::new(alloc)).within(alloc, Step::Key(ObjectKey("quasts")))?;
     let rows = quasts.rows();
     if rows.len() != program.statements().len() {
         return Err(refusal(alloc, 1, &place));
     }
-    rows_fits(alloc, program, &place, rows)?;
+    all_rows_fit(alloc, program, &place, rows)?;
     Ok(())
 }

@@ -3,27 +3,25 @@
 
 ghost use Rattle.std.specs.Prelude.{◌≡◌, ◌≤◌, ◌++◌, map, option_map, length, IfOk, OnOk, IsTrue, ◌↔◌};
 ghost use Rattle.affine_program.specs.Parts.{meaning};
-ghost use Rattle.claims.specs.Claims.{numbered};
+ghost use Rattle.claims.specs.Claims.{numbered, Decides};
 ghost use Rattle.dep_quast.specs.Tree.{tree_of};
 ghost use Rattle.dep_quast.specs.Views.{read_of};
-ghost use Rattle.claims.specs.Claims.{Decides};
 ghost use Rattle.certificate_fit.specs.EntryFit.{leaf_names, names_in};
 ghost use Rattle.certificate_fit.specs.EntryViews.{aim_of};
 ghost use Rattle.certificate_fit.specs.WalkFit.{entry_aim, fit_in, region_fit, region_fit_at, row_count, rows_called as called_rows, same_count, spot_fit, take_fit, walk_fit, walked_fit};
 ghost use Rattle.reuse_paths.specs.LeafClaims.{claim_of};
-ghost use Rattle.reuse_paths.specs.Quasts.{trees_of};
+ghost use Rattle.dep_quast.specs.Quasts.{trees_of};
 ghost use Rattle.reuse_paths.specs.ReachClaims.{setting_of};
 ghost use Rattle.reuse_paths.specs.WalkSettings.{region_at, region_variables as variables_of};
 ghost use Rattle.reuse_paths.specs.WalkViews.{walk_of};
 ghost use Rattle.reuse_paths.specs.Walks.{reach_of, region_of, spot_of, tree_of_walk};
 
 use crate::counts::{is_twice, loops_around, read_count};
-use crate::entries::{Aimed, aimed_entries_fits};
-use crate::lists::{forms_fits, list_fits, misfit, name_fits};
+use crate::entries::{Aimed, all_aimed_entries_fit};
+use crate::lists::{all_forms_fit, list_fits, misfit, name_fits};
 use affine_form::{Memory, Multipliers};
 use affine_program::Program;
-use claims::key::{FORM, LEAVES, NO, NODES, POINT, READ, ROWS, SAME, START, STATEMENT, TREE, YES};
-use claims::{Place, Refused, Step};
+use claims::{ObjectKey, Place, Refused, Step};
 use dep_quast::Quast;
 use dep_quast::reader::Reader;
 use domain_count::Nest;
@@ -42,12 +40,18 @@ pub fn spot_fits(
 {
     let point = spot.point.as_slice();
     if point.len() != loops_around(program, spot.statement) {
-        return Err(misfit(alloc, place, Step::Key(POINT)));
+        return Err(misfit(alloc, place, Step::Key(ObjectKey("point"))));
     }
-    forms_fits(alloc, place, POINT, variables, point)?;
+    all_forms_fit(alloc, place, ObjectKey("point"), variables, point)?;
     let count = program.statements().len();
     let number = usize::from(spot.statement);
-    name_fits(alloc, place, Step::Key(STATEMENT), number, count)
+    name_fits(
+        alloc,
+        place,
+        Step::Key(ObjectKey("statement")),
+        number,
+        count,
+    )
 }
 
 /// How many rows the region of a statement has: none where it has no region.
@@ -120,15 +124,15 @@ fn take_fits(
     let called = rows_called(alloc, walking, reader)?;
     let rows = called.as_slice();
     if entries.len() != rows.len() {
-        return Err(misfit(alloc, place, Step::Key(LEAVES)));
+        return Err(misfit(alloc, place, Step::Key(ObjectKey("leaves"))));
     }
     let aimed = aimed(walking);
-    aimed_entries_fits(alloc, place, LEAVES, aimed, rows, entries)?;
+    all_aimed_entries_fit(alloc, place, ObjectKey("leaves"), aimed, rows, entries)?;
     let count = read_count(walking.program, reader.statement);
     name_fits(
         alloc,
         place,
-        Step::Key(READ),
+        Step::Key(ObjectKey("read")),
         usize::from(reader.read),
         count,
     )
@@ -156,11 +160,11 @@ pub(crate) fn walk_fits(
     match walk {
         Walk::Test { form, yes, no } => {
             if form.coef().len() as u128 != region_variables(walking, statement) {
-                return Err(misfit(alloc, place, Step::Key(FORM)));
+                return Err(misfit(alloc, place, Step::Key(ObjectKey("form"))));
             }
-            let side = place.within(alloc, Step::Key(NO))?;
+            let side = place.within(alloc, Step::Key(ObjectKey("no")))?;
             walk_fits(alloc, walking, statement, &side, no)?;
-            let side = place.within(alloc, Step::Key(YES))?;
+            let side = place.within(alloc, Step::Key(ObjectKey("yes")))?;
             walk_fits(alloc, walking, statement, &side, yes)?;
             Ok(())
         }
@@ -189,14 +193,14 @@ pub(crate) fn region_fits(
     };
     let variables = region_variables(walking, statement);
     let rows = region.rows.as_slice();
-    forms_fits(alloc, place, ROWS, variables, rows)?;
-    let tree = place.within(alloc, Step::Key(TREE))?;
+    all_forms_fit(alloc, place, ObjectKey("rows"), variables, rows)?;
+    let tree = place.within(alloc, Step::Key(ObjectKey("tree")))?;
     walk_fits(alloc, walking, statement, &tree, &region.tree)?;
     Ok(())
 }
 
 /// Whether what is said fits of the statements' regions, in a list at this place.
-fn regions_fits(
+fn all_regions_fit(
     alloc: Global,
     walking: &Walking,
     list: &Place,
@@ -226,12 +230,18 @@ fn walked_fits(
     ensures { Decides (walked_fit (walk_of walking.now) (spot_of from.now) place.now start.now (map (option_map region_of) nodes.now)) result }
 {
     if nodes.len() != walking.program.statements().len() {
-        return Err(misfit(alloc, place, Step::Key(NODES)));
+        return Err(misfit(alloc, place, Step::Key(ObjectKey("nodes"))));
     }
-    let list = place.within(alloc, Step::Key(NODES))?;
-    regions_fits(alloc, walking, &list, nodes)?;
+    let list = place.within(alloc, Step::Key(ObjectKey("nodes")))?;
+    all_regions_fit(alloc, walking, &list, nodes)?;
     let called = region_rows(walking, from.statement);
-    list_fits(alloc, place, Step::Key(START), start.len(), called)
+    list_fits(
+        alloc,
+        place,
+        Step::Key(ObjectKey("start")),
+        start.len(),
+        called,
+    )
 }
 
 /// Whether there are as many multipliers as show that two spots are the same: none where their statements differ.
@@ -262,7 +272,7 @@ pub fn reach_fits(
     match reach {
         Reach::Same(equal) => {
             if !has_same_count(program, from, to, equal.as_slice().len()) {
-                return Err(misfit(alloc, place, Step::Key(SAME)));
+                return Err(misfit(alloc, place, Step::Key(ObjectKey("same"))));
             }
             Ok(())
         }

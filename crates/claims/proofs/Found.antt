@@ -2,7 +2,7 @@
 use Rattle.std.proofs.Common.{◌≡◌, subst, sym, inl, inr, List, ◌∷◌, ◌++◌}
 use Rattle.std.specs.Prelude.{Result, Ok, Err, IfOk, IfErr, OnOk, IsErr, IsErrAnd}
 use Rattle.claims.specs.declared.refused.Refused.{Refused}
-use Rattle.claims.specs.declared.refused.Refused.TheVariants.{No as not_so, Memory}
+use Rattle.claims.specs.declared.refused.Refused.TheVariants.{Failed as not_so, Memory}
 use Rattle.claims.specs.Claims.{Claim, AllHold, Decides, IsRefusal, IsRefusalAt}
 use Rattle.claims.proofs.Laws.{first-fails, later-fails, AllHold-append}
 

@@ -1,16 +1,16 @@
 -- What is accepted isn't refused, and what is refused has one first failure.
 use Rattle.std.proofs.Common.{◌≡◌, sym, ◌∙◌, inl, inr, List, [], ◌∷◌, ◌++◌}
-use Rattle.claims.specs.declared.refused.No.{No}
+use Rattle.claims.specs.declared.refused.FailedCondition.{FailedCondition}
 use Rattle.claims.specs.Claims.{Claim, AllHold, FirstFails}
 
 -- Claims that all hold aren't refused.
-pub accepted-stand : (claims : List Claim) (failed : No) → AllHold claims → FirstFails claims failed → ⊥
+pub accepted-stand : (claims : List Claim) (failed : FailedCondition) → AllHold claims → FirstFails claims failed → ⊥
 accepted-stand [] failed all first = first
 accepted-stand (claim ∷ claims) failed all (inl fails) = fails.0 all.0
 accepted-stand (claim ∷ claims) failed all (inr later) = accepted-stand claims failed all.1 later.1
 
 -- Claims have one first failure.
-pub refused-one : (claims : List Claim) (one other : No) → FirstFails claims one → FirstFails claims other → one ≡ other
+pub refused-one : (claims : List Claim) (one other : FailedCondition) → FirstFails claims one → FirstFails claims other → one ≡ other
 refused-one [] one other f g = absurd f
 refused-one (claim ∷ claims) one other (inl f) (inl g) =
     let condition : one.condition ≡ other.condition = sym f.1 ∙ g.1 in
@@ -34,12 +34,12 @@ AllHold-right [] ys h = h
 AllHold-right (x ∷ xs) ys h = AllHold-right xs ys h.1
 
 -- What fails first in the first of two lists fails first in both.
-pub first-fails : (xs ys : List Claim) (failed : No) → FirstFails xs failed → FirstFails (xs ++ ys) failed
+pub first-fails : (xs ys : List Claim) (failed : FailedCondition) → FirstFails xs failed → FirstFails (xs ++ ys) failed
 first-fails [] ys failed f = absurd f
 first-fails (x ∷ xs) ys failed (inl here) = inl here
 first-fails (x ∷ xs) ys failed (inr later) = inr (later.0, first-fails xs ys failed later.1)
 
 -- Where the first holds, what fails first in the second does so in both.
-pub later-fails : (xs ys : List Claim) (failed : No) → AllHold xs → FirstFails ys failed → FirstFails (xs ++ ys) failed
+pub later-fails : (xs ys : List Claim) (failed : FailedCondition) → AllHold xs → FirstFails ys failed → FirstFails (xs ++ ys) failed
 later-fails [] ys failed h f = f
 later-fails (x ∷ xs) ys failed h f = inr (h.0, later-fails xs ys failed h.1 f)

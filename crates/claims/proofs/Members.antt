@@ -3,9 +3,9 @@ use Rattle.std.proofs.Common.{◌≡◌, sym, ◌∙◌, ap, subst, ℕ, zero, s
 use Rattle.std.specs.Prelude.{Result}
 use Rattle.std.proofs.Math.Nat.{add-zero}
 use Rattle.base_laws.proofs.Lists.{rest_at, add-one}
-use Rattle.claims.specs.declared.refused.No.{No}
+use Rattle.claims.specs.declared.refused.FailedCondition.{FailedCondition}
 use Rattle.claims.specs.declared.refused.Refused.{Refused}
-use Rattle.claims.specs.declared.refused.Refused.TheVariants.{No as not_so, Memory}
+use Rattle.claims.specs.declared.refused.Refused.TheVariants.{Failed as not_so, Memory}
 use Rattle.claims.specs.Claims.{Claim, AllHold, Decides, FirstFails, IsRefusal, numbered, counted}
 use Rattle.claims.proofs.Laws.{first-fails, later-fails, AllHold-append, AllHold-left, AllHold-right}
 use Rattle.claims.proofs.Found.{refused-first, decides-later}
@@ -82,7 +82,7 @@ counted-each each first (suc n) (suc k) below h =
     subst (λ (m : ℕ). AllHold (each m)) (suc-moved first k) (counted-each each (suc first) n k (omega (arith, below)) (AllHold-right (each first) (counted each (suc first) n) h))
 
 -- the claims about one of them fail, and those about the numbers before hold
-counted-fail : (each : ℕ → List Claim) (first n k : ℕ) (failed : No) → k < n → ((j : ℕ) → j < k → AllHold (each (first + j))) → FirstFails (each (first + k)) failed
+counted-fail : (each : ℕ → List Claim) (first n k : ℕ) (failed : FailedCondition) → k < n → ((j : ℕ) → j < k → AllHold (each (first + j))) → FirstFails (each (first + k)) failed
     → FirstFails (counted each first n) failed
 counted-fail each first zero k failed below before h = absurd (omega (arith, below))
 counted-fail each first (suc n) zero failed below before h =

@@ -1,9 +1,9 @@
 -- Claims, in the order in which they are tested. (What a proof-carrying answer has to show: Necula 1997.)
 use Rattle.std.specs.Prelude.{◌≡◌, ◌⊎◌, ⊤, ℕ, zero, suc, List, [], ◌∷◌, ◌++◌, Result, Ok, Err}
 use Rattle.claims.specs.declared.place.Step.{Step}
-use Rattle.claims.specs.declared.refused.No.{No}
+use Rattle.claims.specs.declared.refused.FailedCondition.{FailedCondition}
 use Rattle.claims.specs.declared.refused.Refused.{Refused}
-use Rattle.claims.specs.declared.refused.Refused.TheVariants.{No as not_so, Memory}
+use Rattle.claims.specs.declared.refused.Refused.TheVariants.{Failed as not_so, Memory}
 
 -- A claim: the number of its condition, its place in a certificate, and what it states.
 pub record Claim : Type 1 where
@@ -17,7 +17,7 @@ AllHold [] = ⊤
 AllHold (claim ∷ claims) = claim.statement × AllHold claims
 
 -- They are refused where this is the condition and the place of the first that doesn't hold.
-abbrev pub FirstFails : List Claim → No → Type 0
+abbrev pub FirstFails : List Claim → FailedCondition → Type 0
 FirstFails [] failed = ⊥
 FirstFails (claim ∷ later) failed =
     ((¬ claim.statement) × (claim.condition ≡ failed.condition) × (claim.place ≡ failed.place)) ⊎ (claim.statement × FirstFails later failed)

@@ -1,9 +1,10 @@
-//! What certificates claim, condition by condition: places in a certificate, its keys, and refusals.
+//! What certificates claim, condition by condition: places in a certificate, and refusals; and what multipliers show of systems.
 #![tactic(auto)]
 
-pub mod key;
+pub mod lists;
 mod place;
 mod refused;
+pub mod shown;
 
-pub use place::{Place, Step};
-pub use refused::{No, Refused, refusal};
+pub use place::{ObjectKey, Place, Step};
+pub use refused::{FailedCondition, Refused, refusal};

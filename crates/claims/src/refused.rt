@@ -8,7 +8,7 @@ use std::alloc::Global;
 
 /// A condition that doesn't hold, by its number, and the place of the claim in the certificate.
 #[derive(Debug, Drop)]
-pub struct No {
+pub struct FailedCondition {
     /// The condition's number.
     pub condition: u8,
     /// Where the claim stands.
@@ -19,7 +19,7 @@ pub struct No {
 #[derive(Debug, Drop)]
 pub enum Refused {
     /// A condition doesn't hold.
-    No(No),
+    Failed(FailedCondition),
     /// There was no memory to test the claim.
     Memory,
 }
@@ -40,7 +40,7 @@ pub fn refusal(alloc: Global, condition: u8, place: &Place) -> Refused
     ensures { IsRefusalAt condition place.now result }
 {
     match place.try_clone(alloc) {
-        Ok(place) => Refused::No(No { condition, place }),
+        Ok(place) => Refused::Failed(FailedCondition { condition, place }),
         Err(Memory) => Refused::Memory,
     }
 }

@@ -1,6 +1,6 @@
 -- Branches of cold terms of different arrays meet all conditions.
 use Rattle.std.proofs.Common.{◌≡◌, refl, sym, ◌∙◌, ap, subst, ℕ, zero, suc, ◌+◌, ◌<◌, ◌≤◌, Bool, true, false, List, [], ◌∷◌, ◌++◌, length, map, arith}
-use Rattle.std.specs.Prelude.{⊤, nat_eq, ◌==◌, if◌then◌else◌, cond, filter}
+use Rattle.std.specs.Prelude.{⊤, nat_eq, ◌==◌, if◌then◌else◌, cond, filter, codes}
 use Rattle.std.specs.List.{AllByRecursion, IsDistinct}
 use Rattle.std.proofs.lemmas.Bool.{eqb-true, eq-eqb, both_ways}
 use Rattle.std.proofs.Math.Nat.{add-zero}
@@ -11,23 +11,22 @@ use Rattle.affine_program.specs.Parts.{ProgramParts, meaning}
 use Rattle.claims.specs.Claims.{AllHold, Claim, numbered}
 use Rattle.claims.specs.declared.place.Step.{Step}
 use Rattle.claims.specs.declared.place.Step.TheVariants.{Key, Index}
-use Rattle.claims.specs.declared.key.TheConstants.{COLD, LEAVES, NEST, POINT, SUMS, TERMS}
 use Rattle.claims.proofs.Laws.{AllHold-append}
-use Rattle.dep_quast.specs.Claims.{IsFew, pointless_claims}
+use Rattle.claims.specs.Shown.{IsFew, pointless_claims}
 use Rattle.dep_quast.specs.Context.{reference_of}
 use Rattle.dep_quast.specs.Tree.{SelectionTree}
 use Rattle.certificate_fit.specs.EntryFit.{entry_at}
 use Rattle.certificate_fit.specs.PartFit.{bounds_fit, sums_fit}
 use Rattle.certificate_fit.proofs.ReadTrees.{open-many, leaves-many}
 use Rattle.certificate_fit.proofs.FormsFit.{bounds-hold, forms-hold}
-use Rattle.reuse_paths.specs.declared.piece.Target.{Target}
-use Rattle.reuse_paths.specs.declared.piece.Target.TheVariants.{Cell}
-use Rattle.reuse_paths.specs.DisjointClaims.{pairwise_systems, same_target}
+use Rattle.footprint_pieces.specs.declared.piece.Target.{Target}
+use Rattle.footprint_pieces.specs.declared.piece.Target.TheVariants.{Cell}
+use Rattle.footprint_pieces.specs.DisjointClaims.{pairwise_systems, same_target}
 use Rattle.reuse_paths.specs.LeafClaims.{LeafClaim, no_point, stops, is_credited, goes_on, arrives, is_stop}
-use Rattle.reuse_paths.specs.OpenLeaves.{OpenLeaf}
-use Rattle.reuse_paths.specs.Quasts.{tree_for}
-use Rattle.reuse_paths.specs.TargetPairs.{same_targets, same_in_lists, pairwise_targets}
-use Rattle.reuse_paths.proofs.PairCounts.{targets_of}
+use Rattle.dep_quast.specs.OpenLeaves.{OpenLeaf}
+use Rattle.dep_quast.specs.Quasts.{tree_for}
+use Rattle.footprint_pieces.specs.TargetPairs.{same_targets, same_in_lists, pairwise_targets}
+use Rattle.footprint_pieces.proofs.PairCounts.{targets_of}
 use Rattle.wavefront.specs.declared.cold.Cold.{Cold}
 use Rattle.wavefront.specs.ColdPieces.{leaf_piece, leaves_of, stop_pieces}
 use Rattle.wavefront.specs.Leaves.{leaves_claims}
@@ -89,18 +88,18 @@ module _ (program : ProgramParts) (trees : List (List SelectionTree)) where
         let params : ℕ = length program.params in
         let fits = h.shown.fits.parts in
         let front : List Claim = cold_front_fit P trees place term in
-        let bounds : List Claim = bounds_fit params (place ++ Key NEST ∷ []) term.nest in
+        let bounds : List Claim = bounds_fit params (place ++ Key (codes "nest") ∷ []) term.nest in
         let point : List Claim = point_fit P place term in
         let back : List Claim = cold_back_fit P term place in
-        let sums : List Claim = sums_fit (suc params) (place ++ Key SUMS ∷ []) term.count.sums in
-        let polynomials = h.shown.polynomials.uses (place ++ Key SUMS ∷ []) in
+        let sums : List Claim = sums_fit (suc params) (place ++ Key (codes "sums") ∷ []) term.count.sums in
+        let polynomials = h.shown.polynomials.uses (place ++ Key (codes "sums") ∷ []) in
         let many = h.shown.fits.leaves ∙ open-many (nest_variables P term) (instance_point P term) [] (tree_of_cold cold) ∙ sym (leaves-many P trees term.reader (tree_of_cold cold) fits.read.read h.there) in
         let in_front : AllHold front = (
           fits.inside,
-          (fits.rows, (columns term.matrix.rows term.matrix.columns (length (reference_of P term.reader).subscripts) h.no_rows fits.columns, (many, entries-hold (place ++ Key LEAVES ∷ []) 0 (leaves_of P (tree_of_cold cold) term) term.leaves h.shown.entries))),
+          (fits.rows, (columns term.matrix.rows term.matrix.columns (length (reference_of P term.reader).subscripts) h.no_rows fits.columns, (many, entries-hold (place ++ Key (codes "leaves") ∷ []) 0 (leaves_of P (tree_of_cold cold) term) term.leaves h.shown.entries))),
         ) in
-        let in_bounds : AllHold bounds = bounds-hold params 0 (place ++ Key NEST ∷ []) term.nest (subst (λ (n : ℕ). BoundsFit n term.nest) (sym (add-zero params)) fits.bounds) in
-        let in_point : AllHold point = (fits.point, forms-hold (params + length term.nest) (place ++ Key POINT ∷ []) 0 term.point fits.forms) in
+        let in_bounds : AllHold bounds = bounds-hold params 0 (place ++ Key (codes "nest") ∷ []) term.nest (subst (λ (n : ℕ). BoundsFit n term.nest) (sym (add-zero params)) fits.bounds) in
+        let in_point : AllHold point = (fits.point, forms-hold (params + length term.nest) (place ++ Key (codes "point") ∷ []) 0 term.point fits.forms) in
         let in_back : AllHold back = (fits.read.read, (h.shown.one_each, (fits.read.statement, (polynomials.0, tt)))) in
         AllHold-append (front ++ bounds ++ point ++ back) sums
         (AllHold-append (front ++ bounds ++ point) back (AllHold-append (front ++ bounds) point (AllHold-append front bounds in_front in_bounds) in_point) in_back) polynomials.1
@@ -120,7 +119,7 @@ module _ (program : ProgramParts) (trees : List (List SelectionTree)) where
     cold-pieces : HasPieces program trees (terms.Cold cold)
     cold-pieces = (
       cold-fits,
-      few-at-leaves (nest_variables P term) (nest_system P term).rows (Key LEAVES ∷ []) 0 (leaves_of P (tree_of_cold cold) term) term.leaves h.shown.fits.leaves
+      few-at-leaves (nest_variables P term) (nest_system P term).rows (Key (codes "leaves") ∷ []) 0 (leaves_of P (tree_of_cold cold) term) term.leaves h.shown.fits.leaves
           (parts-of P (tree_of_cold cold) term [] (h.shown.holds [])).leaves,
     )
 
@@ -133,13 +132,13 @@ module _ (program : ProgramParts) (trees : List (List SelectionTree)) where
   all-fit place index [] h = tt
   all-fit place index (cold ∷ colds) h =
       AllHold-append (term_at P trees place index (claim_of_term (terms.Cold cold))) (numbered (term_at P trees place) (suc index) (claims_of colds))
-      (cold-fit cold h.0 ((place ++ Index index ∷ []) ++ Key COLD ∷ [])) (all-fit place (suc index) colds h.1)
+      (cold-fit cold h.0 ((place ++ Index index ∷ []) ++ Key (codes "cold") ∷ [])) (all-fit place (suc index) colds h.1)
 
   all-hold : (place : List Step) (index : ℕ) (colds : List Cold) → AllByRecursion (IsPlaced P trees) colds → AllHold (numbered (term_claims_at P trees place) index (claims_of colds))
   all-hold place index [] h = tt
   all-hold place index (cold ∷ colds) h =
       AllHold-append (term_claims_at P trees place index (claim_of_term (terms.Cold cold))) (numbered (term_claims_at P trees place) (suc index) (claims_of colds))
-      (h.0.shown.holds ((place ++ Index index ∷ []) ++ Key COLD ∷ [])) (all-hold place (suc index) colds h.1)
+      (h.0.shown.holds ((place ++ Index index ∷ []) ++ Key (codes "cold") ∷ [])) (all-hold place (suc index) colds h.1)
 
   all-terms-fit : (colds : List Cold) → AllByRecursion (IsPlaced P trees) colds → AllByRecursion (TermFits program trees) (map terms.Cold colds)
   all-terms-fit [] h = tt
@@ -215,7 +214,7 @@ module _ (program : ProgramParts) (trees : List (List SelectionTree)) where
   made colds = record { terms = claims_of colds; disjoint = [] }
 
   pub branch-fits : (place : List Step) (colds : List Cold) → IsDistinct nat_eq (map (array_read P) colds) → AllByRecursion (IsPlaced P trees) colds → AllHold (branch_fit P trees place (made colds))
-  branch-fits place colds different h = (ap length (sym (no-targets (place ++ Key TERMS ∷ []) colds different h)), all-fit (place ++ Key TERMS ∷ []) 0 colds h)
+  branch-fits place colds different h = (ap length (sym (no-targets (place ++ Key (codes "terms") ∷ []) colds different h)), all-fit (place ++ Key (codes "terms") ∷ []) 0 colds h)
 
   pub branch-holds : (number : ℕ) (colds : List Cold) → AllByRecursion (IsPlaced P trees) colds → AllHold (branch_claims P trees number (made colds))
   branch-holds number colds h =

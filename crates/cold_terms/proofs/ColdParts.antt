@@ -1,4 +1,5 @@
 -- What cold terms claim, by their parts.
+use Rattle.std.specs.Prelude.{codes}
 use Rattle.std.proofs.Common.{◌≡◌, ◌∙◌, ℕ, ◌*◌, List, [], ◌∷◌, ◌++◌, length, map}
 use Rattle.std.specs.List.{AllByRecursion}
 use Rattle.std.proofs.lemmas.List.{length-map}
@@ -7,14 +8,13 @@ use Rattle.iolb_model.specs.Form.{AffineForm}
 use Rattle.iolb_model.specs.Program.{AffineProgram}
 use Rattle.iolb_model.specs.declared.limits.TheConstants.{NUMBER_SIZE}
 use Rattle.affine_form.specs.Form.{IsSmallForm}
-use Rattle.affine_form.specs.Rows.{IsSmallOver}
+use Rattle.affine_form.specs.Rows.{IsSmallOver, variables_from}
 use Rattle.flow_deps.specs.declared.wanted.Wanted.{Wanted}
 use Rattle.flow_deps.specs.Answers.{Answers, HasShortAnswer, following}
 use Rattle.flow_deps.proofs.AnswerLaws.{AreAnswered-length, answers-name, follow-hold}
 use Rattle.claims.specs.Claims.{AllHold, Claim}
 use Rattle.claims.specs.declared.place.Step.{Step}
 use Rattle.claims.specs.declared.place.Step.TheVariants.{Key}
-use Rattle.claims.specs.declared.key.TheConstants.{INSIDE, LEAVES}
 use Rattle.claims.proofs.Laws.{AllHold-append, AllHold-left, AllHold-right}
 use Rattle.dep_quast.specs.Context.{variables_at}
 use Rattle.dep_quast.specs.Tree.{SelectionTree}
@@ -22,9 +22,8 @@ use Rattle.dep_quast.proofs.Fits.{length-within_rows}
 use Rattle.domain_count.specs.CountClaims.{count_claims}
 use Rattle.domain_count.proofs.Claimed.{count-claims}
 use Rattle.affine_program.specs.Domain.{path_of, depth_of}
-use Rattle.affine_form.specs.Rows.{variables_from}
 use Rattle.reuse_paths.specs.LeafClaims.{LeafClaim, claim_of}
-use Rattle.reuse_paths.specs.OpenLeaves.{OpenLeaf, TestsFit}
+use Rattle.dep_quast.specs.OpenLeaves.{OpenLeaf, TestsFit}
 use Rattle.wavefront.specs.declared.cold.Cold.{Cold}
 use Rattle.wavefront.specs.ColdClaims.{cold_claims, matrix_claims}
 use Rattle.wavefront.specs.ColdPieces.{leaves_of}
@@ -138,8 +137,8 @@ module _ (wanted : Wanted) (program : AffineProgram) (tree : SelectionTree) (col
         holds = λ place.
             from-parts program tree held_term place (record {
               count = count-claims program cold.nest cold.sums place total right;
-              inside = follow-hold 10 (place ++ Key INSIDE ∷ []) (nest_system program held_term) 0 (inside_goals program held_term) cold.inside.items inside.each;
-              leaves = closed-hold wanted vars rows leaves entries (place ++ Key LEAVES ∷ []) 0 closed;
+              inside = follow-hold 10 (place ++ Key (codes "inside") ∷ []) (nest_system program held_term) 0 (inside_goals program held_term) cold.inside.items inside.each;
+              leaves = closed-hold wanted vars rows leaves entries (place ++ Key (codes "leaves") ∷ []) 0 closed;
               matrix = undone-hold held_term.matrix held_term.scale (length program.parameters) (length held_term.nest) (cell_forms program held_term) place undone;
             });
         small = record {

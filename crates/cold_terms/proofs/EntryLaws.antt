@@ -11,11 +11,11 @@ use Rattle.flow_deps.specs.Answers.{HasShortAnswer, IsAnswered, IsAsShort, point
 use Rattle.flow_deps.proofs.AnswerLaws.{answer-names}
 use Rattle.claims.specs.Claims.{AllHold}
 use Rattle.claims.specs.declared.place.Step.{Step}
-use Rattle.dep_quast.specs.Claims.{IsFew}
+use Rattle.claims.specs.Shown.{IsFew}
 use Rattle.certificate_fit.specs.Limits.{IsSmallEntry}
 use Rattle.reuse_paths.specs.declared.leaf.Leaf.{Leaf}
 use Rattle.reuse_paths.specs.LeafClaims.{LeafClaim, no_point, stops, is_credited, goes_on, arrives, claim_of}
-use Rattle.reuse_paths.specs.OpenLeaves.{OpenLeaf, is_input}
+use Rattle.dep_quast.specs.OpenLeaves.{OpenLeaf, is_input}
 use Rattle.wavefront.specs.Leaves.{leaves_claims}
 use Rattle.cold_terms.specs.Entries.{AreClosed, AreEntries, Closes, IsEntryAsShort, system_at}
 

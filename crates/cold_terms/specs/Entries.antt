@@ -7,10 +7,10 @@ use Rattle.affine_form.specs.System.{AffineSystem}
 use Rattle.flow_deps.specs.declared.wanted.Wanted.{Wanted}
 use Rattle.flow_deps.specs.declared.wanted.Wanted.TheVariants.{Short}
 use Rattle.flow_deps.specs.Answers.{IsAsShort}
-use Rattle.dep_quast.specs.Claims.{IsFew}
+use Rattle.claims.specs.Shown.{IsFew}
 use Rattle.reuse_paths.specs.declared.leaf.Leaf.{Leaf}
 use Rattle.reuse_paths.specs.LeafClaims.{LeafClaim, no_point, stops, is_credited, goes_on, arrives, claim_of}
-use Rattle.reuse_paths.specs.OpenLeaves.{OpenLeaf, is_input}
+use Rattle.dep_quast.specs.OpenLeaves.{OpenLeaf, is_input}
 use Rattle.wavefront.specs.Leaves.{IsClosed}
 
 -- ---- entries, by themselves

@@ -11,7 +11,7 @@ use Rattle.certificate_fit.specs.Limits.{IsSmallPolynomial}
 use Rattle.certificate_fit.specs.PartFit.{polynomials_fit}
 use Rattle.poly_tree.specs.Poly.{Quotient}
 use Rattle.reuse_paths.specs.LeafClaims.{claim_of}
-use Rattle.reuse_paths.specs.Quasts.{tree_at, tree_for}
+use Rattle.dep_quast.specs.Quasts.{tree_at, tree_for}
 use Rattle.wavefront.specs.declared.cold.Cold.{Cold}
 use Rattle.wavefront.specs.ColdClaims.{cold_claims}
 use Rattle.wavefront.specs.ColdPieces.{leaves_of}

@@ -3,16 +3,16 @@
 ghost use Rattle.std.specs.Prelude.{◌≤◌, ◌++◌, IfOk};
 ghost use Rattle.std.specs.List.{AllByRecursion};
 ghost use Rattle.affine_form.specs.System.{AllOver};
-ghost use Rattle.reuse_paths.specs.OpenLeaves.{OpenLeaf as open_leaf, is_input};
+ghost use Rattle.dep_quast.specs.OpenLeaves.{OpenLeaf as open_leaf, is_input};
 ghost use Rattle.cold_terms.specs.Entries.{FindsEntry, FindsEntries, system_at};
 ghost use Rattle.iolb_model.specs.declared.limits.TheConstants.{VARIABLES};
 
 use affine_form::{Form, Memory};
-use dep_quast::lists::followed_by;
+use claims::lists::followed_by;
+use dep_quast::open_leaves::OpenLeaf;
 use flow_deps::{Wanted, system_answered};
 use iolb_model::limits;
 use reuse_paths::Leaf;
-use reuse_paths::open_leaves::OpenLeaf;
 use std::alloc::Global;
 
 /// An entry at a leaf, whose system has these rows and its tests: the walk stops at an input; every other leaf is shown

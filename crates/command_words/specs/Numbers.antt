@@ -1,10 +1,8 @@
 -- Numbers on the command line: decimal digits, the bytes 48 to 57 alone.
 use Rattle.std.specs.Prelude.{ℕ, ◌+◌, ◌-◌, ◌*◌, ◌^◌, ◌==◌, ◌&&◌, nat_le, if◌then◌else◌, Bool, ℤ, pos, ◌-ℤ◌, List, [], ◌∷◌, length, Option, None, Some, option_map, option_and_then}
+use Rattle.std.specs.Char.{is_ascii_digit}
 use Rattle.std.specs.List.{list_all}
 use Rattle.iolb_model.specs.declared.limits.TheConstants.{VALUE_SIZE}
-
-abbrev pub is_digit : ℕ → Bool
-is_digit byte = nat_le 48 byte && nat_le byte 57
 
 -- a number with these digits behind it
 abbrev pub with_digits : ℕ → List ℕ → ℕ
@@ -14,7 +12,7 @@ with_digits n (byte ∷ bytes) = with_digits (n * 10 + (byte - 48)) bytes
 -- the number of a word of 1 to so many digits
 abbrev pub natural_in : ℕ → List ℕ → Option ℕ
 natural_in most word =
-    if nat_le 1 (length word) && nat_le (length word) most && list_all is_digit word then Some (with_digits 0 word) else None
+    if nat_le 1 (length word) && nat_le (length word) most && list_all is_ascii_digit word then Some (with_digits 0 word) else None
 
 abbrev pub if_within : ℕ → ℕ → ℕ → Option ℕ
 if_within least most n = if nat_le least n && nat_le n most then Some n else None

@@ -1,8 +1,9 @@
 //! Numbers on the command line.
 
 ghost use Rattle.std.specs.Prelude.{◌≡◌, ◌≤◌, ◌<◌, ◌^◌, [], ◌∷◌, min, pos, option_map, unsigned_abs, IfSome};
+ghost use Rattle.std.specs.Char.{is_ascii_digit};
 ghost use Rattle.std.specs.List.{list_all};
-ghost use Rattle.command_words.specs.Numbers.{is_digit, memory_in, small_in, natural_in, whole_in as whole_in_word, with_digits};
+ghost use Rattle.command_words.specs.Numbers.{memory_in, small_in, natural_in, whole_in as whole_in_word, with_digits};
 ghost use Rattle.iolb_model.specs.declared.limits.TheConstants.{VALUE_SIZE};
 
 use iolb_model::limits;
@@ -12,10 +13,10 @@ const LIMIT: u128 = 1 << 64;
 
 /// Whether all bytes are digits.
 fn are_digits(word: &[u8]) -> bool
-    ensures { result ≡ list_all is_digit word.now }
+    ensures { result ≡ list_all is_ascii_digit word.now }
 {
     for byte in word {
-        if !(48 <= *byte && *byte <= 57) {
+        if !byte.is_ascii_digit() {
             return false;
         }
     }

@@ -15,7 +15,7 @@ use Rattle.execution_laws.proofs.Domains.{way-there, statements-rise}
 use Rattle.execution_laws.proofs.Orders.{row_common-within, row_common-turn}
 use Rattle.affine_form.specs.Form.{variables, IsSmallForm}
 use Rattle.affine_form.specs.System.{AllOver}
-use Rattle.affine_form.proofs.RowLemmas.{length-widened}
+use Rattle.claims.proofs.Rows.{widened-over}
 use Rattle.affine_form.specs.Rows.{IsSmallOver, IsSmallWithin, widened, equality_rows, put_in, step_of, within_rows}
 use Rattle.affine_form.specs.Substitution.{substitution}
 use Rattle.affine_program.specs.declared.reference.Reference.{Reference}
@@ -160,11 +160,6 @@ all-writers program array =
       none : (k : ℕ) → 0 + k ≡ k
       none k = omega arith
 
--- rows read over more variables are over them
-pub widened-over : (many vars : ℕ) (rows : List AffineForm) → many ≤ vars → AllOver many rows → AllOver vars (map (widened vars) rows)
-widened-over many vars [] more h = tt
-widened-over many vars (row ∷ rows) more h = (length-widened vars row (omega (arith, h.0)), widened-over many vars rows more h.1)
-
 -- rows that follow others over as many variables are over them too
 pub over-append : (vars : ℕ) (xs ys zs : List AffineForm) → zs ≡ xs ++ ys → AllOver vars xs → AllOver vars ys → AllOver vars zs
 over-append vars xs ys zs e p q = subst (AllOver vars) (sym e) (All-append (λ row. variables row ≡ vars) xs ys p q)
@@ -185,6 +180,18 @@ pub length-within_rows : (vars : ℕ) (path : List PathStep) (before values : Li
 length-within_rows vars [] before values e = refl
 length-within_rows vars (rises lower upper ∷ path) before [] e = absurd (omega arith)
 length-within_rows vars (rises lower upper ∷ path) before (v ∷ values) e = omega (arith, length-within_rows vars path (before ++ v ∷ []) values (omega arith))
+
+-- the rows of values within bounds are at most two for each loop
+pub within_rows-few : (vars : ℕ) (path : List PathStep) (before values : List AffineForm) → length (within_rows vars path before values) ≤ 2 * length path
+within_rows-few vars [] before values = omega arith
+within_rows-few vars (rises lower upper ∷ path) before [] = omega arith
+within_rows-few vars (rises lower upper ∷ path) before (v ∷ values) = omega (arith, within_rows-few vars path (before ++ v ∷ []) values)
+
+-- those of equal forms are at most two for each of the second list
+pub equality_rows-few : (vars : ℕ) (fs gs : List AffineForm) → length (equality_rows vars fs gs) ≤ 2 * length gs
+equality_rows-few vars [] gs = omega arith
+equality_rows-few vars (f ∷ fs) [] = omega arith
+equality_rows-few vars (f ∷ fs) (g ∷ gs) = omega (arith, equality_rows-few vars fs gs)
 
 -- those of equal forms also where forms are put in
 pub cells-many : (vars : ℕ) (point here written read : List AffineForm) → length written ≡ length read

@@ -1,8 +1,9 @@
 pub mod LastWrites
-pub mod Shown
 pub mod Fits
-pub mod Found
 pub mod Chunks
 pub mod Counts
 pub mod LastSources
 pub mod Truths
+pub mod TreeLemmas
+pub mod OpenLeaves
+pub mod ChosenLeaves

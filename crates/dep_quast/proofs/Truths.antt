@@ -1,6 +1,6 @@
 -- Valid source trees are true.
 use Rattle.std.proofs.Common.{◌≡◌, refl, sym, subst, ℕ, ◌<◌, List, [], ◌∷◌, ◌++◌, length, arith}
-use Rattle.std.specs.Prelude.{◌<ℤ◌, if◌then◌else◌}
+use Rattle.std.specs.Prelude.{◌<ℤ◌, if◌then◌else◌, codes}
 use Rattle.std.proofs.Math.IntN.{ℤ, pos, negsuc, ◌-ℤ◌, ◌+ℤ◌}
 use lib.Signed.{◌≤ℤ◌}
 use Rattle.std.proofs.lemmas.Int.{ints}
@@ -11,10 +11,11 @@ use Rattle.iolb_model.specs.Program.{AffineProgram, IsWellFormed, statement_at}
 use Rattle.iolb_model.specs.Printed.{is_below_zero}
 use Rattle.iolb_model.specs.Bound.{IsAdmitted}
 use Rattle.iolb_model.specs.Domain.{IsAt}
+use Rattle.execution_laws.proofs.Ordered.{All-member}
 use Rattle.claims.specs.declared.place.Step.{Step}
 use Rattle.claims.specs.declared.place.Step.TheVariants.{Key}
-use Rattle.claims.specs.declared.key.TheConstants.{BEFORE, BETWEEN, CELL, DOMAIN, INPUT, NO, STATEMENT, YES}
 use Rattle.affine_form.specs.Substitution.{substitution}
+use Rattle.affine_form.specs.Shown.{HasNoPoint}
 use Rattle.affine_form.specs.System.{AffineSystem, IsMet}
 use Rattle.affine_form.proofs.ShownLemmas.{Shows-none}
 use Rattle.affine_form.specs.Rows.{put_in, IsSmallOver}
@@ -22,11 +23,12 @@ use Rattle.affine_form.proofs.Meaning.{form_value-difference, form_value-front}
 use Rattle.affine_program.specs.Domain.{path_of}
 use Rattle.dep_quast.specs.Tree.{SourceClaim, Leaf, source, input, empty, blank, SelectionTree, leaf, test, leaf_at}
 use Rattle.dep_quast.specs.Context.{ReadOf, reference_of, variables_at, no_row, context, reader_point, parameter_point, earlier_writes, writes_between}
-use Rattle.dep_quast.specs.Claims.{claims, leaf_claims, source_claims, follow_claims, pointless_claims, first_shown, context_system, inside_goals, cell_goals, before_goals, IsFew}
+use Rattle.dep_quast.specs.Claims.{claims, leaf_claims, source_claims, first_shown, context_system, inside_goals, cell_goals, before_goals}
+use Rattle.claims.specs.Shown.{follow_claims, pointless_claims, IsFew}
 use Rattle.claims.specs.Claims.{AllHold, Claim}
 use Rattle.dep_quast.specs.Truth.{IsTrueLeaf, SourceFits, LeafFits, FitsUnder, ReadFits, ValidTreesAreTrue}
-use Rattle.dep_quast.proofs.Fits.{ranks-same}
-use Rattle.dep_quast.proofs.Shown.{goals-met, none-met, within_rows-few, equality_rows-few}
+use Rattle.dep_quast.proofs.Fits.{ranks-same, within_rows-few, equality_rows-few}
+use Rattle.claims.proofs.Systems.{goals-met, none-met}
 use Rattle.claims.proofs.Laws.{AllHold-left, AllHold-right}
 use Rattle.dep_quast.proofs.LastSources.{point-count, context-met, no_earlier, source-place, source-cell, source-before, source-last}
 
@@ -40,11 +42,11 @@ module _ (program : AffineProgram) (reader : ReadOf) (parameters : List ℤ) (pl
       let point : List ℤ = parameters ++ values in
       let here_met : IsMet system.rows point = subst (IsMet system.rows) (append-nil point) (context-met program reader parameters place values well admitted there.statement here tests met []) in
       let inside : List Claim = record { condition = 2; place = first_shown at claim.inside claim.cell claim.before; statement = IsFew (length system.rows) }
-      ∷ follow_claims 3 (at ++ Key DOMAIN ∷ []) system 0 (inside_goals program reader claim) claim.inside in
-      let cells : List Claim = record { condition = 4; place = at ++ Key STATEMENT ∷ []; statement = (statement_at program claim.statement).writes.array ≡ (reference_of program reader).array }
-      ∷ follow_claims 4 (at ++ Key CELL ∷ []) system 0 (cell_goals program reader claim) claim.cell in
-      let before : List Claim = follow_claims 5 (at ++ Key BEFORE ∷ []) system 0 (before_goals program reader claim) claim.before in
-      let between : List Claim = pointless_claims 6 (at ++ Key BETWEEN ∷ []) 0 (writes_between program reader (context program reader tests) claim) claim.between in
+      ∷ follow_claims 3 (at ++ Key (codes "domain") ∷ []) system 0 (inside_goals program reader claim) claim.inside in
+      let cells : List Claim = record { condition = 4; place = at ++ Key (codes "statement") ∷ []; statement = (statement_at program claim.statement).writes.array ≡ (reference_of program reader).array }
+      ∷ follow_claims 4 (at ++ Key (codes "cell") ∷ []) system 0 (cell_goals program reader claim) claim.cell in
+      let before : List Claim = follow_claims 5 (at ++ Key (codes "before") ∷ []) system 0 (before_goals program reader claim) claim.before in
+      let between : List Claim = pointless_claims 6 (at ++ Key (codes "between") ∷ []) 0 (writes_between program reader (context program reader tests) claim) claim.between in
       let first_three = AllHold-left (inside ++ cells ++ before) between h in
       let last = AllHold-right (inside ++ cells ++ before) between h in
       let first_two = AllHold-left (inside ++ cells) before first_three in
@@ -53,10 +55,10 @@ module _ (program : AffineProgram) (reader : ReadOf) (parameters : List ℤ) (pl
       let second = AllHold-right inside cells first_two in
       let arrays : (statement_at program claim.statement).writes.array ≡ (reference_of program reader).array = second.0 in
       let found = source-place program reader parameters place values well admitted there.statement here claim fits.there.statement fits.there.point
-      (goals-met 3 (at ++ Key DOMAIN ∷ []) system 0 (inside_goals program reader claim) claim.inside point
+      (goals-met 3 (at ++ Key (codes "domain") ∷ []) system 0 (inside_goals program reader claim) claim.inside point
       (omega (arith, fits.lists.inside, within_rows-few (variables_at program reader) (path_of program claim.statement) (parameter_point program (variables_at program reader)) claim.point)) first.1 here_met) in
       let same_cells = source-cell program reader parameters place values well admitted there.statement here claim (ranks-same program reader claim.statement well there fits.there.statement arrays) arrays
-      (goals-met 4 (at ++ Key CELL ∷ []) system 0 (cell_goals program reader claim) claim.cell point
+      (goals-met 4 (at ++ Key (codes "cell") ∷ []) system 0 (cell_goals program reader claim) claim.cell point
       (omega (
         arith,
         fits.lists.cell,
@@ -65,12 +67,12 @@ module _ (program : AffineProgram) (reader : ReadOf) (parameters : List ℤ) (pl
             (put_in (reader_point program reader (variables_at program reader)) (reference_of program reader).subscripts),
       )) second.1 here_met) in
       let less : found.0 < place = source-before program reader parameters place values well admitted there.statement here claim found.0 fits.there.statement fits.there.level fits.there.point
-      (goals-met 5 (at ++ Key BEFORE ∷ []) system 0 (before_goals program reader claim) claim.before point (omega (arith, fits.lists.before)) third here_met) found.1 in (
+      (goals-met 5 (at ++ Key (codes "before") ∷ []) system 0 (before_goals program reader claim) claim.before point (omega (arith, fits.lists.before)) third here_met) found.1 in (
         found.0,
         (
           found.1,
           source-last program reader parameters place values well admitted there.statement here tests claim found.0 met fits.there.forms
-              (λ written m. none-met 6 (at ++ Key BETWEEN ∷ []) 0 (writes_between program reader (context program reader tests) claim) claim.between written (omega (arith, fits.lists.between)) last m)
+              (λ written m. All-member HasNoPoint (writes_between program reader (context program reader tests) claim) written (none-met 6 (at ++ Key (codes "between") ∷ []) 0 (writes_between program reader (context program reader tests) claim) claim.between (omega (arith, fits.lists.between)) last) m)
               found.1 less same_cells,
         ),
       )
@@ -80,7 +82,7 @@ module _ (program : AffineProgram) (reader : ReadOf) (parameters : List ℤ) (pl
   leaf-true tests at (source claim) met fits h = source-true tests at claim met fits h
   leaf-true tests at (input shown) met fits h =
       no_earlier program reader parameters place values well admitted there.statement here tests met
-      (λ written m. none-met 6 (at ++ Key INPUT ∷ []) 0 (earlier_writes program reader (context program reader tests)) shown written (omega (arith, fits)) h.1 m)
+      (λ written m. All-member HasNoPoint (earlier_writes program reader (context program reader tests)) written (none-met 6 (at ++ Key (codes "input") ∷ []) 0 (earlier_writes program reader (context program reader tests)) shown (omega (arith, fits)) h.1) m)
   leaf-true tests at (empty shown) met fits h =
       Shows-none (context_system program reader tests) shown h.1.0.0 h.1.0.1 (parameters ++ values)
       (subst (IsMet (context program reader tests)) (append-nil (parameters ++ values)) (context-met program reader parameters place values well admitted there.statement here tests met []))
@@ -109,10 +111,10 @@ module _ (program : AffineProgram) (reader : ReadOf) (parameters : List ℤ) (pl
   tree-true tests at (leaf chosen) met fits h = leaf-true tests at chosen met fits h
   tree-true tests at (test form above below) met fits h =
       choose (form_value form (parameters ++ values)) refl
-      (λ more. tree-true (tests ++ form ∷ []) (at ++ Key YES ∷ []) above more fits.1
-      (AllHold-left (claims program reader (tests ++ form ∷ []) (at ++ Key YES ∷ []) above) (claims program reader (tests ++ no_row (variables_at program reader) form ∷ []) (at ++ Key NO ∷ []) below) h))
-      (λ more. tree-true (tests ++ no_row (variables_at program reader) form ∷ []) (at ++ Key NO ∷ []) below more fits.2
-      (AllHold-right (claims program reader (tests ++ form ∷ []) (at ++ Key YES ∷ []) above) (claims program reader (tests ++ no_row (variables_at program reader) form ∷ []) (at ++ Key NO ∷ []) below) h)) where
+      (λ more. tree-true (tests ++ form ∷ []) (at ++ Key (codes "yes") ∷ []) above more fits.1
+      (AllHold-left (claims program reader (tests ++ form ∷ []) (at ++ Key (codes "yes") ∷ []) above) (claims program reader (tests ++ no_row (variables_at program reader) form ∷ []) (at ++ Key (codes "no") ∷ []) below) h))
+      (λ more. tree-true (tests ++ no_row (variables_at program reader) form ∷ []) (at ++ Key (codes "no") ∷ []) below more fits.2
+      (AllHold-right (claims program reader (tests ++ form ∷ []) (at ++ Key (codes "yes") ∷ []) above) (claims program reader (tests ++ no_row (variables_at program reader) form ∷ []) (at ++ Key (codes "no") ∷ []) below) h)) where
         choose : (v : ℤ) → v ≡ form_value form (parameters ++ values)
             → (((rest : List ℤ) → IsMet (tests ++ form ∷ []) ((parameters ++ values) ++ rest)) → IsTrueLeaf program parameters reader place values (leaf_at above (parameters ++ values)))
             → (((rest : List ℤ) → IsMet (tests ++ no_row (variables_at program reader) form ∷ []) ((parameters ++ values) ++ rest)) → IsTrueLeaf program parameters reader place values (leaf_at below (parameters ++ values)))

@@ -1,55 +1,24 @@
 -- What a source tree claims: a list, leaf by leaf, `yes` before `no`.
-use Rattle.std.specs.Prelude.{◌≡◌, ℕ, suc, ◌≤◌, List, [], ◌∷◌, ◌++◌, length}
+use Rattle.std.specs.Prelude.{◌≡◌, List, [], ◌∷◌, ◌++◌, length, codes}
 use Rattle.iolb_model.specs.Form.{AffineForm}
 use Rattle.iolb_model.specs.Program.{AffineProgram, statement_at}
 use Rattle.iolb_model.specs.Order.{common_loops}
 use Rattle.claims.specs.Claims.{Claim, AllHold}
+use Rattle.claims.specs.Shown.{IsFew, IsPointless, follow_claims, pointless_claims}
 use Rattle.claims.specs.declared.place.Step.{Step}
 use Rattle.claims.specs.declared.place.Step.TheVariants.{Key, Index}
-use Rattle.claims.specs.declared.key.TheConstants.{BEFORE, BETWEEN, CELL, DOMAIN, EMPTY, INPUT, NO, STATEMENT, YES}
 use Rattle.affine_form.specs.Multipliers.{FarkasMultipliers}
-use Rattle.affine_form.specs.Shown.{Shows, minus_one}
 use Rattle.affine_form.specs.System.{AffineSystem}
 use Rattle.affine_form.specs.Rows.{within_rows, equality_rows, put_in, order_rows}
 use Rattle.affine_program.specs.Domain.{path_of}
 use Rattle.dep_quast.specs.Tree.{SourceClaim, Leaf, source, input, empty, blank, SelectionTree, leaf, test}
 use Rattle.dep_quast.specs.Context.{ReadOf, reference_of, variables_at, no_row, context, reader_point, parameter_point, reader_values, earlier_writes, writes_between}
-use Rattle.iolb_model.specs.declared.limits.TheConstants.{ROWS}
-
--- the rows of a system are few
-abbrev pub IsFew : ℕ → Type 0
-IsFew rows = rows ≤ ROWS
-
--- multipliers show that a goal follows from a system
-abbrev pub Follows : AffineSystem → AffineForm → FarkasMultipliers → Type 0
-Follows system goal shown = (1 ≤ shown.scale) × Shows system goal shown
-
--- they show that no point meets all its rows
-abbrev pub IsPointless : AffineSystem → FarkasMultipliers → Type 0
-IsPointless system shown = (1 ≤ shown.scale) × Shows system (minus_one system.vars) shown
-
--- that the goals follow, each by its multipliers, which stand in a list at this place
-abbrev pub follow_claims : ℕ → List Step → AffineSystem → ℕ → List AffineForm → List FarkasMultipliers → List Claim
-follow_claims condition place system index [] shown = []
-follow_claims condition place system index (goal ∷ goals) [] = []
-follow_claims condition place system index (goal ∷ goals) (m ∷ shown) =
-    record { condition = condition; place = place ++ Index index ∷ []; statement = Follows system goal m }
-    ∷ follow_claims condition place system (suc index) goals shown
-
--- that the systems have few rows (condition 2) and no point, each by its multipliers, which stand in a list at this place
-abbrev pub pointless_claims : ℕ → List Step → ℕ → List AffineSystem → List FarkasMultipliers → List Claim
-pointless_claims condition place index [] shown = []
-pointless_claims condition place index (system ∷ systems) [] = []
-pointless_claims condition place index (system ∷ systems) (m ∷ shown) =
-    record { condition = 2; place = place ++ Index index ∷ []; statement = IsFew (length system.rows) }
-    ∷ record { condition = condition; place = place ++ Index index ∷ []; statement = IsPointless system m }
-    ∷ pointless_claims condition place (suc index) systems shown
 
 -- the first member of the lists of a source, and the leaf itself if they have none
 abbrev pub first_shown : List Step → List FarkasMultipliers → List FarkasMultipliers → List FarkasMultipliers → List Step
-first_shown place (m ∷ inside) cell before = place ++ Key DOMAIN ∷ Index 0 ∷ []
-first_shown place [] (m ∷ cell) before = place ++ Key CELL ∷ Index 0 ∷ []
-first_shown place [] [] (m ∷ before) = place ++ Key BEFORE ∷ Index 0 ∷ []
+first_shown place (m ∷ inside) cell before = place ++ Key (codes "domain") ∷ Index 0 ∷ []
+first_shown place [] (m ∷ cell) before = place ++ Key (codes "cell") ∷ Index 0 ∷ []
+first_shown place [] [] (m ∷ before) = place ++ Key (codes "before") ∷ Index 0 ∷ []
 first_shown place [] [] [] = place
 
 -- the system of a leaf
@@ -78,10 +47,10 @@ before_goals program reader claim =
 -- that is read, and in it the cell (4); and it comes before the reader (5).
 abbrev pub point_claims : AffineProgram → ReadOf → AffineSystem → List Step → SourceClaim → List Claim
 point_claims program reader system place claim =
-    follow_claims 3 (place ++ Key DOMAIN ∷ []) system 0 (inside_goals program reader claim) claim.inside
-    ++ record { condition = 4; place = place ++ Key STATEMENT ∷ []; statement = (statement_at program claim.statement).writes.array ≡ (reference_of program reader).array }
-    ∷ follow_claims 4 (place ++ Key CELL ∷ []) system 0 (cell_goals program reader claim) claim.cell
-    ++ follow_claims 5 (place ++ Key BEFORE ∷ []) system 0 (before_goals program reader claim) claim.before
+    follow_claims 3 (place ++ Key (codes "domain") ∷ []) system 0 (inside_goals program reader claim) claim.inside
+    ++ record { condition = 4; place = place ++ Key (codes "statement") ∷ []; statement = (statement_at program claim.statement).writes.array ≡ (reference_of program reader).array }
+    ∷ follow_claims 4 (place ++ Key (codes "cell") ∷ []) system 0 (cell_goals program reader claim) claim.cell
+    ++ follow_claims 5 (place ++ Key (codes "before") ∷ []) system 0 (before_goals program reader claim) claim.before
 
 -- What a source claims: that the system has few rows (condition 2); what it claims of its point; and that no write of
 -- the cell lies between (6).
@@ -90,7 +59,7 @@ source_claims program reader tests place claim =
     let system = context_system program reader tests in
     record { condition = 2; place = first_shown place claim.inside claim.cell claim.before; statement = IsFew (length system.rows) }
     ∷ point_claims program reader system place claim
-    ++ pointless_claims 6 (place ++ Key BETWEEN ∷ []) 0 (writes_between program reader (context program reader tests) claim) claim.between
+    ++ pointless_claims 6 (place ++ Key (codes "between") ∷ []) 0 (writes_between program reader (context program reader tests) claim) claim.between
 
 -- What a leaf claims: an input that no write of the cell is earlier (condition 6), an empty leaf that no point comes
 -- there (7), and each that its system has few rows (2).
@@ -98,18 +67,18 @@ abbrev pub leaf_claims : AffineProgram → ReadOf → List AffineForm → List S
 leaf_claims program reader tests place (source claim) = source_claims program reader tests place claim
 leaf_claims program reader tests place (input shown) =
     record { condition = 2; place = place; statement = IsFew (length (context program reader tests)) }
-    ∷ pointless_claims 6 (place ++ Key INPUT ∷ []) 0 (earlier_writes program reader (context program reader tests)) shown
+    ∷ pointless_claims 6 (place ++ Key (codes "input") ∷ []) 0 (earlier_writes program reader (context program reader tests)) shown
 leaf_claims program reader tests place (empty shown) =
-    record { condition = 2; place = place ++ Key EMPTY ∷ []; statement = IsFew (length (context program reader tests)) }
-    ∷ record { condition = 7; place = place ++ Key EMPTY ∷ []; statement = IsPointless (context_system program reader tests) shown } ∷ []
+    record { condition = 2; place = place ++ Key (codes "empty") ∷ []; statement = IsFew (length (context program reader tests)) }
+    ∷ record { condition = 7; place = place ++ Key (codes "empty") ∷ []; statement = IsPointless (context_system program reader tests) shown } ∷ []
 leaf_claims program reader tests place blank = record { condition = 2; place = place; statement = IsFew (length (context program reader tests)) } ∷ []
 
 -- what a tree claims under these tests, at this place
 abbrev pub claims : AffineProgram → ReadOf → List AffineForm → List Step → SelectionTree → List Claim
 claims program reader tests place (leaf chosen) = leaf_claims program reader tests place chosen
 claims program reader tests place (test form above below) =
-    claims program reader (tests ++ form ∷ []) (place ++ Key YES ∷ []) above
-    ++ claims program reader (tests ++ no_row (variables_at program reader) form ∷ []) (place ++ Key NO ∷ []) below
+    claims program reader (tests ++ form ∷ []) (place ++ Key (codes "yes") ∷ []) above
+    ++ claims program reader (tests ++ no_row (variables_at program reader) form ∷ []) (place ++ Key (codes "no") ∷ []) below
 
 -- the tree is valid: every claim that it makes at a place holds
 abbrev pub IsValid : AffineProgram → ReadOf → List Step → SelectionTree → Type 0

@@ -4,3 +4,6 @@ pub mod Context
 pub mod Claims
 pub mod Truth
 pub mod Views
+pub mod Quasts
+pub mod Trees
+pub mod OpenLeaves

@@ -19,8 +19,7 @@ use crate::reader::Reader;
 use crate::truth::valid_trees_are_true;
 use affine_form::Form;
 use affine_program::Program;
-use claims::key::{NO, YES};
-use claims::{Place, Refused, Step};
+use claims::{ObjectKey, Place, Refused, Step};
 use std::alloc::Global;
 
 /// Whether a tree is shown under these tests, leaf by leaf, `yes` before `no`.
@@ -40,10 +39,10 @@ fn tree_shown(
     match quast {
         Quast::Test { form, yes, no } => {
             let above = tests_of_yes(alloc, tests, form)?;
-            let side = place.within(alloc, Step::Key(YES))?;
+            let side = place.within(alloc, Step::Key(ObjectKey("yes")))?;
             tree_shown(alloc, program, reader, above.as_slice(), &side, yes)?;
             let below = tests_of_no(alloc, program, reader, tests, form)?;
-            let side = place.within(alloc, Step::Key(NO))?;
+            let side = place.within(alloc, Step::Key(ObjectKey("no")))?;
             tree_shown(alloc, program, reader, below.as_slice(), &side, no)?;
             Ok(())
         }

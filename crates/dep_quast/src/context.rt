@@ -7,10 +7,10 @@ ghost use Rattle.affine_program.specs.Parts.{meaning};
 ghost use Rattle.dep_quast.specs.Context.{variables_at, context, no_row};
 ghost use Rattle.dep_quast.specs.Views.{read_of};
 
-use crate::lists::{all_widened, followed_by, with_form};
 use crate::reader::{Reader, variables};
 use affine_form::{Form, Memory, difference};
 use affine_program::Program;
+use claims::lists::{all_widened, followed_by, with_form};
 use std::alloc::Global;
 
 /// The rows of a leaf under these tests: the assumptions, the domain of the reading statement, and the tests.

@@ -11,15 +11,14 @@ ghost use Rattle.dep_quast.specs.Truth.{ReadFits, LeafFits};
 ghost use Rattle.dep_quast.specs.Views.{read_of, claim_of};
 
 use crate::claimed::Claimed;
-use crate::claims_shown::system_shown;
 use crate::context::context_rows;
 use crate::reader::{Reader, variables};
 use crate::source_claims::{place_of_first, point_shown};
 use crate::writes_shown::{between_shown, earlier_shown};
 use affine_form::{Form, Multipliers, system_of};
 use affine_program::Program;
-use claims::key::{BETWEEN, EMPTY, INPUT};
-use claims::{Place, Refused, Step, refusal};
+use claims::shown::system_shown;
+use claims::{ObjectKey, Place, Refused, Step, refusal};
 use iolb_model::limits;
 use std::alloc::Global;
 
@@ -44,7 +43,7 @@ pub(crate) fn source_shown(
     }
     let system = system_of(alloc, variables(program, reader), rows.as_slice())?;
     point_shown(alloc, program, reader, place, &system, claimed)?;
-    let list = place.within(alloc, Step::Key(BETWEEN))?;
+    let list = place.within(alloc, Step::Key(ObjectKey("between")))?;
     between_shown(alloc, program, reader, &list, rows.as_slice(), claimed)?;
     Ok(())
 }
@@ -67,7 +66,7 @@ pub(crate) fn input_shown(
     if rows.len() > limits::ROWS {
         return Err(refusal(alloc, 2, place));
     }
-    let list = place.within(alloc, Step::Key(INPUT))?;
+    let list = place.within(alloc, Step::Key(ObjectKey("input")))?;
     earlier_shown(alloc, program, reader, &list, rows.as_slice(), shown)?;
     Ok(())
 }
@@ -86,7 +85,7 @@ pub(crate) fn empty_shown(
     ensures { Decides (leaf_claims (meaning program.now) (read_of reader) tests.now place.now (empty shown.now)) result }
 {
     let rows = context_rows(alloc, program, reader, tests)?;
-    let member = place.within(alloc, Step::Key(EMPTY))?;
+    let member = place.within(alloc, Step::Key(ObjectKey("empty")))?;
     let vars = variables(program, reader);
     system_shown(alloc, 7, &member, vars, rows.as_slice(), shown)
 }

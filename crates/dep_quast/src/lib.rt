@@ -3,15 +3,16 @@
 #![tactic(auto)]
 
 mod check;
+mod check_all;
 pub mod claimed;
-pub mod claims_shown;
 pub mod context;
 pub mod fitting;
 mod leaves;
 pub mod levels;
-pub mod lists;
+pub mod open_leaves;
 pub mod point_rows;
 mod quast;
+mod quasts;
 pub mod reader;
 mod source_claims;
 pub mod truth;
@@ -19,4 +20,6 @@ pub mod writes;
 mod writes_shown;
 
 pub use check::check_quast;
+pub use check_all::check_quasts;
 pub use quast::{Quast, leaf_count};
+pub use quasts::Quasts;

@@ -13,10 +13,10 @@ ghost use Rattle.dep_quast.specs.Truth.{ReadFits};
 ghost use Rattle.dep_quast.specs.Views.{read_of};
 ghost use Rattle.iolb_model.specs.declared.limits.TheConstants.{VARIABLES};
 
-use crate::lists::followed_by;
 use crate::reader::{Reader, reference, variables, written};
 use affine_form::{Form, Memory, cell_rows, order_rows, variables_from, within_rows};
 use affine_program::Program;
+use claims::lists::followed_by;
 use std::alloc::Global;
 
 /// The rows which say that loop values of a statement are in its domain.

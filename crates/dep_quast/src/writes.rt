@@ -13,11 +13,11 @@ ghost use Rattle.dep_quast.specs.Views.{read_of, claim_of};
 ghost use Rattle.iolb_model.specs.declared.limits.TheConstants.{VARIABLES, LOOPS, PARAMETERS};
 
 use crate::claimed::Claimed;
-use crate::lists::{all_widened, followed_by};
 use crate::point_rows::{domain_rows, precedence_rows, written_rows};
 use crate::reader::{Reader, depth, variables};
 use affine_form::{Form, Memory, variables_from};
 use affine_program::Program;
+use claims::lists::{all_widened, followed_by};
 use std::alloc::Global;
 
 /// How many variables there are with a writer's.

@@ -7,7 +7,7 @@ ghost use Rattle.affine_form.specs.System.{AllOver};
 ghost use Rattle.affine_form.specs.Rows.{IsSmallOver};
 ghost use Rattle.affine_program.specs.Domain.{depth_of};
 ghost use Rattle.affine_program.specs.Parts.{meaning};
-ghost use Rattle.dep_quast.specs.Claims.{pointless_claims};
+ghost use Rattle.claims.specs.Shown.{pointless_claims};
 ghost use Rattle.dep_quast.specs.Context.{reference_of, variables_at, variables_with, before_reader, after_source, earlier_writes, writes_between};
 ghost use Rattle.claims.specs.Claims.{Decides};
 ghost use Rattle.dep_quast.specs.Levels.{levels, level_count};
@@ -16,12 +16,12 @@ ghost use Rattle.dep_quast.specs.Views.{read_of, claim_of};
 ghost use Rattle.iolb_model.specs.declared.limits.TheConstants.{LOOPS};
 
 use crate::claimed::Claimed;
-use crate::claims_shown::system_shown;
 use crate::levels::{level_count, writers};
 use crate::reader::{Reader, reference};
 use crate::writes::{rows_after_source, rows_before_reader, rows_of_write, variables_beside};
 use affine_form::{Form, Multipliers};
 use affine_program::Program;
+use claims::shown::system_shown;
 use claims::{Place, Refused, Step};
 use std::alloc::Global;
 

@@ -1,4 +1,5 @@
 -- The claims of a count hold where it is right, and give it.
+use Rattle.std.specs.Prelude.{codes}
 use Rattle.std.proofs.Common.{◌≡◌, ◌≢◌, refl, sym, ◌∙◌, subst, inl, inr, ℕ, zero, suc, ◌+◌, ◌<◌, ◌≤◌, List, [], ◌∷◌, length, drop, take, arith}
 use Rattle.std.proofs.lemmas.List.{get_or_default}
 use Rattle.std.proofs.Math.Nat.{add-zero}
@@ -20,7 +21,6 @@ use Rattle.domain_count.specs.Exact.{RightClaimsGiveOne}
 use Rattle.domain_count.specs.Faults.{condition_of}
 use Rattle.domain_count.proofs.Counting.{positive-from}
 use Rattle.domain_count.proofs.Determined.{antidifference-stays, between-same, between-stays, difference-stays}
-use Rattle.claims.specs.declared.key.TheConstants.{SUMS}
 
 -- the sums from a later variable on
 sums-at : (var i : ℕ) (nest : List (AffineForm × AffineForm)) (sums : List Quotient) (total : Quotient) → IsSumFrom var nest sums total → i ≤ length nest
@@ -59,7 +59,7 @@ sum-there var (suc k) (bounds ∷ nest) [] total h below =
       nothing (suc n) = refl
 sum-there var (suc k) (bounds ∷ nest) (sum ∷ sums) total h below = sum-there var k nest sums total h (omega arith)
 
-module _ (params : ℕ) (nest : List (AffineForm × AffineForm)) (sums : List Quotient) (place : List Step) (key : ℕ) where
+module _ (params : ℕ) (nest : List (AffineForm × AffineForm)) (sums : List Quotient) (place : List Step) (key : List ℕ) where
   -- the claims of a variable whose sum is right
   pub sum-holds : (k : ℕ) (total : Quotient) → k < length nest → IsSumFrom (params + k) (drop k nest) (drop k sums) total → AllHold (sum_claims params nest sums place key k)
   sum-holds k total below h =
@@ -103,7 +103,7 @@ module _ (params : ℕ) (nest : List (AffineForm × AffineForm)) (sums : List Qu
       )
   sum-fails k summand Memory below behind legal not fails = absurd (not refl)
 
-pub sums-give : (params : ℕ) (nest : List (AffineForm × AffineForm)) (sums : List Quotient) (place : List Step) (key : ℕ)
+pub sums-give : (params : ℕ) (nest : List (AffineForm × AffineForm)) (sums : List Quotient) (place : List Step) (key : List ℕ)
     → AllHold (sums_down params nest sums place key (length nest)) → (total : Quotient) × IsSumFrom params nest sums total
 sums-give params [] sums place key h = (one, refl)
 sums-give params (bounds ∷ nest) sums place key h = first-total params (bounds ∷ nest) sums place key (length nest) h
@@ -129,15 +129,15 @@ module _ (program : AffineProgram) (nest : List (AffineForm × AffineForm)) (cla
   ranges = numbered (range_claim program nest claims.shown place) 0 nest
 
   abbrev sums : List Claim
-  sums = sums_down params nest claims.sums place SUMS (length nest)
+  sums = sums_down params nest claims.sums place (codes "sums") (length nest)
 
   -- Where the claims of a count hold, they give one.
   pub claims-count : AllHold (count_claims program nest claims place) → (total : Quotient) × IsCount program nest claims total
   claims-count h =
-      let given = sums-give params nest claims.sums place SUMS (AllHold-right ranges sums h) in
+      let given = sums-give params nest claims.sums place (codes "sums") (AllHold-right ranges sums h) in
       (given.0, record { shown = ranges-shown program nest claims.shown place (AllHold-left ranges sums h); sums = given.1 })
 
   -- They hold where they give one.
   pub count-claims : (total : Quotient) → IsCount program nest claims total → AllHold (count_claims program nest claims place)
   count-claims total is =
-      AllHold-append ranges sums (ranges-hold program nest claims.shown place is.shown) (sums-hold params nest claims.sums place SUMS (length nest) total (omega arith) is.sums)
+      AllHold-append ranges sums (ranges-hold program nest claims.shown place is.shown) (sums-hold params nest claims.sums place (codes "sums") (length nest) total (omega arith) is.sums)

@@ -11,7 +11,7 @@ use Rattle.iolb_model.specs.Polynomial.{Term, int_power}
 use Rattle.power_sums.specs.Polynomial.{value as row_value}
 use Rattle.claims.specs.Claims.{FirstFails}
 use Rattle.claims.specs.declared.place.Step.{Step}
-use Rattle.claims.specs.declared.refused.No.{No}
+use Rattle.claims.specs.declared.refused.FailedCondition.{FailedCondition}
 use Rattle.poly_tree.specs.Expansion.{at, value}
 use Rattle.poly_tree.specs.Poly.{Quotient, IsLegal, SameValues, numerator_at}
 use Rattle.poly_tree.specs.Printed.{written_terms}
@@ -126,7 +126,7 @@ summed-at v w zero (b ∷ nest) (s ∷ sums) total e below h =
 summed-at v w (suc k) (b ∷ nest) (s ∷ sums) total e below h = summed-at (suc v) w k nest sums h.0 (omega (arith, e)) (omega arith) h.1.0
 
 -- the claim that fails first about a summation's polynomials is one of condition 2
-pub wide-fails : (params : ℕ) (nest : List (AffineForm × AffineForm)) (sums : List Quotient) (place : List Step) (key : ℕ) (failed : No) (total : Quotient) → AreSummed params nest sums total
+pub wide-fails : (params : ℕ) (nest : List (AffineForm × AffineForm)) (sums : List Quotient) (place : List Step) (key : List ℕ) (failed : FailedCondition) (total : Quotient) → AreSummed params nest sums total
     → (k : ℕ) → k ≤ length nest → (behind : Quotient) → IsSumFrom (params + k) (drop k nest) (drop k sums) behind → FirstFails (sums_down params nest sums place key k) failed
     → failed.condition ≡ 2
 wide-fails params nest sums place key failed total made zero le behind h fails = absurd fails
@@ -152,7 +152,7 @@ wide-fails params nest sums place key failed total made (suc k) le behind h (inr
     wide-fails params nest sums place key failed total made k (omega arith) whole.0 whole.1 later
 
 -- from the last variable on
-pub first-is-wide : (params : ℕ) (nest : List (AffineForm × AffineForm)) (sums : List Quotient) (place : List Step) (key : ℕ) (failed : No) (total : Quotient) → AreSummed params nest sums total
+pub first-is-wide : (params : ℕ) (nest : List (AffineForm × AffineForm)) (sums : List Quotient) (place : List Step) (key : List ℕ) (failed : FailedCondition) (total : Quotient) → AreSummed params nest sums total
     → FirstFails (sums_down params nest sums place key (length nest)) failed → failed.condition ≡ 2
 first-is-wide params nest sums place key failed total made fails =
     wide-fails params nest sums place key failed total made (length nest) (omega arith) one

@@ -5,7 +5,7 @@ use Rattle.iolb_model.specs.Form.{AffineForm}
 use Rattle.iolb_model.specs.Program.{AffineProgram}
 use Rattle.affine_form.specs.Multipliers.{FarkasMultipliers}
 use Rattle.claims.specs.Claims.{Claim, AllHold, FirstFails}
-use Rattle.claims.specs.declared.refused.No.{No}
+use Rattle.claims.specs.declared.refused.FailedCondition.{FailedCondition}
 use Rattle.poly_tree.specs.Poly.{Quotient}
 use Rattle.domain_count.specs.Count.{AreShownBelow, IsShown, ShowsRange, bounds_at, multipliers_at}
 use Rattle.domain_count.specs.Ranges.{AreAllShown}
@@ -32,7 +32,7 @@ sums-many v (b ∷ nest) [] total h = absurd h
 sums-many v (b ∷ nest) (s ∷ sums) total h = ap suc (sums-many (suc v) nest sums h.0 h.1.0)
 
 -- what fails first behind claims that hold
-pub fails-behind : (xs ys : List Claim) (failed : No) → AllHold xs → FirstFails (xs ++ ys) failed → FirstFails ys failed
+pub fails-behind : (xs ys : List Claim) (failed : FailedCondition) → AllHold xs → FirstFails (xs ++ ys) failed → FirstFails ys failed
 fails-behind [] ys failed h f = f
 fails-behind (x ∷ xs) ys failed h (inl here) = absurd (here.0 h.0)
 fails-behind (x ∷ xs) ys failed h (inr later) = fails-behind xs ys failed h.1 later.1

@@ -7,7 +7,7 @@ use Rattle.iolb_model.specs.Form.{AffineForm}
 use Rattle.claims.specs.Claims.{AllHold, Decides, FirstFails, IsRefusal}
 use Rattle.claims.specs.declared.place.Step.{Step}
 use Rattle.claims.specs.declared.refused.Refused.{Refused}
-use Rattle.claims.specs.declared.refused.Refused.TheVariants.{No, Memory}
+use Rattle.claims.specs.declared.refused.Refused.TheVariants.{Failed, Memory}
 use Rattle.claims.proofs.Found.{decides-later}
 use Rattle.claims.proofs.Laws.{first-fails}
 use Rattle.poly_tree.specs.Poly.{Quotient, IsLegal}
@@ -41,7 +41,7 @@ sum-step params j k nest sums b s summand total e within same here there h is =
     )
 
 -- One variable further out: its claims hold, and what decides the claims of those before it decides all.
-pub sums-further : (params j k many : ℕ) (nest : List (AffineForm × AffineForm)) (sums : List Quotient) (place : List Step) (key : ℕ) (total : Quotient) → k ≡ suc j → k ≤ length nest
+pub sums-further : (params j k many : ℕ) (nest : List (AffineForm × AffineForm)) (sums : List Quotient) (place : List Step) (key : List ℕ) (total : Quotient) → k ≡ suc j → k ≤ length nest
     → IsSumFrom (params + j) (drop j nest) (drop j sums) total
     → ((answer : Result (Unit {0}) Refused) → Decides (sums_down params nest sums place key k) answer → Decides (sums_down params nest sums place key many) answer)
     → (answer : Result (Unit {0}) Refused) → Decides (sums_down params nest sums place key j) answer → Decides (sums_down params nest sums place key many) answer
@@ -50,12 +50,12 @@ sums-further params j k many nest sums place key total e within is whole answer 
     (decides-later (sum_claims params nest sums place key j) (sums_down params nest sums place key j) answer (sum-holds params nest sums place key j total (omega arith) is) h))
 
 -- the first claim of a sum that fails
-pub sum-refused : (params j k many : ℕ) (nest : List (AffineForm × AffineForm)) (sums : List Quotient) (place : List Step) (key : ℕ) (b : AffineForm × AffineForm) (s summand : Quotient) (fault : SumFault)
+pub sum-refused : (params j k many : ℕ) (nest : List (AffineForm × AffineForm)) (sums : List Quotient) (place : List Step) (key : List ℕ) (b : AffineForm × AffineForm) (s summand : Quotient) (fault : SumFault)
     (refused : Refused) → k ≡ suc j → k ≤ length nest → length sums ≡ length nest → b ≡ get_or nest j b → s ≡ get_or sums j s → IsSumFrom (params + k) (drop k nest) (drop k sums) summand
     → ((answer : Result (Unit {0}) Refused) → Decides (sums_down params nest sums place key k) answer → Decides (sums_down params nest sums place key many) answer)
     → IsLegal s → FailsAs (params + j) b summand s fault → IsFaultRefusal (member_place place key j) fault refused → IsRefusal (sums_down params nest sums place key many) refused
 sum-refused params j k many nest sums place key b s summand fault Memory e within same here there behind whole legal fails is = tt
-sum-refused params j k many nest sums place key b s summand fault (No failed) e within same here there behind whole legal fails is =
+sum-refused params j k many nest sums place key b s summand fault (Failed failed) e within same here there behind whole legal fails is =
     let below : j < length nest = omega arith in
     let bounds : b ≡ bounds_at nest j = here ∙ get_or_default nest j b (bounds_at [] 0) below in
     let poly : s ≡ sum_at sums j = there ∙ get_or_default sums j s one (omega arith) in
@@ -66,12 +66,12 @@ sum-refused params j k many nest sums place key b s summand fault (No failed) e 
     = subst (λ (x : AffineForm × AffineForm). FailsAs (params + j) x summand (sum_at sums j) fault) bounds
     (subst (λ (q : Quotient). FailsAs (params + j) b summand q fault) poly fails) in
     let first = sum-fails params nest sums place key j summand fault below from (subst IsLegal poly legal) is.0 breaks in
-    whole (Err (No failed)) (subst (λ (n : ℕ). FirstFails (sums_down params nest sums place key n) failed) (sym e)
+    whole (Err (Failed failed)) (subst (λ (n : ℕ). FirstFails (sums_down params nest sums place key n) failed) (sym e)
     (first-fails (sum_claims params nest sums place key j) (sums_down params nest sums place key j) failed
     (subst (FirstFails (sum_claims params nest sums place key j)) (sym is.1) first)))
 
 -- all claims hold where none is left
-pub sums-ended : (params k many : ℕ) (nest : List (AffineForm × AffineForm)) (sums : List Quotient) (place : List Step) (key : ℕ) → k ≡ 0
+pub sums-ended : (params k many : ℕ) (nest : List (AffineForm × AffineForm)) (sums : List Quotient) (place : List Step) (key : List ℕ) → k ≡ 0
     → ((answer : Result (Unit {0}) Refused) → Decides (sums_down params nest sums place key k) answer → Decides (sums_down params nest sums place key many) answer)
     → AllHold (sums_down params nest sums place key many)
 sums-ended params k many nest sums place key e whole = whole (Ok tt) (subst (λ (n : ℕ). AllHold (sums_down params nest sums place key n)) (sym e) tt)

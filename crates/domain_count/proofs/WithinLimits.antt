@@ -1,11 +1,11 @@
 -- Where an operation of a summation has an answer, it passes no limit; nor does a summation whose count is right.
+use Rattle.std.specs.Prelude.{codes}
 use Rattle.std.proofs.Common.{◌≡◌, sym, subst, ◌∙◌, ap, inl, inr, ℕ, zero, suc, ◌+◌, ◌*◌, ◌≤◌, List, [], ◌∷◌, length, mul-pos, not-le_of_lt}
 use Rattle.std.proofs.Math.IntN.{ℤ, pos, ◌*ℤ◌}
 use Rattle.iolb_model.specs.Form.{AffineForm}
 use Rattle.iolb_model.specs.Polynomial.{Term}
 use Rattle.iolb_model.specs.Program.{AffineProgram}
 use Rattle.claims.specs.Claims.{AllHold, numbered}
-use Rattle.claims.specs.declared.key.TheConstants.{SUMS}
 use Rattle.claims.proofs.Laws.{AllHold-right, accepted-stand}
 use Rattle.poly_tree.specs.Poly.{Quotient, IsLegal}
 use Rattle.poly_tree.specs.Printed.{written_terms}
@@ -77,7 +77,7 @@ module _ (program : AffineProgram) (nest : List (AffineForm × AffineForm)) wher
   pub count-stays : (claims : SumClaims) (total : Quotient) → IsCount program nest claims total → AreMade params nest claims.sums → CheckPasses program nest → ⊥
   count-stays claims total right made (inl wide) = summed-stays params nest claims.sums made.0 made.1 wide
   count-stays claims total right made (inr (others, place, failed, (its, fails, wide))) =
-      accepted-stand (sums_claims program nest others place SUMS) failed
-      (subst (λ (sums : List Quotient). AllHold (sums_claims program nest sums place SUMS)) (made-one claims.sums others made its)
-      (AllHold-right (numbered (range_claim program nest claims.shown place) 0 nest) (sums_claims program nest claims.sums place SUMS) (count-claims program nest claims place total right)))
+      accepted-stand (sums_claims program nest others place (codes "sums")) failed
+      (subst (λ (sums : List Quotient). AllHold (sums_claims program nest sums place (codes "sums"))) (made-one claims.sums others made its)
+      (AllHold-right (numbered (range_claim program nest claims.shown place) 0 nest) (sums_claims program nest claims.sums place (codes "sums")) (count-claims program nest claims place total right)))
       fails

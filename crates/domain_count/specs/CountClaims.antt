@@ -1,28 +1,27 @@
 -- What is claimed of a nest's number of points, claim by claim in the order in which they are tested: that each range is
 -- whole, from the outermost variable in; then that each polynomial sums what the variables behind it count, from the last
 -- variable out. (Graham, Knuth and Patashnik, Concrete Mathematics, section 2.6.)
-use Rattle.std.specs.Prelude.{ℕ, zero, suc, ◌+◌, List, [], ◌∷◌, ◌++◌, length, take, drop, slice_index_or}
+use Rattle.std.specs.Prelude.{ℕ, zero, suc, ◌+◌, List, [], ◌∷◌, ◌++◌, length, take, drop, slice_index_or, codes}
 use Rattle.iolb_model.specs.Form.{AffineForm}
 use Rattle.iolb_model.specs.Program.{AffineProgram}
 use Rattle.affine_form.specs.Multipliers.{FarkasMultipliers}
 use Rattle.claims.specs.Claims.{Claim, numbered}
 use Rattle.claims.specs.declared.place.Step.{Step}
 use Rattle.claims.specs.declared.place.Step.TheVariants.{Key, Index}
-use Rattle.claims.specs.declared.key.TheConstants.{SHOWN, SUMS}
 use Rattle.poly_tree.specs.Poly.{Quotient}
 use Rattle.domain_count.specs.Antidifference.{IsAntidifference, IsBackwardDifference}
 use Rattle.domain_count.specs.Claims.{SumClaims}
 use Rattle.domain_count.specs.Count.{IsSumFrom, ShowsRange, multipliers_at, one}
 
 -- the place of a member under a key
-abbrev pub member_place : List Step → ℕ → ℕ → List Step
+abbrev pub member_place : List Step → List ℕ → ℕ → List Step
 member_place place key k = place ++ Key key ∷ Index k ∷ []
 
 -- the claim that a variable's range is whole
 abbrev pub range_claim : AffineProgram → List (AffineForm × AffineForm) → List FarkasMultipliers → List Step → ℕ → AffineForm × AffineForm → List Claim
 range_claim program nest shown place k bounds = record {
   condition = 8;
-  place = member_place place SHOWN k;
+  place = member_place place (codes "shown") k;
   statement = ShowsRange program (take k nest) bounds (multipliers_at shown k);
 } ∷ []
 
@@ -44,7 +43,7 @@ abbrev pub HasTotal : ℕ → List (AffineForm × AffineForm) → List Quotient 
 HasTotal params nest sums k = (total : Quotient) × IsSumFrom (params + k) (drop k nest) (drop k sums) total
 
 -- the claims about a variable's polynomial, which stands in a list under a key
-abbrev pub sum_claims : ℕ → List (AffineForm × AffineForm) → List Quotient → List Step → ℕ → ℕ → List Claim
+abbrev pub sum_claims : ℕ → List (AffineForm × AffineForm) → List Quotient → List Step → List ℕ → ℕ → List Claim
 sum_claims params nest sums place key k =
     record { condition = 2; place = member_place place key k; statement = HasDifference (params + k) (sum_at sums k) }
     ∷ record { condition = 9; place = member_place place key k; statement = SumsBehind params nest sums k }
@@ -52,16 +51,16 @@ sum_claims params nest sums place key k =
     ∷ []
 
 -- the claims about the polynomials of the variables before one, from the last of them out
-abbrev pub sums_down : ℕ → List (AffineForm × AffineForm) → List Quotient → List Step → ℕ → ℕ → List Claim
+abbrev pub sums_down : ℕ → List (AffineForm × AffineForm) → List Quotient → List Step → List ℕ → ℕ → List Claim
 sums_down params nest sums place key zero = []
 sums_down params nest sums place key (suc k) = sum_claims params nest sums place key k ++ sums_down params nest sums place key k
 
 -- what is claimed of a nest's polynomials, which stand in a list under a key
-abbrev pub sums_claims : AffineProgram → List (AffineForm × AffineForm) → List Quotient → List Step → ℕ → List Claim
+abbrev pub sums_claims : AffineProgram → List (AffineForm × AffineForm) → List Quotient → List Step → List ℕ → List Claim
 sums_claims program nest sums place key = sums_down (length program.parameters) nest sums place key (length nest)
 
 -- all claims of a count
 abbrev pub count_claims : AffineProgram → List (AffineForm × AffineForm) → SumClaims → List Step → List Claim
 count_claims program nest claims place =
     numbered (range_claim program nest claims.shown place) 0 nest
-    ++ sums_claims program nest claims.sums place SUMS
+    ++ sums_claims program nest claims.sums place (codes "sums")

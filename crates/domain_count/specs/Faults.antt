@@ -2,7 +2,7 @@
 use Rattle.std.specs.Prelude.{◌≡◌, ◌≢◌, ⊤, ℕ, List}
 use Rattle.claims.specs.declared.place.Step.{Step}
 use Rattle.claims.specs.declared.refused.Refused.{Refused}
-use Rattle.claims.specs.declared.refused.Refused.TheVariants.{No, Memory as NoMemory}
+use Rattle.claims.specs.declared.refused.Refused.TheVariants.{Failed, Memory as NoMemory}
 use Rattle.poly_tree.specs.declared.fault.PolyFault.{PolyFault}
 use Rattle.poly_tree.specs.declared.fault.PolyFault.TheVariants.{Wide, Memory}
 use Rattle.domain_count.specs.declared.summation.SumFault.{SumFault}
@@ -21,5 +21,5 @@ condition_of SumMemory = 0
 
 -- where there was memory, it is this fault that is refused at this place
 abbrev pub IsFaultRefusal : List Step → SumFault → Refused → Type 0
-IsFaultRefusal place fault (No failed) = (fault ≢ SumMemory) × (failed ≡ record { condition = condition_of fault; place = place })
+IsFaultRefusal place fault (Failed failed) = (fault ≢ SumMemory) × (failed ≡ record { condition = condition_of fault; place = place })
 IsFaultRefusal place fault NoMemory = ⊤

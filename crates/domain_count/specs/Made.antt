@@ -1,11 +1,10 @@
 -- What a count is made of, and how it can't be.
-use Rattle.std.specs.Prelude.{◌≡◌, ◌⊎◌, ℕ, List, length}
+use Rattle.std.specs.Prelude.{◌≡◌, ◌⊎◌, ℕ, List, length, codes}
 use Rattle.iolb_model.specs.Form.{AffineForm}
 use Rattle.iolb_model.specs.Program.{AffineProgram}
 use Rattle.claims.specs.Claims.{FirstFails}
 use Rattle.claims.specs.declared.place.Step.{Step}
-use Rattle.claims.specs.declared.refused.No.{No}
-use Rattle.claims.specs.declared.key.TheConstants.{SUMS}
+use Rattle.claims.specs.declared.refused.FailedCondition.{FailedCondition}
 use Rattle.poly_tree.specs.Poly.{Quotient}
 use Rattle.domain_count.specs.CountClaims.{sums_claims}
 use Rattle.domain_count.specs.Summing.{AreSummed, SummationPasses}
@@ -19,4 +18,4 @@ AreMade params nest sums = (total : Quotient) × AreSummed params nest sums tota
 abbrev pub CheckPasses : AffineProgram → List (AffineForm × AffineForm) → Type 0
 CheckPasses program nest =
     SummationPasses (length program.parameters) nest
-    ⊎ ((sums : List Quotient) × (place : List Step) × (failed : No) × (AreMade (length program.parameters) nest sums × FirstFails (sums_claims program nest sums place SUMS) failed × (failed.condition ≡ 2)))
+    ⊎ ((sums : List Quotient) × (place : List Step) × (failed : FailedCondition) × (AreMade (length program.parameters) nest sums × FirstFails (sums_claims program nest sums place (codes "sums")) failed × (failed.condition ≡ 2)))

@@ -17,7 +17,7 @@ use crate::summation::{SumFault, summed};
 use crate::sums::Sums;
 use affine_form::{Form, Memory};
 use affine_program::Program;
-use claims::{No, Place, Refused, key};
+use claims::{FailedCondition, ObjectKey, Place, Refused};
 use poly_tree::Poly;
 use std::alloc::Global;
 
@@ -50,7 +50,14 @@ pub fn check_count(
 {
     ranges_shown(alloc, program, nest.bounds(), sums.shown(), place)?;
     let params = program.params().len();
-    sum_up(alloc, params, nest.bounds(), sums.sums(), place, key::SUMS)
+    sum_up(
+        alloc,
+        params,
+        nest.bounds(),
+        sums.sums(),
+        place,
+        ObjectKey("sums"),
+    )
 }
 
 /// The polynomial that a list of polynomials gives for variables, where each sums what the variables behind it count. It
@@ -66,7 +73,7 @@ pub fn check_sums(
     bounds: &[(Form, Form)],
     sums: &[Poly],
     place: &Place,
-    key: u8,
+    key: ObjectKey,
 ) -> Result<Poly, Refused>
     requires few { length bounds.now ≤ NEST_VARIABLES }
     requires fit { BoundsFit (length program.now.params) bounds.now }
@@ -87,7 +94,7 @@ fn sum_up(
     bounds: &[(Form, Form)],
     sums: &[Poly],
     place: &Place,
-    key: u8,
+    key: ObjectKey,
 ) -> Result<Poly, Refused>
     requires few { params + length bounds.now ≤ VARIABLES }
     requires fit { BoundsFit params bounds.now }
@@ -113,7 +120,7 @@ fn sum_up(
 }
 
 /// The refusal where the summation over a variable fails.
-fn sum_refusal(alloc: Global, place: &Place, key: u8, k: usize, fault: SumFault) -> Refused
+fn sum_refusal(alloc: Global, place: &Place, key: ObjectKey, k: usize, fault: SumFault) -> Refused
     ensures { IsFaultRefusal (member_place place.now key k) fault result }
 {
     let condition = match fault {
@@ -122,7 +129,7 @@ fn sum_refusal(alloc: Global, place: &Place, key: u8, k: usize, fault: SumFault)
         SumFault::Memory => return Refused::Memory,
     };
     match member_place(alloc, place, key, k) {
-        Ok(place) => Refused::No(No { condition, place }),
+        Ok(place) => Refused::Failed(FailedCondition { condition, place }),
         Err(Memory) => Refused::Memory,
     }
 }

@@ -75,7 +75,7 @@ pub fn make_count(alloc: Global, program: &Program, nest: &Nest) -> Result<Sums,
     let sums = Sums::new(shown, summed.sums);
     match check_count(alloc, program, nest, &sums, &Place::new(Vec::new(alloc))) {
         Ok(_) => Ok(sums),
-        Err(Refused::No(_)) => Err(CountFault::Wide),
+        Err(Refused::Failed(_)) => Err(CountFault::Wide),
         Err(Refused::Memory) => Err(CountFault::Memory),
     }
 }

@@ -14,7 +14,7 @@ use affine_form::{
     within_rows,
 };
 use affine_program::Program;
-use claims::{Place, Refused, Step, key, refusal};
+use claims::{ObjectKey, Place, Refused, Step, refusal};
 use std::alloc::Global;
 
 /// Whether each variable's multipliers show that its range is whole: that its upper form is at least its lower form less 1.
@@ -32,7 +32,7 @@ pub(crate) fn ranges_shown(
 {
     for k in 0..bounds.len() {
         if !is_shown(alloc, program, &bounds[..k], &bounds[k], &shown[k])? {
-            let place = member_place(alloc, place, key::SHOWN, k)?;
+            let place = member_place(alloc, place, ObjectKey("shown"), k)?;
             return Err(refusal(alloc, 8, &place));
         }
     }
@@ -100,7 +100,7 @@ fn widened_rows(alloc: Global, vars: usize, system: &System) -> Result<Vec<Form>
 pub(crate) fn member_place(
     alloc: Global,
     place: &Place,
-    key: u8,
+    key: ObjectKey,
     variable: usize,
 ) -> Result<Place, Memory>
     ensures { IfOk result (λ inner. inner ≡ member_place place.now key variable) }

@@ -1,6 +1,6 @@
 -- Certificates with the opening branch meet all conditions.
 use Rattle.std.proofs.Common.{◌≡◌, refl, sym, ◌∙◌, ap, subst, ℕ, ◌<◌, false, List, [], ◌∷◌, ◌++◌, length, map, arith}
-use Rattle.std.specs.Prelude.{Option, Some, None, nat_eq}
+use Rattle.std.specs.Prelude.{Option, Some, None, nat_eq, codes}
 use Rattle.std.specs.List.{AllByRecursion, IsDistinct}
 use Rattle.std.proofs.lemmas.Bool.{ne_eqb}
 use Rattle.std.proofs.lemmas.List.{length-map}
@@ -10,14 +10,13 @@ use Rattle.affine_program.specs.Parts.{ProgramParts, meaning}
 use Rattle.flow_deps.specs.declared.wanted.Wanted.TheVariants.{Short}
 use Rattle.claims.specs.Claims.{AllHold, Claim}
 use Rattle.claims.specs.declared.place.Step.TheVariants.{Key, Index}
-use Rattle.claims.specs.declared.key.TheConstants.{BRANCHES}
 use Rattle.claims.proofs.Laws.{AllHold-append}
 use Rattle.dep_quast.specs.Context.{ReadOf}
 use Rattle.dep_quast.specs.Tree.{SelectionTree}
 use Rattle.flow_deps.specs.Plain.{IsPlain}
 use Rattle.certificate_fit.specs.TreeFit.{trees_fit}
-use Rattle.reuse_paths.specs.Quasts.{tree_at, tree_for, tree_or_blank}
-use Rattle.reuse_paths.specs.Trees.{rows_claims}
+use Rattle.dep_quast.specs.Quasts.{tree_at, tree_for, tree_or_blank}
+use Rattle.dep_quast.specs.Trees.{rows_claims}
 use Rattle.wavefront.specs.declared.cold.Cold.{Cold}
 use Rattle.wavefront.specs.View.{term_of}
 use Rattle.iolb_check.specs.declared.term.Term.TheVariants as terms
@@ -80,9 +79,9 @@ module _ (program : ProgramParts) (trees : List (List SelectionTree)) where
   made-holds : (colds : List Cold) → IsDistinct nat_eq (map (array_read P) colds) → AllByRecursion (IsPlaced P trees) colds → AllHold (trees_fit P trees) → AllHold (rows_claims P 0 trees)
       → AllHold (conditions P (record { trees = trees; branches = made program trees colds ∷ [] }))
   made-holds colds different h fit valid =
-      let fit_claims : List Claim = branch_fit P trees (Key BRANCHES ∷ Index 0 ∷ []) (made program trees colds) in
+      let fit_claims : List Claim = branch_fit P trees (Key (codes "branches") ∷ Index 0 ∷ []) (made program trees colds) in
       let claims : List Claim = branch_claims P trees 0 (made program trees colds) in
-      let fits : AllHold fit_claims = branch-fits program trees (Key BRANCHES ∷ Index 0 ∷ []) colds different h in
+      let fits : AllHold fit_claims = branch-fits program trees (Key (codes "branches") ∷ Index 0 ∷ []) colds different h in
       let holds : AllHold claims = branch-holds program trees 0 colds h in
       let whole_fit : List Claim = (fit_claims ++ []) ++ trees_fit P trees in
       AllHold-append (whole_fit ++ rows_claims P 0 trees) (claims ++ [])

@@ -1,4 +1,5 @@
 -- Cold terms that are shown, by their parts.
+use Rattle.std.specs.Prelude.{codes}
 use Rattle.std.proofs.Common.{◌≡◌, sym, ◌∙◌, ◌*◌, [], ◌∷◌, length, map}
 use Rattle.iolb_model.specs.Program.{AffineProgram}
 use Rattle.flow_deps.specs.declared.wanted.Wanted.{Wanted}
@@ -6,8 +7,7 @@ use Rattle.flow_deps.specs.declared.wanted.Wanted.TheVariants.{Short}
 use Rattle.flow_deps.specs.Answers.{Answers, following}
 use Rattle.flow_deps.proofs.AnswerLaws.{follow-short}
 use Rattle.claims.specs.declared.place.Step.TheVariants.{Key}
-use Rattle.claims.specs.declared.key.TheConstants.{INSIDE, LEAVES}
-use Rattle.dep_quast.specs.Claims.{IsFew}
+use Rattle.claims.specs.Shown.{IsFew}
 use Rattle.dep_quast.specs.Context.{variables_at}
 use Rattle.dep_quast.specs.Tree.{SelectionTree}
 use Rattle.dep_quast.proofs.Fits.{length-within_rows}
@@ -15,7 +15,7 @@ use Rattle.domain_count.proofs.Claimed.{claims-count}
 use Rattle.affine_program.specs.Domain.{path_of, depth_of}
 use Rattle.affine_form.specs.Rows.{variables_from}
 use Rattle.reuse_paths.specs.LeafClaims.{claim_of}
-use Rattle.reuse_paths.specs.OpenLeaves.{TestsFit}
+use Rattle.dep_quast.specs.OpenLeaves.{TestsFit}
 use Rattle.wavefront.specs.declared.cold.Cold.{Cold}
 use Rattle.wavefront.specs.ColdPieces.{leaves_of}
 use Rattle.wavefront.specs.Term.{ColdTerm, cell_forms, inside_goals, nest_system, nest_variables}
@@ -67,7 +67,7 @@ module _ (program : AffineProgram) (tree : SelectionTree) (cold : Cold) (h : IsS
 
   pub shown-inside : IsFew (length (nest_system program (bare (outline_in shown_term))).rows) → IsInside program (outline_in shown_term)
   shown-inside few =
-      follow-short 10 (Key INSIDE ∷ []) (nest_system program shown_term) 0 (inside_goals program shown_term) cold.inside.items few
+      follow-short 10 (Key (codes "inside") ∷ []) (nest_system program shown_term) 0 (inside_goals program shown_term) cold.inside.items few
       (h.fits.parts.inside ∙ sym many) parts.inside h.as_short.inside where
         many : length (inside_goals program shown_term) ≡ 2 * depth_of program shown_term.reader.statement
         many = length-within_rows (nest_variables program shown_term) (path_of program shown_term.reader.statement)
@@ -75,7 +75,7 @@ module _ (program : AffineProgram) (tree : SelectionTree) (cold : Cold) (h : IsS
 
   pub shown-closed : IsClosedBy Short program tree (outline_in shown_term) (map claim_of cold.leaves.items)
   shown-closed =
-      hold-closed Short (nest_variables program shown_term) (nest_system program shown_term).rows (leaves_of program tree shown_term) (map claim_of cold.leaves.items) (Key LEAVES ∷ []) 0
+      hold-closed Short (nest_variables program shown_term) (nest_system program shown_term).rows (leaves_of program tree shown_term) (map claim_of cold.leaves.items) (Key (codes "leaves") ∷ []) 0
       h.entries h.as_short.leaves parts.leaves
 
   pub shown-counted : AreCounted Short program cold.nest cold.sums

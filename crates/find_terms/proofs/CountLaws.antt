@@ -13,7 +13,7 @@ use Rattle.flow_deps.specs.Answers.{AreAnswered, Answers, HasNoShort, IsAnswered
 use Rattle.flow_deps.proofs.AnswerLaws.{answers-name}
 use Rattle.claims.specs.Claims.{AllHold, numbered}
 use Rattle.claims.specs.declared.place.Step.{Step}
-use Rattle.dep_quast.specs.Claims.{IsFew}
+use Rattle.claims.specs.Shown.{IsFew}
 use Rattle.domain_count.specs.Count.{AreShownBelow, ShowsRange, bounds_at, multipliers_at, range_goal, rows_before}
 use Rattle.int_sets.specs.ShortList.{HasShortList, IsShort}
 use Rattle.domain_count.specs.Claims.{SumClaims}

@@ -1,13 +1,12 @@
 -- Plain trees of one read have the same leaves.
 use Rattle.std.proofs.Common.{◌≡◌, refl, sym, ◌∙◌, ap, subst, inl, inr, ℕ, List, [], ◌∷◌, ◌++◌, length, map}
-use Rattle.std.specs.Prelude.{⊤}
+use Rattle.std.specs.Prelude.{⊤, codes}
 use Rattle.iolb_model.specs.Form.{AffineForm}
 use Rattle.iolb_model.specs.Program.{AffineProgram}
 use Rattle.flow_deps.proofs.FirstShown.{first-stands}
 use Rattle.flow_deps.specs.declared.wanted.Wanted.{Wanted}
 use Rattle.claims.specs.Claims.{AllHold}
 use Rattle.claims.specs.declared.place.Step.TheVariants.{Key}
-use Rattle.claims.specs.declared.key.TheConstants.{LEAVES}
 use Rattle.dep_quast.specs.Context.{ReadOf, variables_at}
 use Rattle.dep_quast.specs.Tree.{source, input, empty, blank, SelectionTree, leaf, test}
 use Rattle.domain_count.specs.CountClaims.{count_claims}
@@ -16,8 +15,8 @@ use Rattle.flow_deps.specs.declared.candidate.Candidate.TheVariants.{NoWrite, Sa
 use Rattle.flow_deps.specs.Shapes.{Shape, shape_of, no_write, last_write, other, split}
 use Rattle.flow_deps.specs.Candidates.{candidate_shape, candidates}
 use Rattle.flow_deps.specs.Plain.{IsFirstShown, IsPlain}
-use Rattle.reuse_paths.specs.OpenLeaves.{OpenLeaf, TestsFit, as_input, form_at, no_at, open_leaves, written}
-use Rattle.reuse_paths.proofs.OpenLeaves.{tests-fit}
+use Rattle.dep_quast.specs.OpenLeaves.{OpenLeaf, TestsFit, as_input, form_at, no_at, open_leaves, written}
+use Rattle.dep_quast.proofs.OpenLeaves.{tests-fit}
 use Rattle.wavefront.specs.declared.cold.Cold.{Cold}
 use Rattle.wavefront.specs.ColdClaims.{matrix_claims}
 use Rattle.wavefront.specs.Leaves.{inside_claims, leaves_claims}
@@ -100,7 +99,7 @@ shown-over wanted program t u cold pt pu h =
       polynomials = h.polynomials;
       holds = λ place.
           subst (λ (ls : List OpenLeaf). AllHold (count_claims program term.nest term.count place
-          ++ ((inside_claims program place term ++ leaves_claims vars (nest_system program term).rows (place ++ Key LEAVES ∷ []) 0 ls term.leaves) ++ matrix_claims program place term))) same (h.holds place);
+          ++ ((inside_claims program place term ++ leaves_claims vars (nest_system program term).rows (place ++ Key (codes "leaves") ∷ []) 0 ls term.leaves) ++ matrix_claims program place term))) same (h.holds place);
       small = h.small;
       made = h.made;
       entries = subst (λ (ls : List OpenLeaf). AreEntries ls (map claim_of cold.leaves.items)) same h.entries;

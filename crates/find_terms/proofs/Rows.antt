@@ -10,8 +10,8 @@ use Rattle.iolb_model.specs.Program.{AffineProgram}
 use Rattle.dep_quast.specs.declared.quast.Quast.{Quast}
 use Rattle.dep_quast.specs.Context.{ReadOf, reference_of}
 use Rattle.dep_quast.specs.Tree.{SelectionTree, leaf, blank, leaf_count, tree_of}
-use Rattle.reuse_paths.specs.Quasts.{row_trees}
-use Rattle.reuse_paths.specs.Trees.{read_of}
+use Rattle.dep_quast.specs.Quasts.{row_trees}
+use Rattle.dep_quast.specs.Trees.{read_of}
 use Rattle.find_terms.specs.Trees.{HasRow, IsSourceTree, RowStands, RowsStand, is_named, is_of_read, is_sought, is_written}
 use Rattle.find_terms.specs.declared.trees.Scope.{Scope}
 use Rattle.find_terms.specs.declared.trees.Scope.TheVariants.{All, Few}

@@ -2,11 +2,11 @@
 use Rattle.std.proofs.Common.{◌≡◌, subst, ℕ, suc, ◌+◌, List, [], ◌∷◌, ◌++◌, length, arith}
 use Rattle.iolb_model.specs.Program.{AffineProgram, IsWellFormed}
 use Rattle.claims.specs.Claims.{AllHold, FirstFails}
-use Rattle.claims.specs.declared.refused.No.{No as FailedCondition}
+use Rattle.claims.specs.declared.refused.FailedCondition.{FailedCondition}
 use Rattle.claims.proofs.Laws.{AllHold-append, accepted-stand}
 use Rattle.dep_quast.specs.Tree.{SelectionTree}
 use Rattle.certificate_fit.specs.TreeFit.{trees_fit}
-use Rattle.reuse_paths.specs.Trees.{read_of, rows_claims}
+use Rattle.dep_quast.specs.Trees.{read_of, rows_claims}
 use Rattle.flow_deps.specs.Standing.{AllStand, AreStanding, AreStandingRows}
 use Rattle.flow_deps.proofs.StandingTrees.{trees-fit, trees-valid}
 use Rattle.iolb_check.specs.Conditions.{conditions}

@@ -10,7 +10,7 @@ use Rattle.dep_quast.specs.Tree.{SelectionTree}
 use Rattle.dep_quast.specs.Truth.{ReadFits}
 use Rattle.flow_deps.specs.Plain.{IsPlain}
 use Rattle.certificate_fit.specs.Limits.{AreSmall, AreSmallBounds}
-use Rattle.reuse_paths.specs.OpenLeaves.{TestsFit}
+use Rattle.dep_quast.specs.OpenLeaves.{TestsFit}
 use Rattle.wavefront.specs.declared.cold.Cold.{Cold}
 use Rattle.wavefront.specs.View.{term_of}
 use Rattle.find_terms.specs.Found.{FarFits, FindsRead, FindsTerm, HasNoEarlier, IsSmallNest}

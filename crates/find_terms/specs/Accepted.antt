@@ -8,9 +8,9 @@ use Rattle.dep_quast.specs.Tree.{SelectionTree, tree_of}
 use Rattle.flow_deps.specs.Plain.{IsPlain}
 use Rattle.certificate_fit.specs.Limits.{IsSmallTree}
 use Rattle.certificate_fit.specs.TreeFit.{trees_fit}
-use Rattle.reuse_paths.specs.declared.quasts.Quasts.{Quasts}
-use Rattle.reuse_paths.specs.Quasts.{tree_for}
-use Rattle.reuse_paths.specs.Trees.{rows_claims}
+use Rattle.dep_quast.specs.declared.quasts.Quasts.{Quasts}
+use Rattle.dep_quast.specs.Quasts.{tree_for}
+use Rattle.dep_quast.specs.Trees.{rows_claims}
 use Rattle.iolb_check.specs.declared.term.Term.{Term}
 use Rattle.iolb_check.specs.declared.term.Term.TheVariants as terms
 use Rattle.iolb_check.specs.declared.term.Branch.{Branch}

@@ -3,7 +3,7 @@ use Rattle.std.specs.Prelude.{◌≡◌, ⊤, ℕ, List}
 use Rattle.iolb_model.specs.Headline.{BoundHolds}
 use Rattle.affine_program.specs.Parts.{ProgramParts, meaning}
 use Rattle.claims.specs.Claims.{FirstFails}
-use Rattle.claims.specs.declared.refused.No.{No}
+use Rattle.claims.specs.declared.refused.FailedCondition.{FailedCondition}
 use Rattle.iolb_check.specs.Bounds.{BoundParts, bound_of}
 use Rattle.iolb_check.specs.Claims.{claim_of_certificate}
 use Rattle.iolb_check.specs.Conditions.{MeetsConditions, conditions}
@@ -22,7 +22,7 @@ pub record Gives (program : ProgramParts) (certificate : CertificateParts) (boun
 
 -- a condition fails first
 abbrev pub IsRefused : ProgramParts → CertificateParts → Type 0
-IsRefused program certificate = (failed : No) × FirstFails (conditions (meaning program) (claim_of_certificate certificate)) failed
+IsRefused program certificate = (failed : FailedCondition) × FirstFails (conditions (meaning program) (claim_of_certificate certificate)) failed
 
 -- a bound that a certificate gives, and the certificate's text, which has the certificate
 pub record IsGiven (program : ProgramParts) (certificate : CertificateParts) (bound : BoundParts) (text : List ℕ) : Type 0 where
@@ -36,5 +36,5 @@ IsAccepted program accepted = IsGiven program accepted.certificate accepted.boun
 
 -- what a certificate that is taken gives
 abbrev pub IsTaken : ProgramParts → CertificateParts → Verdict → Type 0
-IsTaken program certificate (Taken bound text) = IsGiven program certificate bound text.items
+IsTaken program certificate (Taken bound) = Gives program certificate bound
 IsTaken program certificate (Left full) = ⊤

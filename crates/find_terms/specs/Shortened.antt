@@ -5,8 +5,8 @@ use Rattle.iolb_model.specs.Program.{AffineProgram}
 use Rattle.dep_quast.specs.Context.{ReadOf, reference_of}
 use Rattle.dep_quast.specs.Tree.{SelectionTree, leaf, blank}
 use Rattle.dep_quast.specs.Truth.{ReadFits}
-use Rattle.reuse_paths.specs.Quasts.{tree_for, trees_of}
-use Rattle.reuse_paths.specs.declared.quasts.Quasts.{Quasts}
+use Rattle.dep_quast.specs.Quasts.{tree_for, trees_of}
+use Rattle.dep_quast.specs.declared.quasts.Quasts.{Quasts}
 use Rattle.iolb_check.specs.declared.term.Term.{Term}
 use Rattle.iolb_check.specs.declared.term.Branch.{Branch}
 use Rattle.iolb_check.specs.Limits.{CertificateParts}

@@ -6,7 +6,7 @@ use Rattle.dep_quast.specs.Context.{ReadOf, reference_of}
 use Rattle.dep_quast.specs.Tree.{SelectionTree, leaf, blank}
 use Rattle.flow_deps.specs.Plain.{IsPlain}
 use Rattle.flow_deps.specs.Standing.{IsStanding}
-use Rattle.reuse_paths.specs.Trees.{read_of}
+use Rattle.dep_quast.specs.Trees.{read_of}
 use Rattle.iolb_check.specs.declared.term.Term.{Term}
 use Rattle.iolb_check.specs.declared.term.Term.TheVariants as terms
 use Rattle.find_terms.specs.declared.trees.Scope.{Scope}

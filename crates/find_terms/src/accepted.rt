@@ -9,9 +9,8 @@ ghost use Rattle.find_terms.specs.Trees.{HasTrees};
 ghost use Rattle.find_terms.specs.declared.trees.Scope.{Scope};
 ghost use Rattle.find_terms.specs.Openings.{FindsOpening, IsOpeningBranch};
 ghost use Rattle.iolb_check.specs.declared.term.Branch.{Branch};
-ghost use Rattle.iolb_check.specs.Limits.{IsWithinLimits};
 ghost use Rattle.projective_bounds.specs.Certified.{IsCertified};
-ghost use Rattle.reuse_paths.specs.Quasts.{trees_of};
+ghost use Rattle.dep_quast.specs.Quasts.{trees_of};
 
 use crate::law::openings_are_accepted;
 use affine_form::Memory;
@@ -42,19 +41,8 @@ pub(crate) fn bound_for(
 {
     match check(alloc, program, certificate) {
         Ok(bound) => Ok(Some(bound)),
-        Err(Refused::No(_)) => Ok(None),
+        Err(Refused::Failed(_)) => Ok(None),
         Err(Refused::Memory) => Err(Memory),
-    }
-}
-
-/// A certificate of these parts, which are within the limits.
-pub(crate) fn certificate_of(quasts: Quasts, branches: Vec<Branch>) -> Certificate
-    requires { IsWithinLimits (record { quasts = quasts; branches = branches.items }) }
-    ensures { result ≡ record { quasts = quasts; branches = branches.items } }
-{
-    match Certificate::new(quasts, branches) {
-        Some(certificate) => certificate,
-        None => unreachable!(),
     }
 }
 
@@ -66,7 +54,7 @@ pub(crate) fn without_last(certificate: Certificate) -> Certificate
     let _branches = certificate.branches();
     let (quasts, mut branches) = certificate.parts();
     let _last = branches.pop();
-    certificate_of(quasts, branches)
+    Certificate::within(quasts, branches)
 }
 
 /// A certificate with the bound that it gives and its text, where it is accepted.
@@ -113,7 +101,7 @@ fn bare(alloc: Global, program: &Program, quasts: Quasts) -> Result<Accepted, Me
     ensures parts { IfOk result (λ accepted. accepted.certificate ≡ record { quasts = quasts; branches = [] }) }
 {
     let _params = program.params();
-    let certificate = certificate_of(quasts, Vec::new(alloc));
+    let certificate = Certificate::within(quasts, Vec::new(alloc));
     match judged(alloc, program, certificate)? {
         Some(accepted) => Ok(accepted),
         None => unreachable!(),
@@ -137,7 +125,7 @@ fn with_opening(
     let _params = program.params();
     let mut branches = Vec::new(alloc);
     branches.push(branch)?;
-    let certificate = certificate_of(quasts, branches);
+    let certificate = Certificate::within(quasts, branches);
     match judged(alloc, program, certificate)? {
         Some(accepted) => Ok(accepted),
         None => unreachable!(),

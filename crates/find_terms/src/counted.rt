@@ -4,7 +4,7 @@ ghost use Rattle.std.specs.Prelude.{◌≡◌, ◌+◌, ◌≤◌, ◌<◌, [], 
 ghost use Rattle.affine_form.specs.Rows.{BoundsFit, IsSmallOver};
 ghost use Rattle.affine_program.specs.Parts.{meaning};
 ghost use Rattle.flow_deps.specs.Answers.{Answers, HasNoShort, following};
-ghost use Rattle.dep_quast.specs.Claims.{IsFew};
+ghost use Rattle.claims.specs.Shown.{IsFew};
 ghost use Rattle.domain_count.specs.Count.{rows_before, range_goal};
 ghost use Rattle.cold_terms.specs.Held.{ArePolynomials};
 ghost use Rattle.find_terms.specs.Counted.{FindsCount, FindsRanges};
@@ -12,9 +12,9 @@ ghost use Rattle.iolb_model.specs.declared.limits.TheConstants.{NEST_VARIABLES, 
 
 use affine_form::{Form, Memory, Multipliers, difference};
 use affine_program::Program;
-use certificate_fit::lists::polynomials_fits;
+use certificate_fit::lists::all_polynomials_fit;
 use certificate_fit::part_limits::are_small_polynomials;
-use claims::{Place, Refused, key};
+use claims::{ObjectKey, Place, Refused};
 use domain_count::{CountFault, Nest, Sums, make_count, rows_before};
 use flow_deps::{Wanted, goals_answered, with_answers};
 use poly_tree::Poly;
@@ -58,9 +58,9 @@ fn are_polynomials(alloc: Global, params: usize, nest: &Nest, sums: &[Poly]) -> 
 {
     let place = Place::new(Vec::new(alloc));
     let called = nest.bounds().len();
-    match polynomials_fits(alloc, &place, key::SUMS, params, sums, called) {
+    match all_polynomials_fit(alloc, &place, ObjectKey("sums"), params, sums, called) {
         Ok(()) => Ok(are_small_polynomials(sums)),
-        Err(Refused::No(_)) => Ok(false),
+        Err(Refused::Failed(_)) => Ok(false),
         Err(Refused::Memory) => Err(Memory),
     }
 }

@@ -4,7 +4,7 @@ ghost use Rattle.std.specs.Prelude.{IfOk};
 ghost use Rattle.affine_program.specs.Parts.{meaning};
 ghost use Rattle.dep_quast.specs.Context.{variables_at};
 ghost use Rattle.dep_quast.specs.Tree.{tree_of};
-ghost use Rattle.reuse_paths.specs.OpenLeaves.{TestsFit};
+ghost use Rattle.dep_quast.specs.OpenLeaves.{TestsFit};
 ghost use Rattle.cold_terms.specs.Outline.{OutlineFits, outline_of};
 ghost use Rattle.find_terms.specs.Shown.{FindsCold};
 

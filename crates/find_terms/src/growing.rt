@@ -3,32 +3,34 @@
 ghost use Rattle.std.specs.Prelude.{◌≡◌, [], ◌∷◌, ◌++◌, ◌<◌, length, IfOk};
 ghost use Rattle.std.specs.List.{AllByRecursion};
 ghost use Rattle.affine_program.specs.Parts.{meaning};
-ghost use Rattle.find_terms.specs.AcceptedCertificates.{IsAccepted, IsTaken};
+ghost use Rattle.find_terms.specs.AcceptedCertificates.{Gives, IsAccepted, IsTaken};
 ghost use Rattle.find_terms.specs.Opened.{BeginsWithOpening};
 ghost use Rattle.find_terms.specs.Proposed.{IsProposal};
 ghost use Rattle.iolb_check.specs.Limits.{IsSmallBranch};
 ghost use Rattle.iolb_model.specs.declared.limits.TheConstants.{BRANCHES};
 
-use crate::accepted::{Accepted, bound_for, certificate_of, without_last};
+use crate::accepted::{Accepted, bound_for, without_last};
 use affine_form::Memory;
 use affine_program::Program;
-use iolb_cert::certificate_text;
+use iolb_cert::{branch_bytes, certificate_text};
 use iolb_check::{Bound, Branch, Certificate};
 use iolb_model::limits;
 use std::alloc::Global;
 
-/// An accepted certificate, and whether it takes no more branches.
+/// An accepted certificate with the bound that it gives, how many bytes its text has, and whether it takes no more branches.
 #[derive(Drop)]
 pub(crate) struct Growing {
-    pub(crate) accepted: Accepted,
+    pub(crate) certificate: Certificate,
+    pub(crate) bound: Bound,
+    pub(crate) bytes: usize,
     pub(crate) full: bool,
 }
 
 /// What comes of a certificate with a branch more.
 #[derive(Drop)]
 pub(crate) enum Verdict {
-    /// It gives this bound, and this is its text.
-    Taken(Bound, Vec<u8>),
+    /// It gives this bound.
+    Taken(Bound),
     /// It is left as it was: the larger one is refused, or, where it takes no more, its text is too long.
     Left { full: bool },
 }
@@ -42,14 +44,15 @@ fn with_branch(certificate: Certificate, branch: Branch) -> Result<Certificate, 
     let _branches = certificate.branches();
     let (quasts, mut branches) = certificate.parts();
     branches.push(branch)?;
-    Ok(certificate_of(quasts, branches))
+    Ok(Certificate::within(quasts, branches))
 }
 
-/// What comes of a certificate with a branch more. With one branch alone it isn't too long.
+/// What comes of a certificate with a branch more, whose text has so many bytes. With one branch alone it isn't too long.
 fn verdict_on(
     alloc: Global,
     program: &Program,
     larger: &Certificate,
+    bytes: usize,
     most: usize,
 ) -> Result<Verdict, Memory>
     ensures { IfOk result (IsTaken program.now larger.now) }
@@ -57,11 +60,19 @@ fn verdict_on(
     let Some(bound) = bound_for(alloc, program, larger)? else {
         return Ok(Verdict::Left { full: false });
     };
-    let text = certificate_text(alloc, larger)?;
-    if text.len() > most && larger.branches().len() > 1 {
+    if bytes > most && larger.branches().len() > 1 {
         return Ok(Verdict::Left { full: true });
     }
-    Ok(Verdict::Taken(bound, text))
+    Ok(Verdict::Taken(bound))
+}
+
+/// How many bytes a certificate's text has with a branch more, which stands behind a comma where it isn't the first.
+fn bytes_with(alloc: Global, growing: &Growing, branch: &Branch) -> Result<usize, Memory>
+    requires { IsSmallBranch branch.now }
+{
+    let comma = usize::from(!growing.certificate.branches().is_empty());
+    let more = branch_bytes(alloc, branch)?;
+    Ok(growing.bytes.saturating_add(comma).saturating_add(more))
 }
 
 /// A certificate with a branch more, where the checker accepts it and its text isn't too long. It takes no more where that
@@ -69,44 +80,41 @@ fn verdict_on(
 fn grown(
     alloc: Global,
     program: &Program,
-    accepted: Accepted,
+    growing: Growing,
     branch: Branch,
     most: usize,
 ) -> Result<Growing, Memory>
-    requires accepted { IsAccepted program.now accepted }
-    requires opening { BeginsWithOpening (meaning program.now) accepted.certificate.branches }
+    requires gives { Gives program.now growing.certificate growing.bound }
+    requires opening { BeginsWithOpening (meaning program.now) growing.certificate.branches }
     requires small { IsSmallBranch branch }
-    ensures accepted { IfOk result (λ growing. IsAccepted program.now growing.accepted) }
-    ensures opening { IfOk result (λ growing. BeginsWithOpening (meaning program.now) growing.accepted.certificate.branches) }
+    ensures gives { IfOk result (λ growing. Gives program.now growing.certificate growing.bound) }
+    ensures opening { IfOk result (λ growing. BeginsWithOpening (meaning program.now) growing.certificate.branches) }
 {
-    if accepted.certificate.branches().len() >= limits::BRANCHES {
+    if growing.certificate.branches().len() >= limits::BRANCHES {
         let full = true;
-        return Ok(Growing { accepted, full });
+        return Ok(Growing { full, ..growing });
     }
-    let Accepted {
+    let bytes = bytes_with(alloc, &growing, &branch)?;
+    let Growing {
         certificate,
         bound,
-        text,
-    } = accepted;
+        bytes: before,
+        full: _,
+    } = growing;
     let larger = with_branch(certificate, branch)?;
-    match verdict_on(alloc, program, &larger, most)? {
-        Verdict::Taken(bound, text) => {
-            let full = text.len() > most;
-            let accepted = Accepted {
-                certificate: larger,
-                bound,
-                text,
-            };
-            Ok(Growing { accepted, full })
-        }
-        Verdict::Left { full } => {
-            let accepted = Accepted {
-                certificate: without_last(larger),
-                bound,
-                text,
-            };
-            Ok(Growing { accepted, full })
-        }
+    match verdict_on(alloc, program, &larger, bytes, most)? {
+        Verdict::Taken(bound) => Ok(Growing {
+            certificate: larger,
+            bound,
+            bytes,
+            full: bytes > most,
+        }),
+        Verdict::Left { full } => Ok(Growing {
+            certificate: without_last(larger),
+            bound,
+            bytes: before,
+            full,
+        }),
     }
 }
 
@@ -118,16 +126,16 @@ fn offered(
     branch: Branch,
     most: usize,
 ) -> Result<Growing, Memory>
-    requires accepted { IsAccepted program.now growing.accepted }
-    requires opening { BeginsWithOpening (meaning program.now) growing.accepted.certificate.branches }
+    requires gives { Gives program.now growing.certificate growing.bound }
+    requires opening { BeginsWithOpening (meaning program.now) growing.certificate.branches }
     requires small { IsSmallBranch branch }
-    ensures accepted { IfOk result (λ growing. IsAccepted program.now growing.accepted) }
-    ensures opening { IfOk result (λ growing. BeginsWithOpening (meaning program.now) growing.accepted.certificate.branches) }
+    ensures gives { IfOk result (λ growing. Gives program.now growing.certificate growing.bound) }
+    ensures opening { IfOk result (λ growing. BeginsWithOpening (meaning program.now) growing.certificate.branches) }
 {
     if growing.full {
         return Ok(growing);
     }
-    grown(alloc, program, growing.accepted, branch, most)
+    grown(alloc, program, growing, branch, most)
 }
 
 /// A certificate with those of the proposed branches, in order, with which the checker accepts it, as many as it may have,
@@ -146,11 +154,18 @@ pub(crate) fn with_branches(
     ensures opening { IfOk result (λ accepted. BeginsWithOpening (meaning program.now) accepted.certificate.branches) }
 {
     let mut growing = Growing {
-        accepted,
+        certificate: accepted.certificate,
+        bound: accepted.bound,
+        bytes: accepted.text.len(),
         full: false,
     };
     for branch in proposals {
         growing = offered(alloc, program, growing, branch, most)?;
     }
-    Ok(growing.accepted)
+    let text = certificate_text(alloc, &growing.certificate)?;
+    Ok(Accepted {
+        certificate: growing.certificate,
+        bound: growing.bound,
+        text,
+    })
 }

@@ -3,7 +3,7 @@
 ghost use Rattle.std.specs.Prelude.{IfNone, IfOk, IfSome};
 ghost use Rattle.affine_program.specs.Parts.{meaning};
 ghost use Rattle.find_terms.specs.AcceptedCertificates.{IsAccepted};
-ghost use Rattle.reuse_paths.specs.Quasts.{trees_of};
+ghost use Rattle.dep_quast.specs.Quasts.{trees_of};
 ghost use Rattle.find_terms.specs.Made.{IsMadeFor};
 ghost use Rattle.find_terms.specs.Opened.{BeginsWithOpening, HasTreesFor};
 ghost use Rattle.find_terms.specs.Shortened.{AreShortParts, AreShortTrees, IsShort, opening_terms};

@@ -13,7 +13,7 @@ ghost use Rattle.iolb_model.specs.declared.limits.TheConstants.{LOOPS};
 
 use affine_form::{Form, Memory, put, variable, variables_from, widened};
 use affine_program::{Program, is_small_form};
-use dep_quast::lists::{all_widened, followed_by};
+use claims::lists::{all_widened, followed_by};
 use dep_quast::reader::{Reader, depth};
 use flow_deps::points::bounds_at;
 use std::alloc::Global;

@@ -7,7 +7,7 @@ ghost use Rattle.find_terms.specs.Trees.{HasRow, HasTrees, IsSourceTree, is_of_r
 ghost use Rattle.dep_quast.specs.Tree.{tree_of};
 ghost use Rattle.dep_quast.specs.Truth.{ReadFits};
 ghost use Rattle.dep_quast.specs.Views.{read_of};
-ghost use Rattle.reuse_paths.specs.Quasts.{trees_of};
+ghost use Rattle.dep_quast.specs.Quasts.{trees_of};
 
 use affine_form::Memory;
 use affine_program::Program;

@@ -13,7 +13,7 @@ use Rattle.affine_form.specs.System.{AffineSystem}
 use Rattle.claims.specs.Claims.{AllHold}
 use Rattle.claims.specs.declared.place.Step.{Step}
 use Rattle.int_sets.specs.ShortList.{IsShort}
-use Rattle.dep_quast.specs.Claims.{IsFew, follow_claims, pointless_claims}
+use Rattle.claims.specs.Shown.{IsFew, follow_claims, pointless_claims}
 use Rattle.flow_deps.specs.declared.wanted.Wanted.{Wanted}
 use Rattle.certificate_fit.specs.Limits.{NamesRows, NameRows}
 use Rattle.flow_deps.specs.Answers.{Question, IsAnswered, AreAnswered, following, pointless, HasShortAnswer, IsAsShort, Answers, HasNoShort}

@@ -2,7 +2,6 @@
 use Rattle.std.proofs.Common.{◌≡◌, refl, inl, inr, ℕ, ◌<◌, ◌≤◌, List, [], ◌∷◌, length, arith}
 use Rattle.iolb_model.specs.Program.{AffineProgram, IsWellFormed}
 use Rattle.affine_program.specs.Domain.{depth_of}
-use Rattle.dep_quast.specs.Tree.{empty}
 use Rattle.dep_quast.specs.Truth.{IsLevel}
 use Rattle.dep_quast.proofs.Fits.{common-first, common-second}
 

@@ -1,4 +1,5 @@
 -- Claims that hold at one place hold at every other.
+use Rattle.std.specs.Prelude.{codes}
 use Rattle.std.proofs.Common.{◌≡◌, ℕ, suc, List, [], ◌∷◌, ◌++◌}
 use Rattle.iolb_model.specs.Form.{AffineForm}
 use Rattle.iolb_model.specs.Program.{AffineProgram, statement_at}
@@ -8,9 +9,9 @@ use Rattle.claims.specs.Claims.{Claim, AllHold}
 use Rattle.claims.proofs.Laws.{AllHold-append, AllHold-left, AllHold-right}
 use Rattle.claims.specs.declared.place.Step.{Step}
 use Rattle.claims.specs.declared.place.Step.TheVariants.{Key}
-use Rattle.claims.specs.declared.key.TheConstants.{BEFORE, BETWEEN, CELL, DOMAIN, INPUT, NO, STATEMENT, YES}
 use Rattle.dep_quast.specs.Context.{ReadOf, reference_of, variables_at, no_row, context, earlier_writes, writes_between}
-use Rattle.dep_quast.specs.Claims.{follow_claims, pointless_claims, context_system, inside_goals, cell_goals, before_goals, point_claims, leaf_claims, claims}
+use Rattle.claims.specs.Shown.{follow_claims, pointless_claims}
+use Rattle.dep_quast.specs.Claims.{context_system, inside_goals, cell_goals, before_goals, point_claims, leaf_claims, claims}
 use Rattle.dep_quast.specs.Tree.{SourceClaim, Leaf, source, input, empty, blank, SelectionTree, leaf, test}
 
 follow-moved : (condition : ℕ) (place other : List Step) (system : AffineSystem) (index : ℕ) (goals : List AffineForm) (ms : List FarkasMultipliers)
@@ -27,19 +28,19 @@ pointless-moved condition place other index (s ∷ ss) (m ∷ ms) h = (h.0, (h.1
 
 module _ (program : AffineProgram) (reader : ReadOf) where
   abbrev array_claim : List Step → SourceClaim → Claim
-  array_claim place claim = record { condition = 4; place = place ++ Key STATEMENT ∷ []; statement = (statement_at program claim.statement).writes.array ≡ (reference_of program reader).array }
+  array_claim place claim = record { condition = 4; place = place ++ Key (codes "statement") ∷ []; statement = (statement_at program claim.statement).writes.array ≡ (reference_of program reader).array }
 
   abbrev inside_claims : List AffineForm → List Step → SourceClaim → List Claim
-  inside_claims tests place claim = follow_claims 3 (place ++ Key DOMAIN ∷ []) (context_system program reader tests) 0 (inside_goals program reader claim) claim.inside
+  inside_claims tests place claim = follow_claims 3 (place ++ Key (codes "domain") ∷ []) (context_system program reader tests) 0 (inside_goals program reader claim) claim.inside
 
   abbrev cell_claims : List AffineForm → List Step → SourceClaim → List Claim
-  cell_claims tests place claim = follow_claims 4 (place ++ Key CELL ∷ []) (context_system program reader tests) 0 (cell_goals program reader claim) claim.cell
+  cell_claims tests place claim = follow_claims 4 (place ++ Key (codes "cell") ∷ []) (context_system program reader tests) 0 (cell_goals program reader claim) claim.cell
 
   abbrev before_claims : List AffineForm → List Step → SourceClaim → List Claim
-  before_claims tests place claim = follow_claims 5 (place ++ Key BEFORE ∷ []) (context_system program reader tests) 0 (before_goals program reader claim) claim.before
+  before_claims tests place claim = follow_claims 5 (place ++ Key (codes "before") ∷ []) (context_system program reader tests) 0 (before_goals program reader claim) claim.before
 
   abbrev between_claims : List AffineForm → List Step → SourceClaim → List Claim
-  between_claims tests place claim = pointless_claims 6 (place ++ Key BETWEEN ∷ []) 0 (writes_between program reader (context program reader tests) claim) claim.between
+  between_claims tests place claim = pointless_claims 6 (place ++ Key (codes "between") ∷ []) 0 (writes_between program reader (context program reader tests) claim) claim.between
 
   point-moved : (tests : List AffineForm) (place other : List Step) (claim : SourceClaim) → AllHold (point_claims program reader (context_system program reader tests) place claim)
       → AllHold (point_claims program reader (context_system program reader tests) other claim)
@@ -48,10 +49,10 @@ module _ (program : AffineProgram) (reader : ReadOf) where
       let later = AllHold-right (inside_claims tests place claim) (array_claim place claim ∷ cell_claims tests place claim) most in
       AllHold-append (inside_claims tests other claim ++ array_claim other claim ∷ cell_claims tests other claim) (before_claims tests other claim)
       (AllHold-append (inside_claims tests other claim) (array_claim other claim ∷ cell_claims tests other claim)
-      (follow-moved 3 (place ++ Key DOMAIN ∷ []) (other ++ Key DOMAIN ∷ []) (context_system program reader tests) 0 (inside_goals program reader claim) claim.inside
+      (follow-moved 3 (place ++ Key (codes "domain") ∷ []) (other ++ Key (codes "domain") ∷ []) (context_system program reader tests) 0 (inside_goals program reader claim) claim.inside
       (AllHold-left (inside_claims tests place claim) (array_claim place claim ∷ cell_claims tests place claim) most))
-      (later.0, follow-moved 4 (place ++ Key CELL ∷ []) (other ++ Key CELL ∷ []) (context_system program reader tests) 0 (cell_goals program reader claim) claim.cell later.1))
-      (follow-moved 5 (place ++ Key BEFORE ∷ []) (other ++ Key BEFORE ∷ []) (context_system program reader tests) 0 (before_goals program reader claim) claim.before
+      (later.0, follow-moved 4 (place ++ Key (codes "cell") ∷ []) (other ++ Key (codes "cell") ∷ []) (context_system program reader tests) 0 (cell_goals program reader claim) claim.cell later.1))
+      (follow-moved 5 (place ++ Key (codes "before") ∷ []) (other ++ Key (codes "before") ∷ []) (context_system program reader tests) 0 (before_goals program reader claim) claim.before
       (AllHold-right (inside_claims tests place claim ++ array_claim place claim ∷ cell_claims tests place claim) (before_claims tests place claim) h))
 
   leaf-moved : (tests : List AffineForm) (place other : List Step) (chosen : Leaf) → AllHold (leaf_claims program reader tests place chosen) → AllHold (leaf_claims program reader tests other chosen)
@@ -59,11 +60,11 @@ module _ (program : AffineProgram) (reader : ReadOf) where
     h.0,
     AllHold-append (point_claims program reader (context_system program reader tests) other claim) (between_claims tests other claim)
         (point-moved tests place other claim (AllHold-left (point_claims program reader (context_system program reader tests) place claim) (between_claims tests place claim) h.1))
-        (pointless-moved 6 (place ++ Key BETWEEN ∷ []) (other ++ Key BETWEEN ∷ []) 0 (writes_between program reader (context program reader tests) claim) claim.between
+        (pointless-moved 6 (place ++ Key (codes "between") ∷ []) (other ++ Key (codes "between") ∷ []) 0 (writes_between program reader (context program reader tests) claim) claim.between
         (AllHold-right (point_claims program reader (context_system program reader tests) place claim) (between_claims tests place claim) h.1)),
   )
   leaf-moved tests place other (input ms) h =
-      (h.0, pointless-moved 6 (place ++ Key INPUT ∷ []) (other ++ Key INPUT ∷ []) 0 (earlier_writes program reader (context program reader tests)) ms h.1)
+      (h.0, pointless-moved 6 (place ++ Key (codes "input") ∷ []) (other ++ Key (codes "input") ∷ []) 0 (earlier_writes program reader (context program reader tests)) ms h.1)
   leaf-moved tests place other (empty m) h = h
   leaf-moved tests place other blank h = h
 
@@ -72,8 +73,8 @@ module _ (program : AffineProgram) (reader : ReadOf) where
   tree-moved tests place other (test form above below) h =
       let yes : List AffineForm = tests ++ form ∷ [] in
       let not : List AffineForm = tests ++ no_row (variables_at program reader) form ∷ [] in
-      AllHold-append (claims program reader yes (other ++ Key YES ∷ []) above) (claims program reader not (other ++ Key NO ∷ []) below)
-      (tree-moved yes (place ++ Key YES ∷ []) (other ++ Key YES ∷ []) above
-      (AllHold-left (claims program reader yes (place ++ Key YES ∷ []) above) (claims program reader not (place ++ Key NO ∷ []) below) h))
-      (tree-moved not (place ++ Key NO ∷ []) (other ++ Key NO ∷ []) below
-      (AllHold-right (claims program reader yes (place ++ Key YES ∷ []) above) (claims program reader not (place ++ Key NO ∷ []) below) h))
+      AllHold-append (claims program reader yes (other ++ Key (codes "yes") ∷ []) above) (claims program reader not (other ++ Key (codes "no") ∷ []) below)
+      (tree-moved yes (place ++ Key (codes "yes") ∷ []) (other ++ Key (codes "yes") ∷ []) above
+      (AllHold-left (claims program reader yes (place ++ Key (codes "yes") ∷ []) above) (claims program reader not (place ++ Key (codes "no") ∷ []) below) h))
+      (tree-moved not (place ++ Key (codes "no") ∷ []) (other ++ Key (codes "no") ∷ []) below
+      (AllHold-right (claims program reader yes (place ++ Key (codes "yes") ∷ []) above) (claims program reader not (place ++ Key (codes "no") ∷ []) below) h))

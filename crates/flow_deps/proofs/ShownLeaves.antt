@@ -1,4 +1,5 @@
 -- Leaves that are shown, and why none is.
+use Rattle.std.specs.Prelude.{codes}
 use Rattle.std.proofs.Common.{◌≡◌, refl, sym, ◌∙◌, ap, subst, ℕ, ◌*◌, List, [], ◌∷◌, ◌++◌, length, map}
 use Rattle.std.specs.List.{AllByRecursion}
 use Rattle.std.proofs.lemmas.List.{length-map}
@@ -15,9 +16,9 @@ use Rattle.claims.specs.Claims.{Claim}
 use Rattle.claims.proofs.Laws.{AllHold-append, AllHold-left, AllHold-right}
 use Rattle.claims.specs.declared.place.Step.{Step}
 use Rattle.claims.specs.declared.place.Step.TheVariants.{Key}
-use Rattle.claims.specs.declared.key.TheConstants.{BEFORE, BETWEEN, CELL, DOMAIN, INPUT, STATEMENT}
 use Rattle.dep_quast.specs.Context.{ReadOf, reference_of, variables_at, context, parameter_point, reader_point, earlier_writes, writes_between}
-use Rattle.dep_quast.specs.Claims.{IsFew, follow_claims, pointless_claims, context_system, inside_goals, cell_goals, before_goals, point_claims}
+use Rattle.claims.specs.Shown.{IsFew, follow_claims, pointless_claims}
+use Rattle.dep_quast.specs.Claims.{context_system, inside_goals, cell_goals, before_goals, point_claims}
 use Rattle.dep_quast.specs.Tree.{SourceClaim, source, input, empty, blank, leaf, test}
 use Rattle.dep_quast.specs.Truth.{IsThere, ReadFits}
 use Rattle.dep_quast.proofs.Fits.{cells-many, ranks-same, length-within_rows}
@@ -39,7 +40,7 @@ input-shown wanted program reader tests nested ms few h =
       has_shape = refl;
       stands = record {
         fits = AreAnswered-length (map pointless systems) ms h.each ∙ length-map systems pointless;
-        valid = λ place. (few, pointless-hold 6 (place ++ Key INPUT ∷ []) 0 systems ms h.each);
+        valid = λ place. (few, pointless-hold 6 (place ++ Key (codes "input") ∷ []) 0 systems ms h.each);
         small = answers-name (map pointless systems) ms h.each;
       };
       as_short = h.as_short;
@@ -58,7 +59,7 @@ pub earlier-not : (program : AffineProgram) (reader : ReadOf) (tests : List Affi
     → IsNotShown program reader tests nested no_write
 earlier-not program reader tests nested none (leaf (source claim)) h = let e : last_write claim.statement claim.level claim.point ≡ no_write = h.has_shape in absurd cc
 earlier-not program reader tests nested none (leaf (input ms)) h =
-    none (pointless-short 6 (Key INPUT ∷ []) 0 (earlier_writes program reader (context program reader tests)) ms h.stands.fits (h.stands.valid []).1 h.as_short)
+    none (pointless-short 6 (Key (codes "input") ∷ []) 0 (earlier_writes program reader (context program reader tests)) ms h.stands.fits (h.stands.valid []).1 h.as_short)
 earlier-not program reader tests nested none (leaf (empty m)) h = let e : other ≡ no_write = h.has_shape in absurd cc
 earlier-not program reader tests nested none (leaf blank) h = let e : other ≡ no_write = h.has_shape in absurd cc
 earlier-not program reader tests nested none (test form above below) h = let e : split form (shape_of above) (shape_of below) ≡ no_write = h.has_shape in absurd cc
@@ -105,25 +106,25 @@ module _ (program : AffineProgram) (reader : ReadOf) (tests : List AffineForm) (
       let place : List Step = [] in
       let holds = h.stands.valid place in
       let system : AffineSystem = context_system program reader tests in
-      let last : List Claim = pointless_claims 6 (place ++ Key BETWEEN ∷ []) 0 (writes_between program reader (context program reader tests) claim) claim.between in
+      let last : List Claim = pointless_claims 6 (place ++ Key (codes "between") ∷ []) 0 (writes_between program reader (context program reader tests) claim) claim.between in
       let point = AllHold-left (point_claims program reader system place claim) last holds.1 in
-      let inside_claims : List Claim = follow_claims 3 (place ++ Key DOMAIN ∷ []) system 0 (inside_goals program reader claim) claim.inside in
-      let cell_claims : List Claim = follow_claims 4 (place ++ Key CELL ∷ []) system 0 (cell_goals program reader claim) claim.cell in
-      let before_claims : List Claim = follow_claims 5 (place ++ Key BEFORE ∷ []) system 0 (before_goals program reader claim) claim.before in
-      let array : Claim = record { condition = 4; place = place ++ Key STATEMENT ∷ []; statement = (statement_at program claim.statement).writes.array ≡ (reference_of program reader).array } in
+      let inside_claims : List Claim = follow_claims 3 (place ++ Key (codes "domain") ∷ []) system 0 (inside_goals program reader claim) claim.inside in
+      let cell_claims : List Claim = follow_claims 4 (place ++ Key (codes "cell") ∷ []) system 0 (cell_goals program reader claim) claim.cell in
+      let before_claims : List Claim = follow_claims 5 (place ++ Key (codes "before") ∷ []) system 0 (before_goals program reader claim) claim.before in
+      let array : Claim = record { condition = 4; place = place ++ Key (codes "statement") ∷ []; statement = (statement_at program claim.statement).writes.array ≡ (reference_of program reader).array } in
       let most = AllHold-left (inside_claims ++ array ∷ cell_claims) before_claims point in
       let later = AllHold-right inside_claims (array ∷ cell_claims) most in
       let there = h.stands.fits.there in
       record {
         few = holds.0;
         there = record { statement = there.statement; level = there.level; point = there.point; forms = there.forms };
-        inside = follow-short 3 (place ++ Key DOMAIN ∷ []) system 0 (inside_goals program reader claim) claim.inside holds.0 (h.stands.fits.lists.inside ∙ sym (inside-length claim there))
+        inside = follow-short 3 (place ++ Key (codes "domain") ∷ []) system 0 (inside_goals program reader claim) claim.inside holds.0 (h.stands.fits.lists.inside ∙ sym (inside-length claim there))
             (AllHold-left inside_claims (array ∷ cell_claims) most) h.as_short.0;
-        cell = follow-short 4 (place ++ Key CELL ∷ []) system 0 (cell_goals program reader claim) claim.cell holds.0 (h.stands.fits.lists.cell ∙ sym (cell-length claim there later.0))
+        cell = follow-short 4 (place ++ Key (codes "cell") ∷ []) system 0 (cell_goals program reader claim) claim.cell holds.0 (h.stands.fits.lists.cell ∙ sym (cell-length claim there later.0))
             later.1 h.as_short.1;
-        before = follow-short 5 (place ++ Key BEFORE ∷ []) system 0 (before_goals program reader claim) claim.before holds.0 h.stands.fits.lists.before
+        before = follow-short 5 (place ++ Key (codes "before") ∷ []) system 0 (before_goals program reader claim) claim.before holds.0 h.stands.fits.lists.before
             (AllHold-right (inside_claims ++ array ∷ cell_claims) before_claims point) h.as_short.2;
-        between = pointless-short 6 (place ++ Key BETWEEN ∷ []) 0 (writes_between program reader (context program reader tests) claim) claim.between h.stands.fits.lists.between
+        between = pointless-short 6 (place ++ Key (codes "between") ∷ []) 0 (writes_between program reader (context program reader tests) claim) claim.between h.stands.fits.lists.between
             (AllHold-right (point_claims program reader system place claim) last holds.1) h.as_short.3;
       }
 
@@ -162,15 +163,15 @@ module _ (program : AffineProgram) (reader : ReadOf) (tests : List AffineForm) (
             };
           };
           valid = λ place.
-              let inside_claims : List Claim = follow_claims 3 (place ++ Key DOMAIN ∷ []) system 0 (inside_goals program reader claim) claim.inside in
-              let cell_claims : List Claim = follow_claims 4 (place ++ Key CELL ∷ []) system 0 (cell_goals program reader claim) claim.cell in
-              let before_claims : List Claim = follow_claims 5 (place ++ Key BEFORE ∷ []) system 0 (before_goals program reader claim) claim.before in
-              let array : Claim = record { condition = 4; place = place ++ Key STATEMENT ∷ []; statement = (statement_at program claim.statement).writes.array ≡ (reference_of program reader).array } in
-              let last : List Claim = pointless_claims 6 (place ++ Key BETWEEN ∷ []) 0 (writes_between program reader rows claim) claim.between in
-              let most = AllHold-append inside_claims (array ∷ cell_claims) (follow-hold 3 (place ++ Key DOMAIN ∷ []) system 0 (inside_goals program reader claim) claim.inside inside.each)
-              (arrays, follow-hold 4 (place ++ Key CELL ∷ []) system 0 (cell_goals program reader claim) claim.cell cell.each) in
-              let point = AllHold-append (inside_claims ++ array ∷ cell_claims) before_claims most (follow-hold 5 (place ++ Key BEFORE ∷ []) system 0 (before_goals program reader claim) claim.before before.each) in
-              (few, AllHold-append (point_claims program reader system place claim) last point (pointless-hold 6 (place ++ Key BETWEEN ∷ []) 0 (writes_between program reader rows claim) claim.between between.each));
+              let inside_claims : List Claim = follow_claims 3 (place ++ Key (codes "domain") ∷ []) system 0 (inside_goals program reader claim) claim.inside in
+              let cell_claims : List Claim = follow_claims 4 (place ++ Key (codes "cell") ∷ []) system 0 (cell_goals program reader claim) claim.cell in
+              let before_claims : List Claim = follow_claims 5 (place ++ Key (codes "before") ∷ []) system 0 (before_goals program reader claim) claim.before in
+              let array : Claim = record { condition = 4; place = place ++ Key (codes "statement") ∷ []; statement = (statement_at program claim.statement).writes.array ≡ (reference_of program reader).array } in
+              let last : List Claim = pointless_claims 6 (place ++ Key (codes "between") ∷ []) 0 (writes_between program reader rows claim) claim.between in
+              let most = AllHold-append inside_claims (array ∷ cell_claims) (follow-hold 3 (place ++ Key (codes "domain") ∷ []) system 0 (inside_goals program reader claim) claim.inside inside.each)
+              (arrays, follow-hold 4 (place ++ Key (codes "cell") ∷ []) system 0 (cell_goals program reader claim) claim.cell cell.each) in
+              let point = AllHold-append (inside_claims ++ array ∷ cell_claims) before_claims most (follow-hold 5 (place ++ Key (codes "before") ∷ []) system 0 (before_goals program reader claim) claim.before before.each) in
+              (few, AllHold-append (point_claims program reader system place claim) last point (pointless-hold 6 (place ++ Key (codes "between") ∷ []) 0 (writes_between program reader rows claim) claim.between between.each));
           small = record {
             point = All-weaken (IsSmallOver (variables_at program reader)) (IsSmallForm NUMBER_SIZE) claim.point (λ form h. h.small) there.forms;
             inside = answers-name (following system (inside_goals program reader claim)) claim.inside inside.each;

@@ -1,12 +1,11 @@
 -- Trees with a test that are shown, and why none is.
 use Rattle.std.proofs.Common.{◌≡◌, refl, ◌∙◌, ap, subst, ℕ, suc, ◌+◌, List, [], ◌∷◌, ◌++◌, arith}
-use Rattle.std.specs.Prelude.{Option, Some, None, IfSome}
+use Rattle.std.specs.Prelude.{Option, Some, None, IfSome, codes}
 use Rattle.iolb_model.specs.Form.{AffineForm}
 use Rattle.iolb_model.specs.Program.{AffineProgram}
 use Rattle.affine_form.specs.Rows.{IsSmallOver}
 use Rattle.claims.proofs.Laws.{AllHold-left, AllHold-right}
 use Rattle.claims.specs.declared.place.Step.TheVariants.{Key}
-use Rattle.claims.specs.declared.key.TheConstants.{NO, YES}
 use Rattle.dep_quast.specs.Context.{ReadOf, variables_at, no_row}
 use Rattle.dep_quast.specs.Claims.{claims}
 use Rattle.dep_quast.specs.Tree.{source, input, empty, blank, SelectionTree, leaf, test, tree_of, leaf_count}
@@ -71,16 +70,16 @@ module _ (program : AffineProgram) (reader : ReadOf) (tests : List AffineForm) (
       let holds = h.stands.valid [] in
       let yes_at : List AffineForm = tests ++ tested ∷ [] in
       let no_at : List AffineForm = tests ++ no_row (variables_at program reader) tested ∷ [] in
-      let yes_holds = AllHold-left (claims program reader yes_at (Key YES ∷ []) above) (claims program reader no_at (Key NO ∷ []) below) holds in
-      let no_holds = AllHold-right (claims program reader yes_at (Key YES ∷ []) above) (claims program reader no_at (Key NO ∷ []) below) holds in
+      let yes_holds = AllHold-left (claims program reader yes_at (Key (codes "yes") ∷ []) above) (claims program reader no_at (Key (codes "no") ∷ []) below) holds in
+      let no_holds = AllHold-right (claims program reader yes_at (Key (codes "yes") ∷ []) above) (claims program reader no_at (Key (codes "no") ∷ []) below) holds in
       let yes : IsShown Short program reader yes_at nested (shape_of above) above = record {
         has_shape = λ i. shape_of above;
-        stands = record { fits = h.stands.fits.1; valid = λ place. tree-moved program reader yes_at (Key YES ∷ []) place above yes_holds; small = h.stands.small.1 };
+        stands = record { fits = h.stands.fits.1; valid = λ place. tree-moved program reader yes_at (Key (codes "yes") ∷ []) place above yes_holds; small = h.stands.small.1 };
         as_short = h.as_short.0;
       } in
       let not : IsShown Short program reader no_at nested (shape_of below) below = record {
         has_shape = λ i. shape_of below;
-        stands = record { fits = h.stands.fits.2; valid = λ place. tree-moved program reader no_at (Key NO ∷ []) place below no_holds; small = h.stands.small.2 };
+        stands = record { fits = h.stands.fits.2; valid = λ place. tree-moved program reader no_at (Key (codes "no") ∷ []) place below no_holds; small = h.stands.small.2 };
         as_short = h.as_short.1;
       } in
       record {

@@ -1,4 +1,5 @@
 -- Trees that stand: leaves, and tests over trees.
+use Rattle.std.specs.Prelude.{codes}
 use Rattle.std.proofs.Common.{refl, ℕ, suc, ◌+◌, ◌<◌, ◌≤◌, List, [], ◌∷◌, ◌++◌, length, map, arith}
 use Rattle.std.proofs.lemmas.List.{length-append, length-map}
 use Rattle.iolb_model.specs.Form.{AffineForm}
@@ -11,14 +12,13 @@ use Rattle.affine_program.specs.Domain.{path_of, depth_of, domain_of}
 use Rattle.affine_program.specs.Parts.{ProgramParts, IsProgram, meaning}
 use Rattle.claims.proofs.Laws.{AllHold-append}
 use Rattle.claims.specs.declared.place.Step.TheVariants.{Key}
-use Rattle.claims.specs.declared.key.TheConstants.{NO, YES}
 use Rattle.dep_quast.specs.Context.{ReadOf, variables_at, no_row, context}
-use Rattle.dep_quast.specs.Claims.{IsFew, context_system, claims}
+use Rattle.claims.specs.Shown.{IsFew}
+use Rattle.dep_quast.specs.Claims.{context_system, claims}
 use Rattle.dep_quast.specs.Tree.{SelectionTree, leaf, test, empty, blank}
 use Rattle.dep_quast.proofs.Fits.{depth-few, length-within_rows}
 use Rattle.flow_deps.specs.Answers.{IsAnswered, pointless}
-use Rattle.flow_deps.specs.Shown.{IsLeafUnder}
-use Rattle.flow_deps.specs.Shown.{Stands}
+use Rattle.flow_deps.specs.Shown.{IsLeafUnder, Stands}
 use Rattle.flow_deps.proofs.AnswerLaws.{answer-names}
 
 -- the rows of a leaf are few, where not too many tests are nested
@@ -59,7 +59,7 @@ pub test-stands : (program : AffineProgram) (reader : ReadOf) (tests : List Affi
     → Stands program reader tests (suc nested) (test form above below)
 test-stands program reader tests nested form above below small p q = record {
   fits = (small, p.fits, q.fits);
-  valid = λ place. AllHold-append (claims program reader (tests ++ form ∷ []) (place ++ Key YES ∷ []) above)
-      (claims program reader (tests ++ no_row (variables_at program reader) form ∷ []) (place ++ Key NO ∷ []) below) (p.valid (place ++ Key YES ∷ [])) (q.valid (place ++ Key NO ∷ []));
+  valid = λ place. AllHold-append (claims program reader (tests ++ form ∷ []) (place ++ Key (codes "yes") ∷ []) above)
+      (claims program reader (tests ++ no_row (variables_at program reader) form ∷ []) (place ++ Key (codes "no") ∷ []) below) (p.valid (place ++ Key (codes "yes") ∷ [])) (q.valid (place ++ Key (codes "no") ∷ []));
   small = (small.small, p.small, q.small);
 }

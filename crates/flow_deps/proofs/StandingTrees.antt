@@ -1,6 +1,6 @@
 -- Source trees that stand fit their program, what they claim holds, and they are within the limits of certificates.
 use Rattle.std.proofs.Common.{Bool, true, false, ◌≡◌, sym, ◌∙◌, ap, inl, inr, ℕ, suc, ◌+◌, ◌<◌, List, [], ◌∷◌, ◌++◌, length, map, arith, Vec, Global}
-use Rattle.std.specs.Prelude.{nat_lt, if◌then◌else◌}
+use Rattle.std.specs.Prelude.{nat_lt, if◌then◌else◌, codes}
 use Rattle.std.specs.List.{AllByRecursion}
 use Rattle.std.proofs.lemmas.Bool.{lt-ltb}
 use Rattle.iolb_model.specs.Form.{AffineForm}
@@ -9,7 +9,6 @@ use Rattle.iolb_model.specs.Order.{common_loops}
 use Rattle.claims.specs.Claims.{Claim, AllHold, numbered}
 use Rattle.claims.specs.declared.place.Step.{Step}
 use Rattle.claims.specs.declared.place.Step.TheVariants.{Key, Index}
-use Rattle.claims.specs.declared.key.TheConstants.{NO, POINT, QUASTS, STATEMENT, YES}
 use Rattle.claims.proofs.Laws.{AllHold-append}
 use Rattle.affine_form.proofs.RowLemmas.{length-variables}
 use Rattle.affine_program.specs.Domain.{depth_of}
@@ -26,9 +25,9 @@ use Rattle.certificate_fit.specs.Limits.{IsSmallTree}
 use Rattle.certificate_fit.specs.PartFit.{forms_fit}
 use Rattle.certificate_fit.specs.TreeFit.{order_rows_at, source_lists_fit, leaf_fit, tree_fit, tree_at, row_at, trees_fit}
 use Rattle.certificate_fit.proofs.FormsFit.{forms-hold}
-use Rattle.reuse_paths.specs.declared.quasts.Quasts.{Quasts}
-use Rattle.reuse_paths.specs.Quasts.{row_trees, trees_of}
-use Rattle.reuse_paths.specs.Trees.{read_of, row_claims, rows_claims, tree_place}
+use Rattle.dep_quast.specs.declared.quasts.Quasts.{Quasts}
+use Rattle.dep_quast.specs.Quasts.{row_trees, trees_of}
+use Rattle.dep_quast.specs.Trees.{read_of, row_claims, rows_claims, tree_place}
 use Rattle.flow_deps.specs.Standing.{AllStand, AreStanding, AreStandingRows}
 
 -- a level is below their number
@@ -58,9 +57,9 @@ module _ (program : AffineProgram) (well : IsWellFormed program) where
     leaf-holds : (place : List Step) (tests : List AffineForm) (chosen : TreeLeaf) → LeafFits program reader tests chosen → AllHold (leaf_fit program reader place chosen)
     leaf-holds place tests (source claim) h =
         let lists : List Claim = source_lists_fit program reader claim place in
-        let forms : List Claim = forms_fit (variables_at program reader) (place ++ Key POINT ∷ []) claim.point in
-        let last : List Claim = names (place ++ Key STATEMENT ∷ []) claim.statement (length program.statements) ∷ [] in
-        let point : AllHold (so_many (place ++ Key POINT ∷ []) (length claim.point) (depth_of program claim.statement) ∷ []) = (h.there.point, tt) in
+        let forms : List Claim = forms_fit (variables_at program reader) (place ++ Key (codes "point") ∷ []) claim.point in
+        let last : List Claim = names (place ++ Key (codes "statement") ∷ []) claim.statement (length program.statements) ∷ [] in
+        let point : AllHold (so_many (place ++ Key (codes "point") ∷ []) (length claim.point) (depth_of program claim.statement) ∷ []) = (h.there.point, tt) in
         let each : AllHold lists = (
           h.lists.before ∙ before-many claim h.there.statement h.there.level h.there.point,
           (
@@ -69,7 +68,7 @@ module _ (program : AffineProgram) (well : IsWellFormed program) where
           ),
         ) in
         AllHold-append (lists ++ forms) last
-        (AllHold-append lists forms each (forms-hold (variables_at program reader) (place ++ Key POINT ∷ []) 0 claim.point h.there.forms)) (h.there.statement, tt)
+        (AllHold-append lists forms each (forms-hold (variables_at program reader) (place ++ Key (codes "point") ∷ []) 0 claim.point h.there.forms)) (h.there.statement, tt)
     leaf-holds place tests (input shown) h = (h ∙ earlier-many program reader (context program reader tests), tt)
     leaf-holds place tests (empty shown) h = tt
     leaf-holds place tests blank h = tt
@@ -77,11 +76,11 @@ module _ (program : AffineProgram) (well : IsWellFormed program) where
     tree-holds : (place : List Step) (tests : List AffineForm) (tree : SelectionTree) → FitsUnder program reader tests tree → AllHold (tree_fit program reader place tree)
     tree-holds place tests (leaf chosen) h = leaf-holds place tests chosen h
     tree-holds place tests (test form above below) h =
-        let low : List Claim = tree_fit program reader (place ++ Key NO ∷ []) below in
-        let high : List Claim = tree_fit program reader (place ++ Key YES ∷ []) above in (
+        let low : List Claim = tree_fit program reader (place ++ Key (codes "no") ∷ []) below in
+        let high : List Claim = tree_fit program reader (place ++ Key (codes "yes") ∷ []) above in (
           h.0.over,
-          AllHold-append low high (tree-holds (place ++ Key NO ∷ []) (tests ++ no_row (variables_at program reader) form ∷ []) below h.2)
-              (tree-holds (place ++ Key YES ∷ []) (tests ++ form ∷ []) above h.1),
+          AllHold-append low high (tree-holds (place ++ Key (codes "no") ∷ []) (tests ++ no_row (variables_at program reader) form ∷ []) below h.2)
+              (tree-holds (place ++ Key (codes "yes") ∷ []) (tests ++ form ∷ []) above h.1),
         )
 
   -- the trees of a statement's reads fit
@@ -117,7 +116,7 @@ module _ (program : AffineProgram) (well : IsWellFormed program) where
 
   -- the trees fit
   pub trees-fit : (trees : List (List SelectionTree)) → AllStand program trees → AllHold (trees_fit program trees)
-  trees-fit trees has = (has.many, rows-hold (Key QUASTS ∷ []) 0 trees (omega (arith, has.many)) has.rows)
+  trees-fit trees has = (has.many, rows-hold (Key (codes "quasts") ∷ []) 0 trees (omega (arith, has.many)) has.rows)
 
   pub trees-valid : (trees : List (List SelectionTree)) → AllStand program trees → AllHold (rows_claims program 0 trees)
   trees-valid trees has = rows-valid 0 trees has.rows

@@ -6,7 +6,7 @@ use Rattle.affine_form.specs.Multipliers.{FarkasMultipliers}
 use Rattle.affine_form.specs.Shown.{minus_one}
 use Rattle.affine_form.specs.System.{AffineSystem}
 use Rattle.int_sets.specs.ShortList.{IsShort, HasShortList}
-use Rattle.dep_quast.specs.Claims.{IsFew, Follows}
+use Rattle.claims.specs.Shown.{IsFew, Follows}
 use Rattle.flow_deps.specs.declared.wanted.Wanted.{Wanted}
 use Rattle.flow_deps.specs.declared.wanted.Wanted.TheVariants.{Short, Any}
 

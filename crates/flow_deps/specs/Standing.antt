@@ -3,7 +3,7 @@ use Rattle.std.specs.Prelude.{◌≡◌, ◌≤◌, ℕ, suc, ⊤, List, [], ◌
 use Rattle.iolb_model.specs.Program.{AffineProgram, statement_at}
 use Rattle.dep_quast.specs.Context.{ReadOf}
 use Rattle.dep_quast.specs.Tree.{SelectionTree, leaf_count}
-use Rattle.reuse_paths.specs.Trees.{read_of}
+use Rattle.dep_quast.specs.Trees.{read_of}
 use Rattle.flow_deps.specs.Shown.{Stands}
 use Rattle.iolb_model.specs.declared.limits.TheConstants.{TREE_TESTS, TREE_LEAVES}
 

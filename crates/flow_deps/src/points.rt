@@ -15,7 +15,7 @@ ghost use Rattle.iolb_model.specs.declared.limits.TheConstants.{LOOPS};
 
 use affine_form::{Form, Memory, put, variables_from, widened};
 use affine_program::{Program, is_small_form};
-use dep_quast::lists::followed_by;
+use claims::lists::followed_by;
 use dep_quast::reader::{Reader, depth, reference, variables, written};
 use std::alloc::Global;
 

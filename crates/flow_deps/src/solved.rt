@@ -18,7 +18,7 @@ use crate::planted::{first_values, turn_before};
 use crate::points::{bounds_at, last_value};
 use affine_form::{Form, Memory};
 use affine_program::{Program, is_small_form};
-use dep_quast::lists::followed_by;
+use claims::lists::followed_by;
 use dep_quast::point_rows::written_rows;
 use dep_quast::reader::{Reader, depth, variables, written};
 use std::alloc::Global;

@@ -16,9 +16,9 @@ use Rattle.iolb_check.specs.Claims.{ColdClaim, FrontClaim, TermClaim, cold, part
 use Rattle.serde_json.specs.Data.{Data}
 use Rattle.json_parts.specs.declared.error.CertFault.{CertFault}
 use Rattle.json_parts.specs.Outcome.{Outcome}
-use Rattle.cert_written.specs.Credits.{WrittenCredit}
+use Rattle.certificate_parts.specs.Credits.{WrittenCredit}
 use Rattle.json_parts.specs.Related.{AreAll}
-use Rattle.cert_parts.specs.Read.{IsPolynomial, ArePolynomials}
+use Rattle.certificate_parts.specs.Polynomials.{IsPolynomial, ArePolynomials}
 use Rattle.iolb_cert.specs.Certificates.{reads_certificate}
 use Rattle.iolb_cert.specs.OneCertificate.{HasCertificate, TextsHaveOneCertificate, TextsHaveOneAnswer}
 use Rattle.iolb_cert.specs.Texts.{IsTextOf, IsTextFault}

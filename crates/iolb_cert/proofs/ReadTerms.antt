@@ -1,114 +1,73 @@
 -- Terms that are written, read.
-use Rattle.std.proofs.Common.{◌≡◌, ℕ, ◌≤◌, Ok, refl, subst, arith}
+use Rattle.std.proofs.Common.{◌≡◌, ◌+◌, ◌≤◌, List, [], ◌∷◌, map, true, false, codes, None, Some, Ok, refl}
+use Rattle.std.specs.Prelude.{Option, IfSome, option_map}
+use Rattle.std.proofs.lemmas.Bool.{le-leb}
 use Rattle.std.specs.List.{AllByRecursion}
-use Rattle.affine_form.specs.Matrix.{IntegerMatrix}
-use Rattle.wavefront.specs.declared.cold.Cold.{Cold}
-use Rattle.wavefront.specs.declared.front.Wavefront.{Wavefront}
-use Rattle.iolb_check.specs.Limits.{IsSmallCold, IsSmallFront}
-use Rattle.iolb_check.specs.declared.term.Term.{Term}
-use Rattle.iolb_check.specs.declared.term.Term.TheVariants as terms
-use Rattle.json_parts.specs.Json.{has_keys, with_keys}
-use Rattle.iolb_cert.specs.ColdTexts.{reads_inverse, reads_cold_head, reads_cold_middle, reads_cold_members, reads_cold}
-use Rattle.iolb_cert.specs.FrontTexts.{reads_front_head, reads_front_middle, reads_front_spots, reads_front_rest, reads_front_members, reads_front}
-use Rattle.iolb_cert.specs.Terms.{reads_cold_term, reads_front_term, reads_term}
-use Rattle.iolb_cert.specs.WrittenCertificates.{inverse_data}
-use Rattle.cert_written.specs.ReadBack.{FormIsRead, AreMultipliersRead, MatrixIsRead, PairIsRead, LeafIsRead}
-use Rattle.cert_written.specs.Reaches.{reach_shape, spot_shape}
-use Rattle.json_parts.specs.Shape.{IsReadBack, or_null_shape}
-use Rattle.std.specs.Prelude.{List, map, option_map}
+use Rattle.certificate_fit.specs.Limits.{AreSmall, IsSmallEntry, IsSmallReach, IsSmallWay, IsSmallSpot}
+use Rattle.k_partition.specs.declared.term.Shape.{Shape}
+use Rattle.k_partition.specs.declared.term.Shape.TheVariants.{Each, Sum}
+use Rattle.reuse_paths.specs.LeafClaims.{claim_of}
+use Rattle.reuse_paths.specs.declared.leaf.Leaf.{Leaf}
+use Rattle.reuse_paths.specs.declared.reach.Reach.{Reach}
+use Rattle.reuse_paths.specs.declared.reach.Spot.{Spot}
 use Rattle.reuse_paths.specs.Walks.{reach_of, spot_of}
-use Rattle.iolb_cert.specs.ReadBack.{ColdIsRead, FrontIsRead, TermIsRead}
-use Rattle.json_parts.proofs.Back.{natural_read, all_read}
-use Rattle.cert_written.proofs.ReadParts.{forms-read, all_multipliers-read, nest-read}
-use Rattle.poly_tree.specs.Poly.{Quotient}
-use Rattle.cert_parts.specs.Polynomials.{reads_polynomial}
-use Rattle.cert_parts.specs.Read.{ArePolynomials}
-use Rattle.cert_written.specs.Polynomials.{polynomial_data, written_polynomial}
-use Rattle.cert_written.specs.Shapes.{polynomial_shape}
-use Rattle.cert_written.proofs.ReadLeaves.{leaves-read}
-use Rattle.iolb_model.specs.declared.limits.TheConstants.{SCALE as MOST}
+use Rattle.serde_json.specs.Data.{Data}
+use Rattle.json_parts.specs.Fields.{reads_object, object_shape}
+use Rattle.json_parts.specs.Json.{has_keys}
+use Rattle.json_parts.specs.Shape.{IsReadBack}
+use Rattle.json_parts.proofs.Back.{tested_read}
+use Rattle.certificate_parts.specs.Reaches.{reach_shape, spot_shape}
+use Rattle.iolb_cert.specs.PartitionTexts.{reads_shape, name_shape, members_shape, has_events, partition_shape}
+use Rattle.iolb_cert.specs.Read.{WrittenCold, WrittenPartition, WrittenFront, as_cold, as_partition, as_front}
+use Rattle.iolb_cert.specs.Terms.{cold_term_fields, partition_term_fields, front_term_fields, reads_term, term_shape}
 
-inverse-read : (matrix : IntegerMatrix) (scale : ℕ) → 1 ≤ scale → scale ≤ MOST → MatrixIsRead matrix → reads_inverse (inverse_data matrix scale) ≡ Ok (matrix, scale)
-unfolding reads_inverse with_keys has_keys
-inverse-read matrix scale some few h = rw (h, natural_read 1 MOST scale some few) refl
+pub shape_read : (shape : Shape) → IsReadBack name_shape shape
+unfolding reads_shape
+shape_read Each = refl
+shape_read Sum = refl
 
--- polynomials are read as they are written
-pub record ArePolynomialsRead (sums : List Quotient) : Type 0 where
-  pub read : AllByRecursion (IsReadBack polynomial_shape) (map written_polynomial sums)
-  pub are : ArePolynomials (map written_polynomial sums) sums
+pub partition_read : (said : WrittenPartition) → 1 ≤ said.claim.a + said.claim.b → IsReadBack members_shape said → IsReadBack partition_shape said
+unfolding partition_shape
+partition_read said some h = tested_read (codes "a") members_shape has_events said (le-leb 1 (said.claim.a + said.claim.b) some) h
 
--- the members of a cold term are read
-pub record AreMembersRead (cold : Cold) : Type 0 where
-  pub inside : AllByRecursion AreMultipliersRead cold.inside.items
-  pub matrix : MatrixIsRead cold.inverse.matrix
-  pub leaves : AllByRecursion LeafIsRead cold.leaves.items
-  pub nest : AllByRecursion PairIsRead cold.nest
-  pub point : AllByRecursion FormIsRead cold.point.items
-  pub read : cold.read ≤ 65535
-  pub shown : AllByRecursion AreMultipliersRead cold.sums.shown
-  pub statement : cold.statement ≤ 65535
-  pub sums : ArePolynomialsRead cold.sums.sums
+-- ---- what is within the limits, as it is written
 
-pub cold-read : (cold : Cold) → IsSmallCold cold → AreMembersRead cold → ColdIsRead cold
-unfolding reads_cold with_keys has_keys reads_cold_members reads_cold_head reads_cold_middle
-cold-read cold small h = record {
-  says = rw (
-    all_multipliers-read cold.inside.items h.inside small.inside,
-    inverse-read cold.inverse.matrix cold.inverse.scale small.some_scale small.scale h.matrix,
-    leaves-read cold.leaves.items h.leaves small.leaves,
-    nest-read cold.nest h.nest small.variables small.bounds,
-    forms-read cold.point.items h.point small.point,
-    natural_read 0 65535 cold.read (omega arith) h.read,
-    all_multipliers-read cold.sums.shown h.shown small.shown,
-    natural_read 0 65535 cold.statement (omega arith) h.statement,
-    all_read reads_polynomial polynomial_data (map written_polynomial cold.sums.sums) h.sums.read,
-  ) refl;
-  is = record { claims = refl; sums = h.sums.are };
-}
+pub entries_fit : (leaves : List Leaf) → AllByRecursion IsSmallEntry (map claim_of leaves) → AllByRecursion (λ (leaf : Leaf). IsSmallEntry (claim_of leaf)) leaves
+entries_fit [] h = tt
+entries_fit (leaf ∷ leaves) h = (h.0, entries_fit leaves h.1)
 
-pub cold_term-read : (term : Term) (cold : Cold) → ColdIsRead cold → terms.Cold cold ≡ term → TermIsRead term
-unfolding reads_term reads_cold_term has_keys
-cold_term-read term cold h is = subst TermIsRead is (record { says = rw h.says refl; is = h.is })
+pub way_fits : (way : Option Reach) → IsSmallWay (option_map reach_of way) → IfSome way (λ (reach : Reach). IsSmallReach (reach_of reach) × (reach_shape.is_present ≡ true))
+way_fits None h = tt
+way_fits (Some reach) h = (h, refl)
 
--- the members of a wavefront term are read
-pub record AreFrontMembersRead (front : Wavefront) : Type 0 where
-  pub back : IsReadBack reach_shape (reach_of front.back)
-  pub edge : AllByRecursion LeafIsRead front.edge.items
-  pub inside : AllByRecursion AreMultipliersRead front.inside.items
-  pub matrix : MatrixIsRead front.inverse.matrix
-  pub nest : AllByRecursion PairIsRead front.nest
-  pub outer : front.outer ≤ 255
-  pub outer_sums : ArePolynomialsRead front.outer_sums.items
-  pub reach : IsReadBack (or_null_shape reach_shape) (option_map reach_of front.reach)
-  pub read : front.read ≤ 65535
-  pub shown : AllByRecursion AreMultipliersRead front.sums.shown
-  pub source : IsReadBack (or_null_shape spot_shape) (option_map spot_of front.source)
-  pub sums : ArePolynomialsRead front.sums.sums
-  pub user : IsReadBack spot_shape (spot_of front.user)
-  pub vertex : IsReadBack spot_shape (spot_of front.vertex)
+pub source_fits : (source : Option Spot) → IsSmallSpot (option_map spot_of source) → IfSome source (λ (spot : Spot). AreSmall spot.point.items × (spot_shape.is_present ≡ true))
+unfolding spot_shape
+source_fits None h = tt
+source_fits (Some spot) h = (h, refl)
 
-pub front-read : (front : Wavefront) → IsSmallFront front → AreFrontMembersRead front → FrontIsRead front
-unfolding reads_front with_keys has_keys reads_front_members reads_front_head reads_front_rest reads_front_middle reads_front_spots
-front-read front small h = record {
-  says = rw (
-    h.back,
-    leaves-read front.edge.items h.edge small.edge,
-    all_multipliers-read front.inside.items h.inside small.inside,
-    inverse-read front.inverse.matrix front.inverse.scale small.some_scale small.scale h.matrix,
-    nest-read front.nest h.nest small.variables small.bounds,
-    natural_read 0 255 front.outer (omega arith) h.outer,
-    all_read reads_polynomial polynomial_data (map written_polynomial front.outer_sums.items) h.outer_sums.read,
-    h.reach,
-    natural_read 0 65535 front.read (omega arith) h.read,
-    all_multipliers-read front.sums.shown h.shown small.shown,
-    h.source,
-    all_read reads_polynomial polynomial_data (map written_polynomial front.sums.sums) h.sums.read,
-    h.user,
-    h.vertex,
-  ) refl;
-  is = record { claims = refl; sums = h.sums.are; outer_sums = h.outer_sums.are };
-}
+-- ---- terms, told by their keys
 
-pub front_term-read : (term : Term) (front : Wavefront) → FrontIsRead front → terms.Wavefront front ≡ term → TermIsRead term
-unfolding reads_term reads_front_term has_keys
-front_term-read term front h is = subst TermIsRead is (record { says = rw h.says refl; is = h.is })
+pub cold_told : (d : Data) (b : WrittenCold × Unit {0}) → has_keys (codes "cold" ∷ []) d ≡ true → reads_object cold_term_fields d ≡ Ok b → reads_term d ≡ Ok (as_cold b.0)
+unfolding reads_term
+cold_told d b keys read = rw (keys, read) refl
+
+pub partition_told : (d : Data) (b : WrittenPartition × Unit {0}) → has_keys (codes "cold" ∷ []) d ≡ false → has_keys (codes "partition" ∷ []) d ≡ true → reads_object partition_term_fields d ≡ Ok b → reads_term d ≡ Ok (as_partition b.0)
+unfolding reads_term
+partition_told d b no_cold keys read = rw (no_cold, keys, read) refl
+
+pub front_told : (d : Data) (b : WrittenFront × Unit {0}) → has_keys (codes "cold" ∷ []) d ≡ false → has_keys (codes "partition" ∷ []) d ≡ false → has_keys (codes "wavefront" ∷ []) d ≡ true → reads_object front_term_fields d ≡ Ok b
+    → reads_term d ≡ Ok (as_front b.0)
+unfolding reads_term
+front_told d b no_cold no_partition keys read = rw (no_cold, no_partition, keys, read) refl
+
+pub cold_term_read : (cold : WrittenCold) → IsReadBack (object_shape cold_term_fields) (cold, tt) → IsReadBack term_shape (as_cold cold)
+unfolding reads_term has_keys
+cold_term_read cold h = rw h refl
+
+pub partition_term_read : (partition : WrittenPartition) → IsReadBack (object_shape partition_term_fields) (partition, tt) → IsReadBack term_shape (as_partition partition)
+unfolding reads_term has_keys
+partition_term_read partition h = rw h refl
+
+pub front_term_read : (front : WrittenFront) → IsReadBack (object_shape front_term_fields) (front, tt) → IsReadBack term_shape (as_front front)
+unfolding reads_term has_keys
+front_term_read front h = rw h refl

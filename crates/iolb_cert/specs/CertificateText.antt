@@ -2,8 +2,8 @@
 use Rattle.std.specs.Prelude.{ℕ, List, ◌++◌, codes}
 use Rattle.serde_json.specs.Written.{compact_text}
 use Rattle.iolb_check.specs.Limits.{CertificateParts}
+use Rattle.iolb_cert.specs.Certificates.{certificate_data}
 use Rattle.iolb_cert.specs.Written.{written_of}
-use Rattle.iolb_cert.specs.WrittenCertificates.{certificate_data}
 
 -- JSON without spaces, the keys of each object in byte order, and a newline at the end: byte for byte, what a certificate is
 -- written as

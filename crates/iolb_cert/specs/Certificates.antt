@@ -1,40 +1,30 @@
 -- The texts of certificates.
-use Rattle.std.specs.Prelude.{◌==◌, ℤ, pos, negsuc, List, [], ◌∷◌, Bool, false, if◌then◌else◌, codes, Option, None, Some, Ok}
-use Rattle.claims.specs.declared.key.TheConstants.{BRANCHES, DISJOINT, QUASTS, TERMS, VERSION}
+use Rattle.std.specs.Prelude.{List, codes, refl}
+use Rattle.dep_quast.specs.Tree.{SelectionTree}
 use Rattle.serde_json.specs.Data.{Data}
-use Rattle.json_parts.specs.Outcome.{Outcome, ◌>>=◌, fault}
-use Rattle.json_parts.specs.Json.{with_keys, part, reads_short_list, each, integer_of}
-use Rattle.cert_parts.specs.Parts.{reads_all_multipliers}
-use Rattle.cert_parts.specs.Trees.{reads_all_trees}
+use Rattle.json_parts.specs.Fields.{Fields, no_fields, field, record_shape}
+use Rattle.json_parts.specs.Outcome.{Outcome}
+use Rattle.json_parts.specs.Shape.{Shape, few_shape, exact_shape}
 use Rattle.iolb_cert.specs.Read.{WrittenBranch, WrittenCertificate}
-use Rattle.iolb_cert.specs.Terms.{reads_terms}
+use Rattle.certificate_parts.specs.Trees.{all_trees_shape}
+use Rattle.iolb_cert.specs.Terms.{branch_shape}
 use Rattle.iolb_model.specs.declared.limits.TheConstants.{BRANCHES as MOST}
 
-unfoldable pub reads_branch : Data → Outcome WrittenBranch
-reads_branch d = do
-  object ← with_keys (codes "disjoint" ∷ codes "terms" ∷ []) d
-  disjoint ← part (codes "disjoint") DISJOINT reads_all_multipliers object
-  terms ← part (codes "terms") TERMS reads_terms object
-  Ok (record { terms = terms; disjoint = disjoint })
+abbrev pub CertificateMembers : Type 0
+CertificateMembers = List WrittenBranch × (List (List SelectionTree) × (Unit {0} × Unit {0}))
 
--- At most as many branches as a certificate may have.
-unfoldable pub reads_branches : Data → Outcome (List WrittenBranch)
-reads_branches d = reads_short_list MOST d >>= each reads_branch 0
+abbrev pub certificate_fields : Fields CertificateMembers
+certificate_fields = field (codes "branches") (few_shape MOST branch_shape) (field (codes "quasts") all_trees_shape (field (codes "version") (exact_shape 1) no_fields))
 
-abbrev pub is_one : Option ℤ → Bool
-is_one None = false
-is_one (Some (pos n)) = n == 1
-is_one (Some (negsuc n)) = false
+abbrev pub certificate_made : CertificateMembers → WrittenCertificate
+certificate_made b = record { branches = b.0; trees = b.1.0 }
 
--- The version is the whole number 1.
-unfoldable pub reads_version : Data → Outcome (Unit {0})
-reads_version d = if is_one (integer_of d) then Ok tt else fault 2
+-- A certificate: at most 8 branches, the source trees of all reads, and the version.
+unfoldable pub certificate_shape : Shape WrittenCertificate
+certificate_shape = record_shape certificate_fields certificate_made (λ certificate. (certificate.branches, (certificate.trees, (tt, tt)))) (λ b. refl)
 
--- A certificate.
-unfoldable pub reads_certificate : Data → Outcome WrittenCertificate
-reads_certificate d = do
-  object ← with_keys (codes "branches" ∷ codes "quasts" ∷ codes "version" ∷ []) d
-  branches ← part (codes "branches") BRANCHES reads_branches object
-  trees ← part (codes "quasts") QUASTS reads_all_trees object
-  version ← part (codes "version") VERSION reads_version object
-  Ok (record { branches = branches; trees = trees })
+abbrev pub reads_certificate : Data → Outcome WrittenCertificate
+reads_certificate = certificate_shape.reads
+
+abbrev pub certificate_data : WrittenCertificate → Data
+certificate_data = certificate_shape.data_of

@@ -1,111 +1,52 @@
 -- The texts of wavefront terms.
-use Rattle.std.specs.Prelude.{ℕ, List, [], ◌∷◌, codes, Option, Ok}
+use Rattle.std.specs.Prelude.{ℕ, List, codes, Option, refl}
 use Rattle.iolb_model.specs.Form.{AffineForm}
 use Rattle.iolb_model.specs.Polynomial.{Polynomial}
 use Rattle.affine_form.specs.Matrix.{IntegerMatrix}
 use Rattle.affine_form.specs.Multipliers.{FarkasMultipliers}
-use Rattle.claims.specs.declared.key.TheConstants.{BACK, EDGE, INSIDE, INVERSE, NEST, OUTER, OUTER_SUMS, REACH, READ, SHOWN, SOURCE, SUMS, USER, VERTEX}
 use Rattle.reuse_paths.specs.LeafClaims.{LeafClaim}
 use Rattle.reuse_paths.specs.Walks.{SpotForms, ReachClaim}
-use Rattle.serde_json.specs.Data.{Data}
-use Rattle.json_parts.specs.Outcome.{Outcome, ◌>>=◌}
-use Rattle.json_parts.specs.Json.{with_keys, part, reads_natural, reads_or_null}
-use Rattle.cert_parts.specs.Leaves.{reads_leaves}
-use Rattle.cert_parts.specs.Nests.{reads_nest}
-use Rattle.cert_parts.specs.Parts.{reads_all_multipliers}
-use Rattle.cert_parts.specs.Polynomials.{reads_polynomials}
-use Rattle.cert_written.specs.Reaches.{reads_spot, reads_reach}
-use Rattle.iolb_check.specs.Claims.{FrontClaim}
-use Rattle.iolb_cert.specs.ColdTexts.{reads_inverse}
+use Rattle.json_parts.specs.Fields.{Fields, no_fields, field, record_shape}
+use Rattle.json_parts.specs.Shape.{Shape, natural_shape, list_shape, or_null_shape}
+use Rattle.certificate_parts.specs.Reaches.{spot_shape, reach_shape}
+use Rattle.certificate_parts.specs.Multipliers.{all_multipliers_shape}
+use Rattle.certificate_parts.specs.Nests.{nest_shape}
+use Rattle.certificate_parts.specs.Polynomials.{polynomial_shape}
 use Rattle.iolb_cert.specs.Read.{WrittenFront}
+use Rattle.certificate_parts.specs.Leaves.{leaves_shape}
+use Rattle.iolb_cert.specs.Shapes.{inverse_shape}
 
-abbrev pub front_keys : List (List ℕ)
-front_keys = codes "back" ∷ codes "edge" ∷ codes "inside" ∷ codes "inverse" ∷ codes "nest" ∷ codes "outer" ∷ codes "outer_sums" ∷ codes "reach"
-    ∷ codes "read" ∷ codes "shown" ∷ codes "source" ∷ codes "sums" ∷ codes "user" ∷ codes "vertex" ∷ []
+abbrev pub FrontMembers : Type 0
+FrontMembers = ReachClaim × (List LeafClaim × (List FarkasMultipliers × ((IntegerMatrix × ℕ) × (List (AffineForm × AffineForm) × (ℕ × (List Polynomial × (Option ReachClaim × (ℕ × (List FarkasMultipliers × (Option SpotForms × (List Polynomial × (SpotForms × (SpotForms × Unit {0})))))))))))))
 
--- the members of a wavefront term before its first polynomials
-pub record FrontHead : Type 0 where
-  pub back : ReachClaim
-  pub edge : List LeafClaim
-  pub inside : List FarkasMultipliers
-  pub matrix : IntegerMatrix
-  pub scale : ℕ
-  pub nest : List (AffineForm × AffineForm)
-  pub outer : ℕ
+abbrev pub front_fields : Fields FrontMembers
+front_fields =
+    field (codes "back") reach_shape
+    (field (codes "edge") leaves_shape
+    (field (codes "inside") all_multipliers_shape
+    (field (codes "inverse") inverse_shape
+    (field (codes "nest") nest_shape
+    (field (codes "outer") (natural_shape 0 255)
+    (field (codes "outer_sums") (list_shape polynomial_shape)
+    (field (codes "reach") (or_null_shape reach_shape)
+    (field (codes "read") (natural_shape 0 65535)
+    (field (codes "shown") all_multipliers_shape
+    (field (codes "source") (or_null_shape spot_shape)
+    (field (codes "sums") (list_shape polynomial_shape)
+    (field (codes "user") spot_shape
+    (field (codes "vertex") spot_shape
+    no_fields)))))))))))))
 
-unfoldable pub reads_front_head : Data → Outcome FrontHead
-reads_front_head d = do
-  back ← part (codes "back") BACK reads_reach d
-  edge ← part (codes "edge") EDGE reads_leaves d
-  inside ← part (codes "inside") INSIDE reads_all_multipliers d
-  inverse ← part (codes "inverse") INVERSE reads_inverse d
-  nest ← part (codes "nest") NEST reads_nest d
-  outer ← part (codes "outer") OUTER (reads_natural 0 255) d
-  Ok (record { back = back; edge = edge; inside = inside; matrix = inverse.0; scale = inverse.1; nest = nest; outer = outer })
-
--- the members between its polynomials
-pub record FrontMiddle : Type 0 where
-  pub reach : Option ReachClaim
-  pub read : ℕ
-  pub shown : List FarkasMultipliers
-  pub source : Option SpotForms
-
-unfoldable pub reads_front_middle : Data → Outcome FrontMiddle
-reads_front_middle d = do
-  reach ← part (codes "reach") REACH (reads_or_null reads_reach) d
-  read ← part (codes "read") READ (reads_natural 0 65535) d
-  shown ← part (codes "shown") SHOWN reads_all_multipliers d
-  source ← part (codes "source") SOURCE (reads_or_null reads_spot) d
-  Ok (record { reach = reach; read = read; shown = shown; source = source })
-
--- the members behind them
-pub record FrontSpots : Type 0 where
-  pub user : SpotForms
-  pub vertex : SpotForms
-
-unfoldable pub reads_front_spots : Data → Outcome FrontSpots
-reads_front_spots d = do
-  user ← part (codes "user") USER reads_spot d
-  vertex ← part (codes "vertex") VERTEX reads_spot d
-  Ok (record { user = user; vertex = vertex })
-
--- the members behind its first polynomials
-pub record FrontRest : Type 0 where
-  pub middle : FrontMiddle
-  pub sums : List Polynomial
-  pub spots : FrontSpots
-
-unfoldable pub reads_front_rest : Data → Outcome FrontRest
-reads_front_rest d = do
-  middle ← reads_front_middle d
-  sums ← part (codes "sums") SUMS reads_polynomials d
-  spots ← reads_front_spots d
-  Ok (record { middle = middle; sums = sums; spots = spots })
-
-abbrev pub front_claim : FrontHead → FrontMiddle → FrontSpots → FrontClaim
-front_claim head middle spots = record {
-  nest = head.nest;
-  outer = head.outer;
-  shown = middle.shown;
-  vertex = spots.vertex;
-  user = spots.user;
-  read = middle.read;
-  source = middle.source;
-  inside = head.inside;
-  matrix = head.matrix;
-  scale = head.scale;
-  edge = head.edge;
-  reach = middle.reach;
-  back = head.back;
+abbrev pub front_made : FrontMembers → WrittenFront
+front_made b = record {
+  claim = record { nest = b.1.1.1.1.0; outer = b.1.1.1.1.1.0; shown = b.1.1.1.1.1.1.1.1.1.0; vertex = b.1.1.1.1.1.1.1.1.1.1.1.1.1.0; user = b.1.1.1.1.1.1.1.1.1.1.1.1.0; read = b.1.1.1.1.1.1.1.1.0; source = b.1.1.1.1.1.1.1.1.1.1.0; inside = b.1.1.0; matrix = b.1.1.1.0.0; scale = b.1.1.1.0.1; edge = b.1.0; reach = b.1.1.1.1.1.1.1.0; back = b.0 };
+  sums = b.1.1.1.1.1.1.1.1.1.1.1.0;
+  outer_sums = b.1.1.1.1.1.1.0;
 }
 
-unfoldable pub reads_front_members : Data → Outcome WrittenFront
-reads_front_members d = do
-  head ← reads_front_head d
-  outer_sums ← part (codes "outer_sums") OUTER_SUMS reads_polynomials d
-  rest ← reads_front_rest d
-  Ok (record { claim = front_claim head rest.middle rest.spots; sums = rest.sums; outer_sums = outer_sums })
+abbrev pub front_parts : WrittenFront → FrontMembers
+front_parts front = (front.claim.back, (front.claim.edge, (front.claim.inside, ((front.claim.matrix, front.claim.scale), (front.claim.nest, (front.claim.outer, (front.outer_sums, (front.claim.reach, (front.claim.read, (front.claim.shown, (front.claim.source, (front.sums, (front.claim.user, (front.claim.vertex, tt))))))))))))))
 
 -- A wavefront term.
-unfoldable pub reads_front : Data → Outcome WrittenFront
-reads_front d = with_keys front_keys d >>= reads_front_members
+unfoldable pub front_shape : Shape WrittenFront
+front_shape = record_shape front_fields front_made front_parts (λ b. refl)

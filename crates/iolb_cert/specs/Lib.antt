@@ -1,3 +1,4 @@
+pub mod Shapes
 pub mod Certificates
 pub mod ColdTexts
 pub mod FrontTexts
@@ -5,10 +6,7 @@ pub mod PartitionTexts
 pub mod OneCertificate
 pub mod Terms
 pub mod Texts
-pub mod Views
 pub mod Read
-pub mod WrittenCertificates
 pub mod ReadBackLaw
-pub mod ReadBack
 pub mod Written
 pub mod CertificateText

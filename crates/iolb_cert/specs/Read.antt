@@ -10,9 +10,9 @@ use Rattle.k_partition.specs.Term.{CreditTerm, PartitionTerm}
 use Rattle.poly_tree.specs.Poly.{Quotient}
 use Rattle.reuse_paths.specs.Families.{FamilyForms}
 use Rattle.iolb_check.specs.Claims.{ColdClaim, FrontClaim, TermClaim, cold, partition, front, BranchClaim, CertificateClaim}
-use Rattle.cert_written.specs.Credits.{WrittenCredit, IsCredited}
+use Rattle.certificate_parts.specs.Credits.{WrittenCredit, IsCredited}
 use Rattle.json_parts.specs.Related.{AreAll}
-use Rattle.cert_parts.specs.Read.{ArePolynomials}
+use Rattle.certificate_parts.specs.Polynomials.{ArePolynomials}
 
 -- a cold term: what it claims, and its polynomials as they are written
 pub record WrittenCold : Type 0 where

@@ -8,11 +8,12 @@ use Rattle.iolb_check.specs.Limits.{CertificateParts}
 use Rattle.iolb_check.specs.declared.term.Term.{Term}
 use Rattle.iolb_check.specs.declared.term.Term.TheVariants as terms
 use Rattle.iolb_check.specs.declared.term.Branch.{Branch}
-use Rattle.reuse_paths.specs.Quasts.{row_trees}
-use Rattle.iolb_check.specs.Claims.{claim_of_cold, claim_of_front}
-use Rattle.cert_written.specs.Credits.{written_credit}
-use Rattle.cert_written.specs.Polynomials.{written_polynomial}
-use Rattle.iolb_cert.specs.Read.{WrittenCold, WrittenPartition, WrittenFront, WrittenTerm, as_cold, as_partition, as_front, WrittenBranch, WrittenCertificate, claim_of_partition}
+use Rattle.dep_quast.specs.Quasts.{row_trees}
+use Rattle.iolb_check.specs.Claims.{claim_of_cold, claim_of_front, claim_of_term, claim_of_branch, claim_of_certificate}
+use Rattle.json_parts.specs.Related.{Link, other_link}
+use Rattle.certificate_parts.specs.Credits.{written_credit}
+use Rattle.certificate_parts.specs.Polynomials.{written_polynomial}
+use Rattle.iolb_cert.specs.Read.{WrittenCold, WrittenPartition, WrittenFront, WrittenTerm, as_cold, as_partition, as_front, WrittenBranch, WrittenCertificate, claim_of_partition, IsCold, IsPartition, IsFront, IsTerm, IsBranch, IsCertificate}
 
 abbrev pub written_cold : Cold → WrittenCold
 written_cold cold = record { claim = claim_of_cold cold; sums = map written_polynomial cold.sums.sums }
@@ -42,3 +43,23 @@ written_branch branch = record { terms = map written_term branch.terms.items; di
 -- a certificate: all that its parts claim
 abbrev pub written_of : CertificateParts → WrittenCertificate
 written_of parts = record { branches = map written_branch parts.branches; trees = map row_trees parts.quasts.rows.items }
+
+-- ---- what the code holds, beside what a text says
+
+abbrev pub cold_link : Link WrittenCold Cold
+cold_link = other_link written_cold (λ said cold. IsCold said (claim_of_cold cold) cold.sums.sums)
+
+abbrev pub partition_link : Link WrittenPartition Partition
+partition_link = other_link written_partition (λ said partition. IsPartition said (partition_of partition))
+
+abbrev pub front_link : Link WrittenFront Wavefront
+front_link = other_link written_front (λ said front. IsFront said (claim_of_front front) front.sums.sums front.outer_sums.items)
+
+abbrev pub term_link : Link WrittenTerm Term
+term_link = other_link written_term (λ said term. IsTerm said (claim_of_term term))
+
+abbrev pub branch_link : Link WrittenBranch Branch
+branch_link = other_link written_branch (λ said branch. IsBranch said (claim_of_branch branch))
+
+abbrev pub certificate_link : Link WrittenCertificate CertificateParts
+certificate_link = other_link written_of (λ said parts. IsCertificate said (claim_of_certificate parts))

@@ -1,26 +1,42 @@
 //! The texts of certificates and of the bounds that they give.
 #![tactic(auto)]
 
+/// A part that is to be written as a member, and those behind it.
+macro_rules! put {
+    ($of:ty, $value:expr, $rest:expr) => {
+        Put {
+            value: $value,
+            rest: $rest,
+            of: PhantomData::<$of>,
+        }
+    };
+}
+
+/// A list of such parts.
+macro_rules! put_list {
+    ($of:ty, $values:expr, $rest:expr) => {
+        PutList {
+            values: $values,
+            rest: $rest,
+            of: PhantomData::<$of>,
+        }
+    };
+}
+
 mod bound_lines;
-mod members;
-mod objects;
+mod certificates;
+mod cold;
+mod front;
 mod one_certificate;
+mod partition;
 mod read_back;
-mod read_branches;
-mod read_cold;
-mod read_front;
-mod read_partition;
 mod reading;
 mod terms;
 mod text;
-mod written_branches;
-mod written_cold;
-mod written_front;
-mod written_partition;
 
 pub use bound_lines::bound_text;
-pub use cert_parts::{CertError, CertFault};
+pub use json_parts::{CertError, CertFault};
 pub use one_certificate::{texts_have_one_answer, texts_have_one_certificate};
 pub use read_back::certificates_are_read_back;
 pub use reading::read_certificate;
-pub use text::certificate_text;
+pub use text::{branch_bytes, certificate_text};

@@ -1,13 +1,19 @@
 //! The text of a certificate.
 
-ghost use Rattle.std.specs.Prelude.{◌≡◌, ◌++◌, codes, IfOk};
+ghost use Rattle.std.specs.Prelude.{◌≡◌, ◌++◌, codes, length, IfOk};
 ghost use Rattle.iolb_check.specs.Claims.{claim_of_certificate};
+ghost use Rattle.iolb_check.specs.Limits.{IsSmallBranch};
+ghost use Rattle.serde_json.specs.Written.{compact_text};
+ghost use Rattle.iolb_cert.specs.Terms.{branch_shape};
+ghost use Rattle.iolb_cert.specs.Written.{written_branch};
 ghost use Rattle.iolb_cert.specs.OneCertificate.{HasCertificate};
 ghost use Rattle.iolb_cert.specs.CertificateText.{certificate_text as text_of_certificate};
 
-use crate::written_branches::certificate as certificate_value;
+use crate::certificates::OfCertificate;
+use crate::terms::OfBranch;
 use affine_form::Memory;
-use iolb_check::Certificate;
+use iolb_check::{Branch, Certificate};
+use json_parts::Part;
 use std::alloc::Global;
 
 /// The text of a certificate: JSON without spaces, the keys of each object in byte order, a newline at the end.
@@ -17,10 +23,20 @@ pub fn certificate_text(alloc: Global, certificate: &Certificate) -> Result<Vec<
     ensures text { IfOk result (λ text. text.items ≡ text_of_certificate certificate.now) }
     ensures reads { IfOk result (λ text. HasCertificate text.items (claim_of_certificate certificate.now)) }
 {
-    let value = certificate_value(alloc, certificate)?;
+    let value = OfCertificate::write(alloc, certificate)?;
     let text = value.to_vec(alloc)?;
     let all = with_newline(text)?;
     Ok(all)
+}
+
+/// How many bytes a branch's text has, as it stands in a certificate's.
+pub fn branch_bytes(alloc: Global, branch: &Branch) -> Result<usize, Memory>
+    requires { IsSmallBranch branch.now }
+    ensures { IfOk result (λ bytes. bytes ≡ length (compact_text (branch_shape.data_of (written_branch branch.now)))) }
+{
+    let value = OfBranch::write(alloc, branch)?;
+    let text = value.to_vec(alloc)?;
+    Ok(text.as_slice().len())
 }
 
 /// A text with a newline at its end.

@@ -1,4 +1,5 @@
 -- A certificate isn't both accepted and refused; what is accepted has values, and gives one bound.
+use Rattle.std.specs.Prelude.{codes}
 use Rattle.std.proofs.Common.{◌≡◌, refl, sym, ◌∙◌, ap, subst, ℕ, suc, List, [], ◌∷◌, ◌++◌, get_or, length, take, arith}
 use Rattle.std.proofs.Math.Seq.{take-length}
 use Rattle.base_laws.proofs.Lists.{cons-same}
@@ -6,7 +7,6 @@ use Rattle.iolb_model.specs.Program.{AffineProgram}
 use Rattle.claims.specs.Claims.{Claim, AllHold, numbered}
 use Rattle.claims.specs.declared.place.Step.{Step}
 use Rattle.claims.specs.declared.place.Step.TheVariants.{Key, Index}
-use Rattle.claims.specs.declared.key.TheConstants.{COLD, OUTER_SUMS, PARTITION, SUMS, WAVEFRONT}
 use Rattle.claims.proofs.Laws.{AllHold-left, AllHold-right, accepted-stand, refused-one}
 use Rattle.claims.proofs.Members.{numbered-member}
 use Rattle.dep_quast.specs.Tree.{SelectionTree}
@@ -19,8 +19,8 @@ use Rattle.k_partition.specs.PartitionClaims.{HasCreditsTotal, apart_claims, cov
 use Rattle.k_partition.specs.Term.{CreditTerm, PartitionTerm}
 use Rattle.k_partition.specs.TermLoads.{weight_of}
 use Rattle.poly_tree.specs.Poly.{Quotient}
-use Rattle.reuse_paths.specs.Quasts.{tree_for}
-use Rattle.reuse_paths.specs.Trees.{rows_claims}
+use Rattle.dep_quast.specs.Quasts.{tree_for}
+use Rattle.dep_quast.specs.Trees.{rows_claims}
 use Rattle.wavefront.specs.ColdClaims.{instance_claims}
 use Rattle.wavefront.specs.FrontClaims.{front_counts, wave_claims}
 use Rattle.wavefront.specs.FrontTerm.{WavefrontTerm, outer_nest}
@@ -89,19 +89,19 @@ credits-total program place (credit ∷ credits) h =
     let all : List CreditTerm = credit ∷ credits in
     let here = numbered-member (credit_claims program place all) all last credit (omega arith) h in
     let sum = AllHold-right (count_claims program (get_or all last credit).nest.nest (get_or all last credit).count (credit_place place last))
-    (record { condition = 2; place = credit_place place last ++ Key SUMS ∷ []; statement = HasCreditsTotal (length program.parameters) (take (suc last) all) } ∷ []) here in
+    (record { condition = 2; place = credit_place place last ++ Key (codes "sums") ∷ []; statement = HasCreditsTotal (length program.parameters) (take (suc last) all) } ∷ []) here in
     subst (HasCreditsTotal (length program.parameters)) (take-length all) sum.0
 
 value-there : (program : AffineProgram) (trees : List (List SelectionTree)) (place : List Step) (term : TermClaim) → AllHold (term_claims program trees place term)
     → (value : Value) × IsValueOf program term value
 value-there program trees place (cold claim sums) h =
-    let at : List Step = place ++ Key COLD ∷ [] in
+    let at : List Step = place ++ Key (codes "cold") ∷ [] in
     let term : ColdTerm = cold_term claim sums in
     let count = claims-count program claim.nest term.count at
     (AllHold-left (count_claims program term.nest term.count at) (instance_claims program at (tree_for trees term.reader) term) h) in
     (values.Cold count.0, count.1)
 value-there program trees place (partition term) h =
-    let at : List Step = place ++ Key PARTITION ∷ [] in
+    let at : List Step = place ++ Key (codes "partition") ∷ [] in
     let counts : List Claim = count_claims program term.nest term.count at in
     let points : List Claim = point_claims program at term in
     let cover : List Claim = unit_claims at term ++ cover_claims at term in
@@ -129,13 +129,13 @@ value-there program trees place (partition term) h =
       },
     )
 value-there program trees place (front claim sums outer_sums) h =
-    let at : List Step = place ++ Key WAVEFRONT ∷ [] in
+    let at : List Step = place ++ Key (codes "wavefront") ∷ [] in
     let term : WavefrontTerm = front_term claim sums outer_sums in
     let counts : List Claim = count_claims program term.nest term.count at in
-    let outer : List Claim = sums_claims program (outer_nest term) outer_sums at OUTER_SUMS in
+    let outer : List Claim = sums_claims program (outer_nest term) outer_sums at (codes "outer_sums") in
     let both : AllHold (counts ++ outer) = AllHold-left (front_counts program at term) (wave_claims program at trees term) h in
     let pairs = claims-count program term.nest term.count at (AllHold-left counts outer both) in
-    let fronts = sums-give (length program.parameters) (outer_nest term) outer_sums at OUTER_SUMS (AllHold-right counts outer both) in
+    let fronts = sums-give (length program.parameters) (outer_nest term) outer_sums at (codes "outer_sums") (AllHold-right counts outer both) in
     (values.Wavefront pairs.0 fronts.0, (pairs.1, fronts.1))
 
 values-there : (program : AffineProgram) (trees : List (List SelectionTree)) (place : List Step) (index : ℕ) (terms : List TermClaim)

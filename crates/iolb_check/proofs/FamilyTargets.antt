@@ -9,23 +9,23 @@ use Rattle.affine_form.specs.Matrix.{IntegerMatrix}
 use Rattle.iolb_model.specs.Program.{AffineProgram, Statement, statement_at, no_statement}
 use Rattle.dep_quast.specs.Context.{ReadOf, reference_of, no_row}
 use Rattle.dep_quast.specs.Tree.{source, input, empty, blank, SelectionTree, leaf, test}
-use Rattle.reuse_paths.specs.declared.piece.Target.{Target}
-use Rattle.reuse_paths.specs.declared.piece.Target.TheVariants.{Cell, Instance}
+use Rattle.footprint_pieces.specs.declared.piece.Target.{Target}
+use Rattle.footprint_pieces.specs.declared.piece.Target.TheVariants.{Cell, Instance}
 use Rattle.reuse_paths.specs.Families.{CreditedNest, FamilyForms, NodeForms, node_region}
 use Rattle.reuse_paths.specs.FamilyClaims.{family_setting, start_rows}
 use Rattle.reuse_paths.specs.FamilyFits.{FamilyFits, NodeFits, NodesFit}
 use Rattle.reuse_paths.specs.FamilyPieces.{family_pieces, region_pieces, regions_pieces}
 use Rattle.reuse_paths.specs.LeafClaims.{LeafClaim, no_point, stops, is_credited, goes_on, arrives}
-use Rattle.reuse_paths.specs.OpenLeaves.{LeafOrigin, written, as_input, unknown, OpenLeaf, form_at, no_at, open_leaves}
-use Rattle.reuse_paths.specs.Pieces.{FootprintPiece}
-use Rattle.reuse_paths.specs.Quasts.{tree_at, tree_or_blank}
-use Rattle.reuse_paths.specs.Trees.{read_of}
+use Rattle.dep_quast.specs.OpenLeaves.{LeafOrigin, written, as_input, unknown, OpenLeaf, form_at, no_at, open_leaves}
+use Rattle.footprint_pieces.specs.Pieces.{FootprintPiece}
+use Rattle.dep_quast.specs.Quasts.{tree_at, tree_or_blank}
+use Rattle.dep_quast.specs.Trees.{read_of}
 use Rattle.reuse_paths.specs.WalkClaims.{leaves_at}
 use Rattle.reuse_paths.specs.WalkFits.{WalkFits, RegionFits}
 use Rattle.reuse_paths.specs.WalkPieces.{entry_pieces, leaves_pieces, walk_pieces}
 use Rattle.reuse_paths.specs.WalkSettings.{WalkSetting, region_variables, reading_point, region_context}
 use Rattle.reuse_paths.specs.Walks.{WalkTree, take, test as walk_test, WalkRegion}
-use Rattle.reuse_paths.proofs.PairCounts.{targets_of}
+use Rattle.footprint_pieces.proofs.PairCounts.{targets_of}
 use Rattle.iolb_check.specs.FamilyTargets.{leaf_targets, taken_target, taken_targets, taken_if, walk_targets, region_targets, regions_targets, family_targets}
 
 -- ---- leaves

@@ -1,6 +1,6 @@
 -- Where what is asked of a wavefront term holds, it fits a program.
 use Rattle.std.proofs.Common.{◌≡◌, refl, sym, ◌∙◌, ap, subst, ℕ, suc, ◌*◌, List, [], ◌∷◌, ◌++◌, length, arith}
-use Rattle.std.specs.Prelude.{Option, Some, None}
+use Rattle.std.specs.Prelude.{Option, Some, None, codes}
 use Rattle.std.specs.List.{AllByRecursion}
 use Rattle.std.specs.Option.{is_some}
 use Rattle.std.proofs.lemmas.List.{length-append, length-map}
@@ -9,7 +9,6 @@ use Rattle.iolb_model.specs.Program.{AffineProgram}
 use Rattle.claims.specs.Claims.{Claim, AllHold, numbered}
 use Rattle.claims.specs.declared.place.Step.{Step}
 use Rattle.claims.specs.declared.place.Step.TheVariants.{Key}
-use Rattle.claims.specs.declared.key.TheConstants.{BACK, EDGE, NEST, REACH, SOURCE, SUMS, USER, VERTEX}
 use Rattle.claims.proofs.Laws.{AllHold-left, AllHold-right}
 use Rattle.affine_form.specs.Rows.{BoundsFit}
 use Rattle.affine_form.specs.Substitution.{substitution}
@@ -20,11 +19,11 @@ use Rattle.dep_quast.specs.Tree.{SelectionTree}
 use Rattle.dep_quast.specs.Truth.{ReadFits}
 use Rattle.dep_quast.proofs.Fits.{length-within_rows}
 use Rattle.reuse_paths.specs.LeafClaims.{LeafClaim, no_point, stops, is_credited, goes_on, arrives}
-use Rattle.reuse_paths.specs.Quasts.{tree_or_blank, tree_for}
+use Rattle.dep_quast.specs.Quasts.{tree_or_blank, tree_for}
 use Rattle.reuse_paths.specs.ReachClaims.{setting_of}
 use Rattle.reuse_paths.specs.ReachFits.{ReachFits}
 use Rattle.reuse_paths.specs.WalkFits.{NestFits, SpotFits}
-use Rattle.reuse_paths.specs.Trees.{RowsFit}
+use Rattle.dep_quast.specs.Trees.{RowsFit}
 use Rattle.reuse_paths.specs.Walks.{SpotForms, ReachClaim}
 use Rattle.wavefront.specs.declared.front.Wavefront.{Wavefront}
 use Rattle.wavefront.specs.FrontClaims.{front_variables, spot_goals, source_goals, front_goals, user_point, telling_forms}
@@ -45,7 +44,7 @@ use Rattle.iolb_check.specs.Limits.{IsSmallFront}
 module _ (P : AffineProgram) (term : WavefrontTerm) where
   source-fits : (place : List Step) (source : Option SpotForms) → IsSmallSpot source → AllHold (source_fit P place term source) → SourceFits P (front_variables P term) source
   source-fits place None small h = tt
-  source-fits place (Some spot) small h = spot-fits P (front_variables P term) (place ++ Key SOURCE ∷ []) spot small h
+  source-fits place (Some spot) small h = spot-fits P (front_variables P term) (place ++ Key (codes "source") ∷ []) spot small h
 
   spot-many : (spot : SpotForms) → SpotFits P (front_variables P term) spot → length (spot_goals P term spot) ≡ 2 * depth_of P spot.statement
   spot-many spot fits = length-within_rows (front_variables P term) (path_of P spot.statement) (parameter_point P (front_variables P term)) spot.point fits.point
@@ -105,14 +104,14 @@ module _ (program : ProgramParts) (trees : List (List SelectionTree)) (fit : All
       let back : List Claim = back_fit P trees place term in
       let edge : List Claim = edge_fit P trees place term in
       let words : List Claim = words_fit P place term in
-      let bounds : List Claim = bounds_fit params (place ++ Key NEST ∷ []) term.nest in
+      let bounds : List Claim = bounds_fit params (place ++ Key (codes "nest") ∷ []) term.nest in
       let outer : List Claim = outer_fit P place term in
       let way : List Claim = reach_fit P trees place term in
       let read : List Claim = read_fit P place term in
       let source : List Claim = source_fit P place term term.source in
-      let sums : List Claim = polynomials_fit (length P.parameters) (place ++ Key SUMS ∷ []) term.count.sums (length term.nest) in
-      let user : List Claim = spot_fit P vars (place ++ Key USER ∷ []) term.user in
-      let vertex : List Claim = spot_fit P vars (place ++ Key VERTEX ∷ []) term.vertex in
+      let sums : List Claim = polynomials_fit (length P.parameters) (place ++ Key (codes "sums") ∷ []) term.count.sums (length term.nest) in
+      let user : List Claim = spot_fit P vars (place ++ Key (codes "user") ∷ []) term.user in
+      let vertex : List Claim = spot_fit P vars (place ++ Key (codes "vertex") ∷ []) term.vertex in
       let first : List Claim = back ++ (edge ++ words) in
       let nest : List Claim = bounds ++ (outer ++ way) in
       let count : List Claim = read ++ (source ++ sums) in
@@ -130,18 +129,18 @@ module _ (program : ProgramParts) (trees : List (List SelectionTree)) (fit : All
       let in_read : AllHold read = AllHold-left read (source ++ sums) in_count in
       let in_source : AllHold source = AllHold-left source sums (AllHold-right read (source ++ sums) in_count) in
       let in_sums : AllHold sums = AllHold-right source sums (AllHold-right read (source ++ sums) in_count) in
-      let user_fits : SpotFits P vars term.user = spot-fits P vars (place ++ Key USER ∷ []) term.user small.user (AllHold-left user vertex in_spots) in
-      let vertex_fits : SpotFits P vars term.vertex = spot-fits P vars (place ++ Key VERTEX ∷ []) term.vertex small.vertex (AllHold-right user vertex in_spots) in
+      let user_fits : SpotFits P vars term.user = spot-fits P vars (place ++ Key (codes "user") ∷ []) term.user small.user (AllHold-left user vertex in_spots) in
+      let vertex_fits : SpotFits P vars term.vertex = spot-fits P vars (place ++ Key (codes "vertex") ∷ []) term.vertex small.vertex (AllHold-right user vertex in_spots) in
       let source_is : SourceFits P vars term.source = source-fits P term place term.source small.source in_source in
       let read_fits : ReadFits P reader = record { statement = user_fits.there; read = in_read.0 } in
       let chosen = tree-of P trees reader read_fits fit rows in
       let same : tree_for trees reader ≡ chosen.0 = ap tree_or_blank chosen.1.there in
-      let over : BoundsFit params term.nest = subst (λ (n : ℕ). BoundsFit n term.nest) (add-zero params) (bounds-fit params 0 (place ++ Key NEST ∷ []) term.nest small.bounds (AllHold-left bounds (outer ++ way) in_nest)) in
+      let over : BoundsFit params term.nest = subst (λ (n : ℕ). BoundsFit n term.nest) (add-zero params) (bounds-fit params 0 (place ++ Key (codes "nest") ∷ []) term.nest small.bounds (AllHold-left bounds (outer ++ way) in_nest)) in
       let nest_fits : NestFits P term.nest = record { few = small.variables; bounds = over } in
       let edges : EdgesFit P chosen.0 term = record {
         tree_fits = chosen.1.fits;
         each = in_edge.0 ∙ leaves-many P trees reader chosen.0 in_read.0 chosen.1.there ∙ sym (open-many vars (user_point P term) [] chosen.0);
-        entries = edges-in P term (place ++ Key EDGE ∷ []) 0 term.edge in_edge.1;
+        entries = edges-in P term (place ++ Key (codes "edge") ∷ []) 0 term.edge in_edge.1;
       } in
       let parts : PartsFit P term = record {
         nest = nest_fits;
@@ -159,8 +158,8 @@ module _ (program : ProgramParts) (trees : List (List SelectionTree)) (fit : All
           parts = parts;
           there = chosen.1.there ∙ ap (λ (t : SelectionTree). Some t) (sym same);
           edges = subst (λ (t : SelectionTree). EdgesFit P t term) (sym same) edges;
-          reach = ways-fit term (place ++ Key REACH ∷ []) term.source term.reach in_way.0 nest_fits vertex_fits source_is small.reach in_way.1;
-          back = way-fits term term.user term.vertex (place ++ Key BACK ∷ []) term.back nest_fits user_fits vertex_fits small.back (AllHold-left back (edge ++ words) in_first);
+          reach = ways-fit term (place ++ Key (codes "reach") ∷ []) term.source term.reach in_way.0 nest_fits vertex_fits source_is small.reach in_way.1;
+          back = way-fits term term.user term.vertex (place ++ Key (codes "back") ∷ []) term.back nest_fits user_fits vertex_fits small.back (AllHold-left back (edge ++ words) in_first);
         };
         count = record { few = small.variables; bounds = over; shown = in_read.1.0; sums = in_sums.0 };
         outer_sums = in_outer.1.0;

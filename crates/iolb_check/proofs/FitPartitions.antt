@@ -1,13 +1,12 @@
 -- Where what is asked of a partition term holds, it fits a program.
 use Rattle.std.proofs.Common.{◌≡◌, refl, sym, ◌∙◌, ap, subst, ℕ, suc, ◌≤◌, List, [], ◌∷◌, ◌++◌, length, map, arith}
-use Rattle.std.specs.Prelude.{if◌then◌else◌, ◌==◌}
+use Rattle.std.specs.Prelude.{if◌then◌else◌, ◌==◌, codes}
 use Rattle.std.specs.List.{AllByRecursion}
 use Rattle.iolb_model.specs.Program.{AffineProgram}
 use Rattle.iolb_model.specs.declared.limits.TheConstants.{NEST_VARIABLES}
 use Rattle.claims.specs.Claims.{Claim, AllHold, numbered}
 use Rattle.claims.specs.declared.place.Step.{Step}
 use Rattle.claims.specs.declared.place.Step.TheVariants.{Key}
-use Rattle.claims.specs.declared.key.TheConstants.{CREDITS, FAMILIES}
 use Rattle.claims.proofs.Laws.{AllHold-append, AllHold-left, AllHold-right}
 use Rattle.affine_form.specs.Matrix.{IntegerMatrix}
 use Rattle.affine_program.specs.Domain.{depth_of}
@@ -22,13 +21,13 @@ use Rattle.k_partition.specs.PartitionFits.{HasApart}
 use Rattle.k_partition.specs.Term.{CreditTerm, PartitionTerm, credited_nests}
 use Rattle.k_partition.specs.View.{credit_term_of, partition_of, IsSquare}
 use Rattle.reuse_paths.specs.declared.family.Credit.{Credit}
-use Rattle.reuse_paths.specs.declared.piece.Target.{Target}
+use Rattle.footprint_pieces.specs.declared.piece.Target.{Target}
 use Rattle.reuse_paths.specs.Families.{CreditedNest, credit_of}
 use Rattle.reuse_paths.specs.FamilyFits.{CountedFits, FamilyFits}
-use Rattle.reuse_paths.specs.TargetPairs.{pairwise_targets}
-use Rattle.reuse_paths.specs.Trees.{RowsFit}
+use Rattle.footprint_pieces.specs.TargetPairs.{pairwise_targets}
+use Rattle.dep_quast.specs.Trees.{RowsFit}
 use Rattle.reuse_paths.specs.WalkFits.{CreditFits}
-use Rattle.reuse_paths.proofs.PairCounts.{pairs-many}
+use Rattle.footprint_pieces.proofs.PairCounts.{pairs-many}
 use Rattle.certificate_fit.specs.FamilyFit.{credit_fit}
 use Rattle.certificate_fit.specs.FamilyViews.{credit_at as held_credit}
 use Rattle.certificate_fit.specs.Limits.{AreSmallBounds}
@@ -104,8 +103,8 @@ module _ (program : ProgramParts) (trees : List (List SelectionTree)) (fit : All
     in-credits = AllHold-left (credits_fit P place term) (walked_fit P trees place term) in-walks.1
 
     -- the same claims, of what the code holds
-    held-credits : AllHold (numbered (held_credit P (place ++ Key CREDITS ∷ [])) 0 partition.credits.items)
-    held-credits = subst AllHold (credits-same P (place ++ Key CREDITS ∷ []) 0 partition.credits.items) in-credits
+    held-credits : AllHold (numbered (held_credit P (place ++ Key (codes "credits") ∷ [])) 0 partition.credits.items)
+    held-credits = subst AllHold (credits-same P (place ++ Key (codes "credits") ∷ []) 0 partition.credits.items) in-credits
 
     nest-small : (credit : Credit) → IsSmallCredit credit → (length credit.nest ≤ NEST_VARIABLES) × AreSmallBounds credit.nest
     nest-small credit few = (few.variables, few.bounds)
@@ -113,10 +112,10 @@ module _ (program : ProgramParts) (trees : List (List SelectionTree)) (fit : All
     credited : AllByRecursion (CreditFits P) (credited_nests term)
     credited =
         subst (AllByRecursion (CreditFits P)) (credits-held partition.credits.items)
-        (credits-fit program (place ++ Key CREDITS ∷ []) IsSmallCredit nest-small 0 partition.credits.items small.credits held-credits)
+        (credits-fit program (place ++ Key (codes "credits") ∷ []) IsSmallCredit nest-small 0 partition.credits.items small.credits held-credits)
 
     families : AllByRecursion (FamilyFits P trees term.statement term.nest term.matrix (credited_nests term)) term.families
-    families = families-fit P trees fit rows (credited_nests term) term.statement term.nest term.matrix counted credited (place ++ Key FAMILIES ∷ []) 0 term.families small.families in-families
+    families = families-fit P trees fit rows (credited_nests term) term.statement term.nest term.matrix counted credited (place ++ Key (codes "families") ∷ []) 0 term.families small.families in-families
 
     apart-many : (shape : Shape) → length term.apart ≡ apart_count shape P trees term → HasApart shape P trees term
     apart-many Each e = tt
@@ -139,7 +138,7 @@ module _ (program : ProgramParts) (trees : List (List SelectionTree)) (fit : All
         apart = apart-many term.shape in-walks.0;
       };
       count = counts;
-      credits = credits-count program (place ++ Key CREDITS ∷ []) IsSmallCredit nest-small 0 partition.credits.items small.credits held-credits;
+      credits = credits-count program (place ++ Key (codes "credits") ∷ []) IsSmallCredit nest-small 0 partition.credits.items small.credits held-credits;
       matrices = record {
         matrix = square (depth_of P term.statement) (length partition.nest) partition.matrix in-nest.0 in-coordinates.1.1.1.0 in-coordinates.1.1.1.1.0;
         inverse = square (depth_of P term.statement) (length partition.nest) partition.inverse in-nest.0 in-coordinates.1.0 in-coordinates.1.1.0;

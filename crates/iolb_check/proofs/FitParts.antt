@@ -1,22 +1,21 @@
 -- Where a certificate fits a program, so do its source trees and its terms.
 use Rattle.std.proofs.Common.{◌≡◌, sym, ◌∙◌, ap, subst, ℕ, suc, List, [], ◌∷◌, ◌++◌, length, map, arith}
-use Rattle.std.specs.Prelude.{Some}
+use Rattle.std.specs.Prelude.{Some, codes}
 use Rattle.std.specs.List.{AllByRecursion}
 use Rattle.std.proofs.lemmas.List.{length-map}
 use Rattle.std.proofs.Math.Nat.{add-zero}
 use Rattle.iolb_model.specs.Program.{AffineProgram}
 use Rattle.claims.specs.declared.place.Step.{Step}
 use Rattle.claims.specs.declared.place.Step.TheVariants.{Key, Index}
-use Rattle.claims.specs.declared.key.TheConstants.{BRANCHES, COLD, NEST, PARTITION, POINT, QUASTS, SUMS, TERMS, WAVEFRONT}
 use Rattle.affine_form.specs.Rows.{BoundsFit}
 use Rattle.affine_program.specs.Parts.{ProgramParts, IsProgram, meaning}
 use Rattle.dep_quast.specs.Context.{ReadOf, reference_of}
 use Rattle.dep_quast.specs.Tree.{SelectionTree}
 use Rattle.dep_quast.specs.Truth.{ReadFits}
-use Rattle.reuse_paths.specs.Trees.{RowsFit}
-use Rattle.reuse_paths.specs.Quasts.{tree_or_blank, tree_for, row_trees, trees_of}
+use Rattle.dep_quast.specs.Trees.{RowsFit}
+use Rattle.dep_quast.specs.Quasts.{tree_or_blank, tree_for, row_trees, trees_of}
 use Rattle.wavefront.specs.declared.cold.Cold.{Cold}
-use Rattle.reuse_paths.proofs.OpenLeaves.{tests-fit}
+use Rattle.dep_quast.proofs.OpenLeaves.{tests-fit}
 use Rattle.wavefront.specs.Loads.{ColdFits}
 use Rattle.wavefront.specs.Term.{ColdTerm, nest_variables, instance_point}
 use Rattle.wavefront.specs.View.{term_of}
@@ -46,10 +45,10 @@ module _ (program : ProgramParts) (trees : List (List SelectionTree)) (fit : All
       let reader : ReadOf = term.reader in
       let params : ℕ = length program.params in
       let front : List Claim = cold_front_fit P trees place term in
-      let bounds : List Claim = bounds_fit params (place ++ Key NEST ∷ []) cold.nest in
+      let bounds : List Claim = bounds_fit params (place ++ Key (codes "nest") ∷ []) cold.nest in
       let point : List Claim = point_fit P place term in
       let back : List Claim = cold_back_fit P term place in
-      let sums : List Claim = sums_fit (suc params) (place ++ Key SUMS ∷ []) cold.sums.sums in
+      let sums : List Claim = sums_fit (suc params) (place ++ Key (codes "sums") ∷ []) cold.sums.sums in
       let most : AllHold (front ++ bounds ++ point ++ back) = AllHold-left (front ++ bounds ++ point ++ back) sums h in
       let some : AllHold (front ++ bounds ++ point) = AllHold-left (front ++ bounds ++ point) back most in
       let few : AllHold (front ++ bounds) = AllHold-left (front ++ bounds) point some in
@@ -60,14 +59,14 @@ module _ (program : ProgramParts) (trees : List (List SelectionTree)) (fit : All
       let chosen = tree-of P trees reader read fit rows in
       let same : tree_for trees reader ≡ chosen.0 = ap tree_or_blank chosen.1.there in
       let vars : ℕ = nest_variables P term in
-      let bounds_over : BoundsFit params cold.nest = subst (λ (n : ℕ). BoundsFit n cold.nest) (add-zero params) (bounds-fit params 0 (place ++ Key NEST ∷ []) cold.nest small.bounds (AllHold-right front bounds few)) in
+      let bounds_over : BoundsFit params cold.nest = subst (λ (n : ℕ). BoundsFit n cold.nest) (add-zero params) (bounds-fit params 0 (place ++ Key (codes "nest") ∷ []) cold.nest small.bounds (AllHold-right front bounds few)) in
       let fits : ColdFits P chosen.0 term = record {
         parts = record {
           read = read;
           few = small.variables;
           bounds = bounds_over;
           point = in_point.0;
-          forms = forms-over vars (place ++ Key POINT ∷ []) 0 cold.point.items small.point in_point.1;
+          forms = forms-over vars (place ++ Key (codes "point") ∷ []) 0 cold.point.items small.point in_point.1;
           inside = in_front.0;
           rows = in_front.1.0;
           columns = columns-many cold.inverse.matrix.rows cold.inverse.matrix.columns (length (reference_of P reader).subscripts) in_front.1.1.0;
@@ -91,17 +90,17 @@ module _ (program : ProgramParts) (trees : List (List SelectionTree)) (fit : All
   terms-fit place index (terms.Cold cold ∷ ts) small h =
       let here : List Claim = term_at (meaning program) trees place index (claim_of_term (terms.Cold cold)) in
       let rest : List Claim = numbered (term_at (meaning program) trees place) (suc index) (map claim_of_term ts) in
-      (cold-fits (place ++ Index index ∷ [] ++ Key COLD ∷ []) cold small.0 (AllHold-left here rest h), terms-fit place (suc index) ts small.1 (AllHold-right here rest h))
+      (cold-fits (place ++ Index index ∷ [] ++ Key (codes "cold") ∷ []) cold small.0 (AllHold-left here rest h), terms-fit place (suc index) ts small.1 (AllHold-right here rest h))
   terms-fit place index (terms.Partition partition ∷ ts) small h =
       let here : List Claim = term_at (meaning program) trees place index (claim_of_term (terms.Partition partition)) in
       let rest : List Claim = numbered (term_at (meaning program) trees place) (suc index) (map claim_of_term ts) in (
-        partition-fits program trees fit rows (place ++ Index index ∷ [] ++ Key PARTITION ∷ []) partition small.0 (AllHold-left here rest h),
+        partition-fits program trees fit rows (place ++ Index index ∷ [] ++ Key (codes "partition") ∷ []) partition small.0 (AllHold-left here rest h),
         terms-fit place (suc index) ts small.1 (AllHold-right here rest h),
       )
   terms-fit place index (terms.Wavefront front ∷ ts) small h =
       let here : List Claim = term_at (meaning program) trees place index (claim_of_term (terms.Wavefront front)) in
       let rest : List Claim = numbered (term_at (meaning program) trees place) (suc index) (map claim_of_term ts) in (
-        front-fits program trees fit rows (place ++ Index index ∷ [] ++ Key WAVEFRONT ∷ []) front small.0 (AllHold-left here rest h),
+        front-fits program trees fit rows (place ++ Index index ∷ [] ++ Key (codes "wavefront") ∷ []) front small.0 (AllHold-left here rest h),
         terms-fit place (suc index) ts small.1 (AllHold-right here rest h),
       )
 
@@ -111,7 +110,7 @@ module _ (program : ProgramParts) (trees : List (List SelectionTree)) (fit : All
       let here : List Claim = branch_at (meaning program) trees index (claim_of_branch branch) in
       let rest : List Claim = numbered (branch_at (meaning program) trees) (suc index) (map claim_of_branch branches) in
       let fits : AllHold here = AllHold-left here rest h in
-      (record { terms = terms-fit (Key BRANCHES ∷ Index index ∷ Key TERMS ∷ []) 0 branch.terms.items small.0.terms fits.1; disjoint = fits.0 }, branches-fit (suc index) branches small.1 (AllHold-right here rest h))
+      (record { terms = terms-fit (Key (codes "branches") ∷ Index index ∷ Key (codes "terms") ∷ []) 0 branch.terms.items small.0.terms fits.1; disjoint = fits.0 }, branches-fit (suc index) branches small.1 (AllHold-right here rest h))
 
 pub parts-fit : (program : ProgramParts) (parts : CertificateParts) → IsProgram program → IsWithinLimits parts → AllHold (certificate_fit (meaning program) (claim_of_certificate parts)) → PartsFit program parts
 parts-fit program parts is limits h =
@@ -119,5 +118,5 @@ parts-fit program parts is limits h =
     let trees : List (List SelectionTree) = trees_of parts.quasts in
     let branches : List Claim = numbered (branch_at P trees) 0 (map claim_of_branch parts.branches) in
     let fit : AllHold (trees_fit P trees) = AllHold-right branches (trees_fit P trees) h in
-    let rows : RowsFit P 0 trees = rows-fit P is.well_formed (Key QUASTS ∷ []) 0 parts.quasts.rows.items (omega (arith, fit.0, length-map parts.quasts.rows.items row_trees)) limits.trees fit.1 in
+    let rows : RowsFit P 0 trees = rows-fit P is.well_formed (Key (codes "quasts") ∷ []) 0 parts.quasts.rows.items (omega (arith, fit.0, length-map parts.quasts.rows.items row_trees)) limits.trees fit.1 in
     record { trees = rows; branches = branches-fit program trees fit rows 0 parts.branches limits.branches (AllHold-left branches (trees_fit P trees) h) }

@@ -1,6 +1,6 @@
 -- Terms whose claims hold have pieces, with the targets that are told without their claims.
 use Rattle.std.proofs.Common.{Bool, true, ◌≡◌, refl, sym, ◌∙◌, ap, ℕ, suc, ◌≤◌, List, [], ◌∷◌, ◌++◌, length, map, arith}
-use Rattle.std.specs.Prelude.{Option, Some, None, if◌then◌else◌}
+use Rattle.std.specs.Prelude.{Option, Some, None, if◌then◌else◌, codes}
 use Rattle.std.specs.List.{AllByRecursion, cons_option}
 use Rattle.std.proofs.lemmas.Bool.{lt-ltb}
 use Rattle.base_laws.proofs.Lists.{cons-same}
@@ -9,20 +9,19 @@ use Rattle.iolb_model.specs.Program.{AffineProgram, statement_at}
 use Rattle.claims.specs.Claims.{Claim, AllHold, numbered}
 use Rattle.claims.specs.declared.place.Step.{Step}
 use Rattle.claims.specs.declared.place.Step.TheVariants.{Index, Key}
-use Rattle.claims.specs.declared.key.TheConstants.{COLD, LEAVES}
 use Rattle.claims.proofs.Laws.{AllHold-left, AllHold-right}
 use Rattle.affine_program.specs.Parts.{ProgramParts, meaning}
 use Rattle.dep_quast.specs.Context.{ReadOf, reference_of}
 use Rattle.dep_quast.specs.Tree.{source, input, empty, blank, SelectionTree, leaf, test}
 use Rattle.domain_count.specs.CountClaims.{count_claims}
-use Rattle.reuse_paths.specs.declared.piece.Target.{Target}
-use Rattle.reuse_paths.specs.declared.piece.Target.TheVariants.{Cell}
+use Rattle.footprint_pieces.specs.declared.piece.Target.{Target}
+use Rattle.footprint_pieces.specs.declared.piece.Target.TheVariants.{Cell}
 use Rattle.reuse_paths.specs.LeafClaims.{LeafClaim, no_point, stops, is_credited, goes_on, arrives}
-use Rattle.reuse_paths.specs.OpenLeaves.{OpenLeaf, is_input, form_at, no_at, open_leaves}
-use Rattle.reuse_paths.specs.Quasts.{tree_at, tree_for}
+use Rattle.dep_quast.specs.OpenLeaves.{OpenLeaf, is_input, form_at, no_at, open_leaves}
+use Rattle.dep_quast.specs.Quasts.{tree_at, tree_for}
 use Rattle.reuse_paths.specs.Walks.{SpotForms}
 use Rattle.dep_quast.specs.Truth.{ReadFits}
-use Rattle.reuse_paths.proofs.PairCounts.{targets_of}
+use Rattle.footprint_pieces.proofs.PairCounts.{targets_of}
 use Rattle.k_partition.specs.PartitionPieces.{partition_pieces}
 use Rattle.k_partition.specs.Term.{PartitionTerm, credited_nests}
 use Rattle.k_partition.specs.View.{partition_of}
@@ -104,7 +103,7 @@ module _ (program : ProgramParts) (trees : List (List SelectionTree)) (place : L
         let reader : ReadOf = term.reader in
         let array : ℕ = (reference_of P reader).array in
         let tree : SelectionTree = tree_for trees reader in
-        targets-told P term (place ++ Key LEAVES ∷ []) 0 (leaves_of P tree term) (leaf_targets array tree) term.leaves
+        targets-told P term (place ++ Key (codes "leaves") ∷ []) 0 (leaves_of P tree term) (leaf_targets array tree) term.leaves
         (told array (nest_variables P term) (instance_point P term) [] tree) (omega (arith, fits.fits.leaves)) at-leaves
         ∙ sym (ap (λ (b : Bool). if b then targets_if array term.leaves (tree_at trees reader.statement reader.read) else [])
         (lt-ltb reader.read (length (statement_at P reader.statement).reads) fits.fits.parts.read.read) ∙ ap (targets_if array term.leaves) fits.there)
@@ -124,7 +123,7 @@ module _ (program : ProgramParts) (trees : List (List SelectionTree)) (list : Li
   claims-from index ts = numbered (term_claims_at (meaning program) trees list) index (map claim_of_term ts)
 
   abbrev pub place-of : ℕ → List Step
-  place-of index = (list ++ Index index ∷ []) ++ Key COLD ∷ []
+  place-of index = (list ++ Index index ∷ []) ++ Key (codes "cold") ∷ []
 
   pub pieces-told : (index : ℕ) (ts : List Term) → AllByRecursion (TermFits program trees) ts → AllByRecursion (HasPieces program trees) ts
       → AllHold (numbered (term_claims_at (meaning program) trees list) index (map claim_of_term ts))

@@ -12,7 +12,7 @@ use Rattle.pebble_game.proofs.BranchLoads.{branches_loaded}
 use Rattle.affine_program.specs.Parts.{ProgramParts, meaning}
 use Rattle.dep_quast.specs.Tree.{SelectionTree}
 use Rattle.poly_tree.specs.Poly.{Quotient, numerator_at}
-use Rattle.reuse_paths.specs.Pieces.{FootprintPiece, AreApartPieces, AreCovered, ArePairwiseApart}
+use Rattle.footprint_pieces.specs.Pieces.{FootprintPiece, AreApartPieces, AreCovered, ArePairwiseApart}
 use Rattle.iolb_check.specs.declared.bound.Value.{Value}
 use Rattle.iolb_check.specs.declared.term.Branch.{Branch}
 use Rattle.iolb_check.specs.declared.term.Term.{Term}

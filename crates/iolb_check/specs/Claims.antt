@@ -8,7 +8,7 @@ use Rattle.dep_quast.specs.Tree.{SelectionTree}
 use Rattle.k_partition.specs.Term.{PartitionTerm}
 use Rattle.k_partition.specs.View.{partition_of}
 use Rattle.reuse_paths.specs.LeafClaims.{LeafClaim, claim_of}
-use Rattle.reuse_paths.specs.Quasts.{trees_of}
+use Rattle.dep_quast.specs.Quasts.{trees_of}
 use Rattle.reuse_paths.specs.Walks.{SpotForms, ReachClaim, spot_of, reach_of}
 use Rattle.wavefront.specs.declared.cold.Cold.{Cold}
 use Rattle.wavefront.specs.declared.front.Wavefront.{Wavefront}

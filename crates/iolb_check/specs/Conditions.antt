@@ -1,11 +1,10 @@
 -- The conditions of certificates, in the order in which they are tested.
-use Rattle.std.specs.Prelude.{◌≡◌, ℕ, List, [], ◌∷◌, ◌++◌, length, map}
+use Rattle.std.specs.Prelude.{◌≡◌, ℕ, List, [], ◌∷◌, ◌++◌, length, map, codes}
 use Rattle.iolb_model.specs.Program.{AffineProgram}
 use Rattle.claims.specs.Claims.{Claim, AllHold, numbered}
 use Rattle.claims.specs.declared.place.Step.{Step}
 use Rattle.claims.specs.declared.place.Step.TheVariants.{Key, Index}
-use Rattle.claims.specs.declared.key.TheConstants.{BRANCHES, COLD, DISJOINT, PARTITION, TERMS, WAVEFRONT}
-use Rattle.dep_quast.specs.Claims.{pointless_claims}
+use Rattle.claims.specs.Shown.{pointless_claims}
 use Rattle.dep_quast.specs.Tree.{SelectionTree}
 use Rattle.domain_count.specs.Count.{IsCount, IsSumFrom}
 use Rattle.k_partition.specs.declared.term.PartitionBound.{PartitionBound}
@@ -13,10 +12,10 @@ use Rattle.k_partition.specs.Numbers.{HasNumbers}
 use Rattle.k_partition.specs.PartitionClaims.{IsCreditsTotal, no_points, partition_claims}
 use Rattle.k_partition.specs.PartitionPieces.{partition_pieces}
 use Rattle.k_partition.specs.Term.{PartitionTerm}
-use Rattle.reuse_paths.specs.DisjointClaims.{pairwise_systems}
-use Rattle.reuse_paths.specs.Pieces.{FootprintPiece}
-use Rattle.reuse_paths.specs.Quasts.{tree_for}
-use Rattle.reuse_paths.specs.Trees.{rows_claims}
+use Rattle.footprint_pieces.specs.DisjointClaims.{pairwise_systems}
+use Rattle.footprint_pieces.specs.Pieces.{FootprintPiece}
+use Rattle.dep_quast.specs.Quasts.{tree_for}
+use Rattle.dep_quast.specs.Trees.{rows_claims}
 use Rattle.wavefront.specs.ColdClaims.{cold_claims}
 use Rattle.wavefront.specs.ColdPieces.{cold_pieces}
 use Rattle.wavefront.specs.FrontClaims.{front_claims}
@@ -33,9 +32,9 @@ use Rattle.iolb_check.specs.declared.bound.Value.TheVariants as values
 -- over all source trees (conditions 2, 8 to 10, and 13 to 18), and so a wavefront term (conditions 2, 8 to 10, 12, and 19 to 22)
 abbrev pub term_claims : AffineProgram → List (List SelectionTree) → List Step → TermClaim → List Claim
 term_claims program trees place (cold claim sums) =
-    cold_claims program (place ++ Key COLD ∷ []) (tree_for trees (cold_term claim sums).reader) (cold_term claim sums)
-term_claims program trees place (partition term) = partition_claims program trees (place ++ Key PARTITION ∷ []) term
-term_claims program trees place (front claim sums outer_sums) = front_claims program (place ++ Key WAVEFRONT ∷ []) trees (front_term claim sums outer_sums)
+    cold_claims program (place ++ Key (codes "cold") ∷ []) (tree_for trees (cold_term claim sums).reader) (cold_term claim sums)
+term_claims program trees place (partition term) = partition_claims program trees (place ++ Key (codes "partition") ∷ []) term
+term_claims program trees place (front claim sums outer_sums) = front_claims program (place ++ Key (codes "wavefront") ∷ []) trees (front_term claim sums outer_sums)
 
 -- what the terms in a list at a place claim, each at its index
 abbrev pub term_claims_at : AffineProgram → List (List SelectionTree) → List Step → ℕ → TermClaim → List Claim
@@ -46,7 +45,7 @@ terms_claims program trees list terms = numbered (term_claims_at program trees l
 
 -- the place of a branch's terms
 abbrev pub terms_place : ℕ → List Step
-terms_place branch = Key BRANCHES ∷ Index branch ∷ Key TERMS ∷ []
+terms_place branch = Key (codes "branches") ∷ Index branch ∷ Key (codes "terms") ∷ []
 
 -- the pieces of a term's footprint, and those of each of a branch's terms
 abbrev pub term_pieces : AffineProgram → List (List SelectionTree) → TermClaim → List FootprintPiece
@@ -59,7 +58,7 @@ branch_pieces program trees terms = map (term_pieces program trees) terms
 
 -- the place of the multipliers which show that a branch's terms have no vertex in common
 abbrev pub disjoint_place : ℕ → List Step
-disjoint_place branch = Key BRANCHES ∷ Index branch ∷ Key DISJOINT ∷ []
+disjoint_place branch = Key (codes "branches") ∷ Index branch ∷ Key (codes "disjoint") ∷ []
 
 -- that pieces of two terms, each term with each later one, have no vertex in common (conditions 2 and 23)
 abbrev pub disjoint_claims : AffineProgram → List (List SelectionTree) → ℕ → BranchClaim → List Claim

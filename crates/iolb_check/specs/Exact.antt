@@ -3,14 +3,14 @@
 use Rattle.std.specs.Prelude.{◌≡◌, List}
 use Rattle.iolb_model.specs.Program.{AffineProgram}
 use Rattle.claims.specs.Claims.{AllHold, FirstFails}
-use Rattle.claims.specs.declared.refused.No.{No}
+use Rattle.claims.specs.declared.refused.FailedCondition.{FailedCondition}
 use Rattle.iolb_check.specs.Claims.{CertificateClaim}
 use Rattle.iolb_check.specs.declared.bound.Value.{Value}
 use Rattle.iolb_check.specs.Conditions.{conditions, MeetsConditions}
 
 -- Where all conditions hold, the certificate isn't refused.
 abbrev pub ValidCertificatesStand : Type 0
-ValidCertificatesStand = (program : AffineProgram) (certificate : CertificateClaim) (failed : No) → AllHold (conditions program certificate)
+ValidCertificatesStand = (program : AffineProgram) (certificate : CertificateClaim) (failed : FailedCondition) → AllHold (conditions program certificate)
     → FirstFails (conditions program certificate) failed → ⊥
 
 -- Its terms have values then, whatever the program.
@@ -25,5 +25,5 @@ ValidCertificatesGiveOne = (program : AffineProgram) (certificate : CertificateC
 
 -- What doesn't is refused by one condition at one place.
 abbrev pub RefusalsAreOne : Type 0
-RefusalsAreOne = (program : AffineProgram) (certificate : CertificateClaim) (one two : No)
+RefusalsAreOne = (program : AffineProgram) (certificate : CertificateClaim) (one two : FailedCondition)
     → FirstFails (conditions program certificate) one → FirstFails (conditions program certificate) two → one ≡ two

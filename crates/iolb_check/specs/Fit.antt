@@ -10,9 +10,9 @@ use Rattle.k_partition.specs.PartitionPieces.{HasPartitionPieces}
 use Rattle.k_partition.specs.TermLoads.{weight_of}
 use Rattle.k_partition.specs.View.{partition_of, FitsCredit, FitsMatrices, FitsPartition}
 use Rattle.affine_form.specs.Matrix.{HasShape}
-use Rattle.reuse_paths.specs.Quasts.{tree_at, tree_for, trees_of}
-use Rattle.reuse_paths.specs.TargetPairs.{pairwise_targets}
-use Rattle.reuse_paths.specs.Trees.{RowsFit}
+use Rattle.dep_quast.specs.Quasts.{tree_at, tree_for, trees_of}
+use Rattle.footprint_pieces.specs.TargetPairs.{pairwise_targets}
+use Rattle.dep_quast.specs.Trees.{RowsFit}
 use Rattle.wavefront.specs.declared.cold.Cold.{Cold}
 use Rattle.wavefront.specs.declared.front.Wavefront.{Wavefront}
 use Rattle.wavefront.specs.ColdPieces.{LeavesAreFew}

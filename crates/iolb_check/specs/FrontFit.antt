@@ -1,12 +1,11 @@
 -- What is asked of wavefront terms. A statement that isn't there counts as one without loops and reads, a read that isn't
 -- there as one without subscripts and leaves, and an input as an instance without loops.
-use Rattle.std.specs.Prelude.{◌≡◌, ℕ, suc, ◌+◌, ◌*◌, List, [], ◌∷◌, ◌++◌, length, Option, None, Some}
+use Rattle.std.specs.Prelude.{◌≡◌, ℕ, suc, ◌+◌, ◌*◌, List, [], ◌∷◌, ◌++◌, length, Option, None, Some, codes}
 use Rattle.std.specs.Option.{is_some}
 use Rattle.iolb_model.specs.Program.{AffineProgram, statement_at}
 use Rattle.claims.specs.Claims.{Claim}
 use Rattle.claims.specs.declared.place.Step.{Step}
 use Rattle.claims.specs.declared.place.Step.TheVariants.{Key}
-use Rattle.claims.specs.declared.key.TheConstants.{BACK, EDGE, INSIDE, INVERSE, MATRIX, NEST, OUTER, OUTER_SUMS, REACH, READ, SHOWN, SOURCE, SUMS, USER, VERTEX}
 use Rattle.affine_program.specs.Domain.{depth_of}
 use Rattle.dep_quast.specs.Context.{reference_of}
 use Rattle.dep_quast.specs.Tree.{SelectionTree}
@@ -27,11 +26,11 @@ abbrev pub way_fit : AffineProgram → List (List SelectionTree) → WavefrontTe
 way_fit program trees term from to place reach = fit_in (setting_of program trees term.nest to reach) to from place reach
 
 abbrev pub back_fit : AffineProgram → List (List SelectionTree) → List Step → WavefrontTerm → List Claim
-back_fit program trees place term = way_fit program trees term term.user term.vertex (place ++ Key BACK ∷ []) term.back
+back_fit program trees place term = way_fit program trees term term.user term.vertex (place ++ Key (codes "back") ∷ []) term.back
 
 -- what shows the way to the word's instance is there exactly where the word isn't an input
 abbrev pub reach_there : List Step → WavefrontTerm → Claim
-reach_there place term = record { condition = 1; place = place ++ Key REACH ∷ []; statement = is_some term.reach ≡ is_some term.source }
+reach_there place term = record { condition = 1; place = place ++ Key (codes "reach") ∷ []; statement = is_some term.reach ≡ is_some term.source }
 
 abbrev pub source_way : AffineProgram → List (List SelectionTree) → WavefrontTerm → List Step → Option SpotForms → Option ReachClaim → List Claim
 source_way program trees term place None reach = []
@@ -39,15 +38,15 @@ source_way program trees term place (Some spot) None = []
 source_way program trees term place (Some spot) (Some reach) = way_fit program trees term term.vertex spot place reach
 
 abbrev pub reach_fit : AffineProgram → List (List SelectionTree) → List Step → WavefrontTerm → List Claim
-reach_fit program trees place term = reach_there place term ∷ source_way program trees term (place ++ Key REACH ∷ []) term.source term.reach
+reach_fit program trees place term = reach_there place term ∷ source_way program trees term (place ++ Key (codes "reach") ∷ []) term.source term.reach
 
 -- ---- the instances
 
 -- entries at the leaves of the user's read
 abbrev pub edge_fit : AffineProgram → List (List SelectionTree) → List Step → WavefrontTerm → List Claim
 edge_fit program trees place term =
-    so_many (place ++ Key EDGE ∷ []) (length term.edge) (length (leaf_names program trees (user_read term)))
-    ∷ entries_fit (source_depth program term.source) [] (place ++ Key EDGE ∷ []) term.edge
+    so_many (place ++ Key (codes "edge") ∷ []) (length term.edge) (length (leaf_names program trees (user_read term)))
+    ∷ entries_fit (source_depth program term.source) [] (place ++ Key (codes "edge") ∷ []) term.edge
 
 -- how many multipliers show that the instances are in their domains
 abbrev pub inside_count : AffineProgram → WavefrontTerm → ℕ
@@ -60,25 +59,25 @@ word_count program term (Some spot) = depth_of program spot.statement
 
 abbrev pub words_fit : AffineProgram → List Step → WavefrontTerm → List Claim
 words_fit program place term =
-    shown_fit (inside_count program term) (place ++ Key INSIDE ∷ []) term.inside
-    ∷ matrix_fit (length term.nest) (word_count program term term.source) (place ++ Key INVERSE ∷ Key MATRIX ∷ []) term.matrix
+    shown_fit (inside_count program term) (place ++ Key (codes "inside") ∷ []) term.inside
+    ∷ matrix_fit (length term.nest) (word_count program term term.source) (place ++ Key (codes "inverse") ∷ Key (codes "matrix") ∷ []) term.matrix
 
 -- the read, and the ranges of the nest's variables
 abbrev pub read_fit : AffineProgram → List Step → WavefrontTerm → List Claim
 read_fit program place term =
-    names (place ++ Key READ ∷ []) term.read (length (statement_at program term.user.statement).reads)
-    ∷ shown_fit (length term.nest) (place ++ Key SHOWN ∷ []) term.count.shown ∷ []
+    names (place ++ Key (codes "read") ∷ []) term.read (length (statement_at program term.user.statement).reads)
+    ∷ shown_fit (length term.nest) (place ++ Key (codes "shown") ∷ []) term.count.shown ∷ []
 
 abbrev pub source_fit : AffineProgram → List Step → WavefrontTerm → Option SpotForms → List Claim
 source_fit program place term None = []
-source_fit program place term (Some spot) = spot_fit program (front_variables program term) (place ++ Key SOURCE ∷ []) spot
+source_fit program place term (Some spot) = spot_fit program (front_variables program term) (place ++ Key (codes "source") ∷ []) spot
 
 -- ---- the counts
 
 -- the outer variables are among the nest's
 abbrev pub outer_fit : AffineProgram → List Step → WavefrontTerm → List Claim
 outer_fit program place term =
-    names (place ++ Key OUTER ∷ []) term.outer (suc (length term.nest)) ∷ polynomials_fit (length program.parameters) (place ++ Key OUTER_SUMS ∷ []) term.outer_sums term.outer
+    names (place ++ Key (codes "outer") ∷ []) term.outer (suc (length term.nest)) ∷ polynomials_fit (length program.parameters) (place ++ Key (codes "outer_sums") ∷ []) term.outer_sums term.outer
 
 -- ---- all
 
@@ -89,18 +88,18 @@ first_fit program trees place term = back_fit program trees place term ++ (edge_
 -- the nest, its outer variables, and the way to the word's instance
 abbrev pub nest_fit : AffineProgram → List (List SelectionTree) → List Step → WavefrontTerm → List Claim
 nest_fit program trees place term =
-    bounds_fit (length program.parameters) (place ++ Key NEST ∷ []) term.nest ++ (outer_fit program place term ++ reach_fit program trees place term)
+    bounds_fit (length program.parameters) (place ++ Key (codes "nest") ∷ []) term.nest ++ (outer_fit program place term ++ reach_fit program trees place term)
 
 -- the read, the word's instance, and the count
 abbrev pub count_fit : AffineProgram → List Step → WavefrontTerm → List Claim
 count_fit program place term =
-    read_fit program place term ++ (source_fit program place term term.source ++ polynomials_fit (length program.parameters) (place ++ Key SUMS ∷ []) term.count.sums (length term.nest))
+    read_fit program place term ++ (source_fit program place term term.source ++ polynomials_fit (length program.parameters) (place ++ Key (codes "sums") ∷ []) term.count.sums (length term.nest))
 
 -- the user and the vertex
 abbrev pub spots_fit : AffineProgram → List Step → WavefrontTerm → List Claim
 spots_fit program place term =
-    spot_fit program (front_variables program term) (place ++ Key USER ∷ []) term.user
-    ++ spot_fit program (front_variables program term) (place ++ Key VERTEX ∷ []) term.vertex
+    spot_fit program (front_variables program term) (place ++ Key (codes "user") ∷ []) term.user
+    ++ spot_fit program (front_variables program term) (place ++ Key (codes "vertex") ∷ []) term.vertex
 
 abbrev pub front_fit : AffineProgram → List (List SelectionTree) → List Step → WavefrontTerm → List Claim
 front_fit program trees place term =

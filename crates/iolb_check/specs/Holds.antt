@@ -3,7 +3,7 @@ use Rattle.std.specs.Prelude.{List}
 use Rattle.std.specs.List.{AllByRecursion, AllZip}
 use Rattle.affine_program.specs.Parts.{ProgramParts, meaning}
 use Rattle.dep_quast.specs.Tree.{SelectionTree}
-use Rattle.reuse_paths.specs.Pieces.{AreCovered}
+use Rattle.footprint_pieces.specs.Pieces.{AreCovered}
 use Rattle.iolb_check.specs.declared.bound.Value.{Value}
 use Rattle.iolb_check.specs.declared.term.Term.{Term}
 use Rattle.iolb_check.specs.declared.term.Branch.{Branch}

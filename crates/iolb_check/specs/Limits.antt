@@ -8,7 +8,7 @@ use Rattle.k_partition.specs.View.{partition_of}
 use Rattle.reuse_paths.specs.declared.family.Credit.{Credit}
 use Rattle.reuse_paths.specs.Families.{family_of}
 use Rattle.reuse_paths.specs.LeafClaims.{claim_of}
-use Rattle.reuse_paths.specs.declared.quasts.Quasts.{Quasts}
+use Rattle.dep_quast.specs.declared.quasts.Quasts.{Quasts}
 use Rattle.reuse_paths.specs.Walks.{spot_of, reach_of}
 use Rattle.certificate_fit.specs.Limits.{AreSmall, AreSmallBounds, NameRows, IsSmallPolynomial, IsSmallTree, IsSmallEntry, IsSmallFamily, IsSmallReach, IsSmallSpot, IsSmallWay}
 use Rattle.wavefront.specs.declared.cold.Cold.{Cold}

@@ -1,19 +1,18 @@
 -- What is asked of the multipliers that show terms of a branch to have no vertex in common: there is one for each pair of
 -- pieces with one target. A read that isn't there has no leaves, and an entry at a blank leaf or at no leaf has no piece.
-use Rattle.std.specs.Prelude.{ℕ, nat_lt, if◌then◌else◌, List, [], ◌∷◌, ◌++◌, length, map, Option, Some, None}
+use Rattle.std.specs.Prelude.{ℕ, nat_lt, if◌then◌else◌, List, [], ◌∷◌, ◌++◌, length, map, Option, Some, None, codes}
 use Rattle.std.specs.List.{cons_option}
 use Rattle.iolb_model.specs.Program.{AffineProgram, statement_at}
 use Rattle.claims.specs.Claims.{Claim}
 use Rattle.claims.specs.declared.place.Step.{Step}
 use Rattle.claims.specs.declared.place.Step.TheVariants.{Key}
-use Rattle.claims.specs.declared.key.TheConstants.{DISJOINT}
 use Rattle.dep_quast.specs.Context.{reference_of}
 use Rattle.dep_quast.specs.Tree.{SelectionTree}
-use Rattle.reuse_paths.specs.declared.piece.Target.{Target}
-use Rattle.reuse_paths.specs.declared.piece.Target.TheVariants.{Cell, Instance}
+use Rattle.footprint_pieces.specs.declared.piece.Target.{Target}
+use Rattle.footprint_pieces.specs.declared.piece.Target.TheVariants.{Cell, Instance}
 use Rattle.reuse_paths.specs.LeafClaims.{LeafClaim, is_stop}
-use Rattle.reuse_paths.specs.Quasts.{tree_at}
-use Rattle.reuse_paths.specs.TargetPairs.{pairwise_targets}
+use Rattle.dep_quast.specs.Quasts.{tree_at}
+use Rattle.footprint_pieces.specs.TargetPairs.{pairwise_targets}
 use Rattle.wavefront.specs.Term.{ColdTerm}
 use Rattle.reuse_paths.specs.Walks.{SpotForms}
 use Rattle.wavefront.specs.FrontTerm.{WavefrontTerm, user_read}
@@ -51,4 +50,4 @@ term_targets program trees (front claim sums outer_sums) = front_targets program
 -- as many multipliers as pairs of one target of the terms
 abbrev pub disjoint_fit : AffineProgram → List (List SelectionTree) → List Step → BranchClaim → Claim
 disjoint_fit program trees place branch =
-    shown_fit (length (pairwise_targets (map (term_targets program trees) branch.terms))) (place ++ Key DISJOINT ∷ []) branch.disjoint
+    shown_fit (length (pairwise_targets (map (term_targets program trees) branch.terms))) (place ++ Key (codes "disjoint") ∷ []) branch.disjoint

@@ -1,18 +1,17 @@
 -- What is asked of partition terms. A statement that isn't there counts as one without loops and reads, a read that isn't
 -- there as one without leaves, and a credit that isn't there as one without variables.
-use Rattle.std.specs.Prelude.{ℕ, ◌*◌, List, [], ◌∷◌, ◌++◌, length, map}
+use Rattle.std.specs.Prelude.{ℕ, ◌*◌, List, [], ◌∷◌, ◌++◌, length, map, codes}
 use Rattle.iolb_model.specs.Program.{AffineProgram}
 use Rattle.claims.specs.Claims.{Claim, numbered}
 use Rattle.claims.specs.declared.place.Step.{Step}
 use Rattle.claims.specs.declared.place.Step.TheVariants.{Key, Index}
-use Rattle.claims.specs.declared.key.TheConstants.{APART, CREDITS, FAMILIES, INSIDE, INVERSE, MATRIX}
 use Rattle.affine_program.specs.Domain.{depth_of}
 use Rattle.dep_quast.specs.Tree.{SelectionTree}
 use Rattle.k_partition.specs.declared.term.Shape.{Shape}
 use Rattle.k_partition.specs.declared.term.Shape.TheVariants.{Each, Sum}
 use Rattle.k_partition.specs.Term.{CreditTerm, PartitionTerm, credited_nests}
 use Rattle.reuse_paths.specs.Families.{CreditedNest}
-use Rattle.reuse_paths.specs.TargetPairs.{pairwise_targets}
+use Rattle.footprint_pieces.specs.TargetPairs.{pairwise_targets}
 use Rattle.certificate_fit.specs.FamilyFit.{credit_fit, credit_nest_fit, credit_count_fit, families_fit}
 use Rattle.certificate_fit.specs.PartFit.{matrix_fit, shown_fit}
 use Rattle.iolb_check.specs.FamilyTargets.{family_targets}
@@ -26,18 +25,18 @@ apart_count Each program trees term = 0
 apart_count Sum program trees term = length (pairwise_targets (map (family_targets program trees term.statement) term.families))
 
 abbrev pub apart_fit : AffineProgram → List (List SelectionTree) → List Step → PartitionTerm → List Claim
-apart_fit program trees place term = shown_fit (apart_count term.shape program trees term) (place ++ Key APART ∷ []) term.apart ∷ []
+apart_fit program trees place term = shown_fit (apart_count term.shape program trees term) (place ++ Key (codes "apart") ∷ []) term.apart ∷ []
 
 -- the credits
 abbrev pub credit_at : AffineProgram → List Step → ℕ → CreditTerm → List Claim
 credit_at program place index credit = credit_fit program (place ++ Index index ∷ []) credit.nest credit.count
 
 abbrev pub credits_fit : AffineProgram → List Step → PartitionTerm → List Claim
-credits_fit program place term = numbered (credit_at program (place ++ Key CREDITS ∷ [])) 0 term.credits
+credits_fit program place term = numbered (credit_at program (place ++ Key (codes "credits") ∷ [])) 0 term.credits
 
 -- the families
 abbrev pub walked_fit : AffineProgram → List (List SelectionTree) → List Step → PartitionTerm → List Claim
-walked_fit program trees place term = families_fit program trees term.statement (credited_nests term) (place ++ Key FAMILIES ∷ []) term.families
+walked_fit program trees place term = families_fit program trees term.statement (credited_nests term) (place ++ Key (codes "families") ∷ []) term.families
 
 -- what shows that no two families have a word in common, the credits, and the families
 abbrev pub walks_fit : AffineProgram → List (List SelectionTree) → List Step → PartitionTerm → List Claim
@@ -49,8 +48,8 @@ walks_fit program trees place term = apart_fit program trees place term ++ (cred
 abbrev pub coordinates_fit : AffineProgram → PartitionTerm → List Step → List Claim
 coordinates_fit program term place =
     let loops = depth_of program term.statement in
-    shown_fit (2 * loops) (place ++ Key INSIDE ∷ []) term.inside
-    ∷ matrix_fit loops loops (place ++ Key INVERSE ∷ []) term.inverse ++ matrix_fit loops loops (place ++ Key MATRIX ∷ []) term.matrix
+    shown_fit (2 * loops) (place ++ Key (codes "inside") ∷ []) term.inside
+    ∷ matrix_fit loops loops (place ++ Key (codes "inverse") ∷ []) term.inverse ++ matrix_fit loops loops (place ++ Key (codes "matrix") ∷ []) term.matrix
 
 -- the nest, as of a credit: a variable for each loop
 abbrev pub counted_nest : PartitionTerm → CreditedNest

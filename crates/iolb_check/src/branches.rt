@@ -4,8 +4,8 @@ ghost use Rattle.std.specs.Prelude.{◌≡◌, [], ◌∷◌, ◌++◌, map, IfO
 ghost use Rattle.std.specs.List.{AllByRecursion};
 ghost use Rattle.affine_program.specs.Parts.{meaning};
 ghost use Rattle.claims.specs.Claims.{AllHold, IsRefusal, numbered};
-ghost use Rattle.reuse_paths.specs.Quasts.{trees_of};
-ghost use Rattle.reuse_paths.specs.Trees.{RowsAreTrue, RowsFit};
+ghost use Rattle.dep_quast.specs.Quasts.{trees_of};
+ghost use Rattle.dep_quast.specs.Trees.{RowsAreTrue, RowsFit};
 ghost use Rattle.iolb_check.specs.Claims.{claim_of_branch, claim_of_term};
 ghost use Rattle.iolb_check.specs.Fit.{BranchFits, BranchesFit, HasPieces, TermFits};
 ghost use Rattle.iolb_check.specs.Bounds.{lists};
@@ -19,7 +19,7 @@ use crate::term::{Branch, Term};
 use crate::term_checks::check_term;
 use affine_form::Memory;
 use affine_program::Program;
-use claims::{Place, Refused, Step, key};
+use claims::{ObjectKey, Place, Refused, Step};
 use reuse_paths::Quasts;
 use std::alloc::Global;
 
@@ -83,9 +83,9 @@ fn terms_place(alloc: Global, number: usize) -> Result<Place, Memory>
     ensures { IfOk result (λ place. place ≡ place_of_terms number) }
 {
     let steps = vec![in alloc;
-        Step::Key(key::BRANCHES),
+        Step::Key(ObjectKey("branches")),
         Step::Index(number as u64),
-        Step::Key(key::TERMS),
+        Step::Key(ObjectKey("terms")),
     ]?;
     Ok(Place::new(steps))
 }

@@ -44,6 +44,14 @@ impl Certificate {
         }
     }
 
+    /// The certificate of these source trees and branches, which are within the limits.
+    pub fn within(quasts: Quasts, branches: Vec<Branch>) -> Certificate
+        requires { IsWithinLimits (record { quasts = quasts; branches = branches.items }) }
+        ensures { result ≡ record { quasts = quasts; branches = branches.items } }
+    {
+        Certificate { quasts, branches }
+    }
+
     /// The source trees.
     pub fn quasts(&self) -> &Quasts
         ensures quasts { result.now ≡ self.now.quasts }

@@ -8,8 +8,8 @@ ghost use Rattle.iolb_check.specs.FamilyTargets.{family_targets, leaf_targets, p
 ghost use Rattle.k_partition.specs.View.{partition_of};
 ghost use Rattle.reuse_paths.specs.Families.{family_of, node_of, node_region};
 ghost use Rattle.reuse_paths.specs.LeafClaims.{claim_of};
-ghost use Rattle.reuse_paths.specs.Quasts.{trees_of};
-ghost use Rattle.reuse_paths.specs.TargetPairs.{items_of};
+ghost use Rattle.dep_quast.specs.Quasts.{trees_of};
+ghost use Rattle.footprint_pieces.specs.TargetPairs.{items_of};
 ghost use Rattle.reuse_paths.specs.Walks.{take, tree_of_walk};
 
 use crate::fit_pairs::push_leaf_targets;

@@ -1,14 +1,12 @@
 //! Whether branches fit.
 #![tactic(auto, using(claims::proofs::Found::in_a_row))]
 
-ghost use Rattle.std.specs.Prelude.{◌≡◌, ◌∷◌, [], IfOk, map};
+ghost use Rattle.std.specs.Prelude.{◌≡◌, ◌∷◌, [], IfOk, map, codes};
 ghost use Rattle.affine_program.specs.Parts.{meaning};
-ghost use Rattle.claims.specs.declared.key.TheConstants.{BRANCHES};
 ghost use Rattle.claims.specs.declared.place.Step.TheVariants.{Index, Key};
-ghost use Rattle.claims.specs.Claims.{numbered};
-ghost use Rattle.claims.specs.Claims.{Decides};
+ghost use Rattle.claims.specs.Claims.{numbered, Decides};
 ghost use Rattle.iolb_check.specs.TermFit.{branch_at, branch_fit, term_fit, terms_fit};
-ghost use Rattle.reuse_paths.specs.Quasts.{trees_of};
+ghost use Rattle.dep_quast.specs.Quasts.{trees_of};
 ghost use Rattle.iolb_check.specs.Claims.{claim_of_term, claim_of_branch};
 
 use crate::fit_colds::cold_fits;
@@ -19,8 +17,7 @@ use crate::{Branch, Term};
 use affine_form::Memory;
 use affine_program::Program;
 use certificate_fit::lists::misfit;
-use claims::key::{BRANCHES, COLD, DISJOINT, PARTITION, TERMS, WAVEFRONT};
-use claims::{Place, Refused, Step};
+use claims::{ObjectKey, Place, Refused, Step};
 use reuse_paths::{Quasts, has_pairs};
 use std::alloc::Global;
 
@@ -36,22 +33,22 @@ fn term_fits(
 {
     match term {
         Term::Cold(cold) => {
-            let at = place.within(alloc, Step::Key(COLD))?;
+            let at = place.within(alloc, Step::Key(ObjectKey("cold")))?;
             cold_fits(alloc, program, quasts, &at, cold)
         }
         Term::Partition(partition) => {
-            let at = place.within(alloc, Step::Key(PARTITION))?;
+            let at = place.within(alloc, Step::Key(ObjectKey("partition")))?;
             partition_fits(alloc, program, quasts, &at, partition)
         }
         Term::Wavefront(front) => {
-            let at = place.within(alloc, Step::Key(WAVEFRONT))?;
+            let at = place.within(alloc, Step::Key(ObjectKey("wavefront")))?;
             front_fits(alloc, program, quasts, &at, front)
         }
     }
 }
 
 /// Whether what is said fits of terms, in a list at this place.
-fn terms_fits(
+fn all_terms_fit(
     alloc: Global,
     program: &Program,
     quasts: &Quasts,
@@ -80,23 +77,23 @@ fn branch_fits(
     let terms = branch.terms.as_slice();
     let targets = branch_targets(alloc, program, quasts, terms)?;
     if !has_pairs(targets.as_slice(), branch.disjoint.as_slice().len()) {
-        return Err(misfit(alloc, place, Step::Key(DISJOINT)));
+        return Err(misfit(alloc, place, Step::Key(ObjectKey("disjoint"))));
     }
-    let list = place.within(alloc, Step::Key(TERMS))?;
-    terms_fits(alloc, program, quasts, &list, terms)?;
+    let list = place.within(alloc, Step::Key(ObjectKey("terms")))?;
+    all_terms_fit(alloc, program, quasts, &list, terms)?;
     Ok(())
 }
 
 /// The place of a branch.
 fn branch_place(alloc: Global, index: usize) -> Result<Place, Memory>
-    ensures { IfOk result (λ place. place ≡ Key BRANCHES ∷ Index index ∷ []) }
+    ensures { IfOk result (λ place. place ≡ Key (codes "branches") ∷ Index index ∷ []) }
 {
-    let steps = vec![in alloc; Step::Key(BRANCHES), Step::Index(index as u64)]?;
+    let steps = vec![in alloc; Step::Key(ObjectKey("branches")), Step::Index(index as u64)]?;
     Ok(Place::new(steps))
 }
 
 /// Whether what is said fits of the branches.
-pub(crate) fn branches_fits(
+pub(crate) fn all_branches_fit(
     alloc: Global,
     program: &Program,
     quasts: &Quasts,

@@ -2,21 +2,19 @@
 #![tactic(auto, using(claims::proofs::Found::in_a_row))]
 
 ghost use Rattle.claims.specs.Claims.{Decides, IsRefusalAt};
-ghost use Rattle.std.specs.Prelude.{◌≡◌, ◌==◌, if◌then◌else◌, ◌++◌, ◌∷◌, [], Some, IfOk};
+ghost use Rattle.std.specs.Prelude.{◌+◌, length, ◌≡◌, ◌==◌, if◌then◌else◌, ◌++◌, ◌∷◌, [], Some, IfOk, codes};
 ghost use Rattle.affine_program.specs.Parts.{meaning};
-ghost use Rattle.claims.specs.declared.key.TheConstants.{INVERSE, MATRIX};
 ghost use Rattle.claims.specs.declared.place.Step.TheVariants.{Key};
 ghost use Rattle.iolb_check.specs.TermFit.{cold_back_fit, cold_fit, cold_front_fit, point_fit};
-ghost use Rattle.reuse_paths.specs.Quasts.{trees_of};
+ghost use Rattle.dep_quast.specs.Quasts.{trees_of};
 ghost use Rattle.wavefront.specs.View.{term_of};
 
 use affine_form::Memory;
 use affine_program::Program;
 use certificate_fit::counts::{has_entry_each, loops_around, read_count, subscript_count};
-use certificate_fit::entries::entries_fits;
-use certificate_fit::lists::{bounds_fits, forms_fits, misfit, sums_fits};
-use claims::key::{INSIDE, INVERSE, LEAVES, MATRIX, NEST, POINT, READ, SHOWN, STATEMENT, SUMS};
-use claims::{Place, Refused, Step};
+use certificate_fit::entries::all_entries_fit;
+use certificate_fit::lists::{all_bounds_fit, all_forms_fit, all_sums_fit, misfit};
+use claims::{ObjectKey, Place, Refused, Step};
 use dep_quast::reader::Reader;
 use reuse_paths::Quasts;
 use std::alloc::Global;
@@ -24,10 +22,10 @@ use wavefront::Cold;
 
 /// The refusal of the inverse's matrix.
 pub(crate) fn matrix_misfit(alloc: Global, place: &Place) -> Refused
-    ensures { IsRefusalAt 1 (place.now ++ Key INVERSE ∷ Key MATRIX ∷ []) result }
+    ensures { IsRefusalAt 1 (place.now ++ Key (codes "inverse") ∷ Key (codes "matrix") ∷ []) result }
 {
-    match place.within(alloc, Step::Key(INVERSE)) {
-        Ok(inverse) => misfit(alloc, &inverse, Step::Key(MATRIX)),
+    match place.within(alloc, Step::Key(ObjectKey("inverse"))) {
+        Ok(inverse) => misfit(alloc, &inverse, Step::Key(ObjectKey("matrix"))),
         Err(Memory) => Refused::Memory,
     }
 }
@@ -47,7 +45,7 @@ fn front_fits(
         read: cold.read,
     };
     if cold.inside.as_slice().len() != 2 * loops_around(program, cold.statement) {
-        return Err(misfit(alloc, place, Step::Key(INSIDE)));
+        return Err(misfit(alloc, place, Step::Key(ObjectKey("inside"))));
     }
     let matrix = &cold.inverse.matrix;
     if matrix.rows() != cold.nest.bounds().len() {
@@ -58,9 +56,9 @@ fn front_fits(
     }
     let entries = cold.leaves.as_slice();
     if !has_entry_each(program, quasts, reader, entries.len()) {
-        return Err(misfit(alloc, place, Step::Key(LEAVES)));
+        return Err(misfit(alloc, place, Step::Key(ObjectKey("leaves"))));
     }
-    entries_fits(alloc, place, LEAVES, 0, &[], entries)?;
+    all_entries_fit(alloc, place, ObjectKey("leaves"), 0, &[], entries)?;
     Ok(())
 }
 
@@ -71,16 +69,23 @@ pub(crate) fn columns_called(rows: usize, called: usize) -> usize
     if rows == 0 { 0 } else { called }
 }
 
+/// How many variables the forms of a cold term's point have: the parameters, and the nest's variables.
+fn point_variables(program: &Program, cold: &Cold) -> u128
+    ensures { result ≡ length (meaning program.now).parameters + length (term_of cold.now).nest }
+{
+    program.params().len() as u128 + cold.nest.bounds().len() as u128
+}
+
 /// Whether what is said fits of a cold term's point.
 fn point_fits(alloc: Global, program: &Program, place: &Place, cold: &Cold) -> Result<(), Refused>
     ensures { Decides (point_fit (meaning program.now) place.now (term_of cold.now)) result }
 {
     let point = cold.point.as_slice();
     if point.len() != loops_around(program, cold.statement) {
-        return Err(misfit(alloc, place, Step::Key(POINT)));
+        return Err(misfit(alloc, place, Step::Key(ObjectKey("point"))));
     }
-    let vars = program.params().len() as u128 + cold.nest.bounds().len() as u128;
-    forms_fits(alloc, place, POINT, vars, point)?;
+    let vars = point_variables(program, cold);
+    all_forms_fit(alloc, place, ObjectKey("point"), vars, point)?;
     Ok(())
 }
 
@@ -90,16 +95,16 @@ fn back_fits(alloc: Global, program: &Program, place: &Place, cold: &Cold) -> Re
 {
     let depth = cold.nest.bounds().len();
     if usize::from(cold.read) >= read_count(program, cold.statement) {
-        return Err(misfit(alloc, place, Step::Key(READ)));
+        return Err(misfit(alloc, place, Step::Key(ObjectKey("read"))));
     }
     if cold.sums.shown().len() != depth {
-        return Err(misfit(alloc, place, Step::Key(SHOWN)));
+        return Err(misfit(alloc, place, Step::Key(ObjectKey("shown"))));
     }
     if usize::from(cold.statement) >= program.statements().len() {
-        return Err(misfit(alloc, place, Step::Key(STATEMENT)));
+        return Err(misfit(alloc, place, Step::Key(ObjectKey("statement"))));
     }
     if cold.sums.sums().len() != depth {
-        return Err(misfit(alloc, place, Step::Key(SUMS)));
+        return Err(misfit(alloc, place, Step::Key(ObjectKey("sums"))));
     }
     Ok(())
 }
@@ -116,9 +121,15 @@ pub(crate) fn cold_fits(
 {
     let params = program.params().len();
     front_fits(alloc, program, quasts, place, cold)?;
-    bounds_fits(alloc, place, NEST, params, cold.nest.bounds())?;
+    all_bounds_fit(alloc, place, ObjectKey("nest"), params, cold.nest.bounds())?;
     point_fits(alloc, program, place, cold)?;
     back_fits(alloc, program, place, cold)?;
-    sums_fits(alloc, place, SUMS, params + 1, cold.sums.sums())?;
+    all_sums_fit(
+        alloc,
+        place,
+        ObjectKey("sums"),
+        params + 1,
+        cold.sums.sums(),
+    )?;
     Ok(())
 }

@@ -1,16 +1,15 @@
 //! Whether wavefront terms fit.
 #![tactic(auto, using(claims::proofs::Found::in_a_row))]
 
-ghost use Rattle.std.specs.Prelude.{◌≡◌, ◌≤◌, ◌++◌, ◌∷◌, [], length};
+ghost use Rattle.std.specs.Prelude.{◌≡◌, ◌≤◌, ◌++◌, ◌∷◌, [], length, codes};
 ghost use Rattle.affine_program.specs.Parts.{meaning};
-ghost use Rattle.claims.specs.declared.key.TheConstants.{NEST, SUMS};
 ghost use Rattle.iolb_model.specs.declared.limits.TheConstants.{LOOPS};
 ghost use Rattle.claims.specs.declared.place.Step.TheVariants.{Key};
 ghost use Rattle.iolb_check.specs.FrontFit.{back_fit, count_fit, edge_fit, first_fit, front_fit, nest_fit, outer_fit, reach_fit, read_fit, source_fit, spots_fit, word_count as count_of_word, words_fit};
 ghost use Rattle.claims.specs.Claims.{Decides};
 ghost use Rattle.certificate_fit.specs.PartFit.{bounds_fit, polynomials_fit};
 ghost use Rattle.certificate_fit.specs.WalkFit.{spot_fit};
-ghost use Rattle.reuse_paths.specs.Quasts.{trees_of};
+ghost use Rattle.dep_quast.specs.Quasts.{trees_of};
 ghost use Rattle.reuse_paths.specs.Walks.{spot_of};
 ghost use Rattle.wavefront.specs.FrontClaims.{front_variables};
 ghost use Rattle.wavefront.specs.FrontFits.{source_depth};
@@ -21,13 +20,10 @@ use affine_program::Program;
 use certificate_fit::counts::{
     has_entry_each, is_twice, loops_around, read_count, subscript_count,
 };
-use certificate_fit::entries::entries_fits;
-use certificate_fit::lists::{bounds_fits, list_fits, misfit, polynomials_fits};
+use certificate_fit::entries::all_entries_fit;
+use certificate_fit::lists::{all_bounds_fit, all_polynomials_fit, list_fits, misfit};
 use certificate_fit::walks::{reach_fits, spot_fits};
-use claims::key::{
-    BACK, EDGE, INSIDE, NEST, OUTER, OUTER_SUMS, REACH, READ, SHOWN, SOURCE, SUMS, USER, VERTEX,
-};
-use claims::{Place, Refused, Step};
+use claims::{ObjectKey, Place, Refused, Step};
 use dep_quast::reader::Reader;
 use reuse_paths::{Quasts, Spot};
 use std::alloc::Global;
@@ -77,7 +73,7 @@ fn back_fits(
 ) -> Result<(), Refused>
     ensures { Decides (back_fit (meaning program.now) (trees_of quasts.now) place.now (front_of front.now)) result }
 {
-    let at = place.within(alloc, Step::Key(BACK))?;
+    let at = place.within(alloc, Step::Key(ObjectKey("back")))?;
     reach_fits(
         alloc,
         program,
@@ -106,15 +102,15 @@ fn edge_fits(
     };
     let entries = front.edge.as_slice();
     if !has_entry_each(program, quasts, reader, entries.len()) {
-        return Err(misfit(alloc, place, Step::Key(EDGE)));
+        return Err(misfit(alloc, place, Step::Key(ObjectKey("edge"))));
     }
     let loops = source_loops(program, front);
-    entries_fits(alloc, place, EDGE, loops, &[], entries)?;
+    all_entries_fit(alloc, place, ObjectKey("edge"), loops, &[], entries)?;
     Ok(())
 }
 
 /// Whether what is said fits of what shows that the instances are in their domains and that words differ.
-fn words_fits(
+fn all_words_fit(
     alloc: Global,
     program: &Program,
     place: &Place,
@@ -126,7 +122,7 @@ fn words_fits(
     let vertex = loops_around(program, front.vertex.statement);
     let loops = user + vertex + source_loops(program, front);
     if !is_twice(front.inside.as_slice().len(), loops) {
-        return Err(misfit(alloc, place, Step::Key(INSIDE)));
+        return Err(misfit(alloc, place, Step::Key(ObjectKey("inside"))));
     }
     let matrix = &front.inverse.matrix;
     if matrix.rows() != front.nest.bounds().len() {
@@ -150,7 +146,7 @@ fn first_fits(
 {
     back_fits(alloc, program, quasts, place, front)?;
     edge_fits(alloc, program, quasts, place, front)?;
-    words_fits(alloc, program, place, front)?;
+    all_words_fit(alloc, program, place, front)?;
     Ok(())
 }
 
@@ -165,11 +161,11 @@ fn outer_fits(
 {
     let outer = usize::from(front.outer);
     if outer > front.nest.bounds().len() {
-        return Err(misfit(alloc, place, Step::Key(OUTER)));
+        return Err(misfit(alloc, place, Step::Key(ObjectKey("outer"))));
     }
     let sums = front.outer_sums.as_slice();
     let params = program.params().len();
-    polynomials_fits(alloc, place, OUTER_SUMS, params, sums, outer)?;
+    all_polynomials_fit(alloc, place, ObjectKey("outer_sums"), params, sums, outer)?;
     Ok(())
 }
 
@@ -185,7 +181,7 @@ fn way_fits(
 {
     match (&front.source, &front.reach) {
         (Some(spot), Some(reach)) => {
-            let at = place.within(alloc, Step::Key(REACH))?;
+            let at = place.within(alloc, Step::Key(ObjectKey("reach")))?;
             let nest = &front.nest;
             reach_fits(
                 alloc,
@@ -199,21 +195,21 @@ fn way_fits(
             )
         }
         (None, None) => Ok(()),
-        _ => Err(misfit(alloc, place, Step::Key(REACH))),
+        _ => Err(misfit(alloc, place, Step::Key(ObjectKey("reach")))),
     }
 }
 
 /// Whether what is said fits of the nest's bounds.
-fn ranges_fits(
+fn all_ranges_fit(
     alloc: Global,
     program: &Program,
     place: &Place,
     front: &Wavefront,
 ) -> Result<(), Refused>
-    ensures { Decides (bounds_fit (length (meaning program.now).parameters) (place.now ++ Key NEST ∷ []) (front_of front.now).nest) result }
+    ensures { Decides (bounds_fit (length (meaning program.now).parameters) (place.now ++ Key (codes "nest") ∷ []) (front_of front.now).nest) result }
 {
     let params = program.params().len();
-    bounds_fits(alloc, place, NEST, params, front.nest.bounds())
+    all_bounds_fit(alloc, place, ObjectKey("nest"), params, front.nest.bounds())
 }
 
 /// Whether what is said fits of the nest, its outer variables, and the way to the word's instance.
@@ -226,7 +222,7 @@ fn nest_fits(
 ) -> Result<(), Refused>
     ensures { Decides (nest_fit (meaning program.now) (trees_of quasts.now) place.now (front_of front.now)) result }
 {
-    ranges_fits(alloc, program, place, front)?;
+    all_ranges_fit(alloc, program, place, front)?;
     outer_fits(alloc, program, place, front)?;
     way_fits(alloc, program, quasts, place, front)?;
     Ok(())
@@ -242,13 +238,13 @@ fn read_fits(
     ensures { Decides (read_fit (meaning program.now) place.now (front_of front.now)) result }
 {
     if usize::from(front.read) >= read_count(program, front.user.statement) {
-        return Err(misfit(alloc, place, Step::Key(READ)));
+        return Err(misfit(alloc, place, Step::Key(ObjectKey("read"))));
     }
     let depth = front.nest.bounds().len();
     list_fits(
         alloc,
         place,
-        Step::Key(SHOWN),
+        Step::Key(ObjectKey("shown")),
         front.sums.shown().len(),
         depth,
     )?;
@@ -261,7 +257,7 @@ fn spot_at_fits(
     program: &Program,
     place: &Place,
     front: &Wavefront,
-    key: u8,
+    key: ObjectKey,
     spot: &Spot,
 ) -> Result<(), Refused>
     ensures { Decides (spot_fit (meaning program.now) (front_variables (meaning program.now) (front_of front.now)) (place.now ++ Key key ∷ []) (spot_of spot.now)) result }
@@ -280,7 +276,7 @@ fn source_fits(
     ensures { Decides (source_fit (meaning program.now) place.now (front_of front.now) (front_of front.now).source) result }
 {
     match &front.source {
-        Some(spot) => spot_at_fits(alloc, program, place, front, SOURCE, spot),
+        Some(spot) => spot_at_fits(alloc, program, place, front, ObjectKey("source"), spot),
         None => Ok(()),
     }
 }
@@ -292,11 +288,18 @@ fn counted_fits(
     place: &Place,
     front: &Wavefront,
 ) -> Result<(), Refused>
-    ensures { Decides (polynomials_fit (length (meaning program.now).parameters) (place.now ++ Key SUMS ∷ []) (front_of front.now).count.sums (length (front_of front.now).nest)) result }
+    ensures { Decides (polynomials_fit (length (meaning program.now).parameters) (place.now ++ Key (codes "sums") ∷ []) (front_of front.now).count.sums (length (front_of front.now).nest)) result }
 {
     let depth = front.nest.bounds().len();
     let params = program.params().len();
-    polynomials_fits(alloc, place, SUMS, params, front.sums.sums(), depth)
+    all_polynomials_fit(
+        alloc,
+        place,
+        ObjectKey("sums"),
+        params,
+        front.sums.sums(),
+        depth,
+    )
 }
 
 /// Whether what is said fits of the read, the word's instance, and the count.
@@ -315,7 +318,7 @@ fn count_fits(
 }
 
 /// Whether what is said fits of the user and the vertex.
-fn spots_fits(
+fn all_spots_fit(
     alloc: Global,
     program: &Program,
     place: &Place,
@@ -323,8 +326,15 @@ fn spots_fits(
 ) -> Result<(), Refused>
     ensures { Decides (spots_fit (meaning program.now) place.now (front_of front.now)) result }
 {
-    spot_at_fits(alloc, program, place, front, USER, &front.user)?;
-    spot_at_fits(alloc, program, place, front, VERTEX, &front.vertex)?;
+    spot_at_fits(alloc, program, place, front, ObjectKey("user"), &front.user)?;
+    spot_at_fits(
+        alloc,
+        program,
+        place,
+        front,
+        ObjectKey("vertex"),
+        &front.vertex,
+    )?;
     Ok(())
 }
 
@@ -341,6 +351,6 @@ pub(crate) fn front_fits(
     first_fits(alloc, program, quasts, place, front)?;
     nest_fits(alloc, program, quasts, place, front)?;
     count_fits(alloc, program, place, front)?;
-    spots_fits(alloc, program, place, front)?;
+    all_spots_fit(alloc, program, place, front)?;
     Ok(())
 }

@@ -7,8 +7,8 @@ ghost use Rattle.iolb_check.specs.Claims.{claim_of_term};
 ghost use Rattle.iolb_check.specs.FamilyTargets.{leaf_targets};
 ghost use Rattle.iolb_check.specs.PairFit.{cold_targets, front_targets, stop_targets, term_targets};
 ghost use Rattle.reuse_paths.specs.LeafClaims.{claim_of, is_stop};
-ghost use Rattle.reuse_paths.specs.Quasts.{trees_of};
-ghost use Rattle.reuse_paths.specs.TargetPairs.{items_of};
+ghost use Rattle.dep_quast.specs.Quasts.{trees_of};
+ghost use Rattle.footprint_pieces.specs.TargetPairs.{items_of};
 ghost use Rattle.wavefront.specs.View.{front_of, term_of};
 
 use crate::Term;

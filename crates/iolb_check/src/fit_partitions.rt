@@ -4,24 +4,20 @@
 ghost use Rattle.claims.specs.Claims.{Decides};
 ghost use Rattle.std.specs.Prelude.{◌≡◌, ◌≤◌, ◌↔◌, ◌++◌, ◌∷◌, [], map, length, IsTrue, IfOk};
 ghost use Rattle.affine_program.specs.Parts.{meaning};
-ghost use Rattle.claims.specs.declared.key.TheConstants.{NEST, SHOWN, STATEMENT, SUMS};
 ghost use Rattle.claims.specs.declared.place.Step.TheVariants.{Key};
 ghost use Rattle.iolb_check.specs.PartitionFit.{apart_count, apart_fit, coordinates_fit, credits_fit, nest_fit, number_fit, partition_fit, points_fit, walked_fit, walks_fit};
 ghost use Rattle.k_partition.specs.View.{partition_of};
-ghost use Rattle.reuse_paths.specs.Quasts.{trees_of};
+ghost use Rattle.dep_quast.specs.Quasts.{trees_of};
 
 use crate::family_targets::targets_of_families;
 use crate::fit_colds::columns_called;
 use affine_form::Memory;
 use affine_program::Program;
 use certificate_fit::counts::loops_around;
-use certificate_fit::credits::credits_fits;
-use certificate_fit::families::families_fits;
-use certificate_fit::lists::{bounds_fits, misfit, polynomials_fits};
-use claims::key::{
-    APART, CREDITS, FAMILIES, INSIDE, INVERSE, MATRIX, NEST, SHOWN, STATEMENT, SUMS,
-};
-use claims::{Place, Refused, Step};
+use certificate_fit::credits::all_credits_fit;
+use certificate_fit::families::all_families_fit;
+use certificate_fit::lists::{all_bounds_fit, all_polynomials_fit, misfit};
+use claims::{ObjectKey, Place, Refused, Step};
 use k_partition::{Partition, Shape};
 use reuse_paths::{Quasts, has_pairs};
 use std::alloc::Global;
@@ -47,7 +43,7 @@ fn has_apart(
 }
 
 /// Whether what is said fits of what shows the families apart.
-fn apart_fits(
+fn all_apart_fit(
     alloc: Global,
     program: &Program,
     quasts: &Quasts,
@@ -59,7 +55,7 @@ fn apart_fits(
     if has_apart(alloc, program, quasts, term)? {
         return Ok(());
     }
-    Err(misfit(alloc, place, Step::Key(APART)))
+    Err(misfit(alloc, place, Step::Key(ObjectKey("apart"))))
 }
 
 /// Whether what is said fits of the credits.
@@ -71,8 +67,8 @@ fn credited_fits(
 ) -> Result<(), Refused>
     ensures { Decides (credits_fit (meaning program.now) place.now (partition_of term.now)) result }
 {
-    let list = place.within(alloc, Step::Key(CREDITS))?;
-    credits_fits(alloc, program, &list, term.credits.as_slice())
+    let list = place.within(alloc, Step::Key(ObjectKey("credits")))?;
+    all_credits_fit(alloc, program, &list, term.credits.as_slice())
 }
 
 /// Whether what is said fits of the families.
@@ -85,10 +81,10 @@ fn walked_fits(
 ) -> Result<(), Refused>
     ensures { Decides (walked_fit (meaning program.now) (trees_of quasts.now) place.now (partition_of term.now)) result }
 {
-    let list = place.within(alloc, Step::Key(FAMILIES))?;
+    let list = place.within(alloc, Step::Key(ObjectKey("families")))?;
     let credits = term.credits.as_slice();
     let families = term.families.as_slice();
-    families_fits(
+    all_families_fit(
         alloc,
         program,
         quasts,
@@ -100,7 +96,7 @@ fn walked_fits(
 }
 
 /// Whether what is said fits of what shows the families apart, of the credits, and of the families.
-fn walks_fits(
+fn all_walks_fit(
     alloc: Global,
     program: &Program,
     quasts: &Quasts,
@@ -109,7 +105,7 @@ fn walks_fits(
 ) -> Result<(), Refused>
     ensures { Decides (walks_fit (meaning program.now) (trees_of quasts.now) place.now (partition_of term.now)) result }
 {
-    apart_fits(alloc, program, quasts, place, term)?;
+    all_apart_fit(alloc, program, quasts, place, term)?;
     credited_fits(alloc, program, place, term)?;
     walked_fits(alloc, program, quasts, place, term)?;
     Ok(())
@@ -126,20 +122,20 @@ fn coordinates_fit(
 {
     let loops = loops_around(program, term.statement);
     if term.inside.as_slice().len() != 2 * loops {
-        return Err(misfit(alloc, place, Step::Key(INSIDE)));
+        return Err(misfit(alloc, place, Step::Key(ObjectKey("inside"))));
     }
     let (inverse, matrix) = (&term.inverse, &term.matrix);
     if inverse.rows() != loops {
-        return Err(misfit(alloc, place, Step::Key(INVERSE)));
+        return Err(misfit(alloc, place, Step::Key(ObjectKey("inverse"))));
     }
     if inverse.cols() != columns_called(inverse.rows(), loops) {
-        return Err(misfit(alloc, place, Step::Key(INVERSE)));
+        return Err(misfit(alloc, place, Step::Key(ObjectKey("inverse"))));
     }
     if matrix.rows() != loops {
-        return Err(misfit(alloc, place, Step::Key(MATRIX)));
+        return Err(misfit(alloc, place, Step::Key(ObjectKey("matrix"))));
     }
     if matrix.cols() != columns_called(matrix.rows(), loops) {
-        return Err(misfit(alloc, place, Step::Key(MATRIX)));
+        return Err(misfit(alloc, place, Step::Key(ObjectKey("matrix"))));
     }
     Ok(())
 }
@@ -155,14 +151,20 @@ fn nest_fits(
 {
     let bounds = term.nest.bounds();
     if bounds.len() != loops_around(program, term.statement) {
-        return Err(misfit(alloc, place, Step::Key(NEST)));
+        return Err(misfit(alloc, place, Step::Key(ObjectKey("nest"))));
     }
-    bounds_fits(alloc, place, NEST, program.params().len(), bounds)?;
+    all_bounds_fit(
+        alloc,
+        place,
+        ObjectKey("nest"),
+        program.params().len(),
+        bounds,
+    )?;
     Ok(())
 }
 
 /// Whether what is said fits of the points.
-fn points_fits(
+fn all_points_fit(
     alloc: Global,
     program: &Program,
     place: &Place,
@@ -186,13 +188,20 @@ fn number_fits(
 {
     let depth = term.nest.bounds().len();
     if term.sums.shown().len() != depth {
-        return Err(misfit(alloc, place, Step::Key(SHOWN)));
+        return Err(misfit(alloc, place, Step::Key(ObjectKey("shown"))));
     }
     if usize::from(term.statement) >= program.statements().len() {
-        return Err(misfit(alloc, place, Step::Key(STATEMENT)));
+        return Err(misfit(alloc, place, Step::Key(ObjectKey("statement"))));
     }
     let params = program.params().len();
-    polynomials_fits(alloc, place, SUMS, params, term.sums.sums(), depth)?;
+    all_polynomials_fit(
+        alloc,
+        place,
+        ObjectKey("sums"),
+        params,
+        term.sums.sums(),
+        depth,
+    )?;
     Ok(())
 }
 
@@ -206,8 +215,8 @@ pub(crate) fn partition_fits(
 ) -> Result<(), Refused>
     ensures { Decides (partition_fit (meaning program.now) (trees_of quasts.now) place.now (partition_of term.now)) result }
 {
-    walks_fits(alloc, program, quasts, place, term)?;
-    points_fits(alloc, program, place, term)?;
+    all_walks_fit(alloc, program, quasts, place, term)?;
+    all_points_fit(alloc, program, place, term)?;
     number_fits(alloc, program, place, term)?;
     Ok(())
 }

@@ -9,9 +9,9 @@ ghost use Rattle.iolb_check.specs.TermFit.{certificate_fit};
 ghost use Rattle.iolb_check.specs.Claims.{claim_of_certificate};
 
 use crate::Certificate;
-use crate::fit_branches::branches_fits;
+use crate::fit_branches::all_branches_fit;
 use affine_program::Program;
-use certificate_fit::trees::quasts_fits;
+use certificate_fit::trees::all_quasts_fit;
 use claims::Refused;
 use std::alloc::Global;
 
@@ -28,7 +28,7 @@ pub(crate) fn parts_fit(
     let _params = program.params();
     let quasts = certificate.quasts();
     let branches = certificate.branches();
-    branches_fits(alloc, program, quasts, branches)?;
-    quasts_fits(alloc, program, quasts)?;
+    all_branches_fit(alloc, program, quasts, branches)?;
+    all_quasts_fit(alloc, program, quasts)?;
     Ok(())
 }

@@ -8,13 +8,13 @@ ghost use Rattle.claims.specs.Claims.{AllHold, IsRefusal};
 ghost use Rattle.iolb_check.specs.Claims.{claim_of_branch, claim_of_term};
 ghost use Rattle.iolb_check.specs.Conditions.{branch_pieces, disjoint_claims, disjoint_place as place_of_pairs, term_pieces, terms_claims, terms_place};
 ghost use Rattle.iolb_check.specs.Fit.{BranchFits, HasPieces};
-ghost use Rattle.reuse_paths.specs.Pieces.{ArePairwiseApart, PieceFits, pieces_of};
-ghost use Rattle.reuse_paths.specs.Quasts.{trees_of};
+ghost use Rattle.footprint_pieces.specs.Pieces.{ArePairwiseApart, PieceFits, pieces_of};
+ghost use Rattle.dep_quast.specs.Quasts.{trees_of};
 
 use crate::term::{Branch, Term};
 use affine_form::Memory;
 use affine_program::Program;
-use claims::{Place, Refused, Step, key};
+use claims::{ObjectKey, Place, Refused, Step};
 use k_partition::partition_pieces;
 use reuse_paths::{Piece, Quasts, disjoint_pieces_are_apart, lists_shown};
 use std::alloc::Global;
@@ -53,9 +53,9 @@ fn disjoint_place(alloc: Global, number: usize) -> Result<Place, Memory>
     ensures { IfOk result (λ place. place ≡ place_of_pairs number) }
 {
     let steps = vec![in alloc;
-        Step::Key(key::BRANCHES),
+        Step::Key(ObjectKey("branches")),
         Step::Index(number as u64),
-        Step::Key(key::DISJOINT),
+        Step::Key(ObjectKey("disjoint")),
     ]?;
     Ok(Place::new(steps))
 }

@@ -1,15 +1,14 @@
 //! The conditions of terms.
 
-ghost use Rattle.std.specs.Prelude.{◌≡◌, [], ◌∷◌, ◌++◌, length, IfOk, IfErr, OnOk};
+ghost use Rattle.std.specs.Prelude.{◌≡◌, [], ◌∷◌, ◌++◌, length, IfOk, IfErr, OnOk, codes};
 ghost use Rattle.affine_program.specs.Parts.{meaning};
 ghost use Rattle.claims.specs.Claims.{AllHold, IsRefusal};
 ghost use Rattle.claims.specs.declared.place.Step.TheVariants.{Key, Index};
-ghost use Rattle.claims.specs.declared.key.TheConstants.{COLD, PARTITION, WAVEFRONT};
 ghost use Rattle.domain_count.specs.Count.{IsCount, IsSumFrom};
 ghost use Rattle.k_partition.specs.PartitionClaims.{partition_claims};
 ghost use Rattle.k_partition.specs.View.{partition_of};
-ghost use Rattle.reuse_paths.specs.Quasts.{tree_for, trees_of};
-ghost use Rattle.reuse_paths.specs.Trees.{RowsAreTrue, RowsFit};
+ghost use Rattle.dep_quast.specs.Quasts.{tree_for, trees_of};
+ghost use Rattle.dep_quast.specs.Trees.{RowsAreTrue, RowsFit};
 ghost use Rattle.wavefront.specs.ColdClaims.{cold_claims};
 ghost use Rattle.wavefront.specs.FrontClaims.{front_claims};
 ghost use Rattle.wavefront.specs.FrontTerm.{outer_nest};
@@ -24,7 +23,7 @@ use crate::bound::Value;
 use crate::term::Term;
 use affine_form::Memory;
 use affine_program::Program;
-use claims::{Place, Refused, Step, key};
+use claims::{ObjectKey, Place, Refused, Step};
 use k_partition::{Partition, PartitionBound, check_partition};
 use poly_tree::Poly;
 use reuse_paths::Quasts;
@@ -71,7 +70,7 @@ pub(crate) fn check_term(
 }
 
 /// The place of a key of the term that stands in a list at a place.
-fn term_place(alloc: Global, place: &Place, index: usize, key: u8) -> Result<Place, Memory>
+fn term_place(alloc: Global, place: &Place, index: usize, key: ObjectKey) -> Result<Place, Memory>
     ensures { IfOk result (λ term. term ≡ (place.now ++ Index index ∷ []) ++ Key key ∷ []) }
 {
     let term = place.within(alloc, Step::Index(index as u64))?;
@@ -89,15 +88,15 @@ fn check_cold_term(
 ) -> Result<Poly, Refused>
     requires fits { ColdTermFits program.now (trees_of quasts.now) cold.now }
     requires are_true { RowsAreTrue (meaning program.now) 0 (trees_of quasts.now) }
-    ensures accepted { IfOk result (λ count. AllHold (cold_claims (meaning program.now) ((place.now ++ Index index ∷ []) ++ Key COLD ∷ []) (tree_for (trees_of quasts.now) (term_of cold.now).reader) (term_of cold.now))) }
+    ensures accepted { IfOk result (λ count. AllHold (cold_claims (meaning program.now) ((place.now ++ Index index ∷ []) ++ Key (codes "cold") ∷ []) (tree_for (trees_of quasts.now) (term_of cold.now).reader) (term_of cold.now))) }
     ensures value { IfOk result (λ count. IsCount (meaning program.now) cold.now.nest cold.now.sums count) }
     ensures holds { IfOk result (λ count. TermHolds program.now (trees_of quasts.now) (Term.Cold cold.now) (Value.Cold count)) }
     ensures pieces { OnOk result (HasPieces program.now (trees_of quasts.now) (Term.Cold cold.now)) }
     ensures sound { OnOk result (IsSound program.now (Term.Cold cold.now)) }
-    ensures refused { IfErr result (IsRefusal (cold_claims (meaning program.now) ((place.now ++ Index index ∷ []) ++ Key COLD ∷ []) (tree_for (trees_of quasts.now) (term_of cold.now).reader) (term_of cold.now))) }
+    ensures refused { IfErr result (IsRefusal (cold_claims (meaning program.now) ((place.now ++ Index index ∷ []) ++ Key (codes "cold") ∷ []) (tree_for (trees_of quasts.now) (term_of cold.now).reader) (term_of cold.now))) }
 {
     let _params = program.params();
-    let Ok(place) = term_place(alloc, place, index, key::COLD) else {
+    let Ok(place) = term_place(alloc, place, index, ObjectKey("cold")) else {
         return Err(Refused::Memory);
     };
     let count = check_cold(alloc, program, quasts, cold, &place)?;
@@ -116,16 +115,16 @@ fn check_partition_term(
     requires fits { PartitionTermFits program.now (trees_of quasts.now) partition.now }
     requires trees_fit { RowsFit (meaning program.now) 0 (trees_of quasts.now) }
     requires are_true { RowsAreTrue (meaning program.now) 0 (trees_of quasts.now) }
-    ensures accepted { IfOk result (λ bound. AllHold (partition_claims (meaning program.now) (trees_of quasts.now) ((place.now ++ Index index ∷ []) ++ Key PARTITION ∷ []) (partition_of partition.now))) }
+    ensures accepted { IfOk result (λ bound. AllHold (partition_claims (meaning program.now) (trees_of quasts.now) ((place.now ++ Index index ∷ []) ++ Key (codes "partition") ∷ []) (partition_of partition.now))) }
     ensures value { IfOk result (λ bound. IsPartitionValue (meaning program.now) (partition_of partition.now) bound) }
     ensures holds { IfOk result (λ bound. TermHolds program.now (trees_of quasts.now) (Term.Partition partition.now) (Value.Partition bound)) }
     ensures pieces { OnOk result (HasPieces program.now (trees_of quasts.now) (Term.Partition partition.now)) }
     ensures sound { OnOk result (IsSound program.now (Term.Partition partition.now)) }
-    ensures refused { IfErr result (IsRefusal (partition_claims (meaning program.now) (trees_of quasts.now) ((place.now ++ Index index ∷ []) ++ Key PARTITION ∷ []) (partition_of partition.now))) }
+    ensures refused { IfErr result (IsRefusal (partition_claims (meaning program.now) (trees_of quasts.now) ((place.now ++ Index index ∷ []) ++ Key (codes "partition") ∷ []) (partition_of partition.now))) }
 {
     let _params = program.params();
     let _rows = partition.matrix.rows();
-    let Ok(place) = term_place(alloc, place, index, key::PARTITION) else {
+    let Ok(place) = term_place(alloc, place, index, ObjectKey("partition")) else {
         return Err(Refused::Memory);
     };
     let bound = check_partition(alloc, program, quasts, partition, &place)?;
@@ -144,16 +143,16 @@ fn check_front_term(
     requires fits { FrontTermFits program.now (trees_of quasts.now) front.now }
     requires trees_fit { RowsFit (meaning program.now) 0 (trees_of quasts.now) }
     requires are_true { RowsAreTrue (meaning program.now) 0 (trees_of quasts.now) }
-    ensures accepted { IfOk result (λ counts. AllHold (front_claims (meaning program.now) ((place.now ++ Index index ∷ []) ++ Key WAVEFRONT ∷ []) (trees_of quasts.now) (front_of front.now))) }
+    ensures accepted { IfOk result (λ counts. AllHold (front_claims (meaning program.now) ((place.now ++ Index index ∷ []) ++ Key (codes "wavefront") ∷ []) (trees_of quasts.now) (front_of front.now))) }
     ensures value { IfOk result (λ counts. IsCount (meaning program.now) front.now.nest front.now.sums counts.0) }
     ensures outer { IfOk result (λ counts. IsSumFrom (length program.now.params) (outer_nest (front_of front.now)) front.now.outer_sums.items counts.1) }
     ensures holds { IfOk result (λ counts. TermHolds program.now (trees_of quasts.now) (Term.Wavefront front.now) (Value.Wavefront counts.0 counts.1)) }
     ensures sound { OnOk result (IsSound program.now (Term.Wavefront front.now)) }
-    ensures refused { IfErr result (IsRefusal (front_claims (meaning program.now) ((place.now ++ Index index ∷ []) ++ Key WAVEFRONT ∷ []) (trees_of quasts.now) (front_of front.now))) }
+    ensures refused { IfErr result (IsRefusal (front_claims (meaning program.now) ((place.now ++ Index index ∷ []) ++ Key (codes "wavefront") ∷ []) (trees_of quasts.now) (front_of front.now))) }
 {
     let _params = program.params();
     front_pieces_cover();
-    let Ok(place) = term_place(alloc, place, index, key::WAVEFRONT) else {
+    let Ok(place) = term_place(alloc, place, index, ObjectKey("wavefront")) else {
         return Err(Refused::Memory);
     };
     let counts = check_wavefront(alloc, program, quasts, front, &place)?;

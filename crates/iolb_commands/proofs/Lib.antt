@@ -1,4 +1,3 @@
-pub mod Keys
 pub mod Words
 pub mod Notes
 pub mod Made

@@ -32,7 +32,7 @@ use Rattle.iolb_commands.specs.Works.{HasSizes, most_bytes}
 use Rattle.iolb_commands.specs.Values.{values_text}
 use Rattle.iolb_check.specs.Conditions.{MeetsConditions, conditions}
 use Rattle.claims.specs.Claims.{AllHold, FirstFails}
-use Rattle.claims.specs.declared.refused.No.{No}
+use Rattle.claims.specs.declared.refused.FailedCondition.{FailedCondition}
 use Rattle.iolb_model.specs.declared.limits.TheConstants.{PROGRAM_BYTES}
 
 -- No read failed in a call, and no write: no count of faults rose.
@@ -173,7 +173,7 @@ AbsentSecondFilesAreNamed = (call : Call) (map : FileMap) (request : Request) (p
 -- A call about a certificate of which a condition fails ends with 1 and the first that does, or for want of memory, where it wasn't
 -- disturbed. (An evaluation names the program's parameters.)
 abbrev pub FailingCertificatesAreRefused : Type 0
-FailingCertificatesAreRefused = (call : Call) (request : Request) (task : Task) (program : AffineProgram) (certificate : CertificateClaim) (failed : No) (left : CallUse) (status : Status)
+FailingCertificatesAreRefused = (call : Call) (request : Request) (task : Task) (program : AffineProgram) (certificate : CertificateClaim) (failed : FailedCondition) (left : CallUse) (status : Status)
     → Reads call request task program certificate → HasSizes (judges task) program.parameters → FirstFails (conditions program certificate) failed
     → Outcome status call left → IsUndisturbed left → EndsWith status left Refused (condition_line failed.condition failed.place)
 

@@ -43,7 +43,7 @@ pub(crate) fn judged(
     };
     match check(alloc, program, &certificate) {
         Ok(bound) => answer(alloc, program, &bound, job, sizes),
-        Err(Refused::No(failed)) => Err(Stop::Refused(Refusal::Condition(failed))),
+        Err(Refused::Failed(failed)) => Err(Stop::Refused(Refusal::Condition(failed))),
         Err(Refused::Memory) => Err(Stop::Memory),
     }
 }

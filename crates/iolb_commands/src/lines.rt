@@ -9,7 +9,7 @@ use crate::pointer_text::pointer_text;
 use crate::stop::{OtherFault, Refusal, Stop};
 use affine_c::ProgramFault;
 use affine_form::Memory;
-use claims::{No, Place};
+use claims::{FailedCondition, Place};
 use command_words::file_at;
 use iolb_cert::CertFault;
 use iolb_host::FileFault;
@@ -92,7 +92,7 @@ fn other_line(alloc: Global, fault: &OtherFault) -> Result<Vec<u8>, Memory>
 }
 
 /// The condition that fails.
-fn condition_line(alloc: Global, failed: &No) -> Result<Vec<u8>, Memory>
+fn condition_line(alloc: Global, failed: &FailedCondition) -> Result<Vec<u8>, Memory>
     ensures { IfOk result (λ line. line.items ≡ line_of_condition failed.now.condition failed.now.place) }
 {
     let condition = failed.condition;

@@ -5,7 +5,7 @@ ghost use Rattle.iolb_commands.specs.Stop.{file_status, stop_status};
 
 use crate::status::Status;
 use affine_c::ProgramFault;
-use claims::No;
+use claims::FailedCondition;
 use iolb_cert::CertFault;
 use iolb_host::FileFault;
 use tile_sched::{SchedFault, Unplayed};
@@ -21,7 +21,7 @@ pub enum OtherFault {
 #[derive(Debug, Drop)]
 pub enum Refusal {
     /// The certificate fails a condition.
-    Condition(No),
+    Condition(FailedCondition),
     /// The assumption of this number is false at the sizes.
     Assumption(u16),
     /// The schedule can't be played.

@@ -1,5 +1,5 @@
 -- Numbers and lists that are written, read.
-use Rattle.std.proofs.Common.{◌≡◌, ℕ, suc, ◌<◌, ◌≤◌, List, [], ◌∷◌, length, map, Ok, Some, refl, ap, arith}
+use Rattle.std.proofs.Common.{◌≡◌, ℕ, suc, ◌<◌, ◌≤◌, List, [], ◌∷◌, length, map, Ok, Some, Bool, true, refl, ap, eq-eqb, arith}
 use Rattle.std.proofs.Math.IntN.{ℤ, pos, negsuc}
 use Rattle.std.specs.Prelude.{unsigned_abs}
 use Rattle.std.specs.List.{AllByRecursion}
@@ -7,7 +7,8 @@ use Rattle.std.proofs.lemmas.Bool.{le-leb, lt-ltb}
 use Rattle.std.proofs.lemmas.List.{length-map}
 use Rattle.serde_json.specs.Data.{Data, null, boolean, number, string, array, object}
 use Rattle.json_parts.specs.Outcome.{Outcome, ◌>>=◌, fault}
-use Rattle.json_parts.specs.Json.{reads_list, reads_short_list, each, reads_all, reads_few, reads_or_null, integer_of, reads_integer, reads_natural}
+use Rattle.json_parts.specs.Json.{reads_list, reads_short_list, each, reads_all, reads_few, reads_or_null, integer_of, reads_integer, reads_natural, reads_exactly}
+use Rattle.json_parts.specs.Shape.{Shape, IsReadBack, tested_at_shape}
 use Rattle.json_parts.specs.Written.{list, whole, natural}
 use Rattle.json_parts.proofs.Items.{list_of-items_of}
 
@@ -24,6 +25,18 @@ integer-read limit z small = rw (integer-whole z, lt-ltb (unsigned_abs z) limit 
 pub natural_read : (least most n : ℕ) → least ≤ n → n ≤ most → reads_natural least most (natural n) ≡ Ok n
 unfolding reads_natural
 natural_read least most n some few = rw (le-leb least n some, le-leb n most few) refl
+
+pub exact_read : (n : ℕ) → reads_exactly n (natural n) ≡ Ok tt
+unfolding reads_exactly
+exact_read n = rw (eq-eqb n n refl) refl
+
+-- ---- what is made of another's, or tested
+
+pub made_read : {A B : Type 0} (shape : Shape B) (made : B → A) (parts : A → B) (a : A) → made (parts a) ≡ a → IsReadBack shape (parts a) → (shape.reads (shape.data_of (parts a)) >>= λ b. Ok (made b)) ≡ Ok a
+made_read {A = A} shape made parts a same h = rw h (ap (λ (a : A). Ok a) same)
+
+pub tested_read : {A : Type 0} (name : List ℕ) (shape : Shape A) (test : A → Bool) (a : A) → test a ≡ true → IsReadBack shape a → IsReadBack (tested_at_shape name shape test) a
+tested_read place shape test a is h = rw (h, is) refl
 
 -- ---- lists
 
@@ -65,9 +78,3 @@ not_null_read reader (number n) a none h = rw h refl
 not_null_read reader (string s) a none h = rw h refl
 not_null_read reader (array ds) a none h = rw h refl
 not_null_read reader (object ms) a none h = rw h refl
-
--- ---- what holds of all
-
-pub all-both : {X : Type 0} (P Q : X → Type 0) (R : X → Type 0) (xs : List X) → ((x : X) → P x → Q x → R x) → AllByRecursion P xs → AllByRecursion Q xs → AllByRecursion R xs
-all-both P Q R [] f h k = tt
-all-both P Q R (x ∷ xs) f h k = (f x h.0 k.0, all-both P Q R xs f h.1 k.1)

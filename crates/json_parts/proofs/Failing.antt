@@ -11,11 +11,11 @@ use Rattle.json_parts.specs.declared.error.CertError.TheVariants.{Fault, Memory}
 use Rattle.json_parts.specs.Outcome.{Outcome, ◌>>=◌, fault, under, Fails, Gives, GivesBy, IsFault, IsUnder}
 use Rattle.json_parts.specs.Json.{part, read_member}
 
-pub part_there : {A : Type 0} (name : List ℕ) (number : ℕ) (reader : Data → Outcome A) (d v : Data) → Some v ≡ get name d → part name number reader d ≡ under (Key number) (reader v)
-part_there name number reader d v is = ap (read_member (Key number) reader) (sym is)
+pub part_there : {A : Type 0} (name : List ℕ) (reader : Data → Outcome A) (d v : Data) → Some v ≡ get name d → part name reader d ≡ under (Key name) (reader v)
+part_there name reader d v is = ap (read_member (Key name) reader) (sym is)
 
-pub part_absent : {A : Type 0} (name : List ℕ) (number : ℕ) (reader : Data → Outcome A) (d : Data) → None ≡ get name d → part name number reader d ≡ fault 2
-part_absent name number reader d is = ap (read_member (Key number) reader) (sym is)
+pub part_absent : {A : Type 0} (name : List ℕ) (reader : Data → Outcome A) (d : Data) → None ≡ get name d → part name reader d ≡ fault 2
+part_absent name reader d is = ap (read_member (Key name) reader) (sym is)
 
 pub fails_fault : {A : Type 0} (number : ℕ) (e : CertError) (read : Outcome A) → IsFault number e → read ≡ fault number → Fails e read
 fails_fault number Memory read is same = tt
@@ -43,7 +43,6 @@ pub hands_on_by : {A X : Type 0} (Holds : A → X → Type 0) (r : Result X Cert
 hands_on_by Holds (Ok x) e read handed fails = absurd handed.1
 hands_on_by Holds (Err e') e read handed fails = subst (λ (f : CertError). Fails f read) (sym handed.1) fails
 
--- a failure behind a step that didn't fail
-pub fails_behind : {A B : Type 0} (e : CertError) (read : Outcome A) (f : A → Outcome B) (a : A) → read ≡ Ok a → Fails e (f a) → Fails e (read >>= f)
-fails_behind Memory read f a is fails = tt
-fails_behind (Fault g) read f a is fails = ap (λ r. r >>= f) is ∙ fails
+-- nothing is made where the members fail
+pub made_fails : {A B X : Type 0} (Holds : A → X → Type 0) (r : Result X CertError) (e : CertError) (read : Outcome B) (made : B → A) → IsErr r × IsErrAnd r (λ e'. e' ≡ e) → Fails e read → GivesBy Holds r (read >>= λ b. Ok (made b))
+made_fails Holds r e read made handed fails = hands_on_by Holds r e (read >>= λ b. Ok (made b)) handed (fails_then e read (λ b. Ok (made b)) fails)

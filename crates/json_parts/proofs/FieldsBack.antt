@@ -9,9 +9,9 @@ use Rattle.json_parts.specs.Names.{first_of, more_of, names_of}
 use Rattle.json_parts.specs.Shape.{Shape, IsReadBack}
 use Rattle.json_parts.proofs.Read.{tail_of, tail_is}
 
-pub field-back : {A B : Type 0} (name : List ℕ) (number : ℕ) (shape : Shape A) (rest : Fields B) (a : A) (b : B) → rises (name ∷ rest.names) ≡ true → IsReadBack shape a → AreReadBack rest b
-    → AreReadBack (field name number shape rest) (a, b)
-field-back name number shape rest a b r here behind d agree =
+pub field-back : {A B : Type 0} (name : List ℕ) (shape : Shape A) (rest : Fields B) (a : A) (b : B) → rises (name ∷ rest.names) ≡ true → IsReadBack shape a → AreReadBack rest b
+    → AreReadBack (field name shape rest) (a, b)
+field-back name shape rest a b r here behind d agree =
     let first : get name d ≡ Some (shape.data_of a) = agree.0 ∙ found_first name rest.names (shape.data_of a) (rest.members b) r in
     let seen : Agree rest.names d (rest.members b) =
     still_agree d (rest.members b) (member name (shape.data_of a) (rest.members b)) rest.names agree.1 (front_unseen name (shape.data_of a) (rest.members b) rest.names (before_rest name rest.names r)) in
@@ -34,15 +34,12 @@ unfolding reads_object
 object-back fields b r back = rw (object-reads fields b r, back (object (fields.members b)) (object-agrees fields.names (fields.members b))) refl
 
 -- a member that is put in front of others
-pub put-back : {A B : Type 0} (count : ℕ) (names : List (Bor (List ℕ))) (numbers : List ℕ) (shape : Shape A) (rest : List (List ℕ) → List ℕ → Fields B) (a : A) (b : B)
-    → ((names : List (List ℕ)) (numbers : List ℕ) → length names ≡ count → (rest names numbers).names ≡ names) → length names ≡ suc count → length numbers ≡ suc count → rises (names_of names) ≡ true
-    → IsReadBack shape a → AreReadBack (rest (names_of (tail_of names)) (tail_of numbers)) b
-    → AreReadBack (field (first_of [] (names_of names)) (first_of 0 numbers) shape (rest (more_of (names_of names)) (more_of numbers))) (a, b)
-put-back count [] numbers shape rest a b law some more r here behind = absurd (omega (arith, some))
-put-back count (name ∷ names) [] shape rest a b law some more r here behind = absurd (omega (arith, more))
-put-back count (name ∷ names) (number ∷ numbers) shape rest a b law some more r here behind =
-    let there : AreReadBack (rest (names_of names) numbers) b =
-    subst (λ (ns : List (Bor (List ℕ))). AreReadBack (rest (names_of ns) numbers) b) (tail_is name names)
-    (subst (λ (ns : List ℕ). AreReadBack (rest (names_of (tail_of (name ∷ names))) ns) b) (tail_is number numbers) behind) in
-    let are : (rest (names_of names) numbers).names ≡ names_of names = law (names_of names) numbers (omega (arith, some, length-map names (λ (name : Bor (List ℕ)). name.now))) in
-    field-back name.now number shape (rest (names_of names) numbers) a b (subst (λ (ns : List (List ℕ)). rises (name.now ∷ ns) ≡ true) (sym are) r) here there
+pub put-back : {A B : Type 0} (count : ℕ) (names : List (Bor (List ℕ))) (shape : Shape A) (rest : List (List ℕ) → Fields B) (a : A) (b : B)
+    → ((names : List (List ℕ)) → length names ≡ count → (rest names).names ≡ names) → length names ≡ suc count → rises (names_of names) ≡ true
+    → IsReadBack shape a → AreReadBack (rest (names_of (tail_of names))) b
+    → AreReadBack (field (first_of [] (names_of names)) shape (rest (more_of (names_of names)))) (a, b)
+put-back count [] shape rest a b law some r here behind = absurd (omega (arith, some))
+put-back count (name ∷ names) shape rest a b law some r here behind =
+    let there : AreReadBack (rest (names_of names)) b = subst (λ (ns : List (Bor (List ℕ))). AreReadBack (rest (names_of ns)) b) (tail_is name names) behind in
+    let are : (rest (names_of names)).names ≡ names_of names = law (names_of names) (omega (arith, some, length-map names (λ (name : Bor (List ℕ)). name.now))) in
+    field-back name.now shape (rest (names_of names)) a b (subst (λ (ns : List (List ℕ)). rises (name.now ∷ ns) ≡ true) (sym are) r) here there

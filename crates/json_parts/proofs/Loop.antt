@@ -16,10 +16,6 @@ use Rattle.json_parts.specs.Json.{each}
 abbrev pub with_front : {A : Type 0} → List A → Outcome (List A) → Outcome (List A)
 with_front front read = read >>= λ more. Ok (front ++ more)
 
-pub with_nothing : {A : Type 0} (read : Outcome (List A)) → with_front [] read ≡ read
-with_nothing (Ok more) = refl
-with_nothing (Err f) = refl
-
 pub regroup : {A : Type 0} (front : List A) (a : A) (read : Outcome (List A)) → with_front front (read >>= λ more. Ok (a ∷ more)) ≡ with_front (front ++ a ∷ []) read
 regroup front a (Ok more) = ap Ok (sym (append_assoc front (a ∷ []) more))
 regroup front a (Err f) = refl

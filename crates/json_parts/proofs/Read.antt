@@ -19,12 +19,10 @@ tail_of xs = take (length xs - 1) (drop 1 xs)
 pub tail_is : {A : Type 0} (x : A) (xs : List A) → tail_of (x ∷ xs) ≡ xs
 tail_is x xs = take_all (length (x ∷ xs) - 1) xs (omega arith)
 
-pub more-read : {A B : Type 0} (count : ℕ) (names : List (Bor (List ℕ))) (other : Bor (List ℕ)) (numbers : List ℕ) (reader : Data → Outcome A) (rest : List (List ℕ) → List ℕ → Outcome B) (d : Data) (a : A) (b : B)
-    → length names ≡ suc count → length numbers ≡ suc count → part (get_or names 0 other).now (get_or numbers 0 0) reader d ≡ Ok a → rest (names_of (tail_of names)) (tail_of numbers) ≡ Ok b
-    → ◌>>=◌ {B = A × B} (part (first_of [] (names_of names)) (first_of 0 numbers) reader d) (λ a. ◌>>=◌ {B = A × B} (rest (more_of (names_of names)) (more_of numbers)) (λ b. Ok (a, b))) ≡ Ok (a, b)
-more-read count [] other numbers reader rest d a b some more here behind = absurd (omega (arith, some))
-more-read count (name ∷ names) other [] reader rest d a b some more here behind = absurd (omega (arith, more))
-more-read count (name ∷ names) other (number ∷ numbers) reader rest d a b some more here behind =
-    let there : rest (names_of names) numbers ≡ Ok b =
-    subst (λ (ns : List (Bor (List ℕ))). rest (names_of ns) numbers ≡ Ok b) (tail_is name names) (subst (λ (ns : List ℕ). rest (names_of (tail_of (name ∷ names))) ns ≡ Ok b) (tail_is number numbers) behind) in
+pub more-read : {A B : Type 0} (count : ℕ) (names : List (Bor (List ℕ))) (other : Bor (List ℕ)) (reader : Data → Outcome A) (rest : List (List ℕ) → Outcome B) (d : Data) (a : A) (b : B)
+    → length names ≡ suc count → part (get_or names 0 other).now reader d ≡ Ok a → rest (names_of (tail_of names)) ≡ Ok b
+    → ◌>>=◌ {B = A × B} (part (first_of [] (names_of names)) reader d) (λ a. ◌>>=◌ {B = A × B} (rest (more_of (names_of names))) (λ b. Ok (a, b))) ≡ Ok (a, b)
+more-read count [] other reader rest d a b some here behind = absurd (omega (arith, some))
+more-read count (name ∷ names) other reader rest d a b some here behind =
+    let there : rest (names_of names) ≡ Ok b = subst (λ (ns : List (Bor (List ℕ))). rest (names_of ns) ≡ Ok b) (tail_is name names) behind in
     rw (here, there) refl

@@ -18,13 +18,6 @@ one-more f g xs i x old new value all inside is pushed shown whole =
     ∙ ap (λ (d : Data). map view old ++ (d ∷ map f (map g (drop (i + 1) xs)))) shown
     ∙ ap (λ l. map view old ++ map f (map g l)) (sym (rest_at xs i x inside is)) ∙ whole
 
--- what holds of the rest
-pub all-more : {X : Type 0} (P : X → Type 0) (xs : List X) (i : ℕ) (x : X) → i < length xs → x ≡ get_or xs i x → P x → (AllByRecursion P (drop i xs) → AllByRecursion P xs) → AllByRecursion P (drop (i + 1) xs) → AllByRecursion P xs
-all-more P xs i x inside is p whole h = whole (subst (AllByRecursion P) (sym (rest_at xs i x inside is)) (p, h))
-
-pub all-rest : {X : Type 0} (P : X → Type 0) (xs : List X) (i : ℕ) (x : X) → i < length xs → x ≡ get_or xs i x → AllByRecursion P (drop i xs) → P x × AllByRecursion P (drop (i + 1) xs)
-all-rest P xs i x inside is h = subst (AllByRecursion P) (rest_at xs i x inside is) h
-
 -- no more
 pub all-done : {X A : Type 0} (f : A → Data) (g : X → A) (xs : List X) (i : ℕ) (old : List Value) (all : List Data) → length xs ≤ i → map view old ++ map f (map g (drop i xs)) ≡ all → map view old ≡ all
 all-done f g xs i old all e whole =

@@ -1,6 +1,6 @@
 -- The members of an object, said one after the other by the byte order of their keys, and the object's shape.
 use Rattle.std.specs.Prelude.{◌≡◌, ℕ, suc, ◌&&◌, List, [], ◌∷◌, length, Bool, true, false, Option, Some, is_some, if◌then◌else◌, Ok, IfOk, refl}
-use Rattle.std.proofs.Common.{ap, ◌∙◌}
+use Rattle.std.proofs.Common.{ap, ◌∙◌, subst, sym}
 use Rattle.std.specs.List.{AllByRecursion}
 use Rattle.std.specs.Ordering.{nat_cmp, match_ordering}
 use Rattle.std.specs.declared.cmp.Ordering.{Ordering}
@@ -12,7 +12,7 @@ use Rattle.json_parts.specs.Outcome.{Outcome, ◌>>=◌, fault}
 use Rattle.json_parts.specs.Json.{has_keys, count_of, part}
 use Rattle.json_parts.specs.Given.{given_then, given_part, given_if}
 use Rattle.json_parts.specs.Truths.{first_true, second_true}
-use Rattle.json_parts.specs.Shape.{Shape}
+use Rattle.json_parts.specs.Shape.{Shape, made_shape, made-kept}
 
 -- ---- keys in byte order
 
@@ -123,11 +123,11 @@ no_fields = record {
 abbrev pub AreReadBack : {B : Type 0} → Fields B → B → Type 0
 AreReadBack fields b = (d : Data) → Agree fields.names d (fields.members b) → fields.reads d ≡ Ok b
 
-pub field-kept : {A B : Type 0} (name : List ℕ) (number : ℕ) (shape : Shape A) (rest : Fields B) (d : Data)
-    → IfOk (part name number shape.reads d >>= λ a. rest.reads d >>= λ b. Ok (a, b)) (λ (p : A × B). shape.IsWithin p.0 × rest.IsWithin p.1)
-field-kept {A = A} {B = B} name number shape rest d =
-    given_then (part name number shape.reads d) (λ a. rest.reads d >>= λ b. Ok (a, b)) shape.IsWithin (λ (p : A × B). shape.IsWithin p.0 × rest.IsWithin p.1)
-    (given_part name number shape.reads shape.IsWithin d shape.kept)
+pub field-kept : {A B : Type 0} (name : List ℕ) (shape : Shape A) (rest : Fields B) (d : Data)
+    → IfOk (part name shape.reads d >>= λ a. rest.reads d >>= λ b. Ok (a, b)) (λ (p : A × B). shape.IsWithin p.0 × rest.IsWithin p.1)
+field-kept {A = A} {B = B} name shape rest d =
+    given_then (part name shape.reads d) (λ a. rest.reads d >>= λ b. Ok (a, b)) shape.IsWithin (λ (p : A × B). shape.IsWithin p.0 × rest.IsWithin p.1)
+    (given_part name shape.reads shape.IsWithin d shape.kept)
     (λ a here. given_then (rest.reads d) (λ b. Ok (a, b)) rest.IsWithin (λ (p : A × B). shape.IsWithin p.0 × rest.IsWithin p.1) (rest.kept d) (λ b behind. (here, behind)))
 
 pub field-there : {B : Type 0} (name : List ℕ) (rest : Fields B) (e : Data) (b : B) → rises (name ∷ rest.names) ≡ true → AreThere (name ∷ rest.names) (member name e (rest.members b))
@@ -138,13 +138,13 @@ field-there name rest e b r = (
 )
 
 -- a member with this key in front of others
-abbrev pub field : {A B : Type 0} → List ℕ → ℕ → Shape A → Fields B → Fields (A × B)
-field name number shape rest = record {
+abbrev pub field : {A B : Type 0} → List ℕ → Shape A → Fields B → Fields (A × B)
+field name shape rest = record {
   names = name ∷ rest.names;
-  reads = λ d. part name number shape.reads d >>= λ a. rest.reads d >>= λ b. Ok (a, b);
+  reads = λ d. part name shape.reads d >>= λ a. rest.reads d >>= λ b. Ok (a, b);
   members = λ p. member name (shape.data_of p.0) (rest.members p.1);
   IsWithin = λ p. shape.IsWithin p.0 × rest.IsWithin p.1;
-  kept = field-kept name number shape rest;
+  kept = field-kept name shape rest;
   there = λ p r. field-there name rest (shape.data_of p.0) p.1 r;
   count = λ p. ap suc (rest.count p.1);
   in_front = λ k d p h. put_first k name d (shape.data_of p.0) (rest.members p.1) rest.names h;
@@ -174,3 +174,25 @@ object_shape fields = record {
   is_present = true;
   present = λ _. object-null fields;
 }
+
+pub same-within : {A B : Type 0} (fields : Fields B) (made : B → A) (parts : A → B) → ((b : B) → parts (made b) ≡ b) → (b : B) → fields.IsWithin b → fields.IsWithin (parts (made b))
+same-within fields made parts same b small = subst fields.IsWithin (sym (same b)) small
+
+-- a record, by what its members say
+abbrev pub record_shape : {A B : Type 0} → Fields B → (made : B → A) (parts : A → B) → ((b : B) → parts (made b) ≡ b) → Shape A
+record_shape fields made parts same = made_shape (object_shape fields) made parts (λ a. fields.IsWithin (parts a)) (same-within fields made parts same)
+
+-- ---- objects that are told apart by their keys
+
+-- what is made of an object's members
+abbrev pub reads_made : {A B : Type 0} → Fields B → (B → A) → Data → Outcome A
+reads_made fields made d = reads_object fields d >>= λ b. Ok (made b)
+
+-- what an object with the keys of these fields says, and else what others say
+abbrev pub told : {A B : Type 0} → Fields B → (B → A) → (Data → Outcome A) → Data → Outcome A
+told fields made others d = if has_keys fields.names d then (reads_object fields d >>= λ b. Ok (made b)) else others d
+
+pub told-kept : {A B : Type 0} (fields : Fields B) (made : B → A) (others : Data → Outcome A) (IsWithin : A → Type 0) → ((b : B) → fields.IsWithin b → IsWithin (made b)) → ((d : Data) → IfOk (others d) IsWithin)
+    → (d : Data) → IfOk (told fields made others d) IsWithin
+told-kept fields made others IsWithin kept rest d =
+    given_if (has_keys fields.names d) (reads_object fields d >>= λ b. Ok (made b)) (others d) IsWithin (λ is. made-kept (object_shape fields) made IsWithin kept d) (rest d)

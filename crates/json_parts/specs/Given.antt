@@ -8,7 +8,7 @@ use Rattle.claims.specs.declared.place.Step.TheVariants.{Key, Index}
 use Rattle.serde_json.specs.Data.{Data, null}
 use Rattle.serde_json.specs.Find.{get, as_null}
 use Rattle.json_parts.specs.Outcome.{Outcome, ◌>>=◌, fault, under}
-use Rattle.json_parts.specs.Json.{has_keys, with_keys, part, read_member, reads_list, reads_short_list, each, reads_all, reads_few, reads_or_null, natural_within, reads_natural, integer_of}
+use Rattle.json_parts.specs.Json.{has_keys, with_keys, part, read_member, reads_list, reads_short_list, each, reads_all, reads_few, reads_or_null, natural_within, reads_natural, is_exactly, reads_exactly, integer_of}
 
 pub given_then : {A B : Type 0} (read : Outcome A) (f : A → Outcome B) (P : A → Type 0) (Q : B → Type 0) → IfOk read P → ((a : A) → P a → IfOk (f a) Q) → IfOk (read >>= f) Q
 given_then (Ok a) f P Q here next = next a here
@@ -31,8 +31,8 @@ pub given_member : {A : Type 0} (step : Step) (reader : Data → Outcome A) (P :
 given_member step reader P None every = tt
 given_member step reader P (Some v) every = given_under step (reader v) P (every v)
 
-pub given_part : {A : Type 0} (name : List ℕ) (number : ℕ) (reader : Data → Outcome A) (P : A → Type 0) (d : Data) → ((v : Data) → IfOk (reader v) P) → IfOk (part name number reader d) P
-given_part name number reader P d every = given_member (Key number) reader P (get name d) every
+pub given_part : {A : Type 0} (name : List ℕ) (reader : Data → Outcome A) (P : A → Type 0) (d : Data) → ((v : Data) → IfOk (reader v) P) → IfOk (part name reader d) P
+given_part name reader P d every = given_member (Key name) reader P (get name d) every
 
 pub given_each : {A : Type 0} (reader : Data → Outcome A) (P : A → Type 0) → ((v : Data) → IfOk (reader v) P) → (i : ℕ) (ds : List Data)
     → IfOk (each reader i ds) (λ found. AllByRecursion P found × (length found ≡ length ds))
@@ -101,6 +101,10 @@ given_natural least most d = within (integer_of d) where
         both n false b is p q = absurd cc
   within (Some (negsuc n)) = tt
 
+pub given_exactly : (n : ℕ) (d : Data) → IfOk (reads_exactly n d) (λ _. Unit {0})
+unfolding reads_exactly
+given_exactly n d = given_if (is_exactly n (integer_of d)) (Ok tt) (fault 2) (λ _. Unit {0}) (λ is. tt) tt
+
 -- ---- of null
 
 pub list-null : {A : Type 0} (reader : Data → Outcome A) → reads_all reader null ≡ fault 2
@@ -114,3 +118,7 @@ few-null most reader = refl
 pub natural-null : (least most : ℕ) → reads_natural least most null ≡ fault 2
 unfolding reads_natural
 natural-null least most = refl
+
+pub exactly-null : (n : ℕ) → reads_exactly n null ≡ fault 2
+unfolding reads_exactly
+exactly-null n = refl

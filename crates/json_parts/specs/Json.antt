@@ -34,9 +34,9 @@ abbrev pub read_member : {A : Type 0} → Step → (Data → Outcome A) → Opti
 read_member step reader None = fault 2
 read_member step reader (Some d) = under step (reader d)
 
--- what a reader gives of the member with this name, whose key has this number
-abbrev pub part : {A : Type 0} → List ℕ → ℕ → (Data → Outcome A) → Data → Outcome A
-part name number reader d = read_member (Key number) reader (get name d)
+-- what a reader gives of the member with this name
+abbrev pub part : {A : Type 0} → List ℕ → (Data → Outcome A) → Data → Outcome A
+part name reader d = read_member (Key name) reader (get name d)
 
 -- ---- arrays
 
@@ -103,3 +103,12 @@ natural_within least most (Some (negsuc n)) = fault 3
 -- a whole number from a least one to a greatest one, neither below 0
 unfoldable pub reads_natural : ℕ → ℕ → Data → Outcome ℕ
 reads_natural least most d = natural_within least most (integer_of d)
+
+abbrev pub is_exactly : ℕ → Option ℤ → Bool
+is_exactly n None = false
+is_exactly n (Some (pos m)) = m == n
+is_exactly n (Some (negsuc m)) = false
+
+-- this whole number alone
+unfoldable pub reads_exactly : ℕ → Data → Outcome (Unit {0})
+reads_exactly n d = if is_exactly n (integer_of d) then Ok tt else fault 2

@@ -1,12 +1,13 @@
 -- The shape of a part of a JSON value: what reading gives and what is written, and the limits of what is read.
 use Rattle.std.specs.Prelude.{◌≡◌, ℕ, ◌≤◌, List, map, length, Option, Bool, true, false, Ok, IfOk, IfSome, if◌then◌else◌}
+use Rattle.claims.specs.declared.place.Step.TheVariants.{Key}
 use Rattle.std.proofs.Common.{refl}
 use Rattle.std.specs.List.{AllByRecursion}
 use Rattle.serde_json.specs.Data.{Data, null}
-use Rattle.json_parts.specs.Outcome.{Outcome, ◌>>=◌, fault}
-use Rattle.json_parts.specs.Json.{reads_natural, reads_all, reads_few, reads_or_null}
+use Rattle.json_parts.specs.Outcome.{Outcome, ◌>>=◌, fault, under}
+use Rattle.json_parts.specs.Json.{reads_natural, reads_exactly, reads_all, reads_few, reads_or_null}
 use Rattle.json_parts.specs.Written.{natural, list, or_null}
-use Rattle.json_parts.specs.Given.{given_then, given_if, given_natural, given_all, given_few, given_or_null, natural-null, list-null, few-null}
+use Rattle.json_parts.specs.Given.{given_then, given_if, given_natural, given_exactly, given_all, given_few, given_or_null, natural-null, exactly-null, list-null, few-null}
 use Rattle.json_parts.specs.Truths.{never}
 
 pub record Shape (A : Type 0) : Type 1 where
@@ -33,6 +34,17 @@ natural_shape least most = record {
   kept = given_natural least most;
   is_present = true;
   present = λ _. natural-null least most;
+}
+
+-- this whole number alone
+abbrev pub exact_shape : ℕ → Shape (Unit {0})
+exact_shape n = record {
+  reads = reads_exactly n;
+  data_of = λ _. natural n;
+  IsWithin = λ _. Unit {0};
+  kept = given_exactly n;
+  is_present = true;
+  present = λ _. exactly-null n;
 }
 
 -- a list
@@ -107,4 +119,24 @@ tested_shape shape test IsWithin kept = record {
   kept = tested-kept shape test IsWithin kept;
   is_present = shape.is_present;
   present = λ there. tested-null shape test (shape.present there);
+}
+
+pub tested_at-kept : {A : Type 0} (name : List ℕ) (shape : Shape A) (test : A → Bool) (d : Data)
+    → IfOk (shape.reads d >>= λ a. if test a then Ok a else under (Key name) (fault 3)) (λ a. shape.IsWithin a × (test a ≡ true))
+tested_at-kept {A = A} name shape test d =
+    given_then (shape.reads d) (λ a. if test a then Ok a else under (Key name) (fault 3)) shape.IsWithin (λ (a : A). shape.IsWithin a × (test a ≡ true)) (shape.kept d)
+    (λ a here. given_if (test a) (Ok a) (under (Key name) (fault 3)) (λ (a : A). shape.IsWithin a × (test a ≡ true)) (λ is. (here, is)) tt)
+
+pub tested_at-null : {A : Type 0} (name : List ℕ) (shape : Shape A) (test : A → Bool) → shape.reads null ≡ fault 2 → (shape.reads null >>= λ a. if test a then Ok a else under (Key name) (fault 3)) ≡ fault 2
+tested_at-null name shape test none = rw none refl
+
+-- what passes a test of the whole, which fails with fault 3 at the member with this name
+abbrev pub tested_at_shape : {A : Type 0} → List ℕ → Shape A → (A → Bool) → Shape A
+tested_at_shape name shape test = record {
+  reads = λ d. shape.reads d >>= λ a. if test a then Ok a else under (Key name) (fault 3);
+  data_of = shape.data_of;
+  IsWithin = λ a. shape.IsWithin a × (test a ≡ true);
+  kept = tested_at-kept name shape test;
+  is_present = shape.is_present;
+  present = λ there. tested_at-null name shape test (shape.present there);
 }

@@ -1,6 +1,6 @@
 //! Faults of certificate texts.
 
-ghost use Rattle.std.specs.Prelude.{◌≡◌, ◌∷◌, [], IfOk};
+ghost use Rattle.std.specs.Prelude.{◌≡◌, ◌∷◌, []};
 ghost use Rattle.json_parts.specs.Outcome.{IsFault, IsUnder};
 
 use affine_form::Memory;
@@ -63,15 +63,6 @@ pub fn fault(alloc: Global, number: u8) -> CertError
     })
 }
 
-/// The place behind a step.
-fn longer(alloc: Global, step: Step, place: &Place) -> Result<Place, Memory>
-    ensures { IfOk result (λ longer. longer ≡ step ∷ place.now) }
-{
-    let mut steps = vec![in alloc; step]?;
-    steps.extend_from_slice(place.steps())?;
-    Ok(Place::new(steps))
-}
-
 /// The error of a part of a value, where this step leads to the part, as an error of the value.
 pub fn under(alloc: Global, step: Step, error: CertError) -> CertError
     ensures { IsUnder step error result }
@@ -79,7 +70,7 @@ pub fn under(alloc: Global, step: Step, error: CertError) -> CertError
     let CertError::Fault(fault) = error else {
         return CertError::Memory;
     };
-    match longer(alloc, step, &fault.place) {
+    match fault.place.behind(alloc, step) {
         Ok(place) => CertError::Fault(CertFault {
             number: fault.number,
             place,

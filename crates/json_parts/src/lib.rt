@@ -21,6 +21,6 @@ pub use json::{elements, has_keys, integer, list, natural, short_list};
 pub use lists::{Few, ListOf, write_list};
 pub use members::{End, Members, member, read_object, said_member};
 pub use nullable::OrNull;
-pub use numbers::{Any8, Any16, Number8, Number32};
+pub use numbers::{Any8, Any16, Exactly, Number8, Number32};
 pub use part::Part;
-pub use puts::{Put, PutList, Puts, put_list, put_part, write_object};
+pub use puts::{Put, PutFew, PutList, Puts, put_list, put_part, write_object};

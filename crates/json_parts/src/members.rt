@@ -10,7 +10,7 @@ ghost use Rattle.json_parts.specs.Names.{first_of, more_of, names_of, no-names, 
 use crate::error::{CertError, fault, under};
 use crate::json::has_keys;
 use crate::part::Part;
-use claims::Step;
+use claims::{ObjectKey, Step};
 use serde_json::Value;
 use std::alloc::Global;
 
@@ -22,23 +22,17 @@ pub trait Members {
 
     ghost COUNT: { ℕ };
 
-    /// The members with these keys, by their names and their numbers.
-    ghost fields: { List (List ℕ) → List ℕ → Fields Said };
+    /// The members with these keys.
+    ghost fields: { List (List ℕ) → Fields Said };
 
     ghost Are: { Said → Self.Values → Type 0 };
 
     /// What the members with these keys say.
-    fn read(
-        alloc: Global,
-        value: &Value,
-        names: &[&str],
-        numbers: &[u8],
-    ) -> Result<Self::Values, CertError>
+    fn read(alloc: Global, value: &Value, names: &[&'static str]) -> Result<Self::Values, CertError>
         requires names { length names.now ≡ COUNT }
-        requires numbers { length numbers.now ≡ COUNT }
-        ensures { GivesBy Are result ((fields (names_of names.now) numbers.now).reads (view value.now)) };
+        ensures { GivesBy Are result ((fields (names_of names.now)).reads (view value.now)) };
 
-    ghost names_are: { (names : List (List ℕ)) (numbers : List ℕ) → length names ≡ COUNT → (fields names numbers).names ≡ names };
+    ghost names_are: { (names : List (List ℕ)) → length names ≡ COUNT → (fields names).names ≡ names };
 }
 
 /// No more members.
@@ -52,35 +46,29 @@ impl Members for End {
 
     ghost COUNT = { 0 };
 
-    ghost fields = { λ _ _. no_fields };
+    ghost fields = { λ _. no_fields };
 
     ghost Are = { λ _ _. Unit {0} };
 
-    fn read(
-        _alloc: Global,
-        _value: &Value,
-        _names: &[&str],
-        _numbers: &[u8],
-    ) -> Result<(), CertError> {
+    fn read(_alloc: Global, _value: &Value, _names: &[&'static str]) -> Result<(), CertError> {
         Ok(())
     }
 
-    ghost names_are = { λ names numbers none. no-names names none };
+    ghost names_are = { λ names none. no-names names none };
 }
 
-/// The member with this name, whose key has this number.
+/// The member with this name.
 pub fn member<S: Part>(
     alloc: Global,
     value: &Value,
-    name: &str,
-    number: u8,
+    name: &'static str,
 ) -> Result<S::Value, CertError>
-    ensures { GivesBy S.link.Is result (part name.now number S.shape.reads (view value.now)) }
+    ensures { GivesBy S.link.Is result (part name.now S.shape.reads (view value.now)) }
 {
     match value.get(name) {
         Some(member) => match S::read(alloc, member) {
             Ok(found) => Ok(found),
-            Err(error) => Err(under(alloc, Step::Key(number), error)),
+            Err(error) => Err(under(alloc, Step::Key(ObjectKey(name)), error)),
         },
         None => Err(fault(alloc, 2)),
     }
@@ -93,22 +81,21 @@ impl<S: Part, R: Members> Members for (S, R) {
 
     ghost COUNT = { suc R.COUNT };
 
-    ghost fields = { λ names numbers. field (first_of [] names) (first_of 0 numbers) S.shape (R.fields (more_of names) (more_of numbers)) };
+    ghost fields = { λ names. field (first_of [] names) S.shape (R.fields (more_of names)) };
 
     ghost Are = { λ said values. S.link.Is said.0 values.0 × R.Are said.1 values.1 };
 
     fn read(
         alloc: Global,
         value: &Value,
-        names: &[&str],
-        numbers: &[u8],
+        names: &[&'static str],
     ) -> Result<(S::Value, R::Values), CertError> {
-        let first = member::<S>(alloc, value, names[0], numbers[0])?;
-        let rest = R::read(alloc, value, &names[1..], &numbers[1..])?;
+        let first = member::<S>(alloc, value, names[0])?;
+        let rest = R::read(alloc, value, &names[1..])?;
         Ok((first, rest))
     }
 
-    ghost names_are = { λ names numbers so_many. one-more-name R.COUNT (λ more. (R.fields more (more_of numbers)).names) (λ more some. R.names_are more (more_of numbers) some) names so_many };
+    ghost names_are = { λ names so_many. one-more-name R.COUNT (λ more. (R.fields more).names) (λ more some. R.names_are more some) names so_many };
 }
 
 /// The members of an object with exactly these keys.
@@ -116,29 +103,26 @@ impl<S: Part, R: Members> Members for (S, R) {
 pub fn read_object<M: Members>(
     alloc: Global,
     value: &Value,
-    names: &[&str],
-    numbers: &[u8],
+    names: &[&'static str],
 ) -> Result<M::Values, CertError>
     requires names { length names.now ≡ M.COUNT }
-    requires numbers { length numbers.now ≡ M.COUNT }
-    ensures { GivesBy M.Are result (reads_object (M.fields (names_of names.now) numbers.now) (view value.now)) }
+    ensures { GivesBy M.Are result (reads_object (M.fields (names_of names.now)) (view value.now)) }
 {
     if has_keys(value, names) {
-        M::read(alloc, value, names, numbers)
+        M::read(alloc, value, names)
     } else {
         Err(fault(alloc, 2))
     }
 }
 
-/// The member with this name, whose key has this number, where the value says just what is said.
+/// The member with this name, where the value says just what is said.
 pub fn said_member<S: Part>(
     alloc: Global,
     value: &Value,
-    name: &str,
-    number: u8,
+    name: &'static str,
 ) -> Result<S::Value, CertError>
     requires { S.link.is_plain ≡ true }
-    ensures { Gives S.link.said result (part name.now number S.shape.reads (view value.now)) }
+    ensures { Gives S.link.said result (part name.now S.shape.reads (view value.now)) }
 {
-    member::<S>(alloc, value, name, number)
+    member::<S>(alloc, value, name)
 }

@@ -2,9 +2,9 @@
 
 ghost use Rattle.std.specs.Prelude.{◌≤◌, ℕ, min};
 ghost use Rattle.json_parts.specs.Related.{same_link};
-ghost use Rattle.json_parts.specs.Shape.{natural_shape};
+ghost use Rattle.json_parts.specs.Shape.{natural_shape, exact_shape};
 
-use crate::error::CertError;
+use crate::error::{CertError, fault};
 use crate::json::natural;
 use crate::part::Part;
 use affine_form::Memory;
@@ -104,5 +104,33 @@ impl<const LEAST: u64, const MOST: u64> Part for Number32<LEAST, MOST> {
     #[tactic(auto, using(crate::proofs::Back::natural_read))]
     fn write(_alloc: Global, part: &u32) -> Result<Value, Memory> {
         Ok(Value::from(*part))
+    }
+}
+
+/// This number alone. Any other value has fault 2.
+pub struct Exactly<const N: u64> {}
+
+impl<const N: u64> Part for Exactly<N> {
+    type Value = ();
+
+    ghost Said = { Unit {0} };
+
+    ghost shape = { exact_shape N };
+
+    ghost link = { same_link };
+
+    ghost Fits = { λ _. Unit {0} };
+
+    #[tactic(auto, unfolding(crate::specs::Json::reads_exactly))]
+    fn read(alloc: Global, value: &Value) -> Result<(), CertError> {
+        match value.as_u64() {
+            Some(found) if found == N => Ok(()),
+            _ => Err(fault(alloc, 2)),
+        }
+    }
+
+    #[tactic(auto, using(crate::proofs::Back::exact_read))]
+    fn write(_alloc: Global, _part: &()) -> Result<Value, Memory> {
+        Ok(Value::from(N))
     }
 }

@@ -1,13 +1,13 @@
 //! Members that are to be written, by the byte order of their keys.
 
-ghost use Rattle.std.specs.Prelude.{◌≡◌, ℕ, suc, List, [], length, map, true, IfOk};
+ghost use Rattle.std.specs.Prelude.{◌≡◌, ◌≤◌, ℕ, suc, List, [], length, map, true, IfOk};
 ghost use Rattle.std.specs.List.{AllByRecursion};
 ghost use Rattle.serde_json.specs.Data.{object};
 ghost use Rattle.serde_json.specs.View.{view, members_view};
 ghost use Rattle.json_parts.specs.Fields.{Fields, no_fields, field, rises, AreReadBack, object_shape};
 ghost use Rattle.json_parts.specs.Names.{first_of, more_of, names_of, no-names, one-more-name};
 ghost use Rattle.json_parts.specs.Related.{AreSaid};
-ghost use Rattle.json_parts.specs.Shape.{IsReadBack, list_shape};
+ghost use Rattle.json_parts.specs.Shape.{IsReadBack, list_shape, few_shape};
 
 use crate::lists::write_list;
 use crate::members::End;
@@ -23,8 +23,8 @@ pub trait Puts: Drop {
 
     ghost COUNT: { ℕ };
 
-    /// The members with these keys, by their names and their numbers.
-    ghost fields: { List (List ℕ) → List ℕ → Fields Said };
+    /// The members with these keys.
+    ghost fields: { List (List ℕ) → Fields Said };
 
     ghost said: { Self → Said };
 
@@ -34,21 +34,15 @@ pub trait Puts: Drop {
     /// What holds of the values that are written.
     ghost Are: { Self → Type 0 };
 
-    fn write(
-        &self,
-        alloc: Global,
-        names: &[&str],
-        numbers: &[u8],
-    ) -> Result<Map<String, Value>, Memory>
+    fn write(&self, alloc: Global, names: &[&str]) -> Result<Map<String, Value>, Memory>
         requires fit { Fit self.now }
         requires names { length names.now ≡ COUNT }
-        requires numbers { length numbers.now ≡ COUNT }
         requires rise { rises (names_of names.now) ≡ true }
-        ensures members { IfOk result (λ map. members_view map.entries ≡ (fields (names_of names.now) numbers.now).members (said self.now)) }
-        ensures read { IfOk result (λ _. AreReadBack (fields (names_of names.now) numbers.now) (said self.now)) }
+        ensures members { IfOk result (λ map. members_view map.entries ≡ (fields (names_of names.now)).members (said self.now)) }
+        ensures read { IfOk result (λ _. AreReadBack (fields (names_of names.now)) (said self.now)) }
         ensures are { IfOk result (λ _. Are self.now) };
 
-    ghost names_are: { (names : List (List ℕ)) (numbers : List ℕ) → length names ≡ COUNT → (fields names numbers).names ≡ names };
+    ghost names_are: { (names : List (List ℕ)) → length names ≡ COUNT → (fields names).names ≡ names };
 }
 
 impl Puts for End {
@@ -56,7 +50,7 @@ impl Puts for End {
 
     ghost COUNT = { 0 };
 
-    ghost fields = { λ _ _. no_fields };
+    ghost fields = { λ _. no_fields };
 
     ghost said = { λ _. tt };
 
@@ -64,24 +58,19 @@ impl Puts for End {
 
     ghost Are = { λ _. Unit {0} };
 
-    fn write(
-        &self,
-        alloc: Global,
-        _names: &[&str],
-        _numbers: &[u8],
-    ) -> Result<Map<String, Value>, Memory> {
+    fn write(&self, alloc: Global, _names: &[&str]) -> Result<Map<String, Value>, Memory> {
         Ok(Map::new(alloc))
     }
 
-    ghost names_are = { λ names numbers none. no-names names none };
+    ghost names_are = { λ names none. no-names names none };
 }
 
 /// A member that is to be written, and those behind it.
 #[derive(Drop)]
 pub struct Put<'a, S, T, R> {
-    value: &'a T,
-    rest: R,
-    of: PhantomData<S>,
+    pub value: &'a T,
+    pub rest: R,
+    pub of: PhantomData<S>,
 }
 
 impl<'a, S: Part, R: Puts> Puts for Put<'a, S, S::Value, R> {
@@ -89,7 +78,7 @@ impl<'a, S: Part, R: Puts> Puts for Put<'a, S, S::Value, R> {
 
     ghost COUNT = { suc R.COUNT };
 
-    ghost fields = { λ names numbers. field (first_of [] names) (first_of 0 numbers) S.shape (R.fields (more_of names) (more_of numbers)) };
+    ghost fields = { λ names. field (first_of [] names) S.shape (R.fields (more_of names)) };
 
     ghost said = { λ puts. (S.link.said puts.value.now, R.said puts.rest) };
 
@@ -97,27 +86,22 @@ impl<'a, S: Part, R: Puts> Puts for Put<'a, S, S::Value, R> {
 
     ghost Are = { λ puts. S.link.Is (S.link.said puts.value.now) puts.value.now × R.Are puts.rest };
 
-    fn write(
-        &self,
-        alloc: Global,
-        names: &[&str],
-        numbers: &[u8],
-    ) -> Result<Map<String, Value>, Memory> {
-        let mut members = self.rest.write(alloc, &names[1..], &numbers[1..])?;
+    fn write(&self, alloc: Global, names: &[&str]) -> Result<Map<String, Value>, Memory> {
+        let mut members = self.rest.write(alloc, &names[1..])?;
         let value = S::write(alloc, self.value)?;
         put(&mut members, alloc, names[0], value)?;
         Ok(members)
     }
 
-    ghost names_are = { λ names numbers so_many. one-more-name R.COUNT (λ more. (R.fields more (more_of numbers)).names) (λ more some. R.names_are more (more_of numbers) some) names so_many };
+    ghost names_are = { λ names so_many. one-more-name R.COUNT (λ more. (R.fields more).names) (λ more some. R.names_are more some) names so_many };
 }
 
 /// A list that is to be written, and the members behind it.
 #[derive(Drop)]
 pub struct PutList<'a, S, T, R> {
-    values: &'a [T],
-    rest: R,
-    of: PhantomData<S>,
+    pub values: &'a [T],
+    pub rest: R,
+    pub of: PhantomData<S>,
 }
 
 impl<'a, S: Part, R: Puts> Puts for PutList<'a, S, S::Value, R> {
@@ -125,7 +109,7 @@ impl<'a, S: Part, R: Puts> Puts for PutList<'a, S, S::Value, R> {
 
     ghost COUNT = { suc R.COUNT };
 
-    ghost fields = { λ names numbers. field (first_of [] names) (first_of 0 numbers) (list_shape S.shape) (R.fields (more_of names) (more_of numbers)) };
+    ghost fields = { λ names. field (first_of [] names) (list_shape S.shape) (R.fields (more_of names)) };
 
     ghost said = { λ puts. (S.link.all_said puts.values.now, R.said puts.rest) };
 
@@ -133,19 +117,45 @@ impl<'a, S: Part, R: Puts> Puts for PutList<'a, S, S::Value, R> {
 
     ghost Are = { λ puts. AreSaid S.link.is_plain S.link.all_said S.link.Is (S.link.all_said puts.values.now) puts.values.now × R.Are puts.rest };
 
-    fn write(
-        &self,
-        alloc: Global,
-        names: &[&str],
-        numbers: &[u8],
-    ) -> Result<Map<String, Value>, Memory> {
-        let mut members = self.rest.write(alloc, &names[1..], &numbers[1..])?;
+    fn write(&self, alloc: Global, names: &[&str]) -> Result<Map<String, Value>, Memory> {
+        let mut members = self.rest.write(alloc, &names[1..])?;
         let value = write_list::<S>(alloc, self.values)?;
         put(&mut members, alloc, names[0], value)?;
         Ok(members)
     }
 
-    ghost names_are = { λ names numbers so_many. one-more-name R.COUNT (λ more. (R.fields more (more_of numbers)).names) (λ more some. R.names_are more (more_of numbers) some) names so_many };
+    ghost names_are = { λ names so_many. one-more-name R.COUNT (λ more. (R.fields more).names) (λ more some. R.names_are more some) names so_many };
+}
+
+/// A list of at most so many that is to be written, and the members behind it.
+#[derive(Drop)]
+pub struct PutFew<'a, S, T, R, const MOST: usize> {
+    pub values: &'a [T],
+    pub rest: R,
+    pub of: PhantomData<S>,
+}
+
+impl<'a, S: Part, R: Puts, const MOST: usize> Puts for PutFew<'a, S, S::Value, R, MOST> {
+    ghost Said = { List S.Said × R.Said };
+
+    ghost COUNT = { suc R.COUNT };
+
+    ghost fields = { λ names. field (first_of [] names) (few_shape MOST S.shape) (R.fields (more_of names)) };
+
+    ghost said = { λ puts. (S.link.all_said puts.values.now, R.said puts.rest) };
+
+    ghost Fit = { λ puts. (AllByRecursion S.Fits puts.values.now × (length puts.values.now ≤ MOST)) × R.Fit puts.rest };
+
+    ghost Are = { λ puts. AreSaid S.link.is_plain S.link.all_said S.link.Is (S.link.all_said puts.values.now) puts.values.now × R.Are puts.rest };
+
+    fn write(&self, alloc: Global, names: &[&str]) -> Result<Map<String, Value>, Memory> {
+        let mut members = self.rest.write(alloc, &names[1..])?;
+        let value = write_list::<S>(alloc, self.values)?;
+        put(&mut members, alloc, names[0], value)?;
+        Ok(members)
+    }
+
+    ghost names_are = { λ names so_many. one-more-name R.COUNT (λ more. (R.fields more).names) (λ more some. R.names_are more some) names so_many };
 }
 
 /// This value, and the members behind it.
@@ -176,19 +186,13 @@ pub fn put_list<'a, S: Part, R: Puts>(
 }
 
 /// The object of these members.
-pub fn write_object<M: Puts>(
-    alloc: Global,
-    names: &[&str],
-    numbers: &[u8],
-    members: &M,
-) -> Result<Value, Memory>
+pub fn write_object<M: Puts>(alloc: Global, names: &[&str], members: &M) -> Result<Value, Memory>
     requires fit { M.Fit members.now }
     requires names { length names.now ≡ M.COUNT }
-    requires numbers { length numbers.now ≡ M.COUNT }
     requires rise { rises (names_of names.now) ≡ true }
-    ensures value { IfOk result (λ value. view value ≡ object ((M.fields (names_of names.now) numbers.now).members (M.said members.now))) }
-    ensures read { IfOk result (λ _. IsReadBack (object_shape (M.fields (names_of names.now) numbers.now)) (M.said members.now)) }
+    ensures value { IfOk result (λ value. view value ≡ object ((M.fields (names_of names.now)).members (M.said members.now))) }
+    ensures read { IfOk result (λ _. IsReadBack (object_shape (M.fields (names_of names.now))) (M.said members.now)) }
     ensures are { IfOk result (λ _. M.Are members.now) }
 {
-    Ok(Value::Object(members.write(alloc, names, numbers)?))
+    Ok(Value::Object(members.write(alloc, names)?))
 }

@@ -1,4 +1,5 @@
 -- The counts of credits, added one after another, are one polynomial.
+use Rattle.std.specs.Prelude.{codes}
 use Rattle.std.proofs.Common.{◌≡◌, refl, sym, ◌∙◌, ap, subst, inl, inr, ℕ, suc, ◌*◌, ◌<◌, ◌≤◌, List, [], ◌∷◌, ◌++◌, get_or, length, take, arith}
 use Rattle.std.proofs.Math.IntN.{ℤ, pos, ◌+ℤ◌, ◌*ℤ◌}
 use Rattle.std.proofs.Math.Seq.{take-suc}
@@ -8,10 +9,9 @@ use Rattle.iolb_model.specs.Program.{AffineProgram}
 use Rattle.claims.specs.Claims.{Claim, AllHold, FirstFails, IsRefusal}
 use Rattle.claims.specs.declared.place.Step.{Step}
 use Rattle.claims.specs.declared.place.Step.TheVariants.{Key}
-use Rattle.claims.specs.declared.key.TheConstants.{SUMS}
-use Rattle.claims.specs.declared.refused.No.{No}
+use Rattle.claims.specs.declared.refused.FailedCondition.{FailedCondition}
 use Rattle.claims.specs.declared.refused.Refused.{Refused}
-use Rattle.claims.specs.declared.refused.Refused.TheVariants.{No as not_so, Memory}
+use Rattle.claims.specs.declared.refused.Refused.TheVariants.{Failed as not_so, Memory}
 use Rattle.claims.proofs.Laws.{AllHold-append, AllHold-left}
 use Rattle.poly_tree.specs.Poly.{Quotient, IsForm, IsLegal, numerator_at, size}
 use Rattle.poly_tree.proofs.SameLemmas.{same-polynomial}
@@ -77,7 +77,7 @@ total-parts parameters before (first ∷ credits) credit sum h =
 -- ---- claims
 
 -- the last claim said otherwise
-last-fails : (claims : List Claim) (one other : Claim) (failed : No) → one.condition ≡ other.condition → one.place ≡ other.place → (other.statement → one.statement)
+last-fails : (claims : List Claim) (one other : Claim) (failed : FailedCondition) → one.condition ≡ other.condition → one.place ≡ other.place → (other.statement → one.statement)
     → FirstFails (claims ++ one ∷ []) failed → FirstFails (claims ++ other ∷ []) failed
 last-fails [] one other failed e f to (inl h) = inl ((λ s. h.0 (to s)), sym e ∙ h.1, sym f ∙ h.2)
 last-fails [] one other failed e f to (inr h) = absurd h.1
@@ -100,7 +100,7 @@ module _ (program : AffineProgram) (place : List Step) (credits : List CreditTer
   counts = count_claims program credit.nest.nest credit.count (credit_place place i)
 
   abbrev last : Claim
-  last = record { condition = 2; place = credit_place place i ++ Key SUMS ∷ []; statement = HasCreditsTotal (length program.parameters) (take (suc i) credits) }
+  last = record { condition = 2; place = credit_place place i ++ Key (codes "sums") ∷ []; statement = HasCreditsTotal (length program.parameters) (take (suc i) credits) }
 
   taken : take (suc i) credits ≡ take i credits ++ credit ∷ []
   taken = take-suc credits i credit below ∙ ap (λ (x : CreditTerm). take i credits ++ x ∷ []) (sym is)
@@ -122,12 +122,12 @@ module _ (program : AffineProgram) (place : List Step) (credits : List CreditTer
   -- the claims of a credit, by those beside the sum of the credits before
   pub credit-refused : (r : Refused) → IsRefusal (next_claims program (credit_place place i) total credit) r → IsRefusal (credit_claims program place credits i credit) r
   credit-refused (not_so n) h =
-      last-fails counts (record { condition = 2; place = credit_place place i ++ Key SUMS ∷ []; statement = HasWithCredit (length program.parameters) total credit }) last n refl refl has-next h
+      last-fails counts (record { condition = 2; place = credit_place place i ++ Key (codes "sums") ∷ []; statement = HasWithCredit (length program.parameters) total credit }) last n refl refl has-next h
   credit-refused Memory h = tt
 
   pub credit-holds : (sum : Quotient) → AllHold (next_claims program (credit_place place i) total credit) → IsWithCredit (length program.parameters) total credit sum
       → AllHold (credit_claims program place credits i credit)
   credit-holds sum h next =
       AllHold-append counts (last ∷ [])
-      (AllHold-left counts (record { condition = 2; place = credit_place place i ++ Key SUMS ∷ []; statement = HasWithCredit (length program.parameters) total credit } ∷ []) h)
+      (AllHold-left counts (record { condition = 2; place = credit_place place i ++ Key (codes "sums") ∷ []; statement = HasWithCredit (length program.parameters) total credit } ∷ []) h)
       ((sum, total-next sum next), tt)

@@ -18,12 +18,12 @@ use Rattle.poly_tree.specs.Printed.{polynomial_of, TermsHaveTheValue}
 use Rattle.domain_count.specs.Count.{CountsPoints}
 use Rattle.domain_count.specs.Points.{count}
 use Rattle.domain_count.proofs.Counted.{counted, counted-value}
-use Rattle.reuse_paths.specs.declared.piece.Target.{Target}
-use Rattle.reuse_paths.specs.declared.piece.Target.TheVariants.{Cell, Instance}
+use Rattle.footprint_pieces.specs.declared.piece.Target.{Target}
+use Rattle.footprint_pieces.specs.declared.piece.Target.TheVariants.{Cell, Instance}
 use Rattle.reuse_paths.specs.Families.{FamilyForms}
 use Rattle.reuse_paths.specs.FamilyFootprint.{family_footprint}
 use Rattle.reuse_paths.specs.FamilyPieces.{family_pieces}
-use Rattle.reuse_paths.specs.Pieces.{FootprintPiece, AreCovered, IsInPieces, IsVertexOf}
+use Rattle.footprint_pieces.specs.Pieces.{FootprintPiece, AreCovered, IsInPieces, IsVertexOf}
 use Rattle.k_partition.specs.declared.term.PartitionBound.{PartitionBound}
 use Rattle.k_partition.specs.Numbers.{HasNumbers, numbers_of}
 use Rattle.k_partition.specs.PartitionPieces.{partition_pieces, CountsCredits}

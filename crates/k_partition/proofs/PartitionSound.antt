@@ -1,4 +1,5 @@
 -- A partition term whose claims hold is sound, and its families are apart.
+use Rattle.std.specs.Prelude.{codes}
 use Rattle.std.proofs.Common.{◌≡◌, sym, ◌∙◌, subst, ℕ, suc, ◌+◌, List, [], ◌∷◌, ◌++◌, length, map, arith}
 use Rattle.std.specs.List.{AllByRecursion}
 use Rattle.std.proofs.Math.IntN.{ℤ}
@@ -14,7 +15,6 @@ use Rattle.execution_laws.proofs.Domains.{domains_executed, way-there}
 use Rattle.claims.specs.Claims.{Claim, AllHold, numbered, counted}
 use Rattle.claims.specs.declared.place.Step.{Step}
 use Rattle.claims.specs.declared.place.Step.TheVariants.{Key, Index}
-use Rattle.claims.specs.declared.key.TheConstants.{APART, FAMILIES, INSIDE, LABEL, NODES, START}
 use Rattle.claims.proofs.Laws.{AllHold-left, AllHold-right}
 use Rattle.claims.proofs.Members.{counts-each}
 use Rattle.affine_form.specs.Rows.{variables_from, step_of}
@@ -26,20 +26,21 @@ use Rattle.affine_program.specs.Domain.{path_of, depth_of}
 use Rattle.dep_quast.specs.Context.{parameter_point}
 use Rattle.dep_quast.specs.Tree.{SelectionTree}
 use Rattle.execution_laws.proofs.Ways.{within-length, holds-there}
-use Rattle.dep_quast.proofs.Shown.{goals-met, within_rows-few}
+use Rattle.claims.proofs.Systems.{goals-met}
+use Rattle.dep_quast.proofs.Fits.{within_rows-few}
 use Rattle.domain_count.specs.Count.{rows_before}
 use Rattle.domain_count.specs.CountClaims.{count_claims}
 use Rattle.domain_count.specs.Points.{points}
-use Rattle.reuse_paths.specs.DisjointClaims.{PairwisePiecesAreApart}
+use Rattle.footprint_pieces.specs.DisjointClaims.{PairwisePiecesAreApart}
 use Rattle.reuse_paths.specs.Families.{FamilyForms}
 use Rattle.reuse_paths.specs.FamilyClaims.{label_rows, start_walk, node_walk}
 use Rattle.reuse_paths.specs.FamilyFits.{FamilyFits}
 use Rattle.reuse_paths.specs.FamilyFootprint.{instances_in, family_footprint}
 use Rattle.reuse_paths.specs.FamilyPieces.{family_pieces, FamilyPiecesCover}
-use Rattle.reuse_paths.specs.Pieces.{FootprintPiece, AreApartPieces, AreCovered, ArePairwiseApart, PieceFits}
+use Rattle.footprint_pieces.specs.Pieces.{FootprintPiece, AreApartPieces, AreCovered, ArePairwiseApart, PieceFits}
 use Rattle.reuse_paths.specs.Places.{IsExecuted}
 use Rattle.reuse_paths.specs.SoundFamilies.{IsSoundFamily, FamiliesAreSound}
-use Rattle.reuse_paths.specs.Trees.{RowsFit, RowsAreTrue}
+use Rattle.dep_quast.specs.Trees.{RowsFit, RowsAreTrue}
 use Rattle.reuse_paths.proofs.NestPoints.{points-within, nest-met}
 use Rattle.reuse_paths.proofs.Places.{executed-there}
 use Rattle.k_partition.specs.declared.term.Shape.{Shape}
@@ -104,7 +105,7 @@ module _ (program : AffineProgram) (trees : List (List SelectionTree)) (term : P
         let values : List AffineForm = variables_from vars count (length term.nest) in
         let wide : length term.nest ≡ length u = sym (within-length (map step_of term.nest) parameters u within ∙ length-map term.nest step_of) in
         let met : IsMet (inside_goals program term) (parameters ++ u) =
-        goals-met 10 (place ++ Key INSIDE ∷ []) (rows_before program term.nest) 0 (inside_goals program term) term.inside (parameters ++ u)
+        goals-met 10 (place ++ Key (codes "inside") ∷ []) (rows_before program term.nest) 0 (inside_goals program term) term.inside (parameters ++ u)
         (omega (arith, fits.inside, within_rows-few vars path (parameter_point program vars) values)) holds-inside (nest-met program term.nest parameters u formed admitted within) in
         let front : values_at (parameter_point program vars) (parameters ++ u) ≡ parameters = values-front vars count parameters u (sym admitted.each) (omega arith) in
         let end : values_at values (parameters ++ u) ≡ u = values-end vars count (length term.nest) parameters u (sym admitted.each) wide (omega arith) in
@@ -129,7 +130,7 @@ module _ (program : AffineProgram) (trees : List (List SelectionTree)) (term : P
       → AllHold (numbered (family_claims_at program trees place term) index these) → FamiliesAreSound → AllByRecursion (IsSoundFamily program term.statement term.nest (credited_nests term)) these
   sound-from index [] fit h law = tt
   sound-from index (family ∷ these) fit h law = (
-    law program trees term.statement term.nest term.matrix (credited_nests term) family (place ++ Key FAMILIES ∷ Index index ∷ []) formed trees-fit trees-true fit.0
+    law program trees term.statement term.nest term.matrix (credited_nests term) family (place ++ Key (codes "families") ∷ Index index ∷ []) formed trees-fit trees-true fit.0
         (AllHold-left (family_claims_at program trees place term index family) (numbered (family_claims_at program trees place term) (suc index) these) h),
     sound-from (suc index) these fit.1 (AllHold-right (family_claims_at program trees place term index family) (numbered (family_claims_at program trees place term) (suc index) these) h) law,
   )
@@ -138,14 +139,14 @@ module _ (program : AffineProgram) (trees : List (List SelectionTree)) (term : P
       → AllHold (numbered (family_claims_at program trees place term) index these) → AllByRecursion (FixesRows (length program.parameters) term.matrix) these
   fixed-from index [] fit h = tt
   fixed-from index (family ∷ these) fit h =
-      let at : List Step = place ++ Key FAMILIES ∷ Index index ∷ [] in
+      let at : List Step = place ++ Key (codes "families") ∷ Index index ∷ [] in
       let loops : ℕ = depth_of program term.statement in
       let here : List Claim = family_claims_at program trees place term index family in
-      let labels : List Claim = label_rows term.matrix family.scale (length program.parameters) loops (at ++ Key START ∷ Key LABEL ∷ []) 0 family.set family.start_label in
+      let labels : List Claim = label_rows term.matrix family.scale (length program.parameters) loops (at ++ Key (codes "start") ∷ Key (codes "label") ∷ []) 0 family.set family.start_label in
       let start : List Claim = start_walk program trees term.statement term.nest (credited_nests term) family at in
-      let nodes : List Claim = numbered (node_walk program trees (credited_nests term) family (at ++ Key NODES ∷ [])) 0 family.nodes in
+      let nodes : List Claim = numbered (node_walk program trees (credited_nests term) family (at ++ Key (codes "nodes") ∷ [])) 0 family.nodes in
       let rest : List Claim = numbered (family_claims_at program trees place term) (suc index) these in (
-        family-fixes term.matrix (length program.parameters) loops family (at ++ Key START ∷ Key LABEL ∷ []) fits.matrix fits.counted.columns fit.0.scale fit.0.set fit.0.start_label.each fit.0.start_label.over
+        family-fixes term.matrix (length program.parameters) loops family (at ++ Key (codes "start") ∷ Key (codes "label") ∷ []) fits.matrix fits.counted.columns fit.0.scale fit.0.set fit.0.start_label.each fit.0.start_label.over
             (AllHold-left labels start (AllHold-left (labels ++ start) nodes (AllHold-left here rest h))),
         fixed-from (suc index) these fit.1 (AllHold-right here rest h),
       )
@@ -168,7 +169,7 @@ module _ (program : AffineProgram) (trees : List (List SelectionTree)) (term : P
       → AllByRecursion (λ (family : FamilyForms). AreCovered program (family_footprint program term.statement term.nest family) (family_pieces program trees term.statement term.nest family)) these
   covered-from index [] fit h law = tt
   covered-from index (family ∷ these) fit h law = (
-    law program trees term.statement term.nest term.matrix (credited_nests term) family (place ++ Key FAMILIES ∷ Index index ∷ []) formed trees-fit trees-true fit.0
+    law program trees term.statement term.nest term.matrix (credited_nests term) family (place ++ Key (codes "families") ∷ Index index ∷ []) formed trees-fit trees-true fit.0
         (AllHold-left (family_claims_at program trees place term index family) (numbered (family_claims_at program trees place term) (suc index) these) h) all-executed,
     covered-from (suc index) these fit.1 (AllHold-right (family_claims_at program trees place term index family) (numbered (family_claims_at program trees place term) (suc index) these) h) law,
   )
@@ -198,7 +199,7 @@ module _ (program : AffineProgram) (trees : List (List SelectionTree)) (term : P
       by : (shape : Shape) → HasApart shape program trees term → AllHold (apart_claims shape program trees place term) → AreApartFor shape program term parameters
       by Each enough h = tt
       by Sum enough h = all-apart term.families (covered-from 0 term.families fits.families holds-families law)
-          (pairs program 18 (place ++ Key APART ∷ []) (pieces_of_families program trees term) term.apart fit enough h)
+          (pairs program 18 (place ++ Key (codes "apart") ∷ []) (pieces_of_families program trees term) term.apart fit enough h)
 
 pub partitions-sound : FamiliesAreSound → PartitionsAreSound
 partitions-sound law program trees term place formed trees-fit trees-true fits holds = sound program trees term place formed trees-fit trees-true fits holds law
@@ -224,7 +225,7 @@ few-from law program trees term place index [] h = tt
 few-from law program trees term place index (family ∷ these) h =
     let here : List Claim = family_claims_at program trees place term index family in
     let later : List Claim = numbered (family_claims_at program trees place term) (suc index) these in (
-      law program trees term.statement term.nest term.matrix (credited_nests term) family (place ++ Key FAMILIES ∷ Index index ∷ []) [] (AllHold-left here later h),
+      law program trees term.statement term.nest term.matrix (credited_nests term) family (place ++ Key (codes "families") ∷ Index index ∷ []) [] (AllHold-left here later h),
       few-from law program trees term place (suc index) these (AllHold-right here later h),
     )
 

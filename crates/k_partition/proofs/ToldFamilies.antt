@@ -10,7 +10,7 @@ use Rattle.reuse_paths.specs.Families.{FamilyForms, family_of}
 use Rattle.reuse_paths.specs.FamilyFits.{FamilyFits}
 use Rattle.reuse_paths.specs.FamilyPieces.{family_pieces}
 use Rattle.reuse_paths.specs.FewContexts.{few_contexts, FitsSome}
-use Rattle.reuse_paths.specs.Pieces.{FootprintPiece}
+use Rattle.footprint_pieces.specs.Pieces.{FootprintPiece}
 use Rattle.k_partition.specs.PartitionFits.{PartitionFits}
 use Rattle.k_partition.specs.PartitionPieces.{HasPartitionPieces}
 use Rattle.k_partition.specs.Term.{PartitionTerm, credited_nests}

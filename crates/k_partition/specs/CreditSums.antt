@@ -1,10 +1,9 @@
 -- The counts of credits, added one after another.
-use Rattle.std.specs.Prelude.{ℕ, List, [], ◌∷◌, ◌++◌, length}
+use Rattle.std.specs.Prelude.{ℕ, List, [], ◌∷◌, ◌++◌, length, codes}
 use Rattle.iolb_model.specs.Program.{AffineProgram}
 use Rattle.claims.specs.Claims.{Claim}
 use Rattle.claims.specs.declared.place.Step.{Step}
 use Rattle.claims.specs.declared.place.Step.TheVariants.{Key}
-use Rattle.claims.specs.declared.key.TheConstants.{SUMS}
 use Rattle.poly_tree.specs.Poly.{Quotient}
 use Rattle.domain_count.specs.Count.{IsSumFrom}
 use Rattle.domain_count.specs.CountClaims.{count_claims}
@@ -22,4 +21,4 @@ HasWithCredit parameters before credit = (sum : Quotient) × IsWithCredit parame
 abbrev pub next_claims : AffineProgram → List Step → Quotient → CreditTerm → List Claim
 next_claims program place before credit =
     count_claims program credit.nest.nest credit.count place
-    ++ record { condition = 2; place = place ++ Key SUMS ∷ []; statement = HasWithCredit (length program.parameters) before credit } ∷ []
+    ++ record { condition = 2; place = place ++ Key (codes "sums") ∷ []; statement = HasWithCredit (length program.parameters) before credit } ∷ []

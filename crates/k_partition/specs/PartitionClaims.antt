@@ -1,5 +1,5 @@
 -- What a partition term claims, in the order in which it is tested.
-use Rattle.std.specs.Prelude.{◌≡◌, ℕ, suc, ◌+◌, ◌*◌, ◌<◌, ◌≤◌, cond, List, [], ◌∷◌, ◌++◌, map, take, length, pos, sum_by}
+use Rattle.std.specs.Prelude.{◌≡◌, ℕ, suc, ◌+◌, ◌*◌, ◌<◌, ◌≤◌, cond, List, [], ◌∷◌, ◌++◌, map, take, length, pos, sum_by, codes}
 use Rattle.iolb_model.specs.Form.{AffineForm}
 use Rattle.iolb_model.specs.Game.{stands_in}
 use Rattle.iolb_model.specs.Program.{AffineProgram}
@@ -7,22 +7,21 @@ use Rattle.execution_laws.specs.Inverse.{product_entry, scaled_entry}
 use Rattle.claims.specs.Claims.{Claim, numbered, counted}
 use Rattle.claims.specs.declared.place.Step.{Step}
 use Rattle.claims.specs.declared.place.Step.TheVariants.{Key, Index}
-use Rattle.claims.specs.declared.key.TheConstants.{APART, CREDITS, FAMILIES, INSIDE, INVERSE, MATRIX, SUMS}
 use Rattle.reuse_paths.specs.MatrixRows.{matrix_rows}
 use Rattle.affine_form.specs.Rows.{variables_from, within_rows}
 use Rattle.affine_program.specs.Domain.{path_of}
 use Rattle.poly_tree.specs.Poly.{Quotient, IsLegal, IsSumOf, size}
 use Rattle.poly_tree.specs.Expansion.{number}
-use Rattle.dep_quast.specs.Claims.{follow_claims, pointless_claims}
+use Rattle.claims.specs.Shown.{follow_claims, pointless_claims}
 use Rattle.dep_quast.specs.Context.{parameter_point}
 use Rattle.dep_quast.specs.Tree.{SelectionTree}
 use Rattle.domain_count.specs.Count.{rows_before, IsSumFrom}
 use Rattle.domain_count.specs.CountClaims.{count_claims}
-use Rattle.reuse_paths.specs.DisjointClaims.{pairwise_systems}
+use Rattle.footprint_pieces.specs.DisjointClaims.{pairwise_systems}
 use Rattle.reuse_paths.specs.Families.{FamilyForms}
 use Rattle.reuse_paths.specs.FamilyClaims.{family_claims}
 use Rattle.reuse_paths.specs.FamilyPieces.{family_pieces}
-use Rattle.reuse_paths.specs.Pieces.{FootprintPiece}
+use Rattle.footprint_pieces.specs.Pieces.{FootprintPiece}
 use Rattle.k_partition.specs.declared.term.Shape.{Shape}
 use Rattle.k_partition.specs.declared.term.Shape.TheVariants.{Each, Sum}
 use Rattle.k_partition.specs.Term.{CreditTerm, PartitionTerm, credited_nests}
@@ -36,7 +35,7 @@ inside_goals program term =
     within_rows vars (path_of program term.statement) (parameter_point program vars) (variables_from vars (length program.parameters) (length term.nest))
 
 abbrev pub inside_claims : AffineProgram → List Step → PartitionTerm → List Claim
-inside_claims program place term = follow_claims 10 (place ++ Key INSIDE ∷ []) (rows_before program term.nest) 0 (inside_goals program term) term.inside
+inside_claims program place term = follow_claims 10 (place ++ Key (codes "inside") ∷ []) (rows_before program term.nest) 0 (inside_goals program term) term.inside
 
 -- ---- how many points the credited nests have (conditions 8 and 9), added up (condition 2)
 
@@ -59,20 +58,20 @@ abbrev pub HasCreditsTotal : ℕ → List CreditTerm → Type 0
 HasCreditsTotal parameters credits = (total : Quotient) × IsCreditsTotal parameters no_points credits total
 
 abbrev pub credit_place : List Step → ℕ → List Step
-credit_place place index = place ++ Key CREDITS ∷ Index index ∷ []
+credit_place place index = place ++ Key (codes "credits") ∷ Index index ∷ []
 
 -- the claims of a credit: of its count, and that there is the sum of it and those before
 abbrev pub credit_claims : AffineProgram → List Step → List CreditTerm → ℕ → CreditTerm → List Claim
 credit_claims program place credits index credit =
     count_claims program credit.nest.nest credit.count (credit_place place index)
-    ++ record { condition = 2; place = credit_place place index ++ Key SUMS ∷ []; statement = HasCreditsTotal (length program.parameters) (take (suc index) credits) } ∷ []
+    ++ record { condition = 2; place = credit_place place index ++ Key (codes "sums") ∷ []; statement = HasCreditsTotal (length program.parameters) (take (suc index) credits) } ∷ []
 
 -- ---- that the matrix has this inverse (condition 16), and that the sets cover each coordinate (condition 17)
 
 abbrev pub unit_claim : List Step → PartitionTerm → ℕ → ℕ → List Claim
 unit_claim place term row column = record {
   condition = 16;
-  place = place ++ Key INVERSE ∷ Index row ∷ Index column ∷ [];
+  place = place ++ Key (codes "inverse") ∷ Index row ∷ Index column ∷ [];
   statement = product_entry (matrix_rows term.inverse) (matrix_rows term.matrix) row column ≡ scaled_entry 1 row column;
 } ∷ []
 
@@ -85,7 +84,7 @@ weight_at families coordinate = sum_by (λ (family : FamilyForms). cond (stands_
 
 abbrev pub cover_claim : List Step → PartitionTerm → ℕ → List Claim
 cover_claim place term coordinate =
-    record { condition = 17; place = place ++ Key MATRIX ∷ Index coordinate ∷ []; statement = term.q ≤ weight_at term.families coordinate } ∷ []
+    record { condition = 17; place = place ++ Key (codes "matrix") ∷ Index coordinate ∷ []; statement = term.q ≤ weight_at term.families coordinate } ∷ []
 
 abbrev pub cover_claims : List Step → PartitionTerm → List Claim
 cover_claims place term = counted (cover_claim place term) 0 (length term.nest)
@@ -94,7 +93,7 @@ cover_claims place term = counted (cover_claim place term) 0 (length term.nest)
 
 abbrev pub family_claims_at : AffineProgram → List (List SelectionTree) → List Step → PartitionTerm → ℕ → FamilyForms → List Claim
 family_claims_at program trees place term index family =
-    family_claims program trees term.statement term.nest term.matrix (credited_nests term) family (place ++ Key FAMILIES ∷ Index index ∷ [])
+    family_claims program trees term.statement term.nest term.matrix (credited_nests term) family (place ++ Key (codes "families") ∷ Index index ∷ [])
 
 -- the pieces of each family
 abbrev pub pieces_of_families : AffineProgram → List (List SelectionTree) → PartitionTerm → List (List FootprintPiece)
@@ -102,7 +101,7 @@ pieces_of_families program trees term = map (family_pieces program trees term.st
 
 abbrev pub apart_claims : Shape → AffineProgram → List (List SelectionTree) → List Step → PartitionTerm → List Claim
 apart_claims Each program trees place term = []
-apart_claims Sum program trees place term = pointless_claims 18 (place ++ Key APART ∷ []) 0 (pairwise_systems program (pieces_of_families program trees term)) term.apart
+apart_claims Sum program trees place term = pointless_claims 18 (place ++ Key (codes "apart") ∷ []) 0 (pairwise_systems program (pieces_of_families program trees term)) term.apart
 
 -- ---- all
 

@@ -8,10 +8,10 @@ use Rattle.claims.specs.declared.place.Step.{Step}
 use Rattle.affine_form.specs.Matrix.{HasShape}
 use Rattle.affine_program.specs.Domain.{depth_of}
 use Rattle.dep_quast.specs.Tree.{SelectionTree}
-use Rattle.reuse_paths.specs.DisjointClaims.{pairwise_systems}
+use Rattle.footprint_pieces.specs.DisjointClaims.{pairwise_systems}
 use Rattle.reuse_paths.specs.FamilyFits.{CountedFits, FamilyFits}
-use Rattle.reuse_paths.specs.Pieces.{PieceFits}
-use Rattle.reuse_paths.specs.Trees.{RowsFit, RowsAreTrue}
+use Rattle.footprint_pieces.specs.Pieces.{PieceFits}
+use Rattle.dep_quast.specs.Trees.{RowsFit, RowsAreTrue}
 use Rattle.k_partition.specs.PartitionClaims.{sound_claims, partition_claims, pieces_of_families}
 use Rattle.k_partition.specs.declared.term.Shape.{Shape}
 use Rattle.k_partition.specs.declared.term.Shape.TheVariants.{Each, Sum}

@@ -9,7 +9,7 @@ use Rattle.poly_tree.specs.Poly.{Quotient, numerator_at}
 use Rattle.reuse_paths.specs.Families.{FamilyForms}
 use Rattle.reuse_paths.specs.FamilyPieces.{family_pieces}
 use Rattle.reuse_paths.specs.FewContexts.{few_contexts}
-use Rattle.reuse_paths.specs.Pieces.{FootprintPiece}
+use Rattle.footprint_pieces.specs.Pieces.{FootprintPiece}
 use Rattle.k_partition.specs.Term.{PartitionTerm}
 use Rattle.k_partition.specs.TermLoads.{credited_count}
 

@@ -1,10 +1,9 @@
 //! Whether the families' sets cover the coordinates.
 #![tactic(auto, using(claims::proofs::Found::in_a_row))]
 
-ghost use Rattle.std.specs.Prelude.{◌≡◌, ◌≤◌, ◌<◌, ◌++◌, ◌∷◌, [], length, map, sum_by, IfOk};
+ghost use Rattle.std.specs.Prelude.{◌≡◌, ◌≤◌, ◌<◌, ◌++◌, ◌∷◌, [], length, map, sum_by, IfOk, codes};
 ghost use Rattle.claims.specs.Claims.{Decides};
 ghost use Rattle.iolb_model.specs.Game.{stands_in};
-ghost use Rattle.claims.specs.declared.key.TheConstants.{MATRIX as MATRIX_KEY};
 ghost use Rattle.claims.specs.declared.place.Step.TheVariants.{Index, Key};
 ghost use Rattle.k_partition.specs.PartitionClaims.{cover_claims, weight_at};
 ghost use Rattle.k_partition.specs.TermLoads.{weight_of};
@@ -15,8 +14,7 @@ ghost use Rattle.iolb_model.specs.declared.limits.TheConstants.{NEST_VARIABLES, 
 
 use crate::term::Partition;
 use affine_form::Memory;
-use claims::key::MATRIX;
-use claims::{Place, Refused, Step, refusal};
+use claims::{ObjectKey, Place, Refused, Step, refusal};
 use reuse_paths::Family;
 use std::alloc::Global;
 
@@ -60,8 +58,8 @@ fn has(family: &Family, coordinate: u8) -> bool
 
 /// The place of a row of the matrix.
 fn cover_place(alloc: Global, place: &Place, i: usize) -> Result<Place, Memory>
-    ensures { IfOk result (λ row. row ≡ place.now ++ Key MATRIX_KEY ∷ Index i ∷ []) }
+    ensures { IfOk result (λ row. row ≡ place.now ++ Key (codes "matrix") ∷ Index i ∷ []) }
 {
-    let list = place.within(alloc, Step::Key(MATRIX))?;
+    let list = place.within(alloc, Step::Key(ObjectKey("matrix")))?;
     list.within(alloc, Step::Index(i as u64))
 }

@@ -1,10 +1,9 @@
 //! How many points the credited nests have.
 
-ghost use Rattle.std.specs.Prelude.{◌≡◌, ◌<◌, ◌*◌, ◌++◌, ◌∷◌, [], length, map, IfOk, IfErr, OnOk};
+ghost use Rattle.std.specs.Prelude.{◌≡◌, ◌<◌, ◌*◌, ◌++◌, ◌∷◌, [], length, map, IfOk, IfErr, OnOk, codes};
 ghost use Rattle.std.specs.List.{AllByRecursion};
 ghost use Rattle.affine_program.specs.Parts.{meaning};
 ghost use Rattle.claims.specs.Claims.{AllHold, IsRefusal, numbered};
-ghost use Rattle.claims.specs.declared.key.TheConstants.{SUMS as SUMS_KEY};
 ghost use Rattle.claims.specs.declared.place.Step.TheVariants.{Key};
 ghost use Rattle.k_partition.specs.CreditSums.{next_claims, IsWithCredit};
 ghost use Rattle.k_partition.specs.PartitionClaims.{credit_claims, no_points, IsAdded, IsCreditsTotal};
@@ -14,8 +13,7 @@ ghost use Rattle.iolb_model.specs.declared.limits.TheConstants.{SUM_MEASURE};
 
 use affine_form::{Form, Memory};
 use affine_program::Program;
-use claims::key::{CREDITS, SUMS};
-use claims::{No, Place, Refused, Step};
+use claims::{FailedCondition, ObjectKey, Place, Refused, Step};
 use domain_count::check_count;
 use poly_tree::{Poly, PolyFault};
 use reuse_paths::Credit;
@@ -33,7 +31,7 @@ pub(crate) fn credits_counted(
     ensures holds { OnOk result (AllHold (numbered (credit_claims (meaning program.now) place.now (map credit_term_of credits.now)) 0 (map credit_term_of credits.now))) }
     ensures refused { IfErr result (λ refused. IsRefusal (numbered (credit_claims (meaning program.now) place.now (map credit_term_of credits.now)) 0 (map credit_term_of credits.now)) refused) }
 {
-    let list = place.within(alloc, Step::Key(CREDITS))?;
+    let list = place.within(alloc, Step::Key(ObjectKey("credits")))?;
     let mut total = zero(alloc)?;
     for i in 0..credits.len() {
         let inner = list.within(alloc, Step::Index(i as u64))?;
@@ -63,7 +61,7 @@ fn with_credit(
 /// The sum of two polynomials, at `sums` behind this place.
 fn added(alloc: Global, before: &Poly, count: &Poly, place: &Place) -> Result<Poly, Refused>
     ensures sum { IfOk result (λ sum. IsAdded before.now count.now sum) }
-    ensures refused { IfErr result (λ refused. IsRefusal (record { condition = 2; place = place.now ++ Key SUMS_KEY ∷ []; statement = size before.now * size count.now < SUM_MEASURE } ∷ []) refused) }
+    ensures refused { IfErr result (λ refused. IsRefusal (record { condition = 2; place = place.now ++ Key (codes "sums") ∷ []; statement = size before.now * size count.now < SUM_MEASURE } ∷ []) refused) }
 {
     match before.add(alloc, count) {
         Ok(sum) => {
@@ -72,8 +70,8 @@ fn added(alloc: Global, before: &Poly, count: &Poly, place: &Place) -> Result<Po
             Ok(sum)
         }
         Err(PolyFault::Wide) => {
-            let place = place.within(alloc, Step::Key(SUMS))?;
-            Err(Refused::No(No {
+            let place = place.within(alloc, Step::Key(ObjectKey("sums")))?;
+            Err(Refused::Failed(FailedCondition {
                 condition: 2,
                 place,
             }))

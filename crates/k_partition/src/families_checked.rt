@@ -8,13 +8,12 @@ ghost use Rattle.k_partition.specs.PartitionClaims.{family_claims_at};
 ghost use Rattle.k_partition.specs.Term.{credited_nests};
 ghost use Rattle.k_partition.specs.View.{partition_of};
 ghost use Rattle.reuse_paths.specs.FamilyFits.{FamilyFits};
-ghost use Rattle.reuse_paths.specs.Quasts.{trees_of};
-ghost use Rattle.reuse_paths.specs.Trees.{RowsAreTrue, RowsFit};
+ghost use Rattle.dep_quast.specs.Quasts.{trees_of};
+ghost use Rattle.dep_quast.specs.Trees.{RowsAreTrue, RowsFit};
 
 use crate::term::Partition;
 use affine_program::Program;
-use claims::key::FAMILIES;
-use claims::{Place, Refused, Step};
+use claims::{ObjectKey, Place, Refused, Step};
 use reuse_paths::{Quasts, check_family};
 use std::alloc::Global;
 
@@ -35,7 +34,7 @@ pub(crate) fn families_checked(
     let (nest, matrix) = (&term.nest, &term.matrix);
     let credits = term.credits.as_slice();
     let families = term.families.as_slice();
-    let list = place.within(alloc, Step::Key(FAMILIES))?;
+    let list = place.within(alloc, Step::Key(ObjectKey("families")))?;
     for i in 0..families.len() {
         let inner = list.within(alloc, Step::Index(i as u64))?;
         check_family(

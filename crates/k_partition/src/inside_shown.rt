@@ -13,9 +13,8 @@ ghost use Rattle.iolb_model.specs.declared.limits.TheConstants.{NEST_VARIABLES};
 use crate::term::Partition;
 use affine_form::{Form, Memory, variables_from};
 use affine_program::Program;
-use claims::key::INSIDE;
-use claims::{Place, Refused, Step};
-use dep_quast::claims_shown::goals_shown;
+use claims::shown::goals_shown;
+use claims::{ObjectKey, Place, Refused, Step};
 use dep_quast::point_rows::domain_rows;
 use domain_count::rows_before;
 use std::alloc::Global;
@@ -48,7 +47,7 @@ pub(crate) fn inside_shown(
 {
     let goals = goals_of(alloc, program, term)?;
     let system = rows_before(alloc, program, term.nest.bounds())?;
-    let list = place.within(alloc, Step::Key(INSIDE))?;
+    let list = place.within(alloc, Step::Key(ObjectKey("inside")))?;
     goals_shown(
         alloc,
         10,

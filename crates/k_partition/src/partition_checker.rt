@@ -20,9 +20,9 @@ ghost use Rattle.poly_tree.specs.Printed.{polynomial_of};
 ghost use Rattle.reuse_paths.specs.Families.{family_of};
 ghost use Rattle.reuse_paths.specs.FamilyPieces.{family_pieces as pieces_of_family};
 ghost use Rattle.reuse_paths.specs.FewContexts.{few_contexts, FitsSome};
-ghost use Rattle.reuse_paths.specs.Pieces.{pieces_of, AreCovered, PieceFits};
-ghost use Rattle.reuse_paths.specs.Quasts.{trees_of};
-ghost use Rattle.reuse_paths.specs.Trees.{RowsFit};
+ghost use Rattle.footprint_pieces.specs.Pieces.{pieces_of, AreCovered, PieceFits};
+ghost use Rattle.dep_quast.specs.Quasts.{trees_of};
+ghost use Rattle.dep_quast.specs.Trees.{RowsFit};
 
 use crate::partitions::partitions_are_sound;
 use crate::sound_checker::check_sound;
@@ -31,8 +31,7 @@ use crate::term_runs::terms_are_loaded_in_runs;
 use crate::terms_loaded::sound_terms_are_loaded;
 use affine_form::Memory;
 use affine_program::Program;
-use claims::key::APART;
-use claims::{No, Place, Refused, Step};
+use claims::{FailedCondition, ObjectKey, Place, Refused, Step};
 use domain_count::Nest;
 use domain_count::law::right_claims_count;
 use poly_tree::printed_law::terms_have_the_value;
@@ -58,7 +57,7 @@ fn pieces_of_one(
     match family_pieces(alloc, program, quasts, statement, nest, family) {
         Ok(pieces) => Ok(pieces),
         Err(Refused::Memory) => Err(Memory),
-        Err(Refused::No(_)) => unreachable!(),
+        Err(Refused::Failed(_)) => unreachable!(),
     }
 }
 
@@ -139,7 +138,7 @@ fn families_apart(
     if let Shape::Each = term.shape {
         return Ok(());
     }
-    let list = place.within(alloc, Step::Key(APART))?;
+    let list = place.within(alloc, Step::Key(ObjectKey("apart")))?;
     lists_shown(
         alloc,
         program,

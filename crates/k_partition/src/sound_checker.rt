@@ -11,7 +11,7 @@ ghost use Rattle.k_partition.specs.ReusedWords.{IsSoundTerm};
 ghost use Rattle.k_partition.specs.View.{partition_of, FitsMatrices, FitsPartition};
 ghost use Rattle.k_partition.specs.TermLoads.{weight_of};
 ghost use Rattle.poly_tree.specs.Expansion.{IsCanonical};
-ghost use Rattle.reuse_paths.specs.Quasts.{trees_of};
+ghost use Rattle.dep_quast.specs.Quasts.{trees_of};
 ghost use Rattle.iolb_model.specs.declared.limits.TheConstants.{NEST_VARIABLES, WEIGHTS};
 
 use crate::bound::bound_of;

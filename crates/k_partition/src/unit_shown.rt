@@ -1,11 +1,10 @@
 //! Whether the matrix of coordinates has the inverse that stands beside it.
 #![tactic(auto, using(claims::proofs::Found::in_a_row))]
 
-ghost use Rattle.std.specs.Prelude.{◌≡◌, ◌<◌, ◌++◌, ◌∷◌, [], ◌+◌, length, IfOk, IsTrue, ◌↔◌};
+ghost use Rattle.std.specs.Prelude.{◌≡◌, ◌<◌, ◌++◌, ◌∷◌, [], ◌+◌, length, IfOk, IsTrue, ◌↔◌, codes};
 ghost use Rattle.execution_laws.specs.Inverse.{product_entry, scaled_entry};
 ghost use Rattle.reuse_paths.specs.MatrixRows.{matrix_rows};
 ghost use Rattle.claims.specs.Claims.{Decides, counted};
-ghost use Rattle.claims.specs.declared.key.TheConstants.{INVERSE as INVERSE_KEY};
 ghost use Rattle.claims.specs.declared.place.Step.TheVariants.{Index, Key};
 ghost use Rattle.k_partition.specs.PartitionClaims.{unit_claim, unit_claims};
 ghost use Rattle.k_partition.specs.View.{partition_of, FitsMatrices};
@@ -13,8 +12,7 @@ ghost use Rattle.iolb_model.specs.declared.limits.TheConstants.{NUMBER_SIZE};
 
 use crate::term::Partition;
 use affine_form::{Matrix, Memory, add_entry};
-use claims::key::INVERSE;
-use claims::{Place, Refused, Step, refusal};
+use claims::{ObjectKey, Place, Refused, Step, refusal};
 use std::alloc::Global;
 
 /// Whether the product of the inverse with the matrix is 1 on the diagonal and else 0.
@@ -72,9 +70,9 @@ fn product_entry(first: &Matrix, second: &Matrix, row: usize, col: usize) -> i12
 
 /// The place of an entry of the product.
 fn entry_place(alloc: Global, place: &Place, row: usize, col: usize) -> Result<Place, Memory>
-    ensures { IfOk result (λ entry. entry ≡ place.now ++ Key INVERSE_KEY ∷ Index row ∷ Index col ∷ []) }
+    ensures { IfOk result (λ entry. entry ≡ place.now ++ Key (codes "inverse") ∷ Index row ∷ Index col ∷ []) }
 {
-    let inverse = place.within(alloc, Step::Key(INVERSE))?;
+    let inverse = place.within(alloc, Step::Key(ObjectKey("inverse")))?;
     let row = inverse.within(alloc, Step::Index(row as u64))?;
     row.within(alloc, Step::Index(col as u64))
 }

@@ -21,7 +21,8 @@ use Rattle.affine_program.specs.declared.statement.Statement.{Statement}
 use Rattle.affine_program.specs.Parts.{ProgramParts, IsProgram, meaning}
 use Rattle.affine_program.proofs.Bounds.{path-is, bounds-fit}
 use Rattle.dep_quast.specs.Context.{ReadOf, reference_of, context, parameter_point, reader_point, reader_values, writer_values, write_rows}
-use Rattle.dep_quast.proofs.Fits.{all-there, depth-few, written-over, widened-over, fits-at, cells-many, within-more}
+use Rattle.dep_quast.proofs.Fits.{all-there, depth-few, written-over, fits-at, cells-many, within-more}
+use Rattle.claims.proofs.Rows.{widened-over}
 use Rattle.projective.specs.Projective.{shifted_variable}
 use Rattle.projective.specs.Turns.{width, is_kept, turn_value, turn_values, turn_before}
 

@@ -16,7 +16,7 @@ use Rattle.affine_form.specs.Rows.{variable, within_rows, equality_rows, put_in,
 use Rattle.affine_form.proofs.RowLemmas.{length-variables}
 use Rattle.affine_program.specs.Domain.{path_of, depth_of}
 use Rattle.flow_deps.specs.Answers.{Question, HasShortAnswer}
-use Rattle.dep_quast.specs.Claims.{IsFew}
+use Rattle.claims.specs.Shown.{IsFew}
 use Rattle.dep_quast.specs.Context.{ReadOf, reference_of, parameter_point, reader_point, reader_values}
 use Rattle.projective.specs.Turns.{width, is_kept, turn_before}
 use Rattle.projective.proofs.Picked.{Worth, IsWorth, IsPicked, picked-none, worth_sum, picked-shows}

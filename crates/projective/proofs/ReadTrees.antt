@@ -4,7 +4,7 @@ use Rattle.std.specs.Prelude.{Option, Some, None, unwrap_or}
 use Rattle.std.proofs.lemmas.Option.{slice_get-get_or}
 use Rattle.iolb_model.specs.Program.{AffineProgram, statement_at}
 use Rattle.dep_quast.specs.Tree.{SelectionTree, leaf, blank}
-use Rattle.reuse_paths.specs.Quasts.{tree_at}
+use Rattle.dep_quast.specs.Quasts.{tree_at}
 use Rattle.projective.specs.SourceTrees.{AreFromRead, AreSourceTrees, IsSourceTree}
 
 from-at : (program : AffineProgram) (first k : ℕ) (row : List SelectionTree) (d : SelectionTree) → AreFromRead program first row → k < length row → IsSourceTree program (first + k) (get_or row k d)

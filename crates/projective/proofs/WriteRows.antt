@@ -18,7 +18,7 @@ use Rattle.affine_form.proofs.Combination.{form_value-constant}
 use Rattle.affine_form.proofs.RowLemmas.{length-variables}
 use Rattle.affine_program.specs.Domain.{path_of, depth_of}
 use Rattle.flow_deps.specs.Answers.{HasShortAnswer, pointless}
-use Rattle.dep_quast.specs.Claims.{IsFew}
+use Rattle.claims.specs.Shown.{IsFew}
 use Rattle.dep_quast.specs.Context.{ReadOf, reference_of, parameter_point, reader_point, reader_values, writer_values, write_rows, before_reader}
 use Rattle.projective.specs.Turns.{width, is_kept, turn_before}
 use Rattle.projective.proofs.Picked.{Worth, IsWorth, IsPicked, picked-none, picked-left, picked-right, picked-append, picked-wide, worth_sum, picked-shows}

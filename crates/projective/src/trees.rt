@@ -12,7 +12,7 @@ ghost use Rattle.projective.specs.Projective.{IsProjective};
 ghost use Rattle.projective.specs.FirstTurns.{AreFirstTurns};
 ghost use Rattle.projective.specs.SourceTrees.{read_number, turns_shape, AreFromRead, AreSourceTrees, IsSourceTree};
 ghost use Rattle.flow_deps.specs.Shown.{IsShown};
-ghost use Rattle.reuse_paths.specs.Quasts.{trees_of};
+ghost use Rattle.dep_quast.specs.Quasts.{trees_of};
 
 use crate::turn_leaves::{first_leaf, turn_leaf, unwritten_leaf};
 use crate::turns::{is_kept, later_turn};

@@ -1,6 +1,6 @@
 -- What is asked of the term of a whole domain (condition 1) holds.
 use Rattle.std.proofs.Common.{◌≡◌, refl, sym, ap, subst, ℕ, ◌+◌, List, [], ◌∷◌, ◌++◌, length, map, arith, Bool, true, false}
-use Rattle.std.specs.Prelude.{Option, Some, None, ◌==◌, if◌then◌else◌}
+use Rattle.std.specs.Prelude.{Option, Some, None, ◌==◌, if◌then◌else◌, codes}
 use Rattle.std.specs.List.{AllByRecursion, range_with_len}
 use Rattle.std.proofs.lemmas.Bool.{eqb-true}
 use Rattle.base_laws.proofs.Lists.{All-every, All-map}
@@ -13,13 +13,12 @@ use Rattle.affine_program.specs.Parts.{ProgramParts, meaning}
 use Rattle.claims.specs.Claims.{AllHold}
 use Rattle.claims.specs.declared.place.Step.{Step}
 use Rattle.claims.specs.declared.place.Step.TheVariants.{Key}
-use Rattle.claims.specs.declared.key.TheConstants.{FAMILIES, INVERSE, MATRIX, NEST, SUMS}
 use Rattle.claims.proofs.Laws.{AllHold-append}
 use Rattle.dep_quast.specs.Tree.{SelectionTree}
 use Rattle.domain_count.specs.Claims.{SumClaims}
-use Rattle.reuse_paths.specs.declared.piece.Target.{Target}
-use Rattle.reuse_paths.specs.TargetPairs.{pairwise_targets}
-use Rattle.reuse_paths.proofs.PairCounts.{pairs-many}
+use Rattle.footprint_pieces.specs.declared.piece.Target.{Target}
+use Rattle.footprint_pieces.specs.TargetPairs.{pairwise_targets}
+use Rattle.footprint_pieces.proofs.PairCounts.{pairs-many}
 use Rattle.certificate_fit.specs.PartFit.{matrix_fit}
 use Rattle.k_partition.specs.PartitionClaims.{pieces_of_families}
 use Rattle.k_partition.specs.PartitionFits.{PartitionFits}
@@ -83,23 +82,23 @@ module _ (parts : ProgramParts) (trees : List (List SelectionTree)) (q : ℕ) (w
     walks-asked =
         AllHold-append (apart_fit program trees place term) (credits_fit program place term ++ walked_fit program trees place term) (none-apart, tt)
         (AllHold-append (credits_fit program place term) (walked_fit program trees place term) tt
-        (families-asked program trees nest (identity_matrix (length nest)) (is-nest parts trees q weights nest count can path counts) (place ++ Key FAMILIES ∷ []) 0 0 (projection_sets program) weights
+        (families-asked program trees nest (identity_matrix (length nest)) (is-nest parts trees q weights nest count can path counts) (place ++ Key (codes "families") ∷ []) 0 0 (projection_sets program) weights
         (walked parts trees q weights nest count can path counts) (all-rise program)))
 
     coordinates-asked : AllHold (coordinates_fit program term place)
     coordinates-asked = (
       fits.inside,
-      AllHold-append (matrix_fit (depth_of program 0) (depth_of program 0) (place ++ Key INVERSE ∷ []) term.inverse) (matrix_fit (depth_of program 0) (depth_of program 0) (place ++ Key MATRIX ∷ []) term.matrix)
-          (square-asked (length nest) (depth_of program 0) (place ++ Key INVERSE ∷ []) size-is) (square-asked (length nest) (depth_of program 0) (place ++ Key MATRIX ∷ []) size-is),
+      AllHold-append (matrix_fit (depth_of program 0) (depth_of program 0) (place ++ Key (codes "inverse") ∷ []) term.inverse) (matrix_fit (depth_of program 0) (depth_of program 0) (place ++ Key (codes "matrix") ∷ []) term.matrix)
+          (square-asked (length nest) (depth_of program 0) (place ++ Key (codes "inverse") ∷ []) size-is) (square-asked (length nest) (depth_of program 0) (place ++ Key (codes "matrix") ∷ []) size-is),
     )
 
     nest-asked : AllHold (nest_fit program place term)
-    nest-asked = (size-is, bounds-hold p 0 (place ++ Key NEST ∷ []) nest (subst (λ (n : ℕ). BoundsFit n nest) (flat p) fits.counted.bounds)) where
+    nest-asked = (size-is, bounds-hold p 0 (place ++ Key (codes "nest") ∷ []) nest (subst (λ (n : ℕ). BoundsFit n nest) (flat p) fits.counted.bounds)) where
       flat : (n : ℕ) → n ≡ n + 0
       flat n = omega arith
 
     number-asked : AllHold (number_fit program place term)
-    number-asked = (shown-many program nest count counts, (fits.counted.there, polynomials-hold program nest count counts (place ++ Key SUMS ∷ [])))
+    number-asked = (shown-many program nest count counts, (fits.counted.there, polynomials-hold program nest count counts (place ++ Key (codes "sums") ∷ [])))
 
     pub term-asked : AllHold (partition_fit program trees place term)
     term-asked =

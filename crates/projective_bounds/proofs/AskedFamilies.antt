@@ -1,6 +1,6 @@
 -- What is asked of the families of arrays (condition 1) holds.
 use Rattle.std.proofs.Common.{◌≡◌, refl, sym, ◌∙◌, ap, subst, ℕ, zero, suc, ◌+◌, ◌*◌, ◌≤◌, List, [], ◌∷◌, ◌++◌, length, map, cond, filter, arith, Bool, true, false}
-use Rattle.std.specs.Prelude.{Option, Some, None, ◌==◌, if◌then◌else◌, slice_get, slice_index_or}
+use Rattle.std.specs.Prelude.{Option, Some, None, ◌==◌, if◌then◌else◌, slice_get, slice_index_or, codes}
 use Rattle.std.specs.List.{AllByRecursion, range_with_len}
 use Rattle.std.proofs.lemmas.Bool.{eqb-false}
 use Rattle.std.proofs.lemmas.List.{length-map, length-replicate}
@@ -13,14 +13,13 @@ use Rattle.affine_program.specs.Domain.{depth_of}
 use Rattle.claims.specs.Claims.{Claim, AllHold, numbered}
 use Rattle.claims.specs.declared.place.Step.{Step}
 use Rattle.claims.specs.declared.place.Step.TheVariants.{Key, Index}
-use Rattle.claims.specs.declared.key.TheConstants.{INPUTS, LABEL, LEAVES, NODES, READ, REGION, SET, START, TREE}
 use Rattle.claims.proofs.Laws.{AllHold-append}
 use Rattle.dep_quast.specs.Tree.{SelectionTree, leaf, test, source, input, empty, blank}
 use Rattle.reuse_paths.specs.Families.{FamilyForms, node_region}
 use Rattle.reuse_paths.specs.FamilyFits.{FamilyFits}
 use Rattle.reuse_paths.specs.LeafClaims.{LeafClaim, no_point, stops, is_credited, goes_on, arrives}
-use Rattle.reuse_paths.specs.Quasts.{tree_for}
-use Rattle.reuse_paths.specs.Trees.{read_of}
+use Rattle.dep_quast.specs.Quasts.{tree_for}
+use Rattle.dep_quast.specs.Trees.{read_of}
 use Rattle.reuse_paths.specs.WalkFits.{AreCellLabels, IsLabel}
 use Rattle.reuse_paths.specs.WalkSettings.{WalkSetting, region_at}
 use Rattle.certificate_fit.specs.EntryFit.{EntryAim, aimed_at, aimed_entries_fit, aimed_fit, leaf_names, names_in}
@@ -171,9 +170,9 @@ module _ (program : AffineProgram) (trees : List (List SelectionTree)) (array : 
       let is : entries ≡ entries_of (length set) h.tree = ap (entries_of (length set)) (tree-is program trees array set h) in
       let bare : AllByRecursion (IsBare (length set)) entries = subst (AllByRecursion (IsBare (length set))) (sym is) (all-bare (length set) h.tree) in (
         ap length is ∙ entries-many ∙ ap length (sym in_tree),
-        AllHold-append (aimed_entries_fit (entry_aim walk) (map (rows_called walk.nodes) called) (place ++ Key LEAVES ∷ []) entries)
-            (names (place ++ Key READ ∷ []) (array_read program array) (length (statement_at program 0).reads) ∷ [])
-            (entries-asked (entry_aim walk) (length set) (map (rows_called walk.nodes) called) (place ++ Key LEAVES ∷ []) 0 entries (length-map set (loop_form program))
+        AllHold-append (aimed_entries_fit (entry_aim walk) (map (rows_called walk.nodes) called) (place ++ Key (codes "leaves") ∷ []) entries)
+            (names (place ++ Key (codes "read") ∷ []) (array_read program array) (length (statement_at program 0).reads) ∷ [])
+            (entries-asked (entry_aim walk) (length set) (map (rows_called walk.nodes) called) (place ++ Key (codes "leaves") ∷ []) 0 entries (length-map set (loop_form program))
             (none-called (rows_called walk.nodes) no-rows called) bare)
             (h.read, tt),
       )
@@ -182,10 +181,10 @@ module _ (program : AffineProgram) (trees : List (List SelectionTree)) (array : 
   node-asked place = by ((statement_at program 0).writes.array == array) where
     by : (b : Bool) → AllHold (node_fit program trees [] family place 0 (if b then Some (record { label = loops_label program set; region = Some (record { rows = []; tree = array_walk program trees array (length set) }) }) else None))
     by true =
-        AllHold-append (label_fit (length set) (p + d) ((place ++ Index 0 ∷ []) ++ Key LABEL ∷ []) (loops_label program set))
-        (walk_fit walk 0 (((place ++ Index 0 ∷ []) ++ Key REGION ∷ []) ++ Key TREE ∷ []) (array_walk program trees array (length set)))
-        (label-asked (length set) (p + d) ((place ++ Index 0 ∷ []) ++ Key LABEL ∷ []) (loops_label program set) fits.start_label)
-        (walk-asked (((place ++ Index 0 ∷ []) ++ Key REGION ∷ []) ++ Key TREE ∷ []))
+        AllHold-append (label_fit (length set) (p + d) ((place ++ Index 0 ∷ []) ++ Key (codes "label") ∷ []) (loops_label program set))
+        (walk_fit walk 0 (((place ++ Index 0 ∷ []) ++ Key (codes "region") ∷ []) ++ Key (codes "tree") ∷ []) (array_walk program trees array (length set)))
+        (label-asked (length set) (p + d) ((place ++ Index 0 ∷ []) ++ Key (codes "label") ∷ []) (loops_label program set) fits.start_label)
+        (walk-asked (((place ++ Index 0 ∷ []) ++ Key (codes "region") ∷ []) ++ Key (codes "tree") ∷ []))
     by false = tt
 
   inputs-asked : (place : List Step) → AllHold (inputs_fit program place family)
@@ -201,18 +200,18 @@ module _ (program : AffineProgram) (trees : List (List SelectionTree)) (array : 
 
   start-asked : (place : List Step) → AllHold (start_fit program trees 0 [] place family)
   start-asked place =
-      AllHold-append (label_fit (length set) (p + d) (place ++ Key LABEL ∷ []) (loops_label program set)) (walk_fit walk 0 (place ++ Key TREE ∷ []) family.start)
-      (label-asked (length set) (p + d) (place ++ Key LABEL ∷ []) (loops_label program set) fits.start_label) (walk-asked (place ++ Key TREE ∷ []))
+      AllHold-append (label_fit (length set) (p + d) (place ++ Key (codes "label") ∷ []) (loops_label program set)) (walk_fit walk 0 (place ++ Key (codes "tree") ∷ []) family.start)
+      (label-asked (length set) (p + d) (place ++ Key (codes "label") ∷ []) (loops_label program set) fits.start_label) (walk-asked (place ++ Key (codes "tree") ∷ []))
 
   family-asked : (place : List Step) → AllHold (family_fit program trees 0 [] place family)
   family-asked place =
-      let inputs : List Claim = inputs_fit program (place ++ Key INPUTS ∷ []) family in
-      let nodes : List Claim = nodes_fit program trees [] (place ++ Key NODES ∷ []) family in
-      let rows : List Claim = set_fit d (place ++ Key SET ∷ []) set in
-      let start : List Claim = start_fit program trees 0 [] (place ++ Key START ∷ []) family in
-      AllHold-append inputs (nodes ++ (rows ++ start)) (inputs-asked (place ++ Key INPUTS ∷ []))
-      (AllHold-append nodes (rows ++ start) (nodes-asked (place ++ Key NODES ∷ []))
-      (AllHold-append rows start (rising, tt) (start-asked (place ++ Key START ∷ []))))
+      let inputs : List Claim = inputs_fit program (place ++ Key (codes "inputs") ∷ []) family in
+      let nodes : List Claim = nodes_fit program trees [] (place ++ Key (codes "nodes") ∷ []) family in
+      let rows : List Claim = set_fit d (place ++ Key (codes "set") ∷ []) set in
+      let start : List Claim = start_fit program trees 0 [] (place ++ Key (codes "start") ∷ []) family in
+      AllHold-append inputs (nodes ++ (rows ++ start)) (inputs-asked (place ++ Key (codes "inputs") ∷ []))
+      (AllHold-append nodes (rows ++ start) (nodes-asked (place ++ Key (codes "nodes") ∷ []))
+      (AllHold-append rows start (rising, tt) (start-asked (place ++ Key (codes "start") ∷ []))))
 
 -- ---- all families
 

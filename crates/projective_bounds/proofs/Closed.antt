@@ -22,7 +22,7 @@ use Rattle.affine_form.proofs.SubstitutionLemmas.{form_value-substitution}
 use Rattle.flow_deps.specs.declared.wanted.Wanted.TheVariants.{Short}
 use Rattle.cold_terms.specs.Entries.{AreClosed, Closes, system_at}
 use Rattle.cold_terms.proofs.EntryLaws.{empty-closes, stop-closes}
-use Rattle.dep_quast.specs.Claims.{IsFew}
+use Rattle.claims.specs.Shown.{IsFew}
 use Rattle.dep_quast.specs.Tree.{SelectionTree, leaf, test, source, input, empty, blank}
 use Rattle.int_sets.specs.ShortList.{HasShortList}
 use Rattle.projective.specs.SourceTrees.{IsSourceTree, turns_shape}
@@ -32,7 +32,7 @@ use Rattle.projective.proofs.Picked.{IsPicked, IsWorth, picked-right, picked-sho
 use Rattle.projective.proofs.ProjectiveFacts.{has-own, has_it, read-same}
 use Rattle.projective.proofs.TurnWorths.{shifted-worth}
 use Rattle.reuse_paths.specs.LeafClaims.{LeafClaim, no_point, stops}
-use Rattle.reuse_paths.specs.OpenLeaves.{LeafOrigin, form_at, is_input, no_at, open_leaves, as_input, written}
+use Rattle.dep_quast.specs.OpenLeaves.{LeafOrigin, form_at, is_input, no_at, open_leaves, as_input, written}
 use Rattle.flow_deps.specs.Shapes.{last_write, no_write, shape_of, split}
 use Rattle.projective_bounds.specs.Families.{loop_form}
 use Rattle.projective_bounds.proofs.Forms.{put-over}

@@ -23,7 +23,7 @@ use Rattle.projective.specs.SourceTrees.{read_number}
 use Rattle.projective.specs.Products.{AreAssumed}
 use Rattle.projective.proofs.Runs.{run-many}
 use Rattle.projective.specs.Projective.{Assumes, HoldsOfOne, IsLoop, IsProjection, IsProjective}
-use Rattle.reuse_paths.specs.Quasts.{tree_at, tree_or_blank}
+use Rattle.dep_quast.specs.Quasts.{tree_at, tree_or_blank}
 use Rattle.reuse_paths.proofs.FamilyLabels.{read-rank}
 use Rattle.wavefront.specs.declared.cold.Cold.{Cold}
 use Rattle.projective_bounds.specs.Families.{array_read, first_to, loop_form, loops_label}

@@ -1,7 +1,7 @@
 -- The certificate of source trees that stand, a term of the whole domain and placed cold terms meets all conditions, and is within the
 -- limits.
 use Rattle.std.proofs.Common.{◌≡◌, refl, sym, ap, subst, ℕ, ◌≤◌, List, [], ◌∷◌, ◌++◌, length, map, arith}
-use Rattle.std.specs.Prelude.{nat_eq}
+use Rattle.std.specs.Prelude.{nat_eq, codes}
 use Rattle.std.specs.List.{AllByRecursion, IsDistinct}
 use Rattle.std.proofs.lemmas.List.{length-map}
 use Rattle.iolb_model.specs.Program.{AffineProgram}
@@ -10,14 +10,13 @@ use Rattle.affine_program.specs.Parts.{ProgramParts, meaning}
 use Rattle.claims.specs.Claims.{AllHold, Claim}
 use Rattle.claims.specs.declared.place.Step.{Step}
 use Rattle.claims.specs.declared.place.Step.TheVariants.{Key, Index}
-use Rattle.claims.specs.declared.key.TheConstants.{BRANCHES, PARTITION, TERMS as TERMS_KEY}
 use Rattle.claims.proofs.Laws.{AllHold-append}
 use Rattle.dep_quast.specs.Tree.{SelectionTree}
 use Rattle.certificate_fit.specs.Limits.{NamesRows}
 use Rattle.certificate_fit.specs.TreeFit.{trees_fit}
-use Rattle.reuse_paths.specs.declared.quasts.Quasts.{Quasts}
-use Rattle.reuse_paths.specs.Quasts.{trees_of}
-use Rattle.reuse_paths.specs.Trees.{rows_claims}
+use Rattle.dep_quast.specs.declared.quasts.Quasts.{Quasts}
+use Rattle.dep_quast.specs.Quasts.{trees_of}
+use Rattle.dep_quast.specs.Trees.{rows_claims}
 use Rattle.flow_deps.specs.Standing.{AllStand}
 use Rattle.flow_deps.proofs.StandingTrees.{trees-fit, trees-small, trees-valid}
 use Rattle.k_partition.specs.PartitionClaims.{partition_claims}
@@ -52,12 +51,12 @@ module _ (program : ProgramParts) (trees : List (List SelectionTree)) where
   module _ (term : PartitionTerm) (fit : (place : List Step) → AllHold (partition_fit P trees place term)) (hold : (place : List Step) → AllHold (partition_claims P trees place term)) where
     alone-fits : (place : List Step) → AllHold (branch_fit P trees place (alone term))
     alone-fits place =
-        let own : List Step = ((place ++ Key TERMS_KEY ∷ []) ++ Index 0 ∷ []) ++ Key PARTITION ∷ [] in
+        let own : List Step = ((place ++ Key (codes "terms") ∷ []) ++ Index 0 ∷ []) ++ Key (codes "partition") ∷ [] in
         (refl, AllHold-append (partition_fit P trees own term) [] (fit own) tt)
 
     alone-holds : (number : ℕ) → AllHold (branch_claims P trees number (alone term))
     alone-holds number =
-        let own : List Step = (terms_place number ++ Index 0 ∷ []) ++ Key PARTITION ∷ [] in
+        let own : List Step = (terms_place number ++ Index 0 ∷ []) ++ Key (codes "partition") ∷ [] in
         AllHold-append (terms_claims P trees (terms_place number) (partition term ∷ [])) (disjoint_claims P trees number (alone term))
         (AllHold-append (partition_claims P trees own term) [] (hold own) tt) tt
 
@@ -72,8 +71,8 @@ module _ (program : ProgramParts) (trees : List (List SelectionTree)) where
         let first_claims : List Claim = branch_claims P trees 0 (alone term) in
         let second_claims : List Claim = branch_claims P trees 1 second in
         let fits : AllHold (fit_first ++ (fit_second ++ [])) =
-        AllHold-append fit_first (fit_second ++ []) (alone-fits (Key BRANCHES ∷ Index 0 ∷ []))
-        (AllHold-append fit_second [] (branch-fits program trees (Key BRANCHES ∷ Index 1 ∷ []) colds different placed) tt) in
+        AllHold-append fit_first (fit_second ++ []) (alone-fits (Key (codes "branches") ∷ Index 0 ∷ []))
+        (AllHold-append fit_second [] (branch-fits program trees (Key (codes "branches") ∷ Index 1 ∷ []) colds different placed) tt) in
         let holds : AllHold (first_claims ++ (second_claims ++ [])) =
         AllHold-append first_claims (second_claims ++ []) (alone-holds 0) (AllHold-append second_claims [] (branch-holds program trees 1 colds placed) tt) in
         AllHold-append (whole_fit ++ rows_claims P 0 trees) (first_claims ++ (second_claims ++ []))

@@ -10,7 +10,7 @@ use Rattle.iolb_model.specs.Program.{Access, AffineProgram, IsWellFormed, no_sta
 use Rattle.affine_program.specs.Domain.{depth_of}
 use Rattle.cover_lp.specs.Cover.{IsUncovered, holds}
 use Rattle.dep_quast.specs.Truth.{ReadFits}
-use Rattle.reuse_paths.specs.Trees.{read_of}
+use Rattle.dep_quast.specs.Trees.{read_of}
 use Rattle.reuse_paths.proofs.FamilyLabels.{read-rank}
 use Rattle.projective.specs.Projective.{HoldsOfOne, IsProjective, coordinates, projection_sets, reference_to, stands_in}
 

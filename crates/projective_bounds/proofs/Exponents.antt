@@ -9,7 +9,7 @@ use Rattle.cover_lp.proofs.Duality.{dual}
 use Rattle.cover_lp.proofs.Reach.{pairs-in-reach}
 use Rattle.affine_program.specs.Domain.{depth_of}
 use Rattle.reuse_paths.specs.Families.{FamilyForms}
-use Rattle.reuse_paths.specs.Quasts.{trees_of}
+use Rattle.dep_quast.specs.Quasts.{trees_of}
 use Rattle.k_partition.specs.Term.{PartitionTerm}
 use Rattle.k_partition.specs.View.{partition_of}
 use Rattle.iolb_check.specs.Claims.{claim_of_certificate}

@@ -1,6 +1,6 @@
 -- The families of arrays: all that they claim holds, and they fit.
 use Rattle.std.proofs.Common.{◌≡◌, ◌≢◌, refl, sym, ◌∙◌, ap, subst, ℕ, suc, ◌+◌, ◌*◌, ◌<◌, ◌≤◌, List, [], ◌∷◌, ◌++◌, length, map, get_or, arith, Bool, true, false}
-use Rattle.std.specs.Prelude.{Some, None, slice_get, ◌==◌, if◌then◌else◌, pos}
+use Rattle.std.specs.Prelude.{Some, None, slice_get, ◌==◌, if◌then◌else◌, pos, codes}
 use Rattle.std.specs.List.{AllByRecursion, range_with_len}
 use Rattle.std.proofs.lemmas.Bool.{eqb-true, eqb-false}
 use Rattle.base_laws.proofs.Lists.{All-weaken}
@@ -12,7 +12,6 @@ use Rattle.projective.specs.Turns.{width}
 use Rattle.claims.specs.Claims.{AllHold, numbered}
 use Rattle.claims.specs.declared.place.Step.{Step}
 use Rattle.claims.specs.declared.place.Step.TheVariants.{Key, Index}
-use Rattle.claims.specs.declared.key.TheConstants.{LABEL, LEAVES, NODES, REGION, START, TREE}
 use Rattle.claims.proofs.Laws.{AllHold-append}
 use Rattle.execution_laws.specs.Inverse.{scaled_entry}
 use Rattle.affine_form.specs.Combination.{coefficient_of}
@@ -27,9 +26,9 @@ use Rattle.domain_count.specs.Count.{rows_before}
 use Rattle.reuse_paths.specs.Families.{FamilyForms, node_label}
 use Rattle.reuse_paths.specs.FamilyClaims.{family_claims, label_rows, node_walk, start_rows, start_walk}
 use Rattle.reuse_paths.specs.FamilyFits.{CountedFits, FamilyFits, NodeFits}
-use Rattle.reuse_paths.specs.Quasts.{tree_at, tree_for, tree_or_blank}
-use Rattle.reuse_paths.specs.OpenLeaves.{open_leaves}
-use Rattle.reuse_paths.specs.Trees.{read_of}
+use Rattle.dep_quast.specs.Quasts.{tree_at, tree_for, tree_or_blank}
+use Rattle.dep_quast.specs.OpenLeaves.{open_leaves}
+use Rattle.dep_quast.specs.Trees.{read_of}
 use Rattle.reuse_paths.specs.WalkClaims.{leaves_claims, walk_claims}
 use Rattle.reuse_paths.specs.WalkFits.{AreCellLabels, EntriesFit, IsLabel, IsLabelIf, WalkFits}
 use Rattle.reuse_paths.specs.WalkSettings.{region_context, region_values}
@@ -126,9 +125,9 @@ module _ (program : AffineProgram) (trees : List (List SelectionTree)) (array : 
   walk-holds : (place : List Step) (rows : List AffineForm) → length rows ≤ 12
       → AllHold (walk_claims 15 (at.walk program trees array set weight) 0 place (region_context (at.walk program trees array set weight) 0 rows) (array_walk program trees array (length set)))
   walk-holds place rows short =
-      subst (λ (tree : SelectionTree). AllHold (leaves_claims 15 (at.walk program trees array set weight) (read_of 0 (array_read program array)) (place ++ Key LEAVES ∷ [])
+      subst (λ (tree : SelectionTree). AllHold (leaves_claims 15 (at.walk program trees array set weight) (read_of 0 (array_read program array)) (place ++ Key (codes "leaves") ∷ [])
       (region_context (at.walk program trees array set weight) 0 rows) 0 (open_leaves (at.vars program trees array set weight) (at.here program trees array set weight) [] tree) (entries_of (length set) tree))) (sym (tree-is program trees array set h))
-      (at.tree-holds program trees array set weight h.inside (array_read program array) h.known h.reads h.over h.stand refl (place ++ Key LEAVES ∷ []) (region_context (at.walk program trees array set weight) 0 rows)
+      (at.tree-holds program trees array set weight h.inside (array_read program array) h.known h.reads h.over h.stand refl (place ++ Key (codes "leaves") ∷ []) (region_context (at.walk program trees array set weight) 0 rows)
       16 [] h.tree 0 h.keeps (omega (arith, context-many rows, g.few, g.assumed)))
 
   start-many : length (start_rows (at.walk program trees array set weight) 0 nest) ≡ 2 * length nest
@@ -139,18 +138,18 @@ module _ (program : AffineProgram) (trees : List (List SelectionTree)) (array : 
   node-holds : (place : List Step) → AllHold (node_walk program trees [] family place 0 (array_node program trees array set))
   node-holds place = by ((statement_at program 0).writes.array == array) where
     by : (b : Bool) → AllHold (node_walk program trees [] family place 0 (if b then Some (record { label = loops_label program set; region = Some (record { rows = []; tree = array_walk program trees array (length set) }) }) else None))
-    by true = walk-holds (place ++ Index 0 ∷ Key REGION ∷ Key TREE ∷ []) [] (omega arith)
+    by true = walk-holds (place ++ Index 0 ∷ Key (codes "region") ∷ Key (codes "tree") ∷ []) [] (omega arith)
     by false = tt
 
   pub family-holds : (place : List Step) → AllHold (family_claims program trees 0 nest matrix [] family place)
   family-holds place =
       AllHold-append
-      (label_rows matrix 1 p d (place ++ Key START ∷ Key LABEL ∷ []) 0 set (loops_label program set) ++ start_walk program trees 0 nest [] family place)
-      (numbered (node_walk program trees [] family (place ++ Key NODES ∷ [])) 0 family.nodes)
-      (AllHold-append (label_rows matrix 1 p d (place ++ Key START ∷ Key LABEL ∷ []) 0 set (loops_label program set)) (start_walk program trees 0 nest [] family place)
-      (rows-hold (place ++ Key START ∷ Key LABEL ∷ []) 0 set h.inside)
-      (walk-holds (place ++ Key START ∷ Key TREE ∷ []) (start_rows (at.walk program trees array set weight) 0 nest) (omega (arith, start-many, g.few))))
-      (AllHold-append (node_walk program trees [] family (place ++ Key NODES ∷ []) 0 (array_node program trees array set)) [] (node-holds (place ++ Key NODES ∷ [])) tt)
+      (label_rows matrix 1 p d (place ++ Key (codes "start") ∷ Key (codes "label") ∷ []) 0 set (loops_label program set) ++ start_walk program trees 0 nest [] family place)
+      (numbered (node_walk program trees [] family (place ++ Key (codes "nodes") ∷ [])) 0 family.nodes)
+      (AllHold-append (label_rows matrix 1 p d (place ++ Key (codes "start") ∷ Key (codes "label") ∷ []) 0 set (loops_label program set)) (start_walk program trees 0 nest [] family place)
+      (rows-hold (place ++ Key (codes "start") ∷ Key (codes "label") ∷ []) 0 set h.inside)
+      (walk-holds (place ++ Key (codes "start") ∷ Key (codes "tree") ∷ []) (start_rows (at.walk program trees array set weight) 0 nest) (omega (arith, start-many, g.few))))
+      (AllHold-append (node_walk program trees [] family (place ++ Key (codes "nodes") ∷ []) 0 (array_node program trees array set)) [] (node-holds (place ++ Key (codes "nodes") ∷ [])) tt)
 
   -- ---- they fit
 

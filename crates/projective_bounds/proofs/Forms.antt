@@ -18,8 +18,8 @@ use Rattle.affine_form.specs.System.{AffineSystem, AllOver}
 use Rattle.affine_form.proofs.Combination.{coefficient_of-combination, coefficient_of-constant, get_or-add_lists, length-add_lists}
 use Rattle.affine_form.proofs.RowLemmas.{coefficient_of-difference, length-difference, length-widened, get_or-zeros}
 use Rattle.affine_form.proofs.SubstitutionLemmas.{length-substitution}
-use Rattle.dep_quast.specs.Claims.{Follows, follow_claims}
-use Rattle.reuse_paths.specs.OpenLeaves.{form_at}
+use Rattle.claims.specs.Shown.{Follows, follow_claims}
+use Rattle.dep_quast.specs.OpenLeaves.{form_at}
 use Rattle.projective.proofs.Ranges.{same-form}
 use Rattle.projective_bounds.specs.Multipliers.{none_taken, one_taken, rows_taken}
 

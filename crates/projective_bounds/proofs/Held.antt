@@ -1,6 +1,6 @@
 -- All that the term of a whole domain claims holds, and it fits.
 use Rattle.std.proofs.Common.{◌≡◌, refl, sym, ◌∙◌, ap, subst, ℕ, zero, suc, ◌+◌, ◌*◌, ◌≤◌, List, [], ◌∷◌, ◌++◌, length, map, sum, arith, lit<, Bool, true, false}
-use Rattle.std.specs.Prelude.{◌==◌, if◌then◌else◌, pos}
+use Rattle.std.specs.Prelude.{◌==◌, if◌then◌else◌, pos, codes}
 use Rattle.std.specs.List.{AllByRecursion}
 use Rattle.std.proofs.lemmas.Bool.{eqb-false}
 use Rattle.std.proofs.lemmas.List.{length-map, length-replicate}
@@ -11,7 +11,6 @@ use Rattle.iolb_model.specs.Program.{AffineProgram}
 use Rattle.claims.specs.Claims.{AllHold, counted, numbered}
 use Rattle.claims.specs.declared.place.Step.{Step}
 use Rattle.claims.specs.declared.place.Step.TheVariants.{Key, Index}
-use Rattle.claims.specs.declared.key.TheConstants.{APART, FAMILIES, INSIDE}
 use Rattle.claims.proofs.Laws.{AllHold-append}
 use Rattle.claims.proofs.Members.{counts-hold}
 use Rattle.affine_form.specs.Form.{IsSmall}
@@ -20,7 +19,7 @@ use Rattle.affine_form.specs.System.{AffineSystem}
 use Rattle.affine_form.proofs.RowLemmas.{length-variables, variables-over, within_rows-over}
 use Rattle.affine_program.specs.Domain.{depth_of, path_of}
 use Rattle.affine_program.specs.Parts.{ProgramParts, meaning, statement_of}
-use Rattle.dep_quast.specs.Claims.{follow_claims, pointless_claims}
+use Rattle.claims.specs.Shown.{follow_claims, pointless_claims}
 use Rattle.dep_quast.specs.Tree.{SelectionTree}
 use Rattle.dep_quast.proofs.Fits.{depth-few}
 use Rattle.domain_count.specs.Claims.{SumClaims}
@@ -31,7 +30,7 @@ use Rattle.k_partition.specs.PartitionClaims.{cover_claim, cover_claims, family_
 use Rattle.k_partition.specs.PartitionFits.{PartitionFits}
 use Rattle.k_partition.specs.Term.{PartitionTerm}
 use Rattle.k_partition.specs.declared.term.Shape.TheVariants.{Sum}
-use Rattle.reuse_paths.specs.DisjointClaims.{pairwise_systems}
+use Rattle.footprint_pieces.specs.DisjointClaims.{pairwise_systems}
 use Rattle.reuse_paths.specs.FamilyFits.{FamilyFits}
 use Rattle.reuse_paths.specs.FamilyPieces.{family_pieces}
 use Rattle.projective.specs.Projective.{projection_sets}
@@ -143,9 +142,9 @@ module _ (parts : ProgramParts) (trees : List (List SelectionTree)) (q : ℕ) (w
         let vars = length program.parameters + size in
         let before = map (widened vars) program.assumptions in
         let rows = within_rows vars (map step_of nest) (variables_from vars 0 (length program.parameters)) (variables_from vars (length program.parameters) size) in
-        subst (λ (steps : List PathStep). AllHold (follow_claims 10 (place ++ Key INSIDE ∷ []) (rows_before program nest) 0
+        subst (λ (steps : List PathStep). AllHold (follow_claims 10 (place ++ Key (codes "inside") ∷ []) (rows_before program nest) 0
         (within_rows vars steps (variables_from vars 0 (length program.parameters)) (variables_from vars (length program.parameters) size)) (rows_taken (length program.assumptions) (2 * size)))) path
-        (rows-hold 10 vars (place ++ Key INSIDE ∷ []) 0 before rows (length program.assumptions) (2 * size) (sym (length-map program.assumptions (widened vars)))
+        (rows-hold 10 vars (place ++ Key (codes "inside") ∷ []) 0 before rows (length program.assumptions) (2 * size) (sym (length-map program.assumptions (widened vars)))
         (within_rows-over vars nest (variables_from vars 0 (length program.parameters)) (variables_from vars (length program.parameters) size)
         (subst (λ (n : ℕ). BoundsFit n nest) (sym (length-variables vars 0 (length program.parameters))) is-nest.bounds) (variables-over vars 0 (length program.parameters))
         (variables-over vars (length program.parameters) size)))
@@ -176,11 +175,11 @@ module _ (parts : ProgramParts) (trees : List (List SelectionTree)) (q : ℕ) (w
           by false e same next =
               AllHold-append (family_claims_at program trees place term index (array_family program trees first set w))
               (numbered (family_claims_at program trees place term) (suc index) (array_families program trees (suc first) sets ws))
-              (family-holds program trees first set w nest (identity_matrix size) (h.0 (eqb-false w 0 (sym e))) is-nest (place ++ Key FAMILIES ∷ Index index ∷ [])) next
+              (family-holds program trees first set w nest (identity_matrix size) (h.0 (eqb-false w 0 (sym e))) is-nest (place ++ Key (codes "families") ∷ Index index ∷ [])) next
 
-    apart-holds : AllHold (pointless_claims 18 (place ++ Key APART ∷ []) 0 (pairwise_systems program (map (family_pieces program trees 0 nest) (array_families program trees 0 (projection_sets program) weights))) [])
+    apart-holds : AllHold (pointless_claims 18 (place ++ Key (codes "apart") ∷ []) 0 (pairwise_systems program (map (family_pieces program trees 0 nest) (array_families program trees 0 (projection_sets program) weights))) [])
     apart-holds =
-        subst (λ (systems : List AffineSystem). AllHold (pointless_claims 18 (place ++ Key APART ∷ []) 0 systems [])) (sym (none-pairwise program trees nest 0 (projection_sets program) weights walked)) tt
+        subst (λ (systems : List AffineSystem). AllHold (pointless_claims 18 (place ++ Key (codes "apart") ∷ []) 0 systems [])) (sym (none-pairwise program trees nest 0 (projection_sets program) weights walked)) tt
 
     pub term-holds : AllHold (partition_claims program trees place term)
     term-holds =

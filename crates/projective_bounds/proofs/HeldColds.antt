@@ -22,8 +22,8 @@ use Rattle.projective.specs.Projective.{AllRun, IsProjective, shifted_variable}
 use Rattle.projective.specs.SourceTrees.{IsSourceTree, read_number}
 use Rattle.projective.proofs.ProjectiveFacts.{same-place}
 use Rattle.reuse_paths.specs.LeafClaims.{LeafClaim, claim_of}
-use Rattle.reuse_paths.specs.OpenLeaves.{TestsFit}
-use Rattle.reuse_paths.proofs.OpenLeaves.{tests-fit}
+use Rattle.dep_quast.specs.OpenLeaves.{TestsFit}
+use Rattle.dep_quast.proofs.OpenLeaves.{tests-fit}
 use Rattle.wavefront.specs.declared.cold.Cold.{Cold}
 use Rattle.wavefront.specs.Term.{inside_goals, nest_system}
 use Rattle.wavefront.specs.View.{term_of}

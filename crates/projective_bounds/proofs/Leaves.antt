@@ -1,6 +1,6 @@
 -- What walks claim at the leaves of source trees that keep loops.
 use Rattle.std.proofs.Common.{◌≡◌, refl, sym, ◌∙◌, ap, subst, ℕ, zero, suc, ◌+◌, ◌*◌, ◌<◌, ◌≤◌, List, [], ◌∷◌, ◌++◌, length, map, get_or, replicate, arith, Bool, true}
-use Rattle.std.specs.Prelude.{Option, Some, None, option_map, IsSomeAnd, ◌==◌, if◌then◌else◌, pos}
+use Rattle.std.specs.Prelude.{Option, Some, None, option_map, IsSomeAnd, ◌==◌, if◌then◌else◌, pos, codes}
 use Rattle.std.specs.List.{AllByRecursion}
 use Rattle.std.proofs.lemmas.Bool.{eq-eqb}
 use Rattle.std.proofs.lemmas.List.{length-append, length-map, length-replicate, length-set}
@@ -11,20 +11,19 @@ use Rattle.projective.specs.Turns.{width}
 use Rattle.claims.specs.Claims.{AllHold}
 use Rattle.claims.specs.declared.place.Step.{Step}
 use Rattle.claims.specs.declared.place.Step.TheVariants.{Key, Index}
-use Rattle.claims.specs.declared.key.TheConstants.{LABEL, ROWS, STOP}
 use Rattle.claims.proofs.Laws.{AllHold-append, AllHold-left, AllHold-right}
 use Rattle.affine_form.specs.Form.{variables}
 use Rattle.affine_form.specs.System.{AffineSystem, AllOver}
 use Rattle.affine_program.specs.Domain.{depth_of}
-use Rattle.dep_quast.specs.Claims.{IsFew, follow_claims}
+use Rattle.claims.specs.Shown.{IsFew, follow_claims}
 use Rattle.dep_quast.specs.Context.{ReadOf, reference_of}
 use Rattle.dep_quast.specs.Tree.{SelectionTree, leaf, test, source, input, empty, blank}
 use Rattle.reuse_paths.specs.EntryClaims.{going_goals, label_claims, leaf_claims, word_label}
 use Rattle.reuse_paths.specs.Families.{FamilyForms, label_at, node_label, node_region}
 use Rattle.reuse_paths.specs.FamilyClaims.{family_setting}
 use Rattle.reuse_paths.specs.LeafClaims.{LeafClaim, goes_on, stops}
-use Rattle.reuse_paths.specs.OpenLeaves.{OpenLeaf, as_input, form_at, no_at, open_leaves, written}
-use Rattle.reuse_paths.specs.Trees.{read_of}
+use Rattle.dep_quast.specs.OpenLeaves.{OpenLeaf, as_input, form_at, no_at, open_leaves, written}
+use Rattle.dep_quast.specs.Trees.{read_of}
 use Rattle.reuse_paths.specs.WalkClaims.{leaves_claims}
 use Rattle.reuse_paths.specs.WalkFits.{EntriesFit}
 use Rattle.reuse_paths.specs.WalkSettings.{KeptLabels, WalkSetting, entering_rows, forms_behind, reading_point, region_at, region_variables}
@@ -95,7 +94,7 @@ module _ (program : AffineProgram) (trees : List (List SelectionTree)) (array : 
 
   -- ---- what is claimed of labels
 
-  labels-hold : (word : List AffineForm) (found : Option (List AffineForm)) (place : List Step) (key : ℕ) (rows : List AffineForm) → found ≡ Some word → word ≡ label
+  labels-hold : (word : List AffineForm) (found : Option (List AffineForm)) (place : List Step) (key : List ℕ) (rows : List AffineForm) → found ≡ Some word → word ≡ label
       → AllHold (label_claims label place key (record { vars = vars; rows = rows }) found (labels_agree size))
   labels-hold word found place key rows e same =
       subst (λ (o : Option (List AffineForm)). AllHold (label_claims label place key (record { vars = vars; rows = rows }) o (labels_agree size))) (sym e)
@@ -148,10 +147,10 @@ module _ (program : AffineProgram) (trees : List (List SelectionTree)) (array : 
       few,
       (
         subst (λ (o : Option WalkRegion). IsSomeAnd o (λ region. Unit {0})) (sym (ap (region_at walk.nodes) at ∙ region-is e)) tt,
-        AllHold-append (follow_claims 15 (place ++ Key ROWS ∷ []) (record { vars = vars; rows = rows ++ tests }) 0 (going_goals walk vars here (written statement values)) [])
-            (label_claims label place LABEL (record { vars = vars; rows = rows ++ tests }) (word_label walk kept reader vars here (written statement values)) (labels_agree size))
-            (no-rows 15 (place ++ Key ROWS ∷ []) (record { vars = vars; rows = rows ++ tests }) 0 (going_goals walk vars here (written statement values)))
-            (labels-hold (forms_behind walk vars (map (form_at vars here) values) label) (word_label walk kept reader vars here (written statement values)) place LABEL (rows ++ tests)
+        AllHold-append (follow_claims 15 (place ++ Key (codes "rows") ∷ []) (record { vars = vars; rows = rows ++ tests }) 0 (going_goals walk vars here (written statement values)) [])
+            (label_claims label place (codes "label") (record { vars = vars; rows = rows ++ tests }) (word_label walk kept reader vars here (written statement values)) (labels_agree size))
+            (no-rows 15 (place ++ Key (codes "rows") ∷ []) (record { vars = vars; rows = rows ++ tests }) 0 (going_goals walk vars here (written statement values)))
+            (labels-hold (forms_behind walk vars (map (form_at vars here) values) label) (word_label walk kept reader vars here (written statement values)) place (codes "label") (rows ++ tests)
             (source-label statement values e at h) (source-kept values h)),
       ),
     )
@@ -185,7 +184,7 @@ module _ (program : AffineProgram) (trees : List (List SelectionTree)) (array : 
         few,
         (
           refl,
-          labels-hold (forms_behind walk vars (map (form_at vars here) subs) (cell_label program subs set)) (word_label walk kept reader vars here as_input) place STOP (rows ++ tests) input-label input-kept,
+          labels-hold (forms_behind walk vars (map (form_at vars here) subs) (cell_label program subs set)) (word_label walk kept reader vars here as_input) place (codes "stop") (rows ++ tests) input-label input-kept,
         ),
       )
 

@@ -14,7 +14,8 @@ use Rattle.affine_program.specs.Domain.{depth_of}
 use Rattle.affine_program.specs.Parts.{ProgramParts, IsProgram, meaning, statement_of}
 use Rattle.cold_terms.specs.Outline.{ColdOutline, OutlineFits, bare}
 use Rattle.dep_quast.specs.Truth.{ReadFits}
-use Rattle.dep_quast.proofs.Fits.{depth-few, widened-over}
+use Rattle.dep_quast.proofs.Fits.{depth-few}
+use Rattle.claims.proofs.Rows.{widened-over}
 use Rattle.projective.specs.Products.{AreAssumed, RunBelow}
 use Rattle.projective.proofs.Runs.{run-assumed, run-many}
 use Rattle.projective.specs.Projective.{AreDifferent, IsProjection, IsProjective}

@@ -3,7 +3,7 @@ use Rattle.std.proofs.Common.{◌≡◌, refl, sym, subst, ℕ, List, [], ◌∷
 use Rattle.iolb_model.specs.Program.{AffineProgram}
 use Rattle.affine_program.specs.Parts.{ProgramParts, IsProgram, meaning}
 use Rattle.dep_quast.specs.Tree.{SelectionTree}
-use Rattle.reuse_paths.specs.declared.quasts.Quasts.{Quasts}
+use Rattle.dep_quast.specs.declared.quasts.Quasts.{Quasts}
 use Rattle.iolb_check.specs.declared.term.Branch.{Branch}
 use Rattle.iolb_check.specs.Limits.{CertificateParts}
 use Rattle.projective.specs.Projective.{IsProjective}

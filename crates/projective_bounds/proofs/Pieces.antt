@@ -9,16 +9,16 @@ use Rattle.iolb_model.specs.Program.{AffineProgram, statement_at}
 use Rattle.affine_form.specs.System.{AffineSystem}
 use Rattle.dep_quast.specs.Context.{ReadOf, reference_of}
 use Rattle.dep_quast.specs.Tree.{SelectionTree, leaf, test, source, input, empty, blank}
-use Rattle.reuse_paths.specs.declared.piece.Target.{Target}
-use Rattle.reuse_paths.specs.declared.piece.Target.TheVariants.{Cell, Instance}
-use Rattle.reuse_paths.specs.DisjointClaims.{pairwise_systems, same_target, shared_system, shared_systems, systems_with, systems_with_lists}
+use Rattle.footprint_pieces.specs.declared.piece.Target.{Target}
+use Rattle.footprint_pieces.specs.declared.piece.Target.TheVariants.{Cell, Instance}
+use Rattle.footprint_pieces.specs.DisjointClaims.{pairwise_systems, same_target, shared_system, shared_systems, systems_with, systems_with_lists}
 use Rattle.reuse_paths.specs.FamilyClaims.{start_rows}
 use Rattle.reuse_paths.specs.FamilyPieces.{family_pieces, region_pieces}
 use Rattle.reuse_paths.specs.Families.{FamilyForms, node_region}
 use Rattle.reuse_paths.specs.LeafClaims.{LeafClaim}
-use Rattle.reuse_paths.specs.OpenLeaves.{OpenLeaf, form_at, no_at, open_leaves}
-use Rattle.reuse_paths.specs.Pieces.{FootprintPiece}
-use Rattle.reuse_paths.specs.Trees.{read_of}
+use Rattle.dep_quast.specs.OpenLeaves.{OpenLeaf, form_at, no_at, open_leaves}
+use Rattle.footprint_pieces.specs.Pieces.{FootprintPiece}
+use Rattle.dep_quast.specs.Trees.{read_of}
 use Rattle.reuse_paths.specs.WalkPieces.{entry_pieces, leaves_pieces, walk_pieces}
 use Rattle.reuse_paths.specs.WalkSettings.{WalkSetting, region_context}
 use Rattle.projective_bounds.specs.Families.{array_families, array_family, array_node, array_read, array_walk, entries_of, loops_label}

@@ -9,7 +9,7 @@ use Rattle.affine_form.specs.Form.{variables}
 use Rattle.affine_form.specs.Rows.{IsSmallOver, variable, variables_from}
 use Rattle.affine_form.specs.System.{AllOver}
 use Rattle.affine_form.proofs.RowLemmas.{length-variables, variables-over}
-use Rattle.reuse_paths.specs.OpenLeaves.{form_at}
+use Rattle.dep_quast.specs.OpenLeaves.{form_at}
 use Rattle.projective_bounds.proofs.Forms.{put-over, put-variable}
 
 abbrev pub none : AffineForm

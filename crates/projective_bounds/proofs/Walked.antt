@@ -17,7 +17,7 @@ use Rattle.affine_program.specs.Domain.{depth_of}
 use Rattle.dep_quast.specs.Context.{reference_of}
 use Rattle.dep_quast.specs.Tree.{SelectionTree}
 use Rattle.dep_quast.specs.Truth.{ReadFits}
-use Rattle.reuse_paths.specs.Trees.{read_of}
+use Rattle.dep_quast.specs.Trees.{read_of}
 use Rattle.reuse_paths.proofs.FamilyLabels.{read-rank}
 use Rattle.projective.specs.Projective.{IsLoop, IsProjection, IsProjective, coordinates, reference_to}
 use Rattle.projective.proofs.Units.{unit-at, unit-other}

@@ -8,7 +8,7 @@ use Rattle.claims.specs.Claims.{AllHold}
 use Rattle.cover_lp.specs.Cover.{IsLeastPair, IsPairInReach}
 use Rattle.dep_quast.specs.Tree.{SelectionTree}
 use Rattle.reuse_paths.specs.Families.{FamilyForms}
-use Rattle.reuse_paths.specs.Quasts.{trees_of}
+use Rattle.dep_quast.specs.Quasts.{trees_of}
 use Rattle.k_partition.specs.declared.term.Partition.{Partition}
 use Rattle.k_partition.specs.Term.{PartitionTerm}
 use Rattle.k_partition.specs.View.{partition_of}

@@ -11,8 +11,8 @@ use Rattle.affine_form.specs.Rows.{variable}
 use Rattle.dep_quast.specs.Tree.{SelectionTree, leaf, test, source, input, empty, blank}
 use Rattle.reuse_paths.specs.Families.{FamilyForms, NodeForms}
 use Rattle.reuse_paths.specs.LeafClaims.{LeafClaim, goes_on, stops}
-use Rattle.reuse_paths.specs.Quasts.{tree_for}
-use Rattle.reuse_paths.specs.Trees.{read_of}
+use Rattle.dep_quast.specs.Quasts.{tree_for}
+use Rattle.dep_quast.specs.Trees.{read_of}
 use Rattle.reuse_paths.specs.Walks.{WalkTree, take}
 use Rattle.projective_bounds.specs.Multipliers.{labels_agree}
 

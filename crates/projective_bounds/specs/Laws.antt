@@ -2,7 +2,7 @@
 use Rattle.std.specs.Prelude.{ℕ, List}
 use Rattle.iolb_model.specs.Program.{AffineProgram}
 use Rattle.claims.specs.Claims.{FirstFails}
-use Rattle.claims.specs.declared.refused.No.{No}
+use Rattle.claims.specs.declared.refused.FailedCondition.{FailedCondition}
 use Rattle.k_partition.specs.View.{partition_of}
 use Rattle.iolb_check.specs.Claims.{claim_of_certificate}
 use Rattle.iolb_check.specs.Conditions.{conditions}
@@ -21,4 +21,4 @@ CoversInReachHaveLeast = (program : AffineProgram) → HasCoverInReach program �
 -- and no condition fails
 abbrev pub CertifiedAreAccepted : Type 0
 CertifiedAreAccepted = (program : AffineProgram) (certificate : CertificateParts) → IsCertified program certificate
-    → (failed : No) → ¬ FirstFails (conditions program (claim_of_certificate certificate)) failed
+    → (failed : FailedCondition) → ¬ FirstFails (conditions program (claim_of_certificate certificate)) failed

@@ -6,7 +6,7 @@ use Rattle.projective.specs.Turns.{width}
 use Rattle.affine_form.specs.Form.{variables}
 use Rattle.affine_program.specs.Domain.{depth_of}
 use Rattle.dep_quast.specs.Tree.{SelectionTree, leaf, test, leaf_count, source, input, empty, blank}
-use Rattle.reuse_paths.specs.Quasts.{tree_at}
+use Rattle.dep_quast.specs.Quasts.{tree_at}
 use Rattle.projective.specs.Projective.{coordinates}
 use Rattle.projective_bounds.specs.Families.{loop_form}
 use Rattle.iolb_model.specs.declared.limits.TheConstants.{TREE_LEAVES, TREE_TESTS}

@@ -4,7 +4,7 @@ ghost use Rattle.std.specs.Prelude.{IfOk};
 ghost use Rattle.affine_program.specs.Parts.{meaning};
 ghost use Rattle.projective.specs.Shape.{IsShapeOf};
 ghost use Rattle.projective_bounds.specs.Certified.{IsWholeBranch};
-ghost use Rattle.reuse_paths.specs.Quasts.{trees_of};
+ghost use Rattle.dep_quast.specs.Quasts.{trees_of};
 ghost use Rattle.projective_bounds.specs.WholeLaws.{CanBeShown};
 
 use crate::whole::whole_term;

@@ -37,10 +37,7 @@ fn certificate_of(
     let mut branches = Vec::new(alloc);
     branches.push(first)?;
     branches.push(second)?;
-    match Certificate::new(quasts, branches) {
-        Some(certificate) => Ok(certificate),
-        None => unreachable!(),
-    }
+    Ok(Certificate::within(quasts, branches))
 }
 
 /// The certificate of a projective program: over its source trees two branches, first the partition term of the whole domain for

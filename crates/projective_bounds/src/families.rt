@@ -5,7 +5,7 @@ ghost use Rattle.std.specs.List.{AllByRecursion};
 ghost use Rattle.affine_program.specs.Domain.{depth_of};
 ghost use Rattle.affine_program.specs.Parts.{access_of, meaning};
 ghost use Rattle.reuse_paths.specs.Families.{family_of, forms_of, node_of};
-ghost use Rattle.reuse_paths.specs.Quasts.{trees_of};
+ghost use Rattle.dep_quast.specs.Quasts.{trees_of};
 ghost use Rattle.reuse_paths.specs.Walks.{tree_of_walk};
 ghost use Rattle.projective_bounds.specs.Families.{array_families, array_family, array_inputs, array_node, array_read, array_subscripts, array_walk, cell_label, first_to, loops_label};
 ghost use Rattle.projective_bounds.specs.Readable.{AreReadable, IsReadable};

@@ -9,7 +9,7 @@ ghost use Rattle.dep_quast.specs.Truth.{ReadFits};
 ghost use Rattle.projective.specs.Projective.{IsProjective};
 ghost use Rattle.iolb_model.specs.declared.limits.TheConstants.{TERMS};
 ghost use Rattle.projective.specs.SourceTrees.{AreSourceTrees, IsSourceTree, read_number};
-ghost use Rattle.reuse_paths.specs.Quasts.{trees_of};
+ghost use Rattle.dep_quast.specs.Quasts.{trees_of};
 ghost use Rattle.projective_bounds.specs.Colds.{AreArrayColds, IsReadCold, is_first_read};
 
 use crate::families::array_read;

@@ -3,7 +3,7 @@
 ghost use Rattle.std.specs.Prelude.{◌≡◌, ◌≤◌, IfOk, List, sum};
 ghost use Rattle.iolb_model.specs.declared.limits.TheConstants.{WEIGHTS};
 ghost use Rattle.affine_program.specs.Parts.{meaning};
-ghost use Rattle.reuse_paths.specs.Quasts.{trees_of};
+ghost use Rattle.dep_quast.specs.Quasts.{trees_of};
 ghost use Rattle.claims.specs.Claims.{AllHold};
 ghost use Rattle.claims.specs.declared.place.Step.{Step};
 ghost use Rattle.k_partition.specs.PartitionClaims.{partition_claims};

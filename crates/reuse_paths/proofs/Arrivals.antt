@@ -1,7 +1,7 @@
 -- A reach whose claims hold arrives: by induction on the place of the instance from which a walk goes on, since the source
 -- of a read comes before its reader.
 use Rattle.std.proofs.Common.{◌≡◌, refl, sym, ◌∙◌, ap, subst, ℕ, zero, suc, ◌*◌, ◌<◌, List, [], ◌∷◌, ◌++◌, length, map, arith, zero-add}
-use Rattle.std.specs.Prelude.{Option, Some, Contains}
+use Rattle.std.specs.Prelude.{Option, Some, Contains, codes}
 use Rattle.std.proofs.Math.IntN.{ℤ}
 use Rattle.std.proofs.lemmas.List.{append-nil, length-map}
 use Rattle.iolb_model.specs.Form.{AffineForm}
@@ -15,7 +15,6 @@ use Rattle.iolb_model.specs.Game.{predecessors_at}
 use Rattle.claims.specs.Claims.{Claim, AllHold, numbered}
 use Rattle.claims.specs.declared.place.Step.{Step}
 use Rattle.claims.specs.declared.place.Step.TheVariants.{Key, Index}
-use Rattle.claims.specs.declared.key.TheConstants.{ARRIVE, NODES, SAME, START, TREE}
 use Rattle.claims.proofs.Laws.{AllHold-left, AllHold-right}
 use Rattle.affine_form.specs.Multipliers.{FarkasMultipliers}
 use Rattle.affine_form.specs.Substitution.{values_at}
@@ -25,24 +24,25 @@ use Rattle.affine_form.proofs.ShownLemmas.{Shows-none}
 use Rattle.affine_form.proofs.Meaning.{equality_rows-say, values_at-front}
 use Rattle.affine_program.specs.Domain.{depth_of}
 use Rattle.dep_quast.specs.Truth.{ReadFits}
-use Rattle.dep_quast.proofs.Shown.{goals-met, equality_rows-few}
+use Rattle.claims.proofs.Systems.{goals-met}
+use Rattle.dep_quast.proofs.Fits.{equality_rows-few}
 use Rattle.domain_count.specs.Count.{rows_before}
 use Rattle.reuse_paths.specs.Arrival.{instance_of, ReachesArrive}
 use Rattle.reuse_paths.specs.EntryClaims.{arriving_claims, aimed_claims, going_goals}
 use Rattle.reuse_paths.specs.LeafClaims.{LeafClaim, no_point, stops, is_credited, goes_on, arrives}
-use Rattle.reuse_paths.specs.OpenLeaves.{LeafOrigin, written, as_input, unknown, form_at}
-use Rattle.reuse_paths.specs.Pieces.{FootprintPiece}
+use Rattle.dep_quast.specs.OpenLeaves.{LeafOrigin, written, as_input, unknown, form_at}
+use Rattle.footprint_pieces.specs.Pieces.{FootprintPiece}
 use Rattle.reuse_paths.specs.Reached.{IsReached}
 use Rattle.reuse_paths.specs.ReachClaims.{region_claims, start_claims, same_claims, setting_of}
 use Rattle.reuse_paths.specs.SoundFamilies.{read_taken}
-use Rattle.reuse_paths.specs.Trees.{read_of, RowsFit, RowsAreTrue}
+use Rattle.dep_quast.specs.Trees.{read_of, RowsFit, RowsAreTrue}
 use Rattle.reuse_paths.specs.WalkPieces.{walk_pieces}
 use Rattle.reuse_paths.specs.WalkFits.{SpotFits, ArrivingFits, AimedFits, RegionFits, RegionsFit}
 use Rattle.reuse_paths.specs.WalkSettings.{WalkAim, arrives_at, WalkSetting, spot_variables, region_variables, reading_point, region_context, region_at, entering_rows}
 use Rattle.reuse_paths.specs.Walks.{WalkRegion, SpotForms, same, walked}
-use Rattle.reuse_paths.proofs.ChosenLeaves.{forms_at-values}
+use Rattle.dep_quast.proofs.ChosenLeaves.{forms_at-values}
 use Rattle.reuse_paths.proofs.NestPoints.{nest-met}
-use Rattle.reuse_paths.proofs.PieceVertices.{wide-values}
+use Rattle.footprint_pieces.proofs.PieceVertices.{wide-values}
 use Rattle.reuse_paths.proofs.ReadSources.{place-there, source-read, source-before}
 use Rattle.reuse_paths.proofs.Regions.{there-is, region-claimed, region-fits, spot-many, entering-met, going-met, reading-there, context-met}
 use Rattle.reuse_paths.proofs.WordsTaken.{IsTrueOrigin, Takes, walk-takes}
@@ -120,7 +120,7 @@ module _ (condition : ℕ) (walk : WalkSetting) (target : SpotForms) (place : Li
           let goal : List AffineForm = map (widened vars) target.point in
           let goals : List AffineForm = equality_rows vars (map (form_at vars forms) forms-written) goal in
           let shown : IsMet goals point =
-          goals-met condition (at ++ Key ARRIVE ∷ []) (record { vars = vars; rows = rows }) 0 goals equal point
+          goals-met condition (at ++ Key (codes "arrive") ∷ []) (record { vars = vars; rows = rows }) 0 goals equal point
           (omega (arith, enough, equality_rows-few vars (map (form_at vars forms) forms-written) goal, length-map target.point (widened vars), target-fits.point)) h.1 met in
           let alike : length (map (form_at vars forms) forms-written) ≡ length goal =
           length-map forms-written (form_at vars forms) ∙ says.1.2 ∙ ap (depth_of walk.program) h.0 ∙ sym target-fits.point ∙ sym (length-map target.point (widened vars)) in
@@ -173,7 +173,7 @@ module _ (condition : ℕ) (walk : WalkSetting) (target : SpotForms) (place : Li
     inside-reaches (suc bound) n s x region below inside =
         walk-reaches n s x inside.0 (λ m t y other less there. inside-reaches bound m t y other (omega (arith, less, below)) there)
         (read_taken region.tree ((values ++ u) ++ x)) (walk_pieces walk s (region_context walk s region.rows) region.tree)
-        (walk-takes condition walk values u formed admitted within trees-fit trees-true n s x inside.0 (place ++ Index s ∷ Key TREE ∷ []) (region_context walk s region.rows) region.tree
+        (walk-takes condition walk values u formed admitted within trees-fit trees-true n s x inside.0 (place ++ Index s ∷ Key (codes "tree") ∷ []) (region_context walk s region.rows) region.tree
         (context-met walk values u formed admitted within n s x inside.0 region.rows inside.2)
         (subst (λ (k : ℕ). RegionFits walk k (Some region)) (zero-add s) (region-fits walk 0 s walk.nodes region inside.1 regions-fit)).1
         (subst (λ (k : ℕ). AllHold (region_claims condition walk place k (Some region))) (zero-add s) (region-claimed condition walk place 0 s walk.nodes region inside.1 holds)))
@@ -185,7 +185,7 @@ module _ (condition : ℕ) (walk : WalkSetting) (target : SpotForms) (place : Li
         let region : (r : WalkRegion) × (region_at walk.nodes from.statement ≡ Some r) = there-is (region_at walk.nodes from.statement) h.0 in
         let x : List ℤ = values_at from.point (values ++ u) in
         let entering : IsMet (entering_rows walk (spot_variables walk) (region_at walk.nodes from.statement) from.point) (values ++ u) =
-        goals-met condition (at ++ Key START ∷ []) (rows_before walk.program walk.nest) 0 (entering_rows walk (spot_variables walk) (region_at walk.nodes from.statement) from.point) start (values ++ u)
+        goals-met condition (at ++ Key (codes "start") ∷ []) (rows_before walk.program walk.nest) 0 (entering_rows walk (spot_variables walk) (region_at walk.nodes from.statement) from.point) start (values ++ u)
         (omega (arith, enough)) h.1 (nest-met walk.program walk.nest values u formed admitted within) in
         let inside : IsMet region.0.rows ((values ++ u) ++ x) =
         entering-met walk values u formed admitted within (spot_variables walk) region.0 from.point (values ++ u) [] (omega arith) (sym (append-nil (values ++ u)))
@@ -200,7 +200,7 @@ module _ (condition : ℕ) (walk : WalkSetting) (target : SpotForms) (place : Li
       let goals : List AffineForm = equality_rows (spot_variables walk) from.point target.point in
       let alike : length from.point ≡ length target.point = from-fits.point ∙ ap (depth_of walk.program) h.0 ∙ sym target-fits.point in
       let shown : IsMet goals (values ++ u) =
-      goals-met condition (at ++ Key SAME ∷ []) (rows_before walk.program walk.nest) 0 goals equal (values ++ u)
+      goals-met condition (at ++ Key (codes "same") ∷ []) (rows_before walk.program walk.nest) 0 goals equal (values ++ u)
       (omega (arith, enough h.0, equality_rows-few (spot_variables walk) from.point target.point, from-fits.point, alike)) h.1 (nest-met walk.program walk.nest values u formed admitted within) in (
         n,
         (
@@ -216,6 +216,6 @@ reaches-arrive program trees nest from to (same equal) condition place formed tr
 reaches-arrive program trees nest from to (walked start nodes) condition place formed trees-fit trees-true fits holds values u n admitted within here =
     let walk : WalkSetting = setting_of program trees nest to (walked start nodes) in
     let first : List Claim = start_claims condition walk place from start in
-    let regions : List Claim = numbered (region_claims condition walk (place ++ Key NODES ∷ [])) 0 nodes in
-    start-reaches condition walk to (place ++ Key NODES ∷ []) values u formed admitted within trees-fit trees-true refl fits.to_fits fits.shown.2 (AllHold-right first regions holds)
+    let regions : List Claim = numbered (region_claims condition walk (place ++ Key (codes "nodes") ∷ [])) 0 nodes in
+    start-reaches condition walk to (place ++ Key (codes "nodes") ∷ []) values u formed admitted within trees-fit trees-true refl fits.to_fits fits.shown.2 (AllHold-right first regions holds)
     place from start n fits.shown.0 (AllHold-left first regions holds) here

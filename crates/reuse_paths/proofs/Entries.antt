@@ -9,8 +9,8 @@ use Rattle.claims.proofs.Laws.{AllHold-left, AllHold-right}
 use Rattle.dep_quast.specs.Context.{ReadOf}
 use Rattle.reuse_paths.specs.EntryClaims.{leaf_claims}
 use Rattle.reuse_paths.specs.LeafClaims.{LeafClaim}
-use Rattle.reuse_paths.specs.OpenLeaves.{OpenLeaf}
-use Rattle.reuse_paths.specs.Pieces.{FootprintPiece}
+use Rattle.dep_quast.specs.OpenLeaves.{OpenLeaf}
+use Rattle.footprint_pieces.specs.Pieces.{FootprintPiece}
 use Rattle.reuse_paths.specs.WalkClaims.{leaves_claims}
 use Rattle.reuse_paths.specs.WalkFits.{EntryFits, EntriesFit}
 use Rattle.reuse_paths.specs.WalkPieces.{entry_pieces, leaves_pieces}

@@ -1,6 +1,6 @@
 -- What is found in the claims of an entry.
 use Rattle.std.proofs.Common.{◌≡◌, sym, subst, ℕ, zero, suc, ◌+◌, ◌≤◌, List, [], ◌∷◌, ◌++◌, map, arith, lit<, zero-add}
-use Rattle.std.specs.Prelude.{Option, Some, None, IsSomeAnd, Result}
+use Rattle.std.specs.Prelude.{Option, Some, None, IsSomeAnd, Result, codes}
 use Rattle.std.specs.List.{AllByRecursion}
 use Rattle.std.proofs.Math.IntN.{pos}
 use Rattle.std.proofs.Math.Nat.{add-zero}
@@ -9,7 +9,6 @@ use Rattle.iolb_model.specs.Form.{AffineForm}
 use Rattle.claims.specs.Claims.{Claim, Decides}
 use Rattle.claims.specs.declared.place.Step.{Step}
 use Rattle.claims.specs.declared.place.Step.TheVariants.{Key}
-use Rattle.claims.specs.declared.key.TheConstants.{ROWS}
 use Rattle.claims.specs.declared.refused.Refused.{Refused}
 use Rattle.claims.proofs.Found.{decides-later}
 use Rattle.claims.proofs.Members.{suc-moved}
@@ -18,9 +17,9 @@ use Rattle.affine_form.specs.Multipliers.{FarkasMultipliers}
 use Rattle.affine_form.specs.Rows.{widened, IsSmallOver}
 use Rattle.affine_form.specs.System.{AffineSystem}
 use Rattle.affine_form.proofs.RowLemmas.{length-widened}
-use Rattle.dep_quast.specs.Claims.{follow_claims}
+use Rattle.claims.specs.Shown.{follow_claims}
 use Rattle.reuse_paths.specs.EntryClaims.{IsInRegion, going_goals}
-use Rattle.reuse_paths.specs.OpenLeaves.{written, form_at}
+use Rattle.dep_quast.specs.OpenLeaves.{written, form_at}
 use Rattle.reuse_paths.specs.WalkFits.{RegionsFit, RegionRowsFit}
 use Rattle.reuse_paths.specs.WalkSettings.{WalkSetting, region_variables, region_at, entering_rows}
 use Rattle.reuse_paths.specs.Walks.{WalkRegion}
@@ -40,14 +39,14 @@ all-widened-small many vars (form ∷ forms) more h = (
 -- a walk goes on into a region
 pub going-found : (condition : ℕ) (walk : WalkSetting) (place : List Step) (system : AffineSystem) (point : List AffineForm) (writer : ℕ) (values : List AffineForm) (region : WalkRegion)
     (shown : List FarkasMultipliers) (found : Result (Unit {0}) Refused) → region_at walk.nodes writer ≡ Some region
-    → Decides (follow_claims condition (place ++ Key ROWS ∷ []) system 0 (entering_rows walk system.vars (Some region) (map (form_at system.vars point) values)) shown) found
+    → Decides (follow_claims condition (place ++ Key (codes "rows") ∷ []) system 0 (entering_rows walk system.vars (Some region) (map (form_at system.vars point) values)) shown) found
     → Decides (record { condition = condition; place = place; statement = IsInRegion walk (written writer values) }
-    ∷ follow_claims condition (place ++ Key ROWS ∷ []) system 0 (going_goals walk system.vars point (written writer values)) shown) found
+    ∷ follow_claims condition (place ++ Key (codes "rows") ∷ []) system 0 (going_goals walk system.vars point (written writer values)) shown) found
 going-found condition walk place system point writer values region shown found is h =
-    let follow : List Claim = follow_claims condition (place ++ Key ROWS ∷ []) system 0 (going_goals walk system.vars point (written writer values)) shown in
+    let follow : List Claim = follow_claims condition (place ++ Key (codes "rows") ∷ []) system 0 (going_goals walk system.vars point (written writer values)) shown in
     decides-later (record { condition = condition; place = place; statement = IsSomeAnd (region_at walk.nodes writer) (λ region. Unit {0}) } ∷ []) follow found
     (subst (λ (o : Option WalkRegion). IsSomeAnd o (λ region. Unit {0})) (sym is) tt, tt)
-    (subst (λ (o : Option WalkRegion). Decides (follow_claims condition (place ++ Key ROWS ∷ []) system 0 (entering_rows walk system.vars o (map (form_at system.vars point) values)) shown) found) (sym is) h)
+    (subst (λ (o : Option WalkRegion). Decides (follow_claims condition (place ++ Key (codes "rows") ∷ []) system 0 (entering_rows walk system.vars o (map (form_at system.vars point) values)) shown) found) (sym is) h)
 
 -- the rows of regions that fit are over their variables
 pub rows-fit : (walk : WalkSetting) (first : ℕ) (nodes : List (Option WalkRegion)) → RegionsFit walk first nodes → RegionRowsFit walk first nodes

@@ -27,8 +27,8 @@ use Rattle.dep_quast.specs.Context.{ReadOf, reference_of, no_row}
 use Rattle.dep_quast.specs.Tree.{SelectionTree}
 use Rattle.dep_quast.specs.Truth.{ReadFits, source_at}
 use Rattle.domain_count.specs.Points.{points}
-use Rattle.reuse_paths.specs.declared.piece.Target.{Target}
-use Rattle.reuse_paths.specs.declared.piece.Target.TheVariants.{Cell, Instance as InstanceOf}
+use Rattle.footprint_pieces.specs.declared.piece.Target.{Target}
+use Rattle.footprint_pieces.specs.declared.piece.Target.TheVariants.{Cell, Instance as InstanceOf}
 use Rattle.affine_form.specs.Matrix.{IntegerMatrix}
 use Rattle.reuse_paths.specs.EntryClaims.{keeping_claims}
 use Rattle.reuse_paths.specs.Families.{CreditedNest, FamilyForms, node_label, node_region}
@@ -37,20 +37,20 @@ use Rattle.reuse_paths.specs.FamilyFits.{FamilyFits}
 use Rattle.reuse_paths.specs.FamilyFootprint.{instances_in, word_of, family_footprint}
 use Rattle.reuse_paths.specs.FamilyPieces.{family_pieces, regions_pieces, region_pieces, FamilyPiecesCover}
 use Rattle.reuse_paths.specs.LeafClaims.{LeafClaim, no_point, stops, is_credited, goes_on, arrives}
-use Rattle.reuse_paths.specs.OpenLeaves.{LeafOrigin, written, as_input, unknown, OpenLeaf, form_at}
-use Rattle.reuse_paths.specs.Pieces.{FootprintPiece, IsVertexOf, IsInPiece, IsInPieces}
+use Rattle.dep_quast.specs.OpenLeaves.{LeafOrigin, written, as_input, unknown, OpenLeaf, form_at}
+use Rattle.footprint_pieces.specs.Pieces.{FootprintPiece, IsVertexOf, IsInPiece, IsInPieces}
 use Rattle.reuse_paths.specs.Places.{place_of, IsExecuted}
 use Rattle.reuse_paths.specs.SoundFamilies.{read_taken, IsInside}
-use Rattle.reuse_paths.specs.Trees.{read_of, RowsFit, RowsAreTrue}
+use Rattle.dep_quast.specs.Trees.{read_of, RowsFit, RowsAreTrue}
 use Rattle.reuse_paths.specs.WalkClaims.{leaves_at}
 use Rattle.reuse_paths.specs.WalkPieces.{word_pieces, entry_pieces, leaves_pieces, walk_pieces}
 use Rattle.reuse_paths.specs.WalkSettings.{KeptLabels, WalkSetting, region_variables, reading_point, region_context, region_at}
 use Rattle.reuse_paths.specs.Walks.{WalkTree, take, test, WalkRegion}
-use Rattle.reuse_paths.proofs.ChosenLeaves.{forms_at-values}
+use Rattle.dep_quast.proofs.ChosenLeaves.{forms_at-values}
 use Rattle.reuse_paths.proofs.FamilyWalks.{in-front, start-taken, region-taken}
 use Rattle.reuse_paths.proofs.FamilyWords.{StartWord, RegionWord, word-cases}
 use Rattle.reuse_paths.proofs.NestPoints.{points-within}
-use Rattle.reuse_paths.proofs.PieceVertices.{cell-vertex, in-pieces}
+use Rattle.footprint_pieces.proofs.PieceVertices.{cell-vertex, in-pieces}
 use Rattle.reuse_paths.proofs.Regions.{reading-there, values-many}
 use Rattle.reuse_paths.proofs.WordsTaken.{IsTrueOrigin, Takes}
 

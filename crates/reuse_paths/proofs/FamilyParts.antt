@@ -19,7 +19,7 @@ use Rattle.dep_quast.specs.Tree.{SelectionTree}
 use Rattle.reuse_paths.specs.Families.{CreditedNest, FamilyForms, NodeForms, node_label, node_region}
 use Rattle.reuse_paths.specs.FamilyClaims.{family_setting, label_rows, IsScaledRow}
 use Rattle.reuse_paths.specs.FamilyFits.{FamilyFits, NodeFits, NodesFit}
-use Rattle.reuse_paths.specs.Trees.{RowsFit}
+use Rattle.dep_quast.specs.Trees.{RowsFit}
 use Rattle.reuse_paths.specs.WalkFits.{AreInstanceLabels, IsLabel, IsLabelIf, LabelsFit, RegionFits, RegionRowsFit}
 use Rattle.reuse_paths.specs.WalkSettings.{KeptLabels, WalkSetting, region_variables}
 use Rattle.reuse_paths.specs.WalkViews.{ReadingFits, SettingFits}

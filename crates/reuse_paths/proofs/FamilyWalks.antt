@@ -1,6 +1,6 @@
 -- A family whose claims hold is sound: its start walk and the walks of its regions take words with the labels of their readers.
 use Rattle.std.proofs.Common.{◌≡◌, refl, sym, ◌∙◌, ap, subst, ℕ, zero, suc, ◌+◌, List, [], ◌∷◌, ◌++◌, length, map, zero-add}
-use Rattle.std.specs.Prelude.{Option, Some, None, option_map}
+use Rattle.std.specs.Prelude.{Option, Some, None, option_map, codes}
 use Rattle.std.proofs.Math.IntN.{ℤ}
 use Rattle.std.proofs.lemmas.List.{append-nil}
 use Rattle.std.proofs.Math.Nat.{add-zero}
@@ -12,7 +12,6 @@ use Rattle.iolb_model.specs.Execution.{Instance}
 use Rattle.claims.specs.Claims.{Claim, AllHold, numbered}
 use Rattle.claims.specs.declared.place.Step.{Step}
 use Rattle.claims.specs.declared.place.Step.TheVariants.{Key, Index}
-use Rattle.claims.specs.declared.key.TheConstants.{LABEL, NODES, REGION, START, TREE}
 use Rattle.claims.proofs.Laws.{AllHold-left, AllHold-right}
 use Rattle.claims.proofs.Members.{suc-moved}
 use Rattle.affine_form.specs.Matrix.{IntegerMatrix}
@@ -28,7 +27,7 @@ use Rattle.reuse_paths.specs.Families.{CreditedNest, NodeForms, FamilyForms, nod
 use Rattle.reuse_paths.specs.FamilyClaims.{family_setting, start_rows, start_walk, label_rows, region_walk, node_walk, family_claims}
 use Rattle.reuse_paths.specs.FamilyFits.{FamilyFits, NodesFit}
 use Rattle.reuse_paths.specs.SoundFamilies.{read_taken, IsInside, IsWord, TakesWord, IsSoundFamily, FamiliesAreSound}
-use Rattle.reuse_paths.specs.Trees.{read_of, RowsFit, RowsAreTrue}
+use Rattle.dep_quast.specs.Trees.{read_of, RowsFit, RowsAreTrue}
 use Rattle.reuse_paths.specs.WalkClaims.{walk_claims}
 use Rattle.reuse_paths.specs.WalkPieces.{walk_pieces}
 use Rattle.reuse_paths.specs.WalkFits.{LabelsFit, RegionFits, WalkFits}
@@ -80,10 +79,10 @@ module _ (program : AffineProgram) (trees : List (List SelectionTree)) (statemen
   start = start_walk program trees statement nest credits family place
 
   abbrev nodes : List Claim
-  nodes = numbered (node_walk program trees credits family (place ++ Key NODES ∷ [])) 0 family.nodes
+  nodes = numbered (node_walk program trees credits family (place ++ Key (codes "nodes") ∷ [])) 0 family.nodes
 
   abbrev labels : List Claim
-  labels = label_rows matrix family.scale (length program.parameters) (depth_of program statement) (place ++ Key START ∷ Key LABEL ∷ []) 0 family.set family.start_label
+  labels = label_rows matrix family.scale (length program.parameters) (depth_of program statement) (place ++ Key (codes "start") ∷ Key (codes "label") ∷ []) 0 family.set family.start_label
 
   holds-start : AllHold start
   holds-start = AllHold-right labels start (AllHold-left (labels ++ start) nodes holds)
@@ -110,7 +109,7 @@ module _ (program : AffineProgram) (trees : List (List SelectionTree)) (statemen
         let walk : WalkSetting = setting family.start_label in
         let vars : ℕ = region_variables walk statement in
         let point : List ℤ = (values ++ []) ++ x in
-        taken family.start_label n statement x here (place ++ Key START ∷ Key TREE ∷ []) (start_rows walk statement nest) family.start
+        taken family.start_label n statement x here (place ++ Key (codes "start") ∷ Key (codes "tree") ∷ []) (start_rows walk statement nest) family.start
         (within_rows-met vars (map step_of nest) (parameter_point program vars) (region_values walk statement) point
         (subst (λ (ps : List ℤ). IsWithin (map step_of nest) ps (values_at (region_values walk statement) point)) (sym (params-there walk values [] formed admitted tt n statement x here))
         (subst (λ (ys : List ℤ). IsWithin (map step_of nest) values ys) (sym (loops-there walk values [] formed admitted tt n statement x here)) within)))
@@ -125,7 +124,7 @@ module _ (program : AffineProgram) (trees : List (List SelectionTree)) (statemen
     pub region-taken : (n : ℕ) (instance : Instance) (here : IsAt program values n instance) (inside : IsInside family values instance) → RegionTaken n instance here inside.region
     region-taken n instance here inside =
         let s : ℕ = instance.statement in
-        let at : List Step = place ++ Key NODES ∷ [] in
+        let at : List Step = place ++ Key (codes "nodes") ∷ [] in
         let node : IsNode program trees credits family at (0 + s) inside.region family.nodes s =
         node-there program trees credits family at 0 s family.nodes inside.region inside.is fits.regions holds-nodes in
         let walk : WalkSetting = setting node.label in
@@ -133,7 +132,7 @@ module _ (program : AffineProgram) (trees : List (List SelectionTree)) (statemen
         let hold : AllHold (region_walk walk at s (Some inside.region)) = subst (λ (k : ℕ). AllHold (region_walk walk at k (Some inside.region))) (zero-add s) node.hold in record {
           label = node.label;
           is = node.is;
-          takes = taken node.label n s instance.values here (at ++ Index s ∷ Key REGION ∷ Key TREE ∷ []) inside.region.rows inside.region.tree
+          takes = taken node.label n s instance.values here (at ++ Index s ∷ Key (codes "region") ∷ Key (codes "tree") ∷ []) inside.region.rows inside.region.tree
               (subst (IsMet inside.region.rows) (sym (in-front values instance.values)) inside.met) region-fits.1 hold;
         }
 

@@ -14,7 +14,7 @@ use Rattle.claims.proofs.Members.{suc-moved}
 use Rattle.dep_quast.specs.Context.{ReadOf}
 use Rattle.reuse_paths.specs.declared.leaf.Leaf.{Leaf}
 use Rattle.reuse_paths.specs.LeafClaims.{LeafClaim, claim_of}
-use Rattle.reuse_paths.specs.OpenLeaves.{OpenLeaf}
+use Rattle.dep_quast.specs.OpenLeaves.{OpenLeaf}
 use Rattle.reuse_paths.specs.EntryClaims.{leaf_claims}
 use Rattle.reuse_paths.specs.WalkClaims.{leaves_claims}
 use Rattle.reuse_paths.specs.WalkSettings.{WalkSetting}

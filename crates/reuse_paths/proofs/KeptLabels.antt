@@ -12,7 +12,8 @@ use Rattle.affine_form.specs.Substitution.{values_at}
 use Rattle.affine_form.specs.System.{AffineSystem, IsMet}
 use Rattle.affine_form.specs.Rows.{equality_rows}
 use Rattle.affine_form.proofs.Meaning.{equality_rows-say}
-use Rattle.dep_quast.proofs.Shown.{goals-met, equality_rows-few}
+use Rattle.claims.proofs.Systems.{goals-met}
+use Rattle.dep_quast.proofs.Fits.{equality_rows-few}
 use Rattle.reuse_paths.specs.EntryClaims.{label_claims}
 use Rattle.reuse_paths.specs.Families.{label_at}
 use Rattle.reuse_paths.specs.WalkFits.{AreInstanceLabels, AreCellLabels}
@@ -39,7 +40,7 @@ cell-label-many program size zero (a ∷ arrays) (Some l ∷ labels) label fits 
 cell-label-many program size (suc array) (a ∷ arrays) (l ∷ labels) label fits e = cell-label-many program size array arrays labels label fits.1 e
 
 -- There is a label, by forms put in for the variables of one in a list, and it has the reader's value.
-pub label-shown : (reader : List AffineForm) (put : List AffineForm → List AffineForm) (found : Option (List AffineForm)) (place : List Step) (key : ℕ) (system : AffineSystem) (shown : List FarkasMultipliers) (point : List ℤ)
+pub label-shown : (reader : List AffineForm) (put : List AffineForm → List AffineForm) (found : Option (List AffineForm)) (place : List Step) (key : List ℕ) (system : AffineSystem) (shown : List FarkasMultipliers) (point : List ℤ)
     → ((label : List AffineForm) → found ≡ Some label → length (put label) ≡ length reader) → length shown ≡ 2 * length reader
     → AllHold (label_claims reader place key system (option_map put found) shown) → IsMet system.rows point
     → (label : List AffineForm) × ((found ≡ Some label) × (values_at (put label) point ≡ values_at reader point))

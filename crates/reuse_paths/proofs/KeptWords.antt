@@ -1,6 +1,6 @@
 -- What the walk of a family takes from an instance whose claims hold is a word with the label of its reader.
 use Rattle.std.proofs.Common.{◌≡◌, refl, sym, ◌∙◌, ap, subst, inl, inr, ℕ, zero, suc, ◌*◌, true, false, List, [], ◌∷◌, ◌++◌, length, map, arith}
-use Rattle.std.specs.Prelude.{◌⊎◌, Option, Some, None, option_map, slice_get, IsSomeAnd}
+use Rattle.std.specs.Prelude.{◌⊎◌, Option, Some, None, option_map, slice_get, IsSomeAnd, codes}
 use Rattle.std.specs.List.{AllByRecursion}
 use Rattle.std.specs.Option.{option_map_or}
 use Rattle.std.proofs.Math.IntN.{ℤ}
@@ -14,7 +14,6 @@ use Rattle.iolb_model.specs.Source.{read_cell}
 use Rattle.claims.specs.Claims.{AllHold}
 use Rattle.claims.specs.declared.place.Step.{Step}
 use Rattle.claims.specs.declared.place.Step.TheVariants.{Key}
-use Rattle.claims.specs.declared.key.TheConstants.{LABEL, ROWS, STOP}
 use Rattle.claims.proofs.Laws.{AllHold-left, AllHold-right}
 use Rattle.affine_form.specs.Multipliers.{FarkasMultipliers}
 use Rattle.affine_form.specs.Substitution.{values_at}
@@ -23,21 +22,22 @@ use Rattle.affine_form.specs.Rows.{variables_from, step_of}
 use Rattle.affine_form.proofs.ShownLemmas.{Shows-none}
 use Rattle.affine_form.proofs.Meaning.{within_rows-says}
 use Rattle.affine_program.specs.Domain.{depth_of}
-use Rattle.dep_quast.specs.Claims.{follow_claims}
+use Rattle.claims.specs.Shown.{follow_claims}
 use Rattle.dep_quast.specs.Context.{reference_of, parameter_point}
 use Rattle.dep_quast.specs.Tree.{SelectionTree}
 use Rattle.dep_quast.specs.Truth.{source_at}
-use Rattle.dep_quast.proofs.Shown.{goals-met, within_rows-few}
+use Rattle.claims.proofs.Systems.{goals-met}
+use Rattle.dep_quast.proofs.Fits.{within_rows-few}
 use Rattle.reuse_paths.specs.EntryClaims.{IsWrittenBy, keeping_claims, label_claims, word_label, credit_goals, going_goals, nest_goals}
 use Rattle.reuse_paths.specs.Families.{CreditedNest, FamilyForms, node_label, label_at}
 use Rattle.reuse_paths.specs.FamilyClaims.{family_setting}
 use Rattle.reuse_paths.specs.LeafClaims.{LeafClaim, no_point, stops, is_credited, goes_on, arrives}
-use Rattle.reuse_paths.specs.OpenLeaves.{LeafOrigin, written, as_input, unknown, form_at}
+use Rattle.dep_quast.specs.OpenLeaves.{LeafOrigin, written, as_input, unknown, form_at}
 use Rattle.reuse_paths.specs.SoundFamilies.{label_of_instance, label_of_cell, IsInside, IsCreditedBy, IsWord}
-use Rattle.reuse_paths.specs.Trees.{read_of}
+use Rattle.dep_quast.specs.Trees.{read_of}
 use Rattle.reuse_paths.specs.WalkFits.{LabelsFit, CreditFits, KeepingFits}
 use Rattle.reuse_paths.specs.WalkSettings.{KeptLabels, WalkSetting, spot_variables, region_variables, reading_point, region_at, forms_behind}
-use Rattle.reuse_paths.proofs.ChosenLeaves.{forms_at-values}
+use Rattle.dep_quast.proofs.ChosenLeaves.{forms_at-values}
 use Rattle.reuse_paths.proofs.KeptLabels.{instance-label-many, cell-label-many, label-shown}
 use Rattle.reuse_paths.proofs.Regions.{behind-values, going-met, params-there, reading-there}
 use Rattle.reuse_paths.proofs.WordsTaken.{IsTrueOrigin}
@@ -84,12 +84,12 @@ module _ (program : AffineProgram) (trees : List (List SelectionTree)) (credits 
 
     -- an input has the reader's label
     input-kept : (label : List FarkasMultipliers) → length label ≡ 2 * length reader
-        → AllHold (label_claims reader at STOP system (word_label walk kept (read_of s read) vars forms as_input) label)
+        → AllHold (label_claims reader at (codes "stop") system (word_label walk kept (read_of s read) vars forms as_input) label)
         → label_of_cell family values (read_cell program values s read x) ≡ Some (values_at reader point)
     input-kept label enough h =
         let cell : Access = reference_of program (read_of s read) in
         let here_forms : List AffineForm = map (form_at vars forms) cell.subscripts in
-        let shown = label-shown reader (forms_behind walk vars here_forms) (label_at family.inputs cell.array) at STOP system label point
+        let shown = label-shown reader (forms_behind walk vars here_forms) (label_at family.inputs cell.array) at (codes "stop") system label point
         (λ l e. length-map l (form_at vars (variables_from vars 0 (spot_variables walk) ++ here_forms)) ∙ cell-label-many program size cell.array program.arrays family.inputs l labels-fit.cells e ∙ sym many) enough h met in
         some-mapped (label_at family.inputs cell.array) shown.0 (values ++ values_at cell.subscripts (values ++ x)) (values_at reader point) shown.1.0 (sym (behind cell.subscripts shown.0) ∙ shown.1.1)
 
@@ -99,11 +99,11 @@ module _ (program : AffineProgram) (trees : List (List SelectionTree)) (credits 
 
       -- so has an instance that wrote the word
       instance-kept : (label : List FarkasMultipliers) → length label ≡ 2 * length reader
-          → AllHold (label_claims reader at LABEL system (word_label walk kept (read_of s read) vars forms (written writer forms-written)) label)
+          → AllHold (label_claims reader at (codes "label") system (word_label walk kept (read_of s read) vars forms (written writer forms-written)) label)
           → label_of_instance family values written-instance ≡ Some (values_at reader point)
       instance-kept label enough h =
           let here_forms : List AffineForm = map (form_at vars forms) forms-written in
-          let shown = label-shown reader (forms_behind walk vars here_forms) (label_at (map node_label family.nodes) writer) at LABEL system label point
+          let shown = label-shown reader (forms_behind walk vars here_forms) (label_at (map node_label family.nodes) writer) at (codes "label") system label point
           (λ l e. length-map l (form_at vars (variables_from vars 0 (spot_variables walk) ++ here_forms)) ∙ instance-label-many program size 0 writer (map node_label family.nodes) l labels-fit.instances e ∙ sym many) enough h met in
           some-mapped (label_at (map node_label family.nodes) writer) shown.0 (values ++ written-instance.values) (values_at reader point) shown.1.0 (sym (behind forms-written shown.0) ∙ shown.1.1)
 
@@ -111,7 +111,7 @@ module _ (program : AffineProgram) (trees : List (List SelectionTree)) (credits 
       is-credited : (found : Option CreditedNest) (credit : ℕ) (shown : List FarkasMultipliers) → slice_get credits credit ≡ found
           → ((nest : CreditedNest) → found ≡ Some nest → CreditFits program nest)
           → IsSomeAnd found (λ (nest : CreditedNest). length shown ≡ 2 * length nest.nest) → IsSomeAnd found (λ (nest : CreditedNest). writer ≡ nest.statement)
-          → AllHold (follow_claims 15 (at ++ Key ROWS ∷ []) system 0 (option_map_or (nest_goals program vars (map (form_at vars forms) forms-written)) found []) shown)
+          → AllHold (follow_claims 15 (at ++ Key (codes "rows") ∷ []) system 0 (option_map_or (nest_goals program vars (map (form_at vars forms) forms-written)) found []) shown)
           → IsCreditedBy credits values written-instance
       is-credited None credit shown is fits enough of h = absurd of
       is-credited (Some nest) credit shown is fits enough of h =
@@ -120,7 +120,7 @@ module _ (program : AffineProgram) (trees : List (List SelectionTree)) (credits 
           let each : length here_forms ≡ length (map step_of nest.nest) =
           length-map forms-written (form_at vars forms) ∙ says.1.2 ∙ ap (depth_of program) of ∙ sym (fits nest refl).each ∙ sym (length-map nest.nest step_of) in
           let goals-are-met : IsMet goals point =
-          goals-met 15 (at ++ Key ROWS ∷ []) system 0 goals shown point
+          goals-met 15 (at ++ Key (codes "rows") ∷ []) system 0 goals shown point
           (omega (arith, enough, within_rows-few vars (map step_of nest.nest) (parameter_point program vars) here_forms, length-map nest.nest step_of)) h met in
           let within : IsWithin (map step_of nest.nest) (values_at (parameter_point program vars) point) (values_at here_forms point) =
           within_rows-says vars (map step_of nest.nest) (parameter_point program vars) here_forms point each goals-are-met in record {
@@ -135,7 +135,7 @@ module _ (program : AffineProgram) (trees : List (List SelectionTree)) (credits 
       -- or in its statement's region
       is-inside : (shown : List FarkasMultipliers) → length shown ≡ length (going_goals walk vars forms (written writer forms-written))
           → IsSomeAnd (region_at walk.nodes writer) (λ region. Unit {0})
-          → AllHold (follow_claims 15 (at ++ Key ROWS ∷ []) system 0 (going_goals walk vars forms (written writer forms-written)) shown)
+          → AllHold (follow_claims 15 (at ++ Key (codes "rows") ∷ []) system 0 (going_goals walk vars forms (written writer forms-written)) shown)
           → IsInside family values written-instance
       is-inside shown enough is h =
           let inside = going-met walk values [] formed admitted tt n s x here 15 at rows writer forms-written shown enough met is h in record {
@@ -178,16 +178,16 @@ module _ (program : AffineProgram) (trees : List (List SelectionTree)) (credits 
     kept-word unknown says (stops label) enough h = absurd (no-input h.0)
     kept-word (written writer fs) says (is_credited credit rs label) enough h =
         let goals : List AffineForm = credit_goals program credits vars forms credit (written writer fs) in
-        let first = follow_claims 15 (at ++ Key ROWS ∷ []) system 0 goals rs in
-        let second = label_claims reader at LABEL system (word_label walk kept (read_of s read) vars forms (written writer fs)) label in
+        let first = follow_claims 15 (at ++ Key (codes "rows") ∷ []) system 0 goals rs in
+        let second = label_claims reader at (codes "label") system (word_label walk kept (read_of s read) vars forms (written writer fs)) label in
         word writer fs says (instance-kept writer fs says label enough.1 (AllHold-right first second h.1))
         (inl (is-credited writer fs says (slice_get credits credit) credit rs refl (λ nest e. credit-fits credit credits nest labels-fit.credits e) enough.0 (of-credit writer fs (slice_get credits credit) h.0) (AllHold-left first second h.1)))
     kept-word as_input says (is_credited credit rs label) enough h = absurd (no-credit (slice_get credits credit) h.0)
     kept-word unknown says (is_credited credit rs label) enough h = absurd (no-credit (slice_get credits credit) h.0)
     kept-word (written writer fs) says (goes_on rs label) enough h =
         let goals : List AffineForm = going_goals walk vars forms (written writer fs) in
-        let first = follow_claims 15 (at ++ Key ROWS ∷ []) system 0 goals rs in
-        let second = label_claims reader at LABEL system (word_label walk kept (read_of s read) vars forms (written writer fs)) label in
+        let first = follow_claims 15 (at ++ Key (codes "rows") ∷ []) system 0 goals rs in
+        let second = label_claims reader at (codes "label") system (word_label walk kept (read_of s read) vars forms (written writer fs)) label in
         word writer fs says (instance-kept writer fs says label enough.1 (AllHold-right first second h.1)) (inr (is-inside writer fs says rs enough.0 h.0 (AllHold-left first second h.1)))
     kept-word as_input says (goes_on rs label) enough h = absurd h.0
     kept-word unknown says (goes_on rs label) enough h = absurd h.0

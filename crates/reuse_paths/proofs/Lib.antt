@@ -1,14 +1,7 @@
 pub mod Places
 pub mod Matrices
-pub mod TreeLemmas
-pub mod MovedForms
-pub mod SharedVertices
-pub mod PairsFound
-pub mod PairCounts
 pub mod NestPoints
-pub mod PieceVertices
 pub mod OpenLeaves
-pub mod ChosenLeaves
 pub mod ReadSources
 pub mod Regions
 pub mod Entries

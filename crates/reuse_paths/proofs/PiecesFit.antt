@@ -16,11 +16,11 @@ use Rattle.dep_quast.specs.Context.{reference_of, no_row, parameter_point}
 use Rattle.dep_quast.specs.Truth.{ReadFits, TreeFits}
 use Rattle.reuse_paths.specs.FewContexts.{TakenFits, TakesFit}
 use Rattle.reuse_paths.specs.LeafClaims.{LeafClaim, no_point, stops, is_credited, goes_on, arrives}
-use Rattle.reuse_paths.specs.OpenLeaves.{LeafOrigin, written, as_input, unknown, OpenLeaf, form_at}
-use Rattle.reuse_paths.specs.declared.piece.Target.TheVariants.{Cell, Instance}
-use Rattle.reuse_paths.specs.Pieces.{FootprintPiece, PieceFits}
-use Rattle.reuse_paths.specs.Quasts.{tree_for}
-use Rattle.reuse_paths.specs.Trees.{read_of, RowsFit}
+use Rattle.dep_quast.specs.OpenLeaves.{LeafOrigin, written, as_input, unknown, OpenLeaf, form_at}
+use Rattle.footprint_pieces.specs.declared.piece.Target.TheVariants.{Cell, Instance}
+use Rattle.footprint_pieces.specs.Pieces.{FootprintPiece, PieceFits}
+use Rattle.dep_quast.specs.Quasts.{tree_for}
+use Rattle.dep_quast.specs.Trees.{read_of, RowsFit}
 use Rattle.reuse_paths.specs.WalkClaims.{leaves_at}
 use Rattle.reuse_paths.specs.WalkPieces.{word_pieces, entry_pieces, leaves_pieces, walk_pieces}
 use Rattle.reuse_paths.specs.WalkSettings.{WalkSetting, reading_point, region_context, region_values, region_variables, spot_variables}
@@ -28,7 +28,7 @@ use Rattle.reuse_paths.specs.WalkViews.{OpenLeafFits, OriginFits}
 use Rattle.reuse_paths.specs.Walks.{WalkTree, take as take_read, test}
 use Rattle.reuse_paths.proofs.OpenLeaves.{open-fits}
 use Rattle.reuse_paths.proofs.Renamed.{forms_at-small}
-use Rattle.reuse_paths.proofs.TreeLemmas.{rows-fit-at}
+use Rattle.dep_quast.proofs.TreeLemmas.{rows-fit-at}
 use Rattle.iolb_model.specs.declared.limits.TheConstants.{NEST_VARIABLES, PUT_SIZE}
 
 -- a form over all of so many variables is read over them as it is

@@ -1,6 +1,6 @@
 -- The points of a region: the parameters, a point of the nest, and the loop values of an instance.
 use Rattle.std.proofs.Common.{◌≡◌, refl, sym, ◌∙◌, ap, subst, ℕ, zero, suc, ◌+◌, ◌≤◌, List, [], ◌∷◌, ◌++◌, length, map, arith}
-use Rattle.std.specs.Prelude.{Option, Some, None, IsSomeAnd}
+use Rattle.std.specs.Prelude.{Option, Some, None, IsSomeAnd, codes}
 use Rattle.std.proofs.Math.IntN.{ℤ, pos}
 use lib.Signed.{◌≤ℤ◌}
 use Rattle.std.proofs.lemmas.List.{append_assoc, length-append, length-map, map-append}
@@ -15,7 +15,6 @@ use Rattle.execution_laws.proofs.Domains.{domains_executed}
 use Rattle.claims.specs.Claims.{AllHold, numbered}
 use Rattle.claims.specs.declared.place.Step.{Step}
 use Rattle.claims.specs.declared.place.Step.TheVariants.{Key}
-use Rattle.claims.specs.declared.key.TheConstants.{ROWS}
 use Rattle.claims.proofs.Laws.{AllHold-left, AllHold-right}
 use Rattle.claims.proofs.Members.{suc-moved}
 use Rattle.affine_form.specs.Multipliers.{FarkasMultipliers}
@@ -24,18 +23,18 @@ use Rattle.affine_form.specs.System.{IsMet}
 use Rattle.affine_form.specs.Rows.{widened, variables_from, within_rows, step_of}
 use Rattle.affine_form.proofs.Meaning.{values-end, values-front, widened-stay, within_rows-met}
 use Rattle.affine_program.specs.Domain.{path_of, depth_of}
-use Rattle.dep_quast.specs.Claims.{follow_claims}
+use Rattle.claims.specs.Shown.{follow_claims}
 use Rattle.dep_quast.specs.Context.{parameter_point}
 use Rattle.execution_laws.proofs.Ways.{within-length, there-holds}
-use Rattle.dep_quast.proofs.Shown.{goals-met}
+use Rattle.claims.proofs.Systems.{goals-met}
 use Rattle.domain_count.specs.Count.{rows_before}
 use Rattle.reuse_paths.specs.EntryClaims.{IsInRegion, going_goals}
-use Rattle.reuse_paths.specs.OpenLeaves.{written, form_at}
+use Rattle.dep_quast.specs.OpenLeaves.{written, form_at}
 use Rattle.reuse_paths.specs.ReachClaims.{region_claims}
 use Rattle.reuse_paths.specs.WalkFits.{RegionFits, RegionsFit}
 use Rattle.reuse_paths.specs.WalkSettings.{WalkSetting, spot_variables, region_variables, region_values, reading_point, region_context, region_at, forms_behind, entering_rows}
 use Rattle.reuse_paths.specs.Walks.{WalkRegion}
-use Rattle.reuse_paths.proofs.ChosenLeaves.{forms_at-met, forms_at-values}
+use Rattle.dep_quast.proofs.ChosenLeaves.{forms_at-met, forms_at-values}
 use Rattle.reuse_paths.proofs.NestPoints.{nest-met-before}
 
 pub there-is : (o : Option WalkRegion) → IsSomeAnd o (λ region. Unit {0}) → (region : WalkRegion) × (o ≡ Some region)
@@ -128,7 +127,7 @@ module _ (walk : WalkSetting) (values u : List ℤ) (formed : IsWellFormed walk.
     pub going-met : (condition : ℕ) (place : List Step) (rows : List AffineForm) (writer : ℕ) (forms : List AffineForm) (shown : List FarkasMultipliers)
         → length shown ≡ length (going_goals walk (region_variables walk s) (reading_point walk s) (written writer forms)) → IsMet rows ((values ++ u) ++ x)
         → IsInRegion walk (written writer forms)
-        → AllHold (follow_claims condition (place ++ Key ROWS ∷ []) (record { vars = region_variables walk s; rows = rows }) 0 (going_goals walk (region_variables walk s) (reading_point walk s) (written writer forms)) shown)
+        → AllHold (follow_claims condition (place ++ Key (codes "rows") ∷ []) (record { vars = region_variables walk s; rows = rows }) 0 (going_goals walk (region_variables walk s) (reading_point walk s) (written writer forms)) shown)
         → (region : WalkRegion) × ((region_at walk.nodes writer ≡ Some region) × IsMet region.rows ((values ++ u) ++ values_at forms (values ++ x)))
     going-met condition place rows writer forms shown enough met is h =
         let vars : ℕ = region_variables walk s in
@@ -136,7 +135,7 @@ module _ (walk : WalkSetting) (values u : List ℤ) (formed : IsWellFormed walk.
         let here_forms : List AffineForm = map (form_at vars (reading_point walk s)) forms in
         let region : (r : WalkRegion) × (region_at walk.nodes writer ≡ Some r) = there-is (region_at walk.nodes writer) is in
         let entering : IsMet (entering_rows walk vars (region_at walk.nodes writer) here_forms) point =
-        goals-met condition (place ++ Key ROWS ∷ []) (record { vars = vars; rows = rows }) 0 (going_goals walk vars (reading_point walk s) (written writer forms)) shown point (omega (arith, enough)) h met in
+        goals-met condition (place ++ Key (codes "rows") ∷ []) (record { vars = vars; rows = rows }) 0 (going_goals walk vars (reading_point walk s) (written writer forms)) shown point (omega (arith, enough)) h met in
         let inside : IsMet region.0.rows ((values ++ u) ++ values_at here_forms point) =
         entering-met vars region.0 here_forms point x (omega arith) refl
         (subst (λ (o : Option WalkRegion). IsMet (entering_rows walk vars o here_forms) point) region.1 entering) in

@@ -16,7 +16,7 @@ use Rattle.affine_form.specs.Substitution.{substitution}
 use Rattle.affine_form.proofs.Combination.{coefficient_of-combination, coefficient_of-constant}
 use Rattle.affine_form.proofs.RowLemmas.{length-widened, variables-substitution}
 use Rattle.affine_form.proofs.Sizes.{size-add}
-use Rattle.reuse_paths.specs.OpenLeaves.{form_at}
+use Rattle.dep_quast.specs.OpenLeaves.{form_at}
 use Rattle.iolb_model.specs.declared.limits.TheConstants.{NUMBER_SIZE}
 
 -- the sizes of a variable's coefficients in forms, added up

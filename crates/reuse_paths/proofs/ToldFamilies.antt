@@ -9,7 +9,7 @@ use Rattle.reuse_paths.specs.Families.{CreditedNest, FamilyForms, NodeForms, nod
 use Rattle.reuse_paths.specs.FamilyClaims.{family_setting}
 use Rattle.reuse_paths.specs.FamilyFits.{FamilyFits, NodesFit}
 use Rattle.reuse_paths.specs.FewContexts.{ReadersFit, RegionTakesFit, RegionsTakeFit, TakesFit}
-use Rattle.reuse_paths.specs.Trees.{read_of, RowsFit}
+use Rattle.dep_quast.specs.Trees.{read_of, RowsFit}
 use Rattle.reuse_paths.specs.WalkClaims.{leaves_at}
 use Rattle.reuse_paths.specs.WalkFits.{RegionFits, RegionRowsFit, WalkFits}
 use Rattle.reuse_paths.specs.WalkSettings.{WalkSetting}

@@ -9,13 +9,13 @@ use Rattle.claims.specs.declared.place.Step.{Step}
 use Rattle.claims.specs.declared.place.Step.TheVariants.{Index}
 use Rattle.claims.specs.declared.refused.Refused.{Refused}
 use Rattle.claims.proofs.Found.{decides-later, refused-first}
-use Rattle.dep_quast.specs.Claims.{IsFew}
+use Rattle.claims.specs.Shown.{IsFew}
 use Rattle.dep_quast.specs.Context.{ReadOf}
 use Rattle.reuse_paths.specs.declared.leaf.Leaf.{Leaf}
 use Rattle.reuse_paths.specs.FewContexts.{few_claim, few_leaves}
 use Rattle.reuse_paths.specs.LeafClaims.{claim_of}
-use Rattle.reuse_paths.specs.OpenLeaves.{OpenLeaf}
-use Rattle.reuse_paths.specs.Pieces.{FootprintPiece}
+use Rattle.dep_quast.specs.OpenLeaves.{OpenLeaf}
+use Rattle.footprint_pieces.specs.Pieces.{FootprintPiece}
 use Rattle.reuse_paths.specs.WalkPieces.{entry_pieces, leaves_pieces}
 use Rattle.reuse_paths.specs.WalkSettings.{WalkSetting}
 

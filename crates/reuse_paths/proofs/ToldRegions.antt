@@ -10,7 +10,7 @@ use Rattle.reuse_paths.specs.declared.family.FamilyNode.{FamilyNode}
 use Rattle.reuse_paths.specs.Families.{node_of, node_region}
 use Rattle.reuse_paths.specs.FamilyPieces.{region_pieces, regions_pieces}
 use Rattle.reuse_paths.specs.FewContexts.{RegionTakesFit, RegionsTakeFit}
-use Rattle.reuse_paths.specs.Pieces.{FootprintPiece, PieceFits}
+use Rattle.footprint_pieces.specs.Pieces.{FootprintPiece, PieceFits}
 use Rattle.reuse_paths.specs.WalkSettings.{WalkSetting}
 use Rattle.reuse_paths.specs.Walks.{WalkRegion}
 

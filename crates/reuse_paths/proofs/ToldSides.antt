@@ -1,10 +1,10 @@
 -- What is found of the claims of a test's two sides that their rows are few.
+use Rattle.std.specs.Prelude.{codes}
 use Rattle.std.proofs.Common.{◌≡◌, sym, subst, ℕ, List, [], ◌∷◌, ◌++◌}
 use Rattle.iolb_model.specs.Form.{AffineForm}
 use Rattle.claims.specs.Claims.{Claim, AllHold, IsRefusal}
 use Rattle.claims.specs.declared.place.Step.{Step}
 use Rattle.claims.specs.declared.place.Step.TheVariants.{Key}
-use Rattle.claims.specs.declared.key.TheConstants.{NO, YES}
 use Rattle.claims.specs.declared.refused.Refused.{Refused}
 use Rattle.claims.proofs.Found.{refused-first, refused-later}
 use Rattle.claims.proofs.Laws.{AllHold-append}
@@ -23,12 +23,12 @@ module _ (walk : WalkSetting) (statement : ℕ) (P : List Claim → Type 0) wher
 
 module _ (walk : WalkSetting) (statement : ℕ) (rows : List AffineForm) (place : List Step) (form : AffineForm) (upper below : Walk) (above under : List AffineForm) (side other : List Step)
     (whole lent last : Walk) (is : tree_of_walk whole ≡ test form (tree_of_walk upper) (tree_of_walk below)) (first-lent : tree_of_walk lent ≡ tree_of_walk upper)
-    (above-is : above ≡ rows ++ form ∷ []) (side-is : side ≡ place ++ Key YES ∷ []) where
+    (above-is : above ≡ rows ++ form ∷ []) (side-is : side ≡ place ++ Key (codes "yes") ∷ []) where
   abbrev first : List Claim
-  first = few_walk walk statement (place ++ Key YES ∷ []) (rows ++ form ∷ []) (tree_of_walk upper)
+  first = few_walk walk statement (place ++ Key (codes "yes") ∷ []) (rows ++ form ∷ []) (tree_of_walk upper)
 
   abbrev second : List Claim
-  second = few_walk walk statement (place ++ Key NO ∷ []) (rows ++ no_row (region_variables walk statement) form ∷ []) (tree_of_walk below)
+  second = few_walk walk statement (place ++ Key (codes "no") ∷ []) (rows ++ no_row (region_variables walk statement) form ∷ []) (tree_of_walk below)
 
   abbrev all : List Claim
   all = few_walk walk statement place rows (tree_of_walk whole)
@@ -37,23 +37,23 @@ module _ (walk : WalkSetting) (statement : ℕ) (rows : List AffineForm) (place 
   pub few-first : (r : Refused) → IsRefusal (few_walk walk statement side above (tree_of_walk lent)) r → IsRefusal all r
   few-first r h =
       subst (λ (x : WalkTree). IsRefusal (few_walk walk statement place rows x) r) (sym is)
-      (refused-first first second r (moved walk statement (λ (cs : List Claim). IsRefusal cs r) above (rows ++ form ∷ []) side (place ++ Key YES ∷ []) (tree_of_walk lent) (tree_of_walk upper) above-is side-is first-lent h))
+      (refused-first first second r (moved walk statement (λ (cs : List Claim). IsRefusal cs r) above (rows ++ form ∷ []) side (place ++ Key (codes "yes") ∷ []) (tree_of_walk lent) (tree_of_walk upper) above-is side-is first-lent h))
 
-  module _ (last-lent : tree_of_walk last ≡ tree_of_walk below) (under-is : under ≡ rows ++ no_row (region_variables walk statement) form ∷ []) (other-is : other ≡ place ++ Key NO ∷ [])
+  module _ (last-lent : tree_of_walk last ≡ tree_of_walk below) (under-is : under ≡ rows ++ no_row (region_variables walk statement) form ∷ []) (other-is : other ≡ place ++ Key (codes "no") ∷ [])
       (holds : AllHold (few_walk walk statement side above (tree_of_walk lent))) where
     hold : AllHold first
-    hold = moved walk statement AllHold above (rows ++ form ∷ []) side (place ++ Key YES ∷ []) (tree_of_walk lent) (tree_of_walk upper) above-is side-is first-lent holds
+    hold = moved walk statement AllHold above (rows ++ form ∷ []) side (place ++ Key (codes "yes") ∷ []) (tree_of_walk lent) (tree_of_walk upper) above-is side-is first-lent holds
 
     -- one on the second
     pub few-second : (r : Refused) → IsRefusal (few_walk walk statement other under (tree_of_walk last)) r → IsRefusal all r
     few-second r h =
         subst (λ (x : WalkTree). IsRefusal (few_walk walk statement place rows x) r) (sym is)
         (refused-later first second r hold
-        (moved walk statement (λ (cs : List Claim). IsRefusal cs r) under (rows ++ no_row (region_variables walk statement) form ∷ []) other (place ++ Key NO ∷ []) (tree_of_walk last) (tree_of_walk below) under-is other-is last-lent h))
+        (moved walk statement (λ (cs : List Claim). IsRefusal cs r) under (rows ++ no_row (region_variables walk statement) form ∷ []) other (place ++ Key (codes "no") ∷ []) (tree_of_walk last) (tree_of_walk below) under-is other-is last-lent h))
 
     -- none on either
     pub few-both : AllHold (few_walk walk statement other under (tree_of_walk last)) → AllHold all
     few-both h =
         subst (λ (x : WalkTree). AllHold (few_walk walk statement place rows x)) (sym is)
         (AllHold-append first second hold
-        (moved walk statement AllHold under (rows ++ no_row (region_variables walk statement) form ∷ []) other (place ++ Key NO ∷ []) (tree_of_walk last) (tree_of_walk below) under-is other-is last-lent h))
+        (moved walk statement AllHold under (rows ++ no_row (region_variables walk statement) form ∷ []) other (place ++ Key (codes "no") ∷ []) (tree_of_walk last) (tree_of_walk below) under-is other-is last-lent h))

@@ -1,6 +1,6 @@
 -- What a walk takes from an instance whose claims hold: a word whose entry's claims hold, and of which the source tree is true.
 use Rattle.std.proofs.Common.{◌≡◌, refl, subst, ℕ, if◌then◌else◌, Bool, true, false, List, [], ◌∷◌, ◌++◌, length, map, arith, zero-add}
-use Rattle.std.specs.Prelude.{◌<ℤ◌}
+use Rattle.std.specs.Prelude.{◌<ℤ◌, codes}
 use Rattle.std.proofs.Math.IntN.{ℤ, pos, negsuc}
 use lib.Signed.{◌≤ℤ◌}
 use Rattle.std.proofs.lemmas.Int.{ints}
@@ -15,7 +15,6 @@ use Rattle.execution_laws.proofs.Members.{Member, Member-append_left, Member-app
 use Rattle.claims.specs.Claims.{Claim, AllHold}
 use Rattle.claims.specs.declared.place.Step.{Step}
 use Rattle.claims.specs.declared.place.Step.TheVariants.{Key, Index}
-use Rattle.claims.specs.declared.key.TheConstants.{LEAVES, NO, YES}
 use Rattle.claims.proofs.Laws.{AllHold-left, AllHold-right}
 use Rattle.affine_form.specs.Substitution.{values_at}
 use Rattle.affine_form.specs.System.{IsMet}
@@ -26,20 +25,20 @@ use Rattle.dep_quast.specs.Tree.{Leaf, source, input, empty, blank, SelectionTre
 use Rattle.dep_quast.specs.Truth.{ReadFits, TreeFits, FitsUnder, LeafFits, IsTrueLeaf, IsTrueTree, source_at}
 use Rattle.reuse_paths.specs.EntryClaims.{aimed_claims}
 use Rattle.reuse_paths.specs.LeafClaims.{LeafClaim}
-use Rattle.reuse_paths.specs.OpenLeaves.{LeafOrigin, written, as_input, unknown, OpenLeaf}
-use Rattle.reuse_paths.specs.Quasts.{tree_for}
-use Rattle.reuse_paths.specs.Pieces.{FootprintPiece}
+use Rattle.dep_quast.specs.OpenLeaves.{LeafOrigin, written, as_input, unknown, OpenLeaf}
+use Rattle.dep_quast.specs.Quasts.{tree_for}
+use Rattle.footprint_pieces.specs.Pieces.{FootprintPiece}
 use Rattle.reuse_paths.specs.SoundFamilies.{read_taken}
-use Rattle.reuse_paths.specs.Trees.{read_of, RowsFit, RowsAreTrue}
+use Rattle.dep_quast.specs.Trees.{read_of, RowsFit, RowsAreTrue}
 use Rattle.reuse_paths.specs.WalkClaims.{leaves_claims, leaves_at, walk_claims}
 use Rattle.reuse_paths.specs.WalkFits.{EntryFits, TakeFits, WalkFits}
 use Rattle.reuse_paths.specs.WalkPieces.{entry_pieces, leaves_pieces, walk_pieces}
 use Rattle.reuse_paths.specs.WalkSettings.{WalkSetting, region_variables, reading_point}
 use Rattle.reuse_paths.specs.Walks.{WalkTree, take, test}
-use Rattle.reuse_paths.proofs.ChosenLeaves.{IsAmong, StandsAmong, chosen-stands, no_row-met}
+use Rattle.dep_quast.proofs.ChosenLeaves.{IsAmong, StandsAmong, chosen-stands, no_row-met}
 use Rattle.reuse_paths.proofs.Entries.{HasEntry, has-entry}
 use Rattle.reuse_paths.proofs.Regions.{reading-there}
-use Rattle.reuse_paths.proofs.TreeLemmas.{rows-at, rows-fit-at}
+use Rattle.dep_quast.proofs.TreeLemmas.{rows-at, rows-fit-at}
 
 -- the leaf that a tree chooses fits under some tests
 chosen-fits : (program : AffineProgram) (reader : ReadOf) (tests : List AffineForm) (tree : SelectionTree) (point : List ℤ) → FitsUnder program reader tests tree
@@ -149,17 +148,17 @@ module _ (condition : ℕ) (walk : WalkSetting) (values u : List ℤ) (formed : 
   -- A walk takes a read from an instance that meets its rows.
   pub walk-takes : (at : List Step) (rows : List AffineForm) (tree : WalkTree) → IsMet rows point → WalkFits walk s tree → AllHold (walk_claims condition walk s at rows tree)
       → Takes (read_taken tree point) (walk_pieces walk s rows tree)
-  walk-takes at rows (take read entries) met fits holds = read-taken read rows met (at ++ Key LEAVES ∷ []) entries fits holds
+  walk-takes at rows (take read entries) met fits holds = read-taken read rows met (at ++ Key (codes "leaves") ∷ []) entries fits holds
   walk-takes at rows (test form above below) met fits holds =
       let yes : List AffineForm = rows ++ form ∷ [] in
       let no : List AffineForm = rows ++ no_row (region_variables walk s) form ∷ [] in
       let first : List FootprintPiece = walk_pieces walk s yes above in
       let second : List FootprintPiece = walk_pieces walk s no below in
-      let upper : List Claim = walk_claims condition walk s (at ++ Key YES ∷ []) yes above in
-      let lower : List Claim = walk_claims condition walk s (at ++ Key NO ∷ []) no below in
+      let upper : List Claim = walk_claims condition walk s (at ++ Key (codes "yes") ∷ []) yes above in
+      let lower : List Claim = walk_claims condition walk s (at ++ Key (codes "no") ∷ []) no below in
       choose (form_value form point) refl
-      (λ more. wider {some = first} {all = first ++ second} (walk-takes (at ++ Key YES ∷ []) yes above more fits.1 (AllHold-left upper lower holds)) (λ piece m. Member-append_left piece first second m))
-      (λ more. wider {some = second} {all = first ++ second} (walk-takes (at ++ Key NO ∷ []) no below more fits.2 (AllHold-right upper lower holds)) (λ piece m. Member-append_right piece first second m)) where
+      (λ more. wider {some = first} {all = first ++ second} (walk-takes (at ++ Key (codes "yes") ∷ []) yes above more fits.1 (AllHold-left upper lower holds)) (λ piece m. Member-append_left piece first second m))
+      (λ more. wider {some = second} {all = first ++ second} (walk-takes (at ++ Key (codes "no") ∷ []) no below more fits.2 (AllHold-right upper lower holds)) (λ piece m. Member-append_right piece first second m)) where
         met-with : (row : AffineForm) → pos 0 ≤ℤ form_value row point → IsMet (rows ++ row ∷ []) point
         met-with row h = All-append (λ (r : AffineForm). pos 0 ≤ℤ form_value r point) rows (row ∷ []) met (h, tt)
 

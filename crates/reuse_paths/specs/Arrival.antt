@@ -14,7 +14,7 @@ use Rattle.dep_quast.specs.Tree.{SelectionTree}
 use Rattle.reuse_paths.specs.ReachClaims.{reach_claims}
 use Rattle.reuse_paths.specs.ReachFits.{ReachFits}
 use Rattle.reuse_paths.specs.Reached.{IsReached}
-use Rattle.reuse_paths.specs.Trees.{RowsFit, RowsAreTrue}
+use Rattle.dep_quast.specs.Trees.{RowsFit, RowsAreTrue}
 use Rattle.reuse_paths.specs.Walks.{SpotForms, ReachClaim}
 
 -- the instance of a spot at a point of the nest

@@ -1,20 +1,19 @@
 -- What is claimed at a leaf of a source tree at which a walk takes a word.
-use Rattle.std.specs.Prelude.{◌≡◌, ℕ, ⊤, true, List, [], ◌∷◌, ◌++◌, map, length, Option, Some, None, option_map, slice_get, IsSomeAnd}
+use Rattle.std.specs.Prelude.{◌≡◌, ℕ, ⊤, true, List, [], ◌∷◌, ◌++◌, map, length, Option, Some, None, option_map, slice_get, IsSomeAnd, codes}
 use Rattle.std.specs.Option.{option_map_or}
 use Rattle.iolb_model.specs.Form.{AffineForm}
 use Rattle.iolb_model.specs.Program.{AffineProgram}
 use Rattle.claims.specs.Claims.{Claim}
 use Rattle.claims.specs.declared.place.Step.{Step}
 use Rattle.claims.specs.declared.place.Step.TheVariants.{Key, Index}
-use Rattle.claims.specs.declared.key.TheConstants.{ARRIVE, EMPTY, LABEL, ROWS, STOP}
 use Rattle.affine_form.specs.Multipliers.{FarkasMultipliers}
 use Rattle.affine_form.specs.System.{AffineSystem}
 use Rattle.affine_form.specs.Rows.{widened, within_rows, equality_rows, step_of}
-use Rattle.dep_quast.specs.Claims.{IsFew, IsPointless, follow_claims}
+use Rattle.claims.specs.Shown.{IsFew, IsPointless, follow_claims}
 use Rattle.dep_quast.specs.Context.{ReadOf, reference_of, parameter_point}
 use Rattle.reuse_paths.specs.Families.{CreditedNest, label_at}
 use Rattle.reuse_paths.specs.LeafClaims.{LeafClaim, no_point, stops, is_credited, goes_on, arrives}
-use Rattle.reuse_paths.specs.OpenLeaves.{LeafOrigin, written, as_input, unknown, is_input, OpenLeaf, form_at, written_values}
+use Rattle.dep_quast.specs.OpenLeaves.{LeafOrigin, written, as_input, unknown, is_input, OpenLeaf, form_at, written_values}
 use Rattle.reuse_paths.specs.WalkSettings.{KeptLabels, WalkAim, arrives_at, keeps, WalkSetting, region_variables, reading_point, region_at, forms_behind, entering_rows}
 use Rattle.reuse_paths.specs.Walks.{SpotForms}
 
@@ -66,21 +65,21 @@ word_label walk kept reader vars point unknown = None
 -- ---- where the claim stands
 
 -- the place of the first of multipliers in a list under this key, and the leaf itself where there is none
-abbrev pub first_place : List Step → ℕ → List FarkasMultipliers → List Step
+abbrev pub first_place : List Step → List ℕ → List FarkasMultipliers → List Step
 first_place place key [] = place
 first_place place key (m ∷ shown) = place ++ Key key ∷ Index 0 ∷ []
 
 -- that of the first of an entry's multipliers, its rows before its label
 abbrev pub going_place : List Step → List FarkasMultipliers → List FarkasMultipliers → List Step
-going_place place [] label = first_place place LABEL label
-going_place place (m ∷ rows) label = place ++ Key ROWS ∷ Index 0 ∷ []
+going_place place [] label = first_place place (codes "label") label
+going_place place (m ∷ rows) label = place ++ Key (codes "rows") ∷ Index 0 ∷ []
 
 abbrev pub entry_place : List Step → LeafClaim → List Step
-entry_place place (no_point shown) = place ++ Key EMPTY ∷ []
-entry_place place (stops label) = first_place place STOP label
+entry_place place (no_point shown) = place ++ Key (codes "empty") ∷ []
+entry_place place (stops label) = first_place place (codes "stop") label
 entry_place place (is_credited credit rows label) = going_place place rows label
 entry_place place (goes_on rows label) = going_place place rows label
-entry_place place (arrives equal) = first_place place ARRIVE equal
+entry_place place (arrives equal) = first_place place (codes "arrive") equal
 
 -- ---- what it says
 
@@ -89,18 +88,18 @@ entry_place place (arrives equal) = first_place place ARRIVE equal
 -- written by one of a statement with a region, which is in it. Such a walk doesn't stop.
 abbrev pub arriving_claims : ℕ → WalkSetting → SpotForms → List Step → AffineSystem → List AffineForm → LeafOrigin → LeafClaim → List Claim
 arriving_claims condition walk target place system point origin (no_point shown) =
-    record { condition = condition; place = place ++ Key EMPTY ∷ []; statement = IsPointless system shown } ∷ []
+    record { condition = condition; place = place ++ Key (codes "empty") ∷ []; statement = IsPointless system shown } ∷ []
 arriving_claims condition walk target place system point origin (stops label) = record { condition = condition; place = place; statement = ⊥ } ∷ []
 arriving_claims condition walk target place system point origin (is_credited credit rows label) = record { condition = condition; place = place; statement = ⊥ } ∷ []
 arriving_claims condition walk target place system point origin (goes_on rows label) =
     record { condition = condition; place = place; statement = IsInRegion walk origin }
-    ∷ follow_claims condition (place ++ Key ROWS ∷ []) system 0 (going_goals walk system.vars point origin) rows
+    ∷ follow_claims condition (place ++ Key (codes "rows") ∷ []) system 0 (going_goals walk system.vars point origin) rows
 arriving_claims condition walk target place system point origin (arrives equal) =
     record { condition = condition; place = place; statement = IsWrittenBy target.statement origin }
-    ∷ follow_claims condition (place ++ Key ARRIVE ∷ []) system 0 (arriving_goals target system.vars point origin) equal
+    ∷ follow_claims condition (place ++ Key (codes "arrive") ∷ []) system 0 (arriving_goals target system.vars point origin) equal
 
 -- That the word has the reader's label, by multipliers under this key (condition 14). Without a label nothing shows it.
-abbrev pub label_claims : List AffineForm → List Step → ℕ → AffineSystem → Option (List AffineForm) → List FarkasMultipliers → List Claim
+abbrev pub label_claims : List AffineForm → List Step → List ℕ → AffineSystem → Option (List AffineForm) → List FarkasMultipliers → List Claim
 label_claims reader place key system None shown = record { condition = 14; place = place; statement = ⊥ } ∷ []
 label_claims reader place key system (Some label) shown = follow_claims 14 (place ++ Key key ∷ []) system 0 (equality_rows system.vars label reader) shown
 
@@ -110,18 +109,18 @@ label_claims reader place key system (Some label) shown = follow_claims 14 (plac
 -- reader's label. Such a walk doesn't arrive.
 abbrev pub keeping_claims : ℕ → WalkSetting → KeptLabels → ReadOf → List Step → AffineSystem → List AffineForm → LeafOrigin → LeafClaim → List Claim
 keeping_claims condition walk kept reader place system point origin (no_point shown) =
-    record { condition = condition; place = place ++ Key EMPTY ∷ []; statement = IsPointless system shown } ∷ []
+    record { condition = condition; place = place ++ Key (codes "empty") ∷ []; statement = IsPointless system shown } ∷ []
 keeping_claims condition walk kept reader place system point origin (stops label) =
     record { condition = condition; place = place; statement = is_input origin ≡ true }
-    ∷ label_claims kept.reader place STOP system (word_label walk kept reader system.vars point origin) label
+    ∷ label_claims kept.reader place (codes "stop") system (word_label walk kept reader system.vars point origin) label
 keeping_claims condition walk kept reader place system point origin (is_credited credit rows label) =
     record { condition = condition; place = place; statement = IsOfCredit kept.credits credit origin }
-    ∷ follow_claims condition (place ++ Key ROWS ∷ []) system 0 (credit_goals walk.program kept.credits system.vars point credit origin) rows
-    ++ label_claims kept.reader place LABEL system (word_label walk kept reader system.vars point origin) label
+    ∷ follow_claims condition (place ++ Key (codes "rows") ∷ []) system 0 (credit_goals walk.program kept.credits system.vars point credit origin) rows
+    ++ label_claims kept.reader place (codes "label") system (word_label walk kept reader system.vars point origin) label
 keeping_claims condition walk kept reader place system point origin (goes_on rows label) =
     record { condition = condition; place = place; statement = IsInRegion walk origin }
-    ∷ follow_claims condition (place ++ Key ROWS ∷ []) system 0 (going_goals walk system.vars point origin) rows
-    ++ label_claims kept.reader place LABEL system (word_label walk kept reader system.vars point origin) label
+    ∷ follow_claims condition (place ++ Key (codes "rows") ∷ []) system 0 (going_goals walk system.vars point origin) rows
+    ++ label_claims kept.reader place (codes "label") system (word_label walk kept reader system.vars point origin) label
 keeping_claims condition walk kept reader place system point origin (arrives equal) = record { condition = condition; place = place; statement = ⊥ } ∷ []
 
 -- what an entry claims, by what is asked of the walk

@@ -1,11 +1,10 @@
 -- What a family claims, in the order in which it is tested.
-use Rattle.std.specs.Prelude.{◌≡◌, ℕ, suc, ◌+◌, ◌<◌, List, [], ◌∷◌, ◌++◌, map, length, Option, Some, None, pos, ◌*ℤ◌}
+use Rattle.std.specs.Prelude.{◌≡◌, ℕ, suc, ◌+◌, ◌<◌, List, [], ◌∷◌, ◌++◌, map, length, Option, Some, None, pos, ◌*ℤ◌, codes}
 use Rattle.iolb_model.specs.Form.{AffineForm}
 use Rattle.iolb_model.specs.Program.{AffineProgram}
 use Rattle.claims.specs.Claims.{Claim, numbered}
 use Rattle.claims.specs.declared.place.Step.{Step}
 use Rattle.claims.specs.declared.place.Step.TheVariants.{Key, Index}
-use Rattle.claims.specs.declared.key.TheConstants.{LABEL, NODES, REGION, START, TREE}
 use Rattle.affine_form.specs.Combination.{coefficient_of}
 use Rattle.affine_form.specs.Matrix.{IntegerMatrix, entry}
 use Rattle.affine_form.specs.Rows.{within_rows, step_of}
@@ -54,13 +53,13 @@ start_rows walk statement nest =
 abbrev pub start_walk : AffineProgram → List (List SelectionTree) → ℕ → List (AffineForm × AffineForm) → List CreditedNest → FamilyForms → List Step → List Claim
 start_walk program trees statement nest credits family place =
     let walk = family_setting program trees credits family family.start_label in
-    walk_claims 15 walk statement (place ++ Key START ∷ Key TREE ∷ []) (region_context walk statement (start_rows walk statement nest)) family.start
+    walk_claims 15 walk statement (place ++ Key (codes "start") ∷ Key (codes "tree") ∷ []) (region_context walk statement (start_rows walk statement nest)) family.start
 
 -- those from the instances of a region, whose label is this, and of a node
 abbrev pub region_walk : WalkSetting → List Step → ℕ → Option WalkRegion → List Claim
 region_walk walk place statement None = []
 region_walk walk place statement (Some region) =
-    walk_claims 15 walk statement (place ++ Index statement ∷ Key REGION ∷ Key TREE ∷ []) (region_context walk statement region.rows) region.tree
+    walk_claims 15 walk statement (place ++ Index statement ∷ Key (codes "region") ∷ Key (codes "tree") ∷ []) (region_context walk statement region.rows) region.tree
 
 abbrev pub node_walk : AffineProgram → List (List SelectionTree) → List CreditedNest → FamilyForms → List Step → ℕ → Option NodeForms → List Claim
 node_walk program trees credits family place statement None = []
@@ -70,6 +69,6 @@ node_walk program trees credits family place statement (Some node) = region_walk
 -- walk claims, and what the walk in each region does, in the order of statements.
 abbrev pub family_claims : AffineProgram → List (List SelectionTree) → ℕ → List (AffineForm × AffineForm) → IntegerMatrix → List CreditedNest → FamilyForms → List Step → List Claim
 family_claims program trees statement nest matrix credits family place =
-    label_rows matrix family.scale (length program.parameters) (depth_of program statement) (place ++ Key START ∷ Key LABEL ∷ []) 0 family.set family.start_label
+    label_rows matrix family.scale (length program.parameters) (depth_of program statement) (place ++ Key (codes "start") ∷ Key (codes "label") ∷ []) 0 family.set family.start_label
     ++ start_walk program trees statement nest credits family place
-    ++ numbered (node_walk program trees credits family (place ++ Key NODES ∷ [])) 0 family.nodes
+    ++ numbered (node_walk program trees credits family (place ++ Key (codes "nodes") ∷ [])) 0 family.nodes

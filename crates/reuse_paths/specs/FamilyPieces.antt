@@ -13,8 +13,8 @@ use Rattle.reuse_paths.specs.FamilyClaims.{family_setting, start_rows, family_cl
 use Rattle.reuse_paths.specs.FamilyFits.{FamilyFits}
 use Rattle.reuse_paths.specs.FamilyFootprint.{instances_in, family_footprint}
 use Rattle.reuse_paths.specs.Places.{IsExecuted}
-use Rattle.reuse_paths.specs.Pieces.{FootprintPiece, AreCovered}
-use Rattle.reuse_paths.specs.Trees.{RowsFit, RowsAreTrue}
+use Rattle.footprint_pieces.specs.Pieces.{FootprintPiece, AreCovered}
+use Rattle.dep_quast.specs.Trees.{RowsFit, RowsAreTrue}
 use Rattle.reuse_paths.specs.WalkSettings.{WalkSetting, region_context}
 use Rattle.reuse_paths.specs.WalkPieces.{walk_pieces}
 use Rattle.reuse_paths.specs.Walks.{WalkRegion}

@@ -1,6 +1,6 @@
 -- What is asked of a family whose pieces are told: that its walks are over what they name, and that the rows of each context
 -- are few.
-use Rattle.std.specs.Prelude.{◌≡◌, ℕ, suc, ◌<◌, ⊤, List, [], ◌∷◌, ◌++◌, length, Option, None, Some}
+use Rattle.std.specs.Prelude.{◌≡◌, ℕ, suc, ◌<◌, ⊤, List, [], ◌∷◌, ◌++◌, length, Option, None, Some, codes}
 use Rattle.std.specs.List.{AllByRecursion}
 use Rattle.iolb_model.specs.Form.{AffineForm}
 use Rattle.iolb_model.specs.Program.{AffineProgram}
@@ -9,8 +9,7 @@ use Rattle.affine_form.specs.Rows.{IsSmallOver}
 use Rattle.claims.specs.Claims.{Claim, AllHold, numbered}
 use Rattle.claims.specs.declared.place.Step.{Step}
 use Rattle.claims.specs.declared.place.Step.TheVariants.{Key, Index}
-use Rattle.claims.specs.declared.key.TheConstants.{LEAVES, NO, NODES, REGION, START, TREE, YES}
-use Rattle.dep_quast.specs.Claims.{IsFew}
+use Rattle.claims.specs.Shown.{IsFew}
 use Rattle.dep_quast.specs.Context.{no_row}
 use Rattle.dep_quast.specs.Tree.{SelectionTree}
 use Rattle.dep_quast.specs.Truth.{ReadFits}
@@ -19,9 +18,9 @@ use Rattle.reuse_paths.specs.Families.{CreditedNest, FamilyForms}
 use Rattle.reuse_paths.specs.FamilyClaims.{family_setting, start_rows, family_claims}
 use Rattle.reuse_paths.specs.FamilyFits.{FamilyFits}
 use Rattle.reuse_paths.specs.LeafClaims.{LeafClaim}
-use Rattle.reuse_paths.specs.OpenLeaves.{OpenLeaf}
-use Rattle.reuse_paths.specs.Quasts.{tree_at, tree_for}
-use Rattle.reuse_paths.specs.Trees.{read_of}
+use Rattle.dep_quast.specs.OpenLeaves.{OpenLeaf}
+use Rattle.dep_quast.specs.Quasts.{tree_at, tree_for}
+use Rattle.dep_quast.specs.Trees.{read_of}
 use Rattle.reuse_paths.specs.WalkClaims.{leaves_at}
 use Rattle.reuse_paths.specs.WalkSettings.{WalkSetting, region_context, region_variables}
 use Rattle.reuse_paths.specs.WalkViews.{SettingFits}
@@ -75,23 +74,23 @@ few_leaves place rows index (l ∷ leaves) (entry ∷ entries) =
 -- those of a walk from the instances of a statement which meet these rows
 abbrev pub few_walk : WalkSetting → ℕ → List Step → List AffineForm → WalkTree → List Claim
 few_walk walk statement place rows (take read entries) =
-    few_leaves (place ++ Key LEAVES ∷ []) rows 0 (leaves_at walk (read_of statement read)) entries
+    few_leaves (place ++ Key (codes "leaves") ∷ []) rows 0 (leaves_at walk (read_of statement read)) entries
 few_walk walk statement place rows (test form above below) =
-    few_walk walk statement (place ++ Key YES ∷ []) (rows ++ form ∷ []) above
-    ++ few_walk walk statement (place ++ Key NO ∷ []) (rows ++ no_row (region_variables walk statement) form ∷ []) below
+    few_walk walk statement (place ++ Key (codes "yes") ∷ []) (rows ++ form ∷ []) above
+    ++ few_walk walk statement (place ++ Key (codes "no") ∷ []) (rows ++ no_row (region_variables walk statement) form ∷ []) below
 
 -- those of the region of a statement, in a list at this place
 abbrev pub few_region : WalkSetting → List Step → ℕ → Option WalkRegion → List Claim
 few_region walk place statement None = []
 few_region walk place statement (Some region) =
-    few_walk walk statement (place ++ Index statement ∷ Key REGION ∷ Key TREE ∷ []) (region_context walk statement region.rows) region.tree
+    few_walk walk statement (place ++ Index statement ∷ Key (codes "region") ∷ Key (codes "tree") ∷ []) (region_context walk statement region.rows) region.tree
 
 -- Those of a family at this place: of its start walk, then of its regions in the order of statements.
 abbrev pub few_contexts : AffineProgram → List (List SelectionTree) → ℕ → List (AffineForm × AffineForm) → FamilyForms → List Step → List Claim
 few_contexts program trees statement nest family place =
     let walk = family_setting program trees [] family family.start_label in
-    few_walk walk statement (place ++ Key START ∷ Key TREE ∷ []) (region_context walk statement (start_rows walk statement nest)) family.start
-    ++ numbered (few_region walk (place ++ Key NODES ∷ [])) 0 walk.nodes
+    few_walk walk statement (place ++ Key (codes "start") ∷ Key (codes "tree") ∷ []) (region_context walk statement (start_rows walk statement nest)) family.start
+    ++ numbered (few_region walk (place ++ Key (codes "nodes") ∷ [])) 0 walk.nodes
 
 -- A family whose claims hold, at any place, has few rows in each context, wherever it is looked at.
 abbrev pub ContextsAreFew : Type 0

@@ -1,15 +1,9 @@
 pub mod LeafClaims
-pub mod Quasts
-pub mod Trees
 pub mod Places
 pub mod MatrixRows
 pub mod Reached
 pub mod Walks
 pub mod Families
-pub mod Pieces
-pub mod DisjointClaims
-pub mod TargetPairs
-pub mod OpenLeaves
 pub mod WalkSettings
 pub mod EntryClaims
 pub mod WalkClaims

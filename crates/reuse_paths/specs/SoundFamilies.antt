@@ -20,7 +20,7 @@ use Rattle.dep_quast.specs.Truth.{ReadFits, source_at}
 use Rattle.reuse_paths.specs.Families.{CreditedNest, FamilyForms, node_label, node_region, label_at}
 use Rattle.reuse_paths.specs.FamilyClaims.{family_claims}
 use Rattle.reuse_paths.specs.FamilyFits.{FamilyFits}
-use Rattle.reuse_paths.specs.Trees.{read_of, RowsFit, RowsAreTrue}
+use Rattle.dep_quast.specs.Trees.{read_of, RowsFit, RowsAreTrue}
 use Rattle.reuse_paths.specs.WalkSettings.{region_at}
 use Rattle.reuse_paths.specs.Walks.{WalkTree, take, test, WalkRegion}
 

@@ -1,16 +1,15 @@
 -- What walks claim, in the order in which it is tested.
-use Rattle.std.specs.Prelude.{ℕ, suc, List, [], ◌∷◌, ◌++◌}
+use Rattle.std.specs.Prelude.{ℕ, suc, List, [], ◌∷◌, ◌++◌, codes}
 use Rattle.iolb_model.specs.Form.{AffineForm}
 use Rattle.claims.specs.Claims.{Claim}
 use Rattle.claims.specs.declared.place.Step.{Step}
 use Rattle.claims.specs.declared.place.Step.TheVariants.{Key, Index}
-use Rattle.claims.specs.declared.key.TheConstants.{LEAVES, NO, YES}
 use Rattle.dep_quast.specs.Context.{ReadOf, no_row}
 use Rattle.reuse_paths.specs.EntryClaims.{leaf_claims}
 use Rattle.reuse_paths.specs.LeafClaims.{LeafClaim}
-use Rattle.reuse_paths.specs.OpenLeaves.{OpenLeaf, open_leaves}
-use Rattle.reuse_paths.specs.Quasts.{tree_for}
-use Rattle.reuse_paths.specs.Trees.{read_of}
+use Rattle.dep_quast.specs.OpenLeaves.{OpenLeaf, open_leaves}
+use Rattle.dep_quast.specs.Quasts.{tree_for}
+use Rattle.dep_quast.specs.Trees.{read_of}
 use Rattle.reuse_paths.specs.WalkSettings.{WalkSetting, region_variables, reading_point}
 use Rattle.reuse_paths.specs.Walks.{WalkTree, take, test}
 
@@ -31,7 +30,7 @@ leaves_at walk reader =
 -- read that it takes; a test parts the instances.
 abbrev pub walk_claims : ℕ → WalkSetting → ℕ → List Step → List AffineForm → WalkTree → List Claim
 walk_claims condition walk statement place rows (take read entries) =
-    let reader = read_of statement read in leaves_claims condition walk reader (place ++ Key LEAVES ∷ []) rows 0 (leaves_at walk reader) entries
+    let reader = read_of statement read in leaves_claims condition walk reader (place ++ Key (codes "leaves") ∷ []) rows 0 (leaves_at walk reader) entries
 walk_claims condition walk statement place rows (test form above below) =
-    walk_claims condition walk statement (place ++ Key YES ∷ []) (rows ++ form ∷ []) above
-    ++ walk_claims condition walk statement (place ++ Key NO ∷ []) (rows ++ no_row (region_variables walk statement) form ∷ []) below
+    walk_claims condition walk statement (place ++ Key (codes "yes") ∷ []) (rows ++ form ∷ []) above
+    ++ walk_claims condition walk statement (place ++ Key (codes "no") ∷ []) (rows ++ no_row (region_variables walk statement) form ∷ []) below

@@ -11,9 +11,9 @@ use Rattle.dep_quast.specs.Truth.{ReadFits}
 use Rattle.reuse_paths.specs.EntryClaims.{going_goals}
 use Rattle.reuse_paths.specs.Families.{CreditedNest}
 use Rattle.reuse_paths.specs.LeafClaims.{LeafClaim, no_point, stops, is_credited, goes_on, arrives}
-use Rattle.reuse_paths.specs.OpenLeaves.{LeafOrigin, OpenLeaf}
-use Rattle.reuse_paths.specs.Quasts.{tree_at, tree_for}
-use Rattle.reuse_paths.specs.Trees.{read_of}
+use Rattle.dep_quast.specs.OpenLeaves.{LeafOrigin, OpenLeaf}
+use Rattle.dep_quast.specs.Quasts.{tree_at, tree_for}
+use Rattle.dep_quast.specs.Trees.{read_of}
 use Rattle.reuse_paths.specs.WalkClaims.{leaves_at}
 use Rattle.reuse_paths.specs.WalkSettings.{KeptLabels, WalkAim, arrives_at, keeps, WalkSetting, spot_variables, region_variables, reading_point}
 use Rattle.reuse_paths.specs.Walks.{WalkTree, take, test, WalkRegion, SpotForms}

@@ -3,11 +3,11 @@ use Rattle.std.specs.Prelude.{List, ℕ, [], ◌∷◌, ◌++◌, map}
 use Rattle.iolb_model.specs.Form.{AffineForm}
 use Rattle.affine_program.specs.Domain.{depth_of}
 use Rattle.dep_quast.specs.Context.{ReadOf, reference_of, no_row}
-use Rattle.reuse_paths.specs.declared.piece.Target.TheVariants.{Cell, Instance}
+use Rattle.footprint_pieces.specs.declared.piece.Target.TheVariants.{Cell, Instance}
 use Rattle.reuse_paths.specs.LeafClaims.{LeafClaim, no_point, stops, is_credited, goes_on, arrives}
-use Rattle.reuse_paths.specs.OpenLeaves.{LeafOrigin, written, as_input, unknown, OpenLeaf, form_at}
-use Rattle.reuse_paths.specs.Pieces.{FootprintPiece}
-use Rattle.reuse_paths.specs.Trees.{read_of}
+use Rattle.dep_quast.specs.OpenLeaves.{LeafOrigin, written, as_input, unknown, OpenLeaf, form_at}
+use Rattle.footprint_pieces.specs.Pieces.{FootprintPiece}
+use Rattle.dep_quast.specs.Trees.{read_of}
 use Rattle.reuse_paths.specs.WalkClaims.{leaves_at}
 use Rattle.reuse_paths.specs.WalkSettings.{WalkSetting, region_variables, reading_point}
 use Rattle.reuse_paths.specs.Walks.{WalkTree, take, test}

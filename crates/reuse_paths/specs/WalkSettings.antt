@@ -8,7 +8,7 @@ use Rattle.dep_quast.specs.Context.{parameter_point}
 use Rattle.dep_quast.specs.Tree.{SelectionTree}
 use Rattle.domain_count.specs.Count.{rows_before}
 use Rattle.reuse_paths.specs.Families.{CreditedNest}
-use Rattle.reuse_paths.specs.OpenLeaves.{form_at}
+use Rattle.dep_quast.specs.OpenLeaves.{form_at}
 use Rattle.reuse_paths.specs.Walks.{WalkRegion, SpotForms}
 
 -- The labels that the walks of a family keep: the reader's, as forms over the variables of its region; for each statement

@@ -12,9 +12,9 @@ use Rattle.reuse_paths.specs.declared.walking.Aim.TheVariants as aims
 use Rattle.reuse_paths.specs.declared.walking.Kept.{Kept}
 use Rattle.reuse_paths.specs.declared.walking.Walking.{Walking}
 use Rattle.reuse_paths.specs.Families.{credit_of, family_of, node_label, node_region}
-use Rattle.reuse_paths.specs.OpenLeaves.{LeafOrigin, written, as_input, unknown, OpenLeaf}
-use Rattle.reuse_paths.specs.Quasts.{trees_of}
-use Rattle.reuse_paths.specs.Trees.{read_of, RowsFit}
+use Rattle.dep_quast.specs.OpenLeaves.{LeafOrigin, written, as_input, unknown, OpenLeaf}
+use Rattle.dep_quast.specs.Quasts.{trees_of}
+use Rattle.dep_quast.specs.Trees.{read_of, RowsFit}
 use Rattle.reuse_paths.specs.WalkFits.{NestFits, AimFits, ReaderFits, RegionRowsFit}
 use Rattle.reuse_paths.specs.WalkSettings.{KeptLabels, WalkAim, arrives_at, keeps, WalkSetting, region_variables}
 use Rattle.reuse_paths.specs.Walks.{WalkRegion, region_of, spot_of}

@@ -1,34 +1,32 @@
 //! Whether what a walk that is to arrive claims at a leaf is shown, and what walks of both kinds claim.
 #![tactic(auto, using(claims::proofs::Found::in_a_row))]
 
-ghost use Rattle.std.specs.Prelude.{◌≡◌, ◌+◌, ◌*◌, ◌<◌, ◌≤◌, ◌++◌, ◌∷◌, [], length, map, IfOk};
+ghost use Rattle.std.specs.Prelude.{◌≡◌, ◌+◌, ◌*◌, ◌<◌, ◌≤◌, ◌++◌, ◌∷◌, [], length, map, IfOk, codes};
 ghost use Rattle.std.specs.List.{AllByRecursion};
 ghost use Rattle.affine_form.specs.Rows.{IsSmallOver};
 ghost use Rattle.affine_form.specs.System.{AllOver};
 ghost use Rattle.affine_program.specs.Domain.{depth_of};
 ghost use Rattle.claims.specs.Claims.{Decides};
 ghost use Rattle.claims.specs.declared.place.Step.TheVariants.{Key};
-ghost use Rattle.dep_quast.specs.Claims.{follow_claims, IsFew, IsPointless};
+ghost use Rattle.claims.specs.Shown.{follow_claims, IsFew, IsPointless};
 ghost use Rattle.dep_quast.specs.Views.{read_of};
 ghost use Rattle.reuse_paths.specs.EntryClaims.{arriving_claims, arriving_goals, entry_place, first_place, going_goals, going_place, IsInRegion};
 ghost use Rattle.reuse_paths.specs.LeafClaims.{arrives, claim_of};
-ghost use Rattle.reuse_paths.specs.OpenLeaves.{form_at, origin_of, written};
+ghost use Rattle.dep_quast.specs.OpenLeaves.{form_at, origin_of, written};
 ghost use Rattle.reuse_paths.specs.WalkFits.{ArrivingFits, NestFits, SpotFits};
 ghost use Rattle.reuse_paths.specs.Walks.{region_of, spot_of};
 ghost use Rattle.reuse_paths.specs.WalkSettings.{forms_behind, reading_point, region_variables, spot_variables};
 ghost use Rattle.reuse_paths.specs.WalkViews.{walk_of, OriginFits, ReadingFits};
-ghost use Rattle.claims.specs.declared.key.TheConstants.{ARRIVE, EMPTY, ROWS};
 ghost use Rattle.iolb_model.specs.declared.limits.TheConstants.{LOOPS};
 
-use crate::open_leaves::Origin;
 use crate::region::{equality_rows, forms_behind, written_values};
 use crate::walking::{Walking, region_at, region_variables};
 use crate::{Leaf, Region, Spot};
 use affine_form::{Form, Memory, Multipliers, system_of};
-use claims::key::{ARRIVE, EMPTY, LABEL, ROWS, STOP};
-use claims::{Place, Refused, Step, refusal};
-use dep_quast::claims_shown::{goals_shown, system_shown};
-use dep_quast::lists::all_widened;
+use claims::lists::all_widened;
+use claims::shown::{goals_shown, system_shown};
+use claims::{ObjectKey, Place, Refused, Step, refusal};
+use dep_quast::open_leaves::Origin;
 use dep_quast::reader::Reader;
 use std::alloc::Global;
 
@@ -36,7 +34,7 @@ use std::alloc::Global;
 fn first_place(
     alloc: Global,
     place: &Place,
-    key: u8,
+    key: ObjectKey,
     shown: &[Multipliers],
 ) -> Result<Place, Memory>
     ensures { IfOk result (λ first. first ≡ first_place place.now key shown.now) }
@@ -58,9 +56,9 @@ fn going_place(
     ensures { IfOk result (λ first. first ≡ going_place place.now rows.now label.now) }
 {
     if rows.is_empty() {
-        return first_place(alloc, place, LABEL, label);
+        return first_place(alloc, place, ObjectKey("label"), label);
     }
-    first_place(alloc, place, ROWS, rows)
+    first_place(alloc, place, ObjectKey("rows"), rows)
 }
 
 /// The place of the first multipliers of an entry at this place, and this place where it has none.
@@ -68,12 +66,12 @@ pub(crate) fn entry_place(alloc: Global, place: &Place, entry: &Leaf) -> Result<
     ensures { IfOk result (λ first. first ≡ entry_place place.now (claim_of entry.now)) }
 {
     match entry {
-        Leaf::Empty(_) => place.within(alloc, Step::Key(EMPTY)),
-        Leaf::Stop { label } => first_place(alloc, place, STOP, label.as_slice()),
+        Leaf::Empty(_) => place.within(alloc, Step::Key(ObjectKey("empty"))),
+        Leaf::Stop { label } => first_place(alloc, place, ObjectKey("stop"), label.as_slice()),
         Leaf::Credit { rows, label, .. } | Leaf::Go { rows, label } => {
             going_place(alloc, place, rows.as_slice(), label.as_slice())
         }
-        Leaf::Arrive { equal } => first_place(alloc, place, ARRIVE, equal.as_slice()),
+        Leaf::Arrive { equal } => first_place(alloc, place, ObjectKey("arrive"), equal.as_slice()),
     }
 }
 
@@ -95,7 +93,7 @@ fn target_shown(
     requires few { IsFew (length rows.now) }
     requires origin { OriginFits (walk_of walking.now).program (length (walk_of walking.now).program.parameters + depth_of (walk_of walking.now).program statement) (written target.now.statement values.now) }
     requires enough { length equal.now ≡ 2 * depth_of (walk_of walking.now).program target.now.statement }
-    ensures { Decides (follow_claims walking.now.condition (place.now ++ Key ARRIVE ∷ []) (record { vars = region_variables (walk_of walking.now) statement; rows = rows.now }) 0
+    ensures { Decides (follow_claims walking.now.condition (place.now ++ Key (codes "arrive") ∷ []) (record { vars = region_variables (walk_of walking.now) statement; rows = rows.now }) 0
         (arriving_goals (spot_of target.now) (region_variables (walk_of walking.now) statement) (reading_point (walk_of walking.now) statement) (written target.now.statement values.now)) equal.now) result }
 {
     let vars = region_variables(walking, statement);
@@ -103,7 +101,7 @@ fn target_shown(
     let there = all_widened(alloc, vars, target.point.as_slice())?;
     let goals = equality_rows(alloc, vars, here.as_slice(), there.as_slice())?;
     let system = system_of(alloc, vars, rows)?;
-    let list = place.within(alloc, Step::Key(ARRIVE))?;
+    let list = place.within(alloc, Step::Key(ObjectKey("arrive")))?;
     goals_shown(
         alloc,
         walking.condition,
@@ -171,7 +169,7 @@ fn region_shown(
     requires region_over { AllByRecursion (IsSmallOver (spot_variables (walk_of walking.now) + length values.now)) region.now.rows.items }
     requires values_over { AllByRecursion (IsSmallOver (length (walk_of walking.now).program.parameters + depth_of (walk_of walking.now).program statement)) values.now }
     requires enough { length shown.now ≡ length region.now.rows.items }
-    ensures { Decides (follow_claims walking.now.condition (place.now ++ Key ROWS ∷ []) (record { vars = region_variables (walk_of walking.now) statement; rows = rows.now }) 0
+    ensures { Decides (follow_claims walking.now.condition (place.now ++ Key (codes "rows") ∷ []) (record { vars = region_variables (walk_of walking.now) statement; rows = rows.now }) 0
         (forms_behind (walk_of walking.now) (region_variables (walk_of walking.now) statement)
         (map (form_at (region_variables (walk_of walking.now) statement) (reading_point (walk_of walking.now) statement)) values.now) region.now.rows.items) shown.now) result }
 {
@@ -180,7 +178,7 @@ fn region_shown(
     let own = region.rows.as_slice();
     let goals = forms_behind(alloc, walking, vars, here.as_slice(), own)?;
     let system = system_of(alloc, vars, rows)?;
-    let list = place.within(alloc, Step::Key(ROWS))?;
+    let list = place.within(alloc, Step::Key(ObjectKey("rows")))?;
     goals_shown(
         alloc,
         walking.condition,
@@ -208,7 +206,7 @@ pub(crate) fn going_shown(
     requires origin { OriginFits (walk_of walking.now).program (length (walk_of walking.now).program.parameters + depth_of (walk_of walking.now).program statement) (origin_of origin.now) }
     requires enough { length shown.now ≡ length (going_goals (walk_of walking.now) (region_variables (walk_of walking.now) statement) (reading_point (walk_of walking.now) statement) (origin_of origin.now)) }
     ensures { Decides (record { condition = walking.now.condition; place = place.now; statement = IsInRegion (walk_of walking.now) (origin_of origin.now) }
-        ∷ follow_claims walking.now.condition (place.now ++ Key ROWS ∷ []) (record { vars = region_variables (walk_of walking.now) statement; rows = rows.now }) 0
+        ∷ follow_claims walking.now.condition (place.now ++ Key (codes "rows") ∷ []) (record { vars = region_variables (walk_of walking.now) statement; rows = rows.now }) 0
         (going_goals (walk_of walking.now) (region_variables (walk_of walking.now) statement) (reading_point (walk_of walking.now) statement) (origin_of origin.now)) shown.now) result }
 {
     let _params = walking.program.params();
@@ -249,12 +247,12 @@ pub(crate) fn empty_shown(
     requires few { IsFew (length rows.now) }
     ensures { Decides (record {
       condition = walking.now.condition;
-      place = place.now ++ Key EMPTY ∷ [];
+      place = place.now ++ Key (codes "empty") ∷ [];
       statement = IsPointless (record { vars = region_variables (walk_of walking.now) statement; rows = rows.now }) shown.now;
     } ∷ []) result }
 {
     let vars = region_variables(walking, statement);
-    let empty = place.within(alloc, Step::Key(EMPTY))?;
+    let empty = place.within(alloc, Step::Key(ObjectKey("empty")))?;
     system_shown(alloc, walking.condition, &empty, vars, rows, shown)
 }
 

@@ -1,21 +1,20 @@
 //! The pieces of a family's footprint.
 
-ghost use Rattle.std.specs.Prelude.{◌≡◌, ◌<◌, ◌+◌, ◌++◌, ◌∷◌, [], length, map, option_map, IfErr, IfOk, OnOk};
+ghost use Rattle.std.specs.Prelude.{◌≡◌, ◌<◌, ◌+◌, ◌++◌, ◌∷◌, [], length, map, option_map, IfErr, IfOk, OnOk, codes};
 ghost use Rattle.std.specs.List.{AllByRecursion};
 ghost use Rattle.affine_form.specs.Rows.{BoundsFit};
 ghost use Rattle.affine_form.specs.System.{AllOver};
 ghost use Rattle.affine_program.specs.Domain.{depth_of};
 ghost use Rattle.affine_program.specs.Parts.{meaning};
 ghost use Rattle.claims.specs.Claims.{AllHold, IsRefusal, numbered};
-ghost use Rattle.claims.specs.declared.key.TheConstants.{NODES, START, TREE};
 ghost use Rattle.claims.specs.declared.place.Step.TheVariants.{Key};
 ghost use Rattle.reuse_paths.specs.Families.{family_of, node_of, node_region};
 ghost use Rattle.reuse_paths.specs.FamilyClaims.{start_rows as rows_of_start};
 ghost use Rattle.reuse_paths.specs.FamilyPieces.{family_pieces, region_pieces, regions_pieces};
 ghost use Rattle.reuse_paths.specs.FewContexts.{few_contexts, few_region, few_walk, FitsSome, ReadersFit, RegionTakesFit, RegionsTakeFit, TakesFit};
-ghost use Rattle.reuse_paths.specs.Pieces.{pieces_of, PieceFits};
-ghost use Rattle.reuse_paths.specs.Quasts.{trees_of};
-ghost use Rattle.reuse_paths.specs.Trees.{RowsFit};
+ghost use Rattle.footprint_pieces.specs.Pieces.{pieces_of, PieceFits};
+ghost use Rattle.dep_quast.specs.Quasts.{trees_of};
+ghost use Rattle.dep_quast.specs.Trees.{RowsFit};
 ghost use Rattle.reuse_paths.specs.WalkPieces.{walk_pieces};
 ghost use Rattle.reuse_paths.specs.WalkSettings.{region_context as context_of, region_variables as variables_of};
 ghost use Rattle.reuse_paths.specs.WalkViews.{walk_of, SettingFits};
@@ -24,19 +23,18 @@ ghost use Rattle.reuse_paths.specs.Walks.{tree_of_walk};
 use crate::family::{Family, FamilyNode};
 use crate::family_shown::{start_rows, walking_from};
 use crate::leaf_pieces::push_taken;
-use crate::piece::Piece;
-use crate::quasts::Quasts;
 use crate::region::region_context;
 use crate::walk::Walk;
 use crate::walk_shown::rows_of_no;
 use crate::walking::{Walking, region_variables};
 use affine_form::{Form, Memory};
 use affine_program::Program;
-use claims::key::{NO, NODES, REGION, START, TREE, YES};
-use claims::{Place, Refused, Step};
-use dep_quast::lists::with_form;
+use claims::lists::with_form;
+use claims::{ObjectKey, Place, Refused, Step};
+use dep_quast::Quasts;
 use dep_quast::reader::Reader;
 use domain_count::Nest;
+use footprint_pieces::Piece;
 use std::alloc::Global;
 
 /// Those that a walk takes from the instances of a statement which meet these rows, `yes` before `no`, appended.
@@ -60,7 +58,7 @@ fn push_walk(
         Walk::Test { form, yes, no } => {
             let vars = region_variables(walking, statement);
             let above = with_form(alloc, rows, form.try_clone(alloc)?)?;
-            let side = place.within(alloc, Step::Key(YES))?;
+            let side = place.within(alloc, Step::Key(ObjectKey("yes")))?;
             push_walk(
                 alloc,
                 pieces,
@@ -71,7 +69,7 @@ fn push_walk(
                 yes,
             )?;
             let below = rows_of_no(alloc, vars, rows, form)?;
-            let side = place.within(alloc, Step::Key(NO))?;
+            let side = place.within(alloc, Step::Key(ObjectKey("no")))?;
             push_walk(
                 alloc,
                 pieces,
@@ -95,15 +93,15 @@ fn push_walk(
 
 /// The place of a start walk in a family, and that of its nodes.
 fn place_of_start(alloc: Global) -> Result<Place, Memory>
-    ensures { IfOk result (λ place. place ≡ Key START ∷ Key TREE ∷ []) }
+    ensures { IfOk result (λ place. place ≡ Key (codes "start") ∷ Key (codes "tree") ∷ []) }
 {
-    Ok(Place::new(vec![in alloc; Step::Key(START), Step::Key(TREE)]?))
+    Ok(Place::new(vec![in alloc; Step::Key(ObjectKey("start")), Step::Key(ObjectKey("tree"))]?))
 }
 
 fn place_of_nodes(alloc: Global) -> Result<Place, Memory>
-    ensures { IfOk result (λ place. place ≡ Key NODES ∷ []) }
+    ensures { IfOk result (λ place. place ≡ Key (codes "nodes") ∷ []) }
 {
-    Ok(Place::new(vec![in alloc; Step::Key(NODES)]?))
+    Ok(Place::new(vec![in alloc; Step::Key(ObjectKey("nodes"))]?))
 }
 
 /// Those of the walk from the instances in a nest, at `start/tree` of a family, appended.
@@ -122,8 +120,8 @@ fn push_start(
     requires walk_fits { TakesFit (walk_of walking.now) statement (tree_of_walk tree.now) }
     ensures pieces { OnOk result (pieces_of pieces.new ≡ pieces_of pieces.old ++ walk_pieces (walk_of walking.now) statement (context_of (walk_of walking.now) statement (rows_of_start (walk_of walking.now) statement nest.now)) (tree_of_walk tree.now)) }
     ensures fit { OnOk result (AllByRecursion (PieceFits (walk_of walking.now).program) (walk_pieces (walk_of walking.now) statement (context_of (walk_of walking.now) statement (rows_of_start (walk_of walking.now) statement nest.now)) (tree_of_walk tree.now))) }
-    ensures few { OnOk result (AllHold (few_walk (walk_of walking.now) statement (Key START ∷ Key TREE ∷ []) (context_of (walk_of walking.now) statement (rows_of_start (walk_of walking.now) statement nest.now)) (tree_of_walk tree.now))) }
-    ensures refused { IfErr result (IsRefusal (few_walk (walk_of walking.now) statement (Key START ∷ Key TREE ∷ []) (context_of (walk_of walking.now) statement (rows_of_start (walk_of walking.now) statement nest.now)) (tree_of_walk tree.now))) }
+    ensures few { OnOk result (AllHold (few_walk (walk_of walking.now) statement (Key (codes "start") ∷ Key (codes "tree") ∷ []) (context_of (walk_of walking.now) statement (rows_of_start (walk_of walking.now) statement nest.now)) (tree_of_walk tree.now))) }
+    ensures refused { IfErr result (IsRefusal (few_walk (walk_of walking.now) statement (Key (codes "start") ∷ Key (codes "tree") ∷ []) (context_of (walk_of walking.now) statement (rows_of_start (walk_of walking.now) statement nest.now)) (tree_of_walk tree.now))) }
 {
     let _params = walking.program.params();
     let own = start_rows(alloc, walking, statement, nest)?;
@@ -167,8 +165,8 @@ fn push_region(
     };
     let rows = region_context(alloc, walking, statement, region.rows.as_slice())?;
     let at = list.within(alloc, Step::Index(u64::from(statement)))?;
-    let inner = at.within(alloc, Step::Key(REGION))?;
-    let place = inner.within(alloc, Step::Key(TREE))?;
+    let inner = at.within(alloc, Step::Key(ObjectKey("region")))?;
+    let place = inner.within(alloc, Step::Key(ObjectKey("tree")))?;
     push_walk(
         alloc,
         pieces,

@@ -1,7 +1,7 @@
 //! The check of families.
 #![tactic(auto, using(claims::proofs::Found::in_a_row))]
 
-ghost use Rattle.std.specs.Prelude.{◌≡◌, ◌↔◌, ◌<◌, ◌+◌, ◌*◌, ◌^◌, ◌*ℤ◌, ◌++◌, ◌∷◌, [], pos, unsigned_abs, length, map, option_map, Some, IfOk, IfErr, IsTrue, OnOk};
+ghost use Rattle.std.specs.Prelude.{◌≡◌, ◌↔◌, ◌<◌, ◌+◌, ◌*◌, ◌^◌, ◌*ℤ◌, ◌++◌, ◌∷◌, [], pos, unsigned_abs, length, map, option_map, Some, IfOk, IfErr, IsTrue, OnOk, codes};
 ghost use Rattle.std.specs.List.{AllByRecursion};
 ghost use Rattle.affine_form.specs.Form.{variables};
 ghost use Rattle.affine_form.specs.Rows.{BoundsFit};
@@ -13,27 +13,25 @@ ghost use Rattle.claims.specs.declared.place.Step.TheVariants.{Key};
 ghost use Rattle.reuse_paths.specs.Families.{credit_of, family_of, node_of, NodeForms};
 ghost use Rattle.reuse_paths.specs.FamilyClaims.{family_claims, family_setting, label_rows, node_walk, region_walk, start_rows, start_walk, IsScaledRow};
 ghost use Rattle.reuse_paths.specs.FamilyFits.{CountedFits, FamilyFits, NodeFits, NodesFit};
-ghost use Rattle.reuse_paths.specs.Quasts.{trees_of};
+ghost use Rattle.dep_quast.specs.Quasts.{trees_of};
 ghost use Rattle.reuse_paths.specs.SoundFamilies.{IsSoundFamily};
-ghost use Rattle.reuse_paths.specs.Trees.{RowsAreTrue, RowsFit};
+ghost use Rattle.dep_quast.specs.Trees.{RowsAreTrue, RowsFit};
 ghost use Rattle.reuse_paths.specs.WalkClaims.{walk_claims};
 ghost use Rattle.reuse_paths.specs.WalkFits.{IsLabel, NestFits, RegionFits, WalkFits};
 ghost use Rattle.reuse_paths.specs.Walks.{region_of, tree_of_walk};
 ghost use Rattle.reuse_paths.specs.WalkSettings.{region_context, region_variables};
 ghost use Rattle.reuse_paths.specs.WalkViews.{walk_of, ReadingFits, SettingFits};
-ghost use Rattle.claims.specs.declared.key.TheConstants.{LABEL, START, TREE};
 
 use crate::family::{Credit, Family, FamilyNode};
 use crate::law::families_are_sound;
-use crate::quasts::Quasts;
 use crate::region::region_context;
 use crate::walk::{Region, Walk};
 use crate::walk_shown::walk_shown;
 use crate::walking::{Aim, Kept, Walking, region_values, region_variables};
 use affine_form::{Form, Matrix, Memory, variables_from, within_rows};
 use affine_program::Program;
-use claims::key::{LABEL, NODES, REGION, START, TREE};
-use claims::{Place, Refused, Step, refusal};
+use claims::{ObjectKey, Place, Refused, Step, refusal};
+use dep_quast::Quasts;
 use dep_quast::reader::depth;
 use domain_count::Nest;
 use std::alloc::Global;
@@ -135,13 +133,13 @@ fn start_shown(
     requires each { length nest.now ≡ depth_of (walk_of walking.now).program statement }
     requires bounds { BoundsFit (length (walk_of walking.now).program.parameters) nest.now }
     requires walk_fits { WalkFits (walk_of walking.now) statement (tree_of_walk tree.now) }
-    ensures { Decides (walk_claims walking.now.condition (walk_of walking.now) statement (place.now ++ Key START ∷ Key TREE ∷ [])
+    ensures { Decides (walk_claims walking.now.condition (walk_of walking.now) statement (place.now ++ Key (codes "start") ∷ Key (codes "tree") ∷ [])
         (region_context (walk_of walking.now) statement (start_rows (walk_of walking.now) statement nest.now)) (tree_of_walk tree.now)) result }
 {
     let own = start_rows(alloc, walking, statement, nest)?;
     let rows = region_context(alloc, walking, statement, own.as_slice())?;
-    let start = place.within(alloc, Step::Key(START))?;
-    let there = start.within(alloc, Step::Key(TREE))?;
+    let start = place.within(alloc, Step::Key(ObjectKey("start")))?;
+    let there = start.within(alloc, Step::Key(ObjectKey("tree")))?;
     walk_shown(alloc, walking, &there, statement, rows.as_slice(), tree)
 }
 
@@ -163,8 +161,8 @@ fn region_shown(
     };
     let rows = region_context(alloc, walking, statement, region.rows.as_slice())?;
     let node = list.within(alloc, Step::Index(u64::from(statement)))?;
-    let inner = node.within(alloc, Step::Key(REGION))?;
-    let place = inner.within(alloc, Step::Key(TREE))?;
+    let inner = node.within(alloc, Step::Key(ObjectKey("region")))?;
+    let place = inner.within(alloc, Step::Key(ObjectKey("tree")))?;
     walk_shown(
         alloc,
         walking,
@@ -279,10 +277,10 @@ fn nodes_shown(
 
 /// The place of a family's start label.
 fn label_place(alloc: Global, place: &Place) -> Result<Place, Memory>
-    ensures { IfOk result (λ label. label ≡ place.now ++ Key START ∷ Key LABEL ∷ []) }
+    ensures { IfOk result (λ label. label ≡ place.now ++ Key (codes "start") ∷ Key (codes "label") ∷ []) }
 {
-    let start = place.within(alloc, Step::Key(START))?;
-    start.within(alloc, Step::Key(LABEL))
+    let start = place.within(alloc, Step::Key(ObjectKey("start")))?;
+    start.within(alloc, Step::Key(ObjectKey("label")))
 }
 
 /// Whether what a family claims is shown.
@@ -307,7 +305,7 @@ fn family_shown(
     counted_shown(
         alloc, program, quasts, &none, statement, nest, credits, family, place,
     )?;
-    let list = place.within(alloc, Step::Key(NODES))?;
+    let list = place.within(alloc, Step::Key(ObjectKey("nodes")))?;
     nodes_shown(alloc, program, quasts, &none, credits, family, &list)?;
     Ok(())
 }

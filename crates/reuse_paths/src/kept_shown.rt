@@ -5,12 +5,12 @@ ghost use Rattle.std.specs.Prelude.{◌≡◌, ◌+◌, ◌*◌, length};
 ghost use Rattle.affine_form.specs.System.{AllOver};
 ghost use Rattle.affine_program.specs.Domain.{depth_of};
 ghost use Rattle.claims.specs.Claims.{Decides};
-ghost use Rattle.dep_quast.specs.Claims.{IsFew};
+ghost use Rattle.claims.specs.Shown.{IsFew};
 ghost use Rattle.dep_quast.specs.Truth.{ReadFits};
 ghost use Rattle.dep_quast.specs.Views.{read_of};
 ghost use Rattle.reuse_paths.specs.EntryClaims.{keeping_claims};
 ghost use Rattle.reuse_paths.specs.LeafClaims.{claim_of, goes_on, is_credited, stops};
-ghost use Rattle.reuse_paths.specs.OpenLeaves.{origin_of};
+ghost use Rattle.dep_quast.specs.OpenLeaves.{origin_of};
 ghost use Rattle.reuse_paths.specs.WalkFits.{KeepingFits};
 ghost use Rattle.reuse_paths.specs.WalkSettings.{keeps, reading_point, region_variables};
 ghost use Rattle.reuse_paths.specs.WalkViews.{kept_of, walk_of, OriginFits, ReadingFits};
@@ -18,12 +18,11 @@ ghost use Rattle.reuse_paths.specs.WalkViews.{kept_of, walk_of, OriginFits, Read
 use crate::Leaf;
 use crate::credited::credit_shown;
 use crate::entry_shown::{empty_shown, going_shown};
-use crate::open_leaves::Origin;
 use crate::walking::{Kept, Walking, region_variables};
 use crate::word_labels::{input_shown, label_shown};
 use affine_form::{Form, Multipliers};
-use claims::key::{LABEL, STOP};
-use claims::{Place, Refused, refusal};
+use claims::{ObjectKey, Place, Refused, refusal};
+use dep_quast::open_leaves::Origin;
 use dep_quast::reader::Reader;
 use std::alloc::Global;
 
@@ -48,7 +47,16 @@ fn stop_shown(
         (record { vars = region_variables (walk_of walking.now) reader.statement; rows = rows.now }) (reading_point (walk_of walking.now) reader.statement) (origin_of origin.now) (stops label.now)) result }
 {
     match origin {
-        Origin::Input => input_shown(alloc, walking, kept, place, STOP, reader, rows, label),
+        Origin::Input => input_shown(
+            alloc,
+            walking,
+            kept,
+            place,
+            ObjectKey("stop"),
+            reader,
+            rows,
+            label,
+        ),
         _ => Err(refusal(alloc, walking.condition, place)),
     }
 }
@@ -82,7 +90,15 @@ fn credited_shown(
         alloc, walking, kept, place, statement, rows, origin, number, shown,
     )?;
     label_shown(
-        alloc, walking, kept, place, LABEL, reader, rows, origin, label,
+        alloc,
+        walking,
+        kept,
+        place,
+        ObjectKey("label"),
+        reader,
+        rows,
+        origin,
+        label,
     )?;
     Ok(())
 }
@@ -113,7 +129,15 @@ fn onward_shown(
     let statement = reader.statement;
     going_shown(alloc, walking, place, statement, rows, origin, shown)?;
     label_shown(
-        alloc, walking, kept, place, LABEL, reader, rows, origin, label,
+        alloc,
+        walking,
+        kept,
+        place,
+        ObjectKey("label"),
+        reader,
+        rows,
+        origin,
+        label,
     )?;
     Ok(())
 }

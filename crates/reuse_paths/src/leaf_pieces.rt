@@ -1,19 +1,19 @@
 //! The pieces of the words that walks take at leaves.
 
-ghost use Rattle.std.specs.Prelude.{◌≡◌, ◌<◌, ◌+◌, ◌++◌, ◌∷◌, [], length, map, IfErr, OnOk};
+ghost use Rattle.std.specs.Prelude.{◌≡◌, ◌<◌, ◌+◌, ◌++◌, ◌∷◌, [], length, map, IfErr, OnOk, codes};
 ghost use Rattle.std.specs.List.{AllByRecursion};
 ghost use Rattle.affine_form.specs.Rows.{IsSmallOver};
 ghost use Rattle.affine_form.specs.System.{AllOver};
 ghost use Rattle.affine_program.specs.Domain.{depth_of};
 ghost use Rattle.claims.specs.Claims.{AllHold, IsRefusal};
 ghost use Rattle.claims.specs.declared.place.Step.TheVariants.{Key};
-ghost use Rattle.dep_quast.specs.Claims.{IsFew};
+ghost use Rattle.claims.specs.Shown.{IsFew};
 ghost use Rattle.dep_quast.specs.Truth.{ReadFits};
 ghost use Rattle.dep_quast.specs.Views.{read_of};
 ghost use Rattle.reuse_paths.specs.FewContexts.{few_claim, few_leaves, ReadersFit, TakenFits};
 ghost use Rattle.reuse_paths.specs.LeafClaims.{claim_of};
-ghost use Rattle.reuse_paths.specs.OpenLeaves.{form_at, origin_of};
-ghost use Rattle.reuse_paths.specs.Pieces.{pieces_of};
+ghost use Rattle.dep_quast.specs.OpenLeaves.{form_at, origin_of};
+ghost use Rattle.footprint_pieces.specs.Pieces.{pieces_of};
 ghost use Rattle.reuse_paths.specs.WalkClaims.{leaves_at};
 ghost use Rattle.reuse_paths.specs.WalkPieces.{entry_pieces, leaves_pieces, word_pieces};
 ghost use Rattle.reuse_paths.specs.WalkSettings.{reading_point, region_variables as variables_of};
@@ -21,16 +21,15 @@ ghost use Rattle.reuse_paths.specs.WalkViews.{walk_of, OpenLeafFits, OriginFits}
 
 use crate::entry_shown::entry_place;
 use crate::leaf::Leaf;
-use crate::open_leaves::{OpenLeaf, Origin};
-use crate::piece::{Piece, Target};
 use crate::region::written_values;
 use crate::walk_shown::leaves_of;
 use crate::walking::{Walking, region_variables};
 use affine_form::{Form, Memory, system_of};
-use claims::key::LEAVES;
-use claims::{No, Place, Refused, Step};
-use dep_quast::lists::followed_by;
+use claims::lists::followed_by;
+use claims::{FailedCondition, ObjectKey, Place, Refused, Step};
+use dep_quast::open_leaves::{OpenLeaf, Origin};
 use dep_quast::reader::{Reader, depth, reference};
+use footprint_pieces::{Piece, Target};
 use iolb_model::limits;
 use std::alloc::Global;
 
@@ -142,7 +141,7 @@ fn push_leaf(
     let all = followed_by(alloc, front, leaf.tests.as_slice())?;
     if all.as_slice().len() > limits::ROWS {
         let place = entry_place(alloc, place, entry)?;
-        return Err(Refused::No(No {
+        return Err(Refused::Failed(FailedCondition {
             condition: 2,
             place,
         }));
@@ -205,10 +204,10 @@ pub(crate) fn push_taken(
     requires rows_over { AllOver (variables_of (walk_of walking.now) reader.statement) rows.now }
     requires taken { TakenFits (walk_of walking.now) reader.statement reader.read (map claim_of entries.now) }
     ensures pieces { OnOk result (pieces_of pieces.new ≡ pieces_of pieces.old ++ leaves_pieces (walk_of walking.now) (read_of reader) rows.now (leaves_at (walk_of walking.now) (read_of reader)) (map claim_of entries.now)) }
-    ensures few { OnOk result (AllHold (few_leaves (place.now ++ Key LEAVES ∷ []) rows.now 0 (leaves_at (walk_of walking.now) (read_of reader)) (map claim_of entries.now))) }
-    ensures refused { IfErr result (IsRefusal (few_leaves (place.now ++ Key LEAVES ∷ []) rows.now 0 (leaves_at (walk_of walking.now) (read_of reader)) (map claim_of entries.now))) }
+    ensures few { OnOk result (AllHold (few_leaves (place.now ++ Key (codes "leaves") ∷ []) rows.now 0 (leaves_at (walk_of walking.now) (read_of reader)) (map claim_of entries.now))) }
+    ensures refused { IfErr result (IsRefusal (few_leaves (place.now ++ Key (codes "leaves") ∷ []) rows.now 0 (leaves_at (walk_of walking.now) (read_of reader)) (map claim_of entries.now))) }
 {
-    let list = place.within(alloc, Step::Key(LEAVES))?;
+    let list = place.within(alloc, Step::Key(ObjectKey("leaves")))?;
     let leaves = leaves_of(alloc, walking, reader)?;
     push_leaves(
         alloc,

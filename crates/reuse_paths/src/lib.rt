@@ -2,9 +2,7 @@
 //! and pieces of footprints.
 #![tactic(auto)]
 
-mod check;
 mod credited;
-mod disjoint;
 mod entry_shown;
 mod family;
 mod family_footprint;
@@ -13,29 +11,23 @@ mod kept_shown;
 pub mod law;
 mod leaf;
 mod leaf_pieces;
-pub mod open_leaves;
-mod piece;
-mod quasts;
 mod reach;
 mod reach_shown;
 mod region;
-mod shared;
-mod target_pairs;
 mod walk;
 mod walk_shown;
 mod walking;
 mod word_labels;
 
-pub use check::check_quasts;
-pub use disjoint::{check_disjoint, disjoint_pieces_are_apart, lists_shown};
+pub use dep_quast::{Quasts, check_quasts};
 pub use family::{Credit, Family, FamilyNode};
 pub use family_footprint::family_pieces;
 pub use family_shown::check_family;
+pub use footprint_pieces::{
+    Piece, Target, check_disjoint, disjoint_pieces_are_apart, has_pairs, lists_shown,
+};
 pub use leaf::Leaf;
-pub use piece::{Piece, Target};
-pub use quasts::Quasts;
 pub use reach::{Reach, Spot};
 pub use reach_shown::check_reach;
-pub use target_pairs::has_pairs;
 pub use walk::{Region, Walk, entry_count};
 pub use walking::{Aim, Kept, Walking, region_at};

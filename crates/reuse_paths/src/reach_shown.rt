@@ -1,17 +1,16 @@
 //! The check of reaches.
 #![tactic(auto, using(claims::proofs::Found::in_a_row))]
 
-ghost use Rattle.std.specs.Prelude.{◌≡◌, ◌*◌, ◌++◌, ◌∷◌, [], ℕ, length, map, option_map, OnOk, IfErr};
+ghost use Rattle.std.specs.Prelude.{◌≡◌, ◌*◌, ◌++◌, ◌∷◌, [], ℕ, length, map, option_map, OnOk, IfErr, codes};
 ghost use Rattle.affine_program.specs.Domain.{depth_of};
 ghost use Rattle.affine_program.specs.Parts.{meaning};
 ghost use Rattle.claims.specs.Claims.{AllHold, Decides, IsRefusal, numbered};
-ghost use Rattle.claims.specs.declared.key.TheConstants.{NODES};
 ghost use Rattle.claims.specs.declared.place.Step.TheVariants.{Key};
 ghost use Rattle.reuse_paths.specs.Arrival.{Arrives};
-ghost use Rattle.reuse_paths.specs.Quasts.{trees_of};
+ghost use Rattle.dep_quast.specs.Quasts.{trees_of};
 ghost use Rattle.reuse_paths.specs.ReachClaims.{reach_claims, region_claims, same_claims, start_claims};
 ghost use Rattle.reuse_paths.specs.ReachFits.{ReachFits};
-ghost use Rattle.reuse_paths.specs.Trees.{RowsAreTrue, RowsFit};
+ghost use Rattle.dep_quast.specs.Trees.{RowsAreTrue, RowsFit};
 ghost use Rattle.reuse_paths.specs.WalkFits.{NestFits, ReaderFits, RegionsFit, SpotFits};
 ghost use Rattle.reuse_paths.specs.Walks.{reach_of, region_of, spot_of};
 ghost use Rattle.reuse_paths.specs.WalkSettings.{entering_rows, region_at, spot_variables};
@@ -24,9 +23,8 @@ use crate::walking::{Aim, Walking, region_at, spot_variables};
 use crate::{Quasts, Reach, Region, Spot};
 use affine_form::Multipliers;
 use affine_program::Program;
-use claims::key::{NODES, SAME, START};
-use claims::{Place, Refused, Step, refusal};
-use dep_quast::claims_shown::goals_shown;
+use claims::shown::goals_shown;
+use claims::{ObjectKey, Place, Refused, Step, refusal};
 use domain_count::{Nest, rows_before};
 use std::alloc::Global;
 
@@ -45,7 +43,7 @@ fn same_shown(
     requires enough { from.now.statement ≡ target.now.statement → length equal.now ≡ 2 * depth_of (walk_of walking.now).program from.now.statement }
     ensures { Decides (same_claims walking.now.condition (walk_of walking.now) (spot_of target.now) place.now (spot_of from.now) equal.now) result }
 {
-    let list = place.within(alloc, Step::Key(SAME))?;
+    let list = place.within(alloc, Step::Key(ObjectKey("same")))?;
     if from.statement != target.statement {
         return Err(refusal(alloc, walking.condition, &list));
     }
@@ -76,7 +74,7 @@ fn start_shown(
     requires enough { length start.now ≡ length (entering_rows (walk_of walking.now) (spot_variables (walk_of walking.now)) (region_at (walk_of walking.now).nodes from.now.statement) (spot_of from.now).point) }
     ensures { Decides (start_claims walking.now.condition (walk_of walking.now) place.now (spot_of from.now) start.now) result }
 {
-    let list = place.within(alloc, Step::Key(START))?;
+    let list = place.within(alloc, Step::Key(ObjectKey("start")))?;
     let Some(region) = region_at(walking, from.statement) else {
         return Err(refusal(alloc, walking.condition, &list));
     };
@@ -111,10 +109,10 @@ fn walked_shown(
     requires each { length nodes.now ≡ length (walk_of walking.now).program.statements }
     requires regions_fit { RegionsFit (walk_of walking.now) 0 (map (option_map region_of) nodes.now) }
     ensures { Decides (start_claims walking.now.condition (walk_of walking.now) place.now (spot_of from.now) start.now
-        ++ numbered (region_claims walking.now.condition (walk_of walking.now) (place.now ++ Key NODES ∷ [])) 0 (map (option_map region_of) nodes.now)) result }
+        ++ numbered (region_claims walking.now.condition (walk_of walking.now) (place.now ++ Key (codes "nodes") ∷ [])) 0 (map (option_map region_of) nodes.now)) result }
 {
     start_shown(alloc, walking, place, from, start)?;
-    let list = place.within(alloc, Step::Key(NODES))?;
+    let list = place.within(alloc, Step::Key(ObjectKey("nodes")))?;
     regions_shown(alloc, walking, &list, nodes)?;
     Ok(())
 }

@@ -6,16 +6,15 @@ ghost use Rattle.affine_form.specs.Form.{variables, IsSmallForm};
 ghost use Rattle.affine_form.specs.Rows.{equality_rows, widened, IsSmallOver};
 ghost use Rattle.affine_form.specs.System.{AllOver};
 ghost use Rattle.affine_program.specs.Domain.{depth_of};
-ghost use Rattle.reuse_paths.specs.OpenLeaves.{form_at};
+ghost use Rattle.dep_quast.specs.OpenLeaves.{form_at};
 ghost use Rattle.reuse_paths.specs.WalkFits.{NestFits};
 ghost use Rattle.reuse_paths.specs.WalkSettings.{forms_behind, reading_point, region_context, region_variables, spot_variables};
 ghost use Rattle.reuse_paths.specs.WalkViews.{walk_of, EndsFit, OriginFits};
 ghost use Rattle.iolb_model.specs.declared.limits.TheConstants.{LOOPS, NEST_VARIABLES, PARAMETERS, PUT_SIZE, VARIABLES};
 
-use crate::shared::equal_rows;
 use crate::walking::{Walking, reading_point, region_values, region_variables, spot_variables};
 use affine_form::{Form, Memory, put, variables_from, widened};
-use dep_quast::lists::{all_widened, followed_by};
+use claims::lists::{all_widened, equal_rows, followed_by};
 use dep_quast::point_rows::domain_rows;
 use domain_count::rows_before;
 use std::alloc::Global;

@@ -6,15 +6,15 @@ ghost use Rattle.std.specs.List.{AllByRecursion};
 ghost use Rattle.affine_form.specs.Rows.{IsSmallOver};
 ghost use Rattle.affine_form.specs.System.{AllOver};
 ghost use Rattle.claims.specs.Claims.{Decides, numbered};
-ghost use Rattle.dep_quast.specs.Claims.{IsFew};
+ghost use Rattle.claims.specs.Shown.{IsFew};
 ghost use Rattle.dep_quast.specs.Context.{no_row};
 ghost use Rattle.dep_quast.specs.Truth.{ReadFits};
 ghost use Rattle.dep_quast.specs.Views.{read_of};
 ghost use Rattle.affine_program.specs.Domain.{depth_of};
-ghost use Rattle.reuse_paths.specs.OpenLeaves.{origin_of};
+ghost use Rattle.dep_quast.specs.OpenLeaves.{origin_of};
 ghost use Rattle.reuse_paths.specs.EntryClaims.{aimed_claims, leaf_claims};
 ghost use Rattle.reuse_paths.specs.LeafClaims.{claim_of};
-ghost use Rattle.reuse_paths.specs.Quasts.{tree_at, tree_for};
+ghost use Rattle.dep_quast.specs.Quasts.{tree_at, tree_for};
 ghost use Rattle.reuse_paths.specs.ReachClaims.{region_claims};
 ghost use Rattle.reuse_paths.specs.WalkClaims.{leaves_at, leaves_claims, walk_claims};
 ghost use Rattle.reuse_paths.specs.WalkFits.{EntriesFit, EntryFits, ReaderFits, RegionFits, RegionsFit, TakeFits, WalkFits};
@@ -25,14 +25,13 @@ ghost use Rattle.iolb_model.specs.declared.limits.TheConstants.{VARIABLES};
 
 use crate::entry_shown::{arriving_shown, entry_place};
 use crate::kept_shown::keeping_shown;
-use crate::open_leaves::{OpenLeaf, Origin, opposite, push_open_leaves};
 use crate::region::region_context;
 use crate::walking::{Aim, Walking, reading_point, region_variables};
 use crate::{Leaf, Region, Walk};
 use affine_form::{Form, Memory};
-use claims::key::{LEAVES, NO, TREE, YES};
-use claims::{Place, Refused, Step, refusal};
-use dep_quast::lists::{followed_by, with_form};
+use claims::lists::{followed_by, with_form};
+use claims::{ObjectKey, Place, Refused, Step, refusal};
+use dep_quast::open_leaves::{OpenLeaf, Origin, opposite, push_open_leaves};
 use dep_quast::reader::Reader;
 use iolb_model::limits;
 use std::alloc::Global;
@@ -210,10 +209,10 @@ pub(crate) fn walk_shown(
         Walk::Test { form, yes, no } => {
             let vars = region_variables(walking, statement);
             let above = with_form(alloc, rows, form.try_clone(alloc)?)?;
-            let side = place.within(alloc, Step::Key(YES))?;
+            let side = place.within(alloc, Step::Key(ObjectKey("yes")))?;
             walk_shown(alloc, walking, &side, statement, above.as_slice(), yes)?;
             let below = rows_of_no(alloc, vars, rows, form)?;
-            let side = place.within(alloc, Step::Key(NO))?;
+            let side = place.within(alloc, Step::Key(ObjectKey("no")))?;
             walk_shown(alloc, walking, &side, statement, below.as_slice(), no)?;
             Ok(())
         }
@@ -221,7 +220,7 @@ pub(crate) fn walk_shown(
             read,
             leaves: entries,
         } => {
-            let list = place.within(alloc, Step::Key(LEAVES))?;
+            let list = place.within(alloc, Step::Key(ObjectKey("leaves")))?;
             let reader = Reader {
                 statement,
                 read: *read,
@@ -248,7 +247,7 @@ fn region_shown(
     };
     let rows = region_context(alloc, walking, statement, region.rows.as_slice())?;
     let node = list.within(alloc, Step::Index(u64::from(statement)))?;
-    let place = node.within(alloc, Step::Key(TREE))?;
+    let place = node.within(alloc, Step::Key(ObjectKey("tree")))?;
     walk_shown(
         alloc,
         walking,

@@ -9,23 +9,23 @@ ghost use Rattle.affine_form.specs.System.{AllOver};
 ghost use Rattle.affine_program.specs.Domain.{depth_of};
 ghost use Rattle.claims.specs.Claims.{Decides};
 ghost use Rattle.claims.specs.declared.place.Step.TheVariants.{Key};
-ghost use Rattle.dep_quast.specs.Claims.{follow_claims, IsFew};
+ghost use Rattle.claims.specs.Shown.{follow_claims, IsFew};
 ghost use Rattle.dep_quast.specs.Truth.{ReadFits};
 ghost use Rattle.dep_quast.specs.Views.{read_of};
 ghost use Rattle.reuse_paths.specs.EntryClaims.{label_claims, word_label};
-ghost use Rattle.reuse_paths.specs.OpenLeaves.{as_input, form_at, origin_of, written};
+ghost use Rattle.dep_quast.specs.OpenLeaves.{as_input, form_at, origin_of, written};
 ghost use Rattle.reuse_paths.specs.WalkSettings.{forms_behind, keeps, reading_point, region_variables, spot_variables};
 ghost use Rattle.reuse_paths.specs.WalkViews.{kept_of, walk_of, OriginFits, ReadingFits};
 ghost use Rattle.iolb_model.specs.declared.limits.TheConstants.{LOOPS, PUT_SIZE};
 
 use crate::family::{cell_label, instance_label};
-use crate::open_leaves::Origin;
 use crate::region::{forms_behind, written_values};
-use crate::shared::equal_rows;
 use crate::walking::{Kept, Walking, region_variables};
 use affine_form::{Form, Memory, Multipliers, system_of};
-use claims::{Place, Refused, Step, refusal};
-use dep_quast::claims_shown::goals_shown;
+use claims::lists::equal_rows;
+use claims::shown::goals_shown;
+use claims::{ObjectKey, Place, Refused, Step, refusal};
+use dep_quast::open_leaves::Origin;
 use dep_quast::reader::{Reader, reference};
 use std::alloc::Global;
 
@@ -58,7 +58,7 @@ fn same_shown(
     alloc: Global,
     walking: &Walking,
     place: &Place,
-    key: u8,
+    key: ObjectKey,
     statement: u16,
     rows: &[Form],
     label: &[Form],
@@ -93,7 +93,7 @@ fn written_shown(
     walking: &Walking,
     kept: Kept,
     place: &Place,
-    key: u8,
+    key: ObjectKey,
     reader: Reader,
     rows: &[Form],
     writer: u16,
@@ -134,7 +134,7 @@ pub(crate) fn input_shown(
     walking: &Walking,
     kept: Kept,
     place: &Place,
-    key: u8,
+    key: ObjectKey,
     reader: Reader,
     rows: &[Form],
     shown: &[Multipliers],
@@ -174,7 +174,7 @@ pub(crate) fn label_shown(
     walking: &Walking,
     kept: Kept,
     place: &Place,
-    key: u8,
+    key: ObjectKey,
     reader: Reader,
     rows: &[Form],
     origin: &Origin,

@@ -1,53 +1,30 @@
 -- A schedule that was read fits the program.
-use Rattle.std.proofs.Common.{◌≡◌, refl, sym, ap, ◌∙◌, subst, ℕ, suc, ◌+◌, ◌≤◌, Bool, true, false, List, [], ◌∷◌, length, Ok, Err, codes, arith}
-use Rattle.std.specs.Prelude.{ℤ, pos, negsuc, ◌==◌, ◌&&◌, nat_le, if◌then◌else◌, Option, Some, None}
+use Rattle.std.proofs.Common.{◌≡◌, refl, ap, ◌∙◌, subst, ℕ, suc, ◌+◌, ◌≤◌, List, [], ◌∷◌, length, Ok, Err, codes, arith}
+use Rattle.std.specs.Prelude.{ℤ, ◌==◌, nat_le, IfOk}
 use Rattle.std.specs.List.{AllByRecursion, enumerate_from}
 use Rattle.std.proofs.lemmas.Bool.{eqb-true}
-use borrow.Author.Tests.{leb-true}
-use Rattle.std.specs.Cmp.{first_so}
-use Rattle.claims.specs.declared.key.TheConstants.{KEYS}
-use Rattle.claims.specs.declared.place.Step.{Step}
-use Rattle.claims.specs.declared.place.Step.TheVariants.{Key as KeyStep, Index}
+use Rattle.claims.specs.declared.place.Step.TheVariants.{Index}
 use Rattle.iolb_model.specs.Form.{AffineForm}
 use Rattle.iolb_model.specs.Program.{AffineProgram, IsOver}
 use Rattle.iolb_model.specs.declared.limits.TheConstants.{DIVISOR, NUMBER_SIZE}
 use Rattle.serde_json.specs.Data.{Data}
-use Rattle.serde_json.specs.Find.{get}
-use Rattle.json_parts.specs.Outcome.{Outcome, ◌>>=◌, fault, under}
-use Rattle.json_parts.specs.Json.{with_keys, read_member, reads_list, reads_short_list, each, reads_integer, reads_natural, natural_within, integer_of}
-use Rattle.cert_parts.specs.Parts.{reads_form, form_in, form_of, columns_of}
+use Rattle.json_parts.specs.Given.{given_then, given_behind, given_under, given_if, given_part, given_each, given_keys, given_natural}
+use Rattle.json_parts.specs.Json.{reads_list, reads_short_list, each, reads_integer, reads_natural}
+use Rattle.json_parts.specs.Outcome.{Outcome, fault, under}
+use Rattle.certificate_parts.specs.Forms.{reads_form, form_in, form_of}
+use Rattle.certificate_parts.specs.Matrices.{columns_of}
 use Rattle.tile_sched.specs.declared.schedule.Key.{Key}
 use Rattle.tile_sched.specs.Schedules.{key_variables, IsKey, IsSchedule}
 use Rattle.tile_sched.specs.Reading.{reads_form_over, key_in, reads_key, reads_key_list, reads_keys, reads_rows, rows_in, reads_all, reads_schedule}
 
--- ---- what led to a value that was read
+-- what is read is what was read
+itself : {A : Type 0} (read : Outcome A) → IfOk read (λ a. read ≡ Ok a)
+itself (Ok a) = refl
+itself (Err e) = tt
 
-first_ok : {A B : Type 0} (r : Outcome A) (f : A → Outcome B) (b : B) → r >>= f ≡ Ok b → (a : A) × ((r ≡ Ok a) × (f a ≡ Ok b))
-first_ok (Ok a) f b h = (a, (refl, h))
-first_ok (Err e) f b h = absurd cc
-
-under_ok : {A : Type 0} (step : Step) (r : Outcome A) (a : A) → under step r ≡ Ok a → r ≡ Ok a
-under_ok step (Ok x) a h = h
-under_ok step (Err e) a h = absurd cc
-
-test_ok : {A : Type 0} (b : Bool) (n : ℕ) (r : Outcome A) (a : A) → (if b then r else fault n) ≡ Ok a → (b ≡ true) × (r ≡ Ok a)
-test_ok true n r a h = (refl, h)
-test_ok false n r a h = absurd cc
-
-same_ok : {A : Type 0} (a b : A) → ◌≡◌ {A = Outcome A} (Ok a) (Ok b) → a ≡ b
-same_ok a b h = cc
-
-each_ok : {A : Type 0} (reader : Data → Outcome A) (P : A → Type 0) → ((d : Data) (a : A) → reader d ≡ Ok a → P a) → (i : ℕ) (ds : List Data) (all : List A) → each reader i ds ≡ Ok all
-    → AllByRecursion P all × (length all ≡ length ds)
-unfolding each
-each_ok reader P holds i [] [] h = (tt, refl)
-each_ok reader P holds i [] (a ∷ all) h = absurd cc
-each_ok reader P holds i (d ∷ ds) all h =
-    let one = first_ok (under (Index i) (reader d)) _ all h in
-    let rest = first_ok (each reader (suc i) ds) _ all one.1.1 in
-    let more = each_ok reader P holds (suc i) ds rest.0 rest.1.0 in
-    let is : one.0 ∷ rest.0 ≡ all = same_ok (one.0 ∷ rest.0) all rest.1.1 in
-    subst (λ (l : List _). AllByRecursion P l × (length l ≡ length (d ∷ ds))) is ((holds d one.0 (under_ok (Index i) (reader d) one.0 one.1.0), more.0), ap suc more.1)
+weaker : {A : Type 0} (read : Outcome A) (P Q : A → Type 0) → ((a : A) → P a → Q a) → IfOk read P → IfOk read Q
+weaker (Ok a) P Q f h = f a h
+weaker (Err e) P Q f h = tt
 
 -- ---- keys
 
@@ -55,105 +32,75 @@ form_long : (number : ℤ) (numbers : List ℤ) → length (form_of number numbe
 form_long number [] = refl
 form_long number (next ∷ numbers) = ap suc (form_long next numbers)
 
-form_in_long : (numbers : List ℤ) (form : AffineForm) → form_in numbers ≡ Ok form → length numbers ≡ length form.coefficients + 1
-form_in_long [] form h = absurd cc
-form_in_long (number ∷ numbers) form h =
-    let is : form_of number numbers ≡ form = same_ok (form_of number numbers) form h in
-    omega (arith, form_long number numbers, ap (λ (f : AffineForm). length f.coefficients) is)
+form_in_long : (count : ℕ) (numbers : List ℤ) → length numbers ≡ count → IfOk (form_in numbers) (λ form. length form.coefficients + 1 ≡ count)
+form_in_long count [] many = tt
+form_in_long count (number ∷ numbers) many = omega (arith, many, form_long number numbers)
 
-form_read : (d : Data) (form : AffineForm) → reads_form d ≡ Ok form → (numbers : List Data) × ((reads_list d ≡ Ok numbers) × (length numbers ≡ length form.coefficients + 1))
+-- a form has a coefficient fewer than its list has members
+form_read : (d : Data) (ds : List Data) → reads_list d ≡ Ok ds → IfOk (reads_form d) (λ form. length form.coefficients + 1 ≡ length ds)
 unfolding reads_form reads_short_list
-form_read d form h =
-    let members = first_ok (reads_short_list 25 d) _ form h in
-    let list = first_ok (reads_list d) _ members.0 members.1.0 in
-    let few = test_ok (nat_le (length list.0) 25) 3 (Ok list.0) members.0 list.1.1 in
-    let same : list.0 ≡ members.0 = same_ok list.0 members.0 few.1 in
-    let numbers = first_ok (each (reads_integer NUMBER_SIZE) 0 members.0) form_in form members.1.1 in
-    let all = each_ok (reads_integer NUMBER_SIZE) (λ z. Unit {0}) (λ d z r. tt) 0 members.0 numbers.0 numbers.1.0 in
-    (list.0, (list.1.0, omega (arith, ap length same, all.1, form_in_long numbers.0 form numbers.1.1)))
+form_read d ds is =
+    let P : AffineForm → Type 0 = λ form. length form.coefficients + 1 ≡ length ds in
+    rw is (given_then _ _ (λ (members : List Data). members ≡ ds) P (given_if (nat_le (length ds) 25) (Ok ds) (fault 3) (λ (members : List Data). members ≡ ds) (λ few. refl) tt)
+    (λ members same. given_then (each (reads_integer NUMBER_SIZE) 0 members) form_in (λ (numbers : List ℤ). AllByRecursion (λ _. Unit {0}) numbers × (length numbers ≡ length members)) P
+    (given_each (reads_integer NUMBER_SIZE) (λ _. Unit {0}) (λ v. weaker (reads_integer NUMBER_SIZE v) (λ z. reads_integer NUMBER_SIZE v ≡ Ok z) (λ _. Unit {0}) (λ z h. tt) (itself (reads_integer NUMBER_SIZE v))) 0 members)
+    (λ numbers all. form_in_long (length ds) numbers (all.1 ∙ ap length same))))
 
-form_over : (variables : ℕ) (d : Data) (form : AffineForm) → reads_form_over variables d ≡ Ok form → IsOver variables form
+form_over : (variables : ℕ) (d : Data) → IfOk (reads_form_over variables d) (IsOver variables)
 unfolding reads_form_over
-form_over variables d form h =
-    let list = first_ok (reads_list d) _ form h in
-    let many = test_ok (length list.0 == variables + 1) 2 (reads_form d) form list.1.1 in
-    let read = form_read d form many.1 in
-    let same : list.0 ≡ read.0 = same_ok list.0 read.0 (sym list.1.0 ∙ read.1.0) in
-    omega (arith, eqb-true (length list.0) (variables + 1) many.0, ap length same, read.1.1)
+form_over variables d =
+    given_then (reads_list d) _ (λ (ds : List Data). reads_list d ≡ Ok ds) (IsOver variables) (itself (reads_list d))
+    (λ ds is. given_if (length ds == variables + 1) (reads_form d) (fault 2) (IsOver variables)
+    (λ many. weaker (reads_form d) (λ form. length form.coefficients + 1 ≡ length ds) (IsOver variables) (λ form h. omega (arith, h, eqb-true (length ds) (variables + 1) many)) (form_read d ds is)) tt)
 
-natural_least : (least most : ℕ) (z : Option ℤ) (n : ℕ) → natural_within least most z ≡ Ok n → least ≤ n
-natural_least least most None n h = absurd cc
-natural_least least most (Some (pos m)) n h =
-    let within = test_ok (nat_le least m && nat_le m most) 3 (Ok m) n h in
-    let is : m ≡ n = same_ok m n within.1 in
-    omega (arith, leb-true least m (first_so (nat_le least m) (nat_le m most) within.0))
-natural_least least most (Some (negsuc m)) n h = absurd cc
+key_fits : (variables : ℕ) (ds : List Data) → IfOk (key_in variables ds) (IsKey variables)
+key_fits variables [] = tt
+key_fits variables (d ∷ []) = tt
+key_fits variables (d ∷ e ∷ []) =
+    given_then (under (Index 0) (reads_form_over variables d)) _ (IsOver variables) (IsKey variables) (given_under (Index 0) (reads_form_over variables d) (IsOver variables) (form_over variables d))
+    (λ form over. given_then (under (Index 1) (reads_natural 1 DIVISOR e)) _ (λ (n : ℕ). (1 ≤ n) × (n ≤ DIVISOR)) (IsKey variables)
+    (given_under (Index 1) (reads_natural 1 DIVISOR e) (λ (n : ℕ). (1 ≤ n) × (n ≤ DIVISOR)) (given_natural 1 DIVISOR e)) (λ divisor some. record { over = over; divides = some.0 }))
+key_fits variables (d ∷ e ∷ more ∷ others) = tt
 
-divisor_some : (d : Data) (n : ℕ) → reads_natural 1 DIVISOR d ≡ Ok n → 1 ≤ n
-unfolding reads_natural
-divisor_some d n h = natural_least 1 DIVISOR (integer_of d) n h
-
-key_fits : (variables : ℕ) (ds : List Data) (key : Key) → key_in variables ds ≡ Ok key → IsKey variables key
-key_fits variables [] key h = absurd cc
-key_fits variables (d ∷ []) key h = absurd cc
-key_fits variables (d ∷ e ∷ []) key h =
-    let form = first_ok (under (Index 0) (reads_form_over variables d)) _ key h in
-    let divisor = first_ok (under (Index 1) (reads_natural 1 DIVISOR e)) _ key form.1.1 in
-    let made : Key = record { form = form.0; divisor = divisor.0 } in
-    let is : made ≡ key = same_ok made key divisor.1.1 in
-    subst (IsKey variables) is (record {
-      over = form_over variables d form.0 (under_ok (Index 0) (reads_form_over variables d) form.0 form.1.0);
-      divides = divisor_some e divisor.0 (under_ok (Index 1) (reads_natural 1 DIVISOR e) divisor.0 divisor.1.0);
-    })
-key_fits variables (d ∷ e ∷ more ∷ others) key h = absurd cc
-
-key_read : (variables : ℕ) (d : Data) (key : Key) → reads_key variables d ≡ Ok key → IsKey variables key
+key_read : (variables : ℕ) (d : Data) → IfOk (reads_key variables d) (IsKey variables)
 unfolding reads_key
-key_read variables d key h =
-    let list = first_ok (reads_list d) (key_in variables) key h in
-    key_fits variables list.0 key list.1.1
+key_read variables d = given_behind (reads_list d) (key_in variables) (IsKey variables) (key_fits variables)
 
-keys_read : (count variables : ℕ) (d : Data) (keys : List Key) → reads_keys count variables d ≡ Ok keys → AllByRecursion (IsKey variables) keys
+keys_read : (count variables : ℕ) (d : Data) → IfOk (reads_keys count variables d) (AllByRecursion (IsKey variables))
 unfolding reads_keys
-keys_read count variables d keys h =
-    let list = first_ok (reads_key_list count d) (each (reads_key variables) 0) keys h in
-    (each_ok (reads_key variables) (IsKey variables) (key_read variables) 0 list.0 keys list.1.1).0
+keys_read count variables d =
+    given_behind (reads_key_list count d) (each (reads_key variables) 0) (AllByRecursion (IsKey variables))
+    (λ ds. weaker (each (reads_key variables) 0 ds) (λ keys. AllByRecursion (IsKey variables) keys × (length keys ≡ length ds)) (AllByRecursion (IsKey variables)) (λ keys h. h.0) (given_each (reads_key variables) (IsKey variables) (key_read variables) 0 ds))
 
 -- ---- schedules
 
 -- the keys of the statements from one on fit
-abbrev pub RowsFit : AffineProgram → ℕ → List (List Key) → Type 0
-RowsFit program first rows = AllByRecursion (λ (placed : ℕ × List Key). AllByRecursion (IsKey (key_variables program placed.0)) placed.1) (enumerate_from first rows)
+abbrev AreOver : AffineProgram → ℕ → List (List Key) → Type 0
+AreOver program first rows = AllByRecursion (λ (placed : ℕ × List Key). AllByRecursion (IsKey (key_variables program placed.0)) placed.1) (enumerate_from first rows)
 
-rows_fit : (program : AffineProgram) (count first : ℕ) (ds : List Data) (rows : List (List Key)) → reads_rows program count first ds ≡ Ok rows → RowsFit program first rows × (length rows ≡ length ds)
+abbrev RowsFit : AffineProgram → ℕ → ℕ → List (List Key) → Type 0
+RowsFit program first count rows = AreOver program first rows × (length rows ≡ count)
+
+rows_fit : (program : AffineProgram) (count first : ℕ) (ds : List Data) → IfOk (reads_rows program count first ds) (RowsFit program first (length ds))
 unfolding reads_rows
-rows_fit program count first [] [] h = (tt, refl)
-rows_fit program count first [] (keys ∷ rows) h = absurd cc
-rows_fit program count first (d ∷ ds) rows h =
-    let one = first_ok (under (Index first) (reads_keys count (key_variables program first) d)) _ rows h in
-    let rest = first_ok (reads_rows program count (suc first) ds) _ rows one.1.1 in
-    let more = rows_fit program count (suc first) ds rest.0 rest.1.0 in
-    let is : one.0 ∷ rest.0 ≡ rows = same_ok (one.0 ∷ rest.0) rows rest.1.1 in
-    let keys = keys_read count (key_variables program first) d one.0 (under_ok (Index first) (reads_keys count (key_variables program first) d) one.0 one.1.0) in
-    let next : suc first ≡ first + 1 = omega arith in
-    subst (λ (l : List (List Key)). RowsFit program first l × (length l ≡ length (d ∷ ds))) is ((keys, subst (λ n. RowsFit program n rest.0) next more.0), ap suc more.1)
+rows_fit program count first [] = (tt, refl)
+rows_fit program count first (d ∷ ds) =
+    let variables = key_variables program first in
+    given_then (under (Index first) (reads_keys count variables d)) _ (AllByRecursion (IsKey variables)) (RowsFit program first (suc (length ds)))
+    (given_under (Index first) (reads_keys count variables d) (AllByRecursion (IsKey variables)) (keys_read count variables d))
+    (λ keys here. given_then (reads_rows program count (suc first) ds) _ (RowsFit program (suc first) (length ds)) (RowsFit program first (suc (length ds))) (rows_fit program count (suc first) ds)
+    (λ rows more. let next : suc first ≡ first + 1 = omega arith in ((here, subst (λ n. AreOver program n rows) next more.0), ap suc more.1)))
 
-all_fit : (program : AffineProgram) (d : Data) (rows : List (List Key)) → reads_all program d ≡ Ok rows → IsSchedule program rows
+rows_in_fit : (program : AffineProgram) (ds : List Data) → IfOk (rows_in program ds) (IsSchedule program)
+rows_in_fit program ds =
+    given_if (length ds == length program.statements) (reads_rows program (columns_of ds) 0 ds) (fault 2) (IsSchedule program)
+    (λ many. weaker (reads_rows program (columns_of ds) 0 ds) (RowsFit program 0 (length ds)) (IsSchedule program)
+    (λ rows fit. record { statements = fit.1 ∙ eqb-true (length ds) (length program.statements) many; keys = fit.0 }) (rows_fit program (columns_of ds) 0 ds)) tt
+
+all_fit : (program : AffineProgram) (d : Data) → IfOk (reads_all program d) (IsSchedule program)
 unfolding reads_all
-all_fit program d rows h =
-    let list = first_ok (reads_list d) (rows_in program) rows h in
-    let many = test_ok (length list.0 == length program.statements) 2 (reads_rows program (columns_of list.0) 0 list.0) rows list.1.1 in
-    let fit = rows_fit program (columns_of list.0) 0 list.0 rows many.1 in record {
-      statements = fit.1 ∙ eqb-true (length list.0) (length program.statements) many.0;
-      keys = fit.0;
-    }
+all_fit program d = given_behind (reads_list d) (rows_in program) (IsSchedule program) (rows_in_fit program)
 
-member_fit : (program : AffineProgram) (o : Option Data) (rows : List (List Key)) → read_member (KeyStep KEYS) (reads_all program) o ≡ Ok rows → IsSchedule program rows
-member_fit program None rows h = absurd cc
-member_fit program (Some d) rows h = all_fit program d rows (under_ok (KeyStep KEYS) (reads_all program d) rows h)
-
-pub schedule_fits : (program : AffineProgram) (d : Data) (rows : List (List Key)) → reads_schedule program d ≡ Ok rows → IsSchedule program rows
+pub schedule_fits : (program : AffineProgram) (d : Data) → IfOk (reads_schedule program d) (IsSchedule program)
 unfolding reads_schedule
-schedule_fits program d rows h =
-    let object = first_ok (with_keys (codes "keys" ∷ []) d) _ rows h in
-    member_fit program (get (codes "keys") object.0) rows object.1.1
+schedule_fits program d = given_keys (codes "keys" ∷ []) d _ (IsSchedule program) (given_part (codes "keys") (reads_all program) (IsSchedule program) d (all_fit program))

@@ -7,7 +7,7 @@ use Rattle.serde_json.specs.Find.{as_array}
 use Rattle.serde_json.specs.View.{view, items_of}
 use Rattle.serde_json.specs.declared.value.Value.{Value}
 use Rattle.json_parts.specs.Json.{list_of}
-use Rattle.cert_parts.specs.Parts.{member_count, columns_of}
+use Rattle.certificate_parts.specs.Matrices.{member_count, columns_of}
 use Rattle.json_parts.proofs.Items.{list_of-items_of}
 
 pub columns_first : (values : List Value) (value : Value) (members : List Value) → 0 < length values → value ≡ get_or values 0 value → Some (items_of (map view members)) ≡ as_array (view value)

@@ -4,11 +4,11 @@ use Rattle.iolb_model.specs.declared.limits.TheConstants.{DIVISOR, SCHEDULE_KEYS
 use Rattle.iolb_model.specs.Form.{AffineForm}
 use Rattle.iolb_model.specs.Program.{AffineProgram}
 use Rattle.claims.specs.declared.place.Step.TheVariants.{Index}
-use Rattle.claims.specs.declared.key.TheConstants.{KEYS}
 use Rattle.serde_json.specs.Data.{Data}
 use Rattle.json_parts.specs.Outcome.{Outcome, ◌>>=◌, fault, under}
 use Rattle.json_parts.specs.Json.{with_keys, part, reads_list, each, reads_natural}
-use Rattle.cert_parts.specs.Parts.{reads_form, columns_of}
+use Rattle.certificate_parts.specs.Forms.{reads_form}
+use Rattle.certificate_parts.specs.Matrices.{columns_of}
 use Rattle.tile_sched.specs.declared.schedule.Key.{Key}
 use Rattle.tile_sched.specs.Schedules.{key_variables}
 
@@ -60,4 +60,4 @@ reads_all program d = reads_list d >>= rows_in program
 unfoldable pub reads_schedule : AffineProgram → Data → Outcome (List (List Key))
 reads_schedule program d = do
   object ← with_keys (codes "keys" ∷ []) d
-  part (codes "keys") KEYS (reads_all program) object
+  part (codes "keys") (reads_all program) object

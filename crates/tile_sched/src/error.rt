@@ -2,8 +2,8 @@
 
 ghost use Rattle.tile_sched.specs.Texts.{IsAs};
 
-use cert_parts::CertError;
 use claims::Place;
+use json_parts::CertError;
 
 /// A fault of a schedule's text: its number, and the place of the value at fault.
 #[derive(Debug, Drop)]

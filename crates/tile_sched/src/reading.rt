@@ -4,7 +4,7 @@ ghost use Rattle.std.specs.Prelude.{◌≡◌, ◌<◌, ◌^◌, length, map, If
 ghost use Rattle.serde_json.specs.View.{view};
 ghost use Rattle.affine_program.specs.Parts.{meaning};
 ghost use Rattle.json_parts.specs.Outcome.{Gives};
-ghost use Rattle.cert_parts.specs.Parts.{columns_of};
+ghost use Rattle.certificate_parts.specs.Matrices.{columns_of};
 ghost use Rattle.tile_sched.specs.Schedules.{rows_of, key_variables, IsSchedule};
 ghost use Rattle.tile_sched.specs.Reading.{reads_form_over, reads_key, reads_key_list, reads_keys, reads_all, reads_schedule as schedule_in};
 ghost use Rattle.tile_sched.specs.Texts.{ReadsText};
@@ -13,9 +13,10 @@ use crate::error::{SchedError, schedule_error};
 use crate::schedule::{Key, Schedule};
 use affine_form::Form;
 use affine_program::Program;
-use cert_parts::{CertError, fault, form, has_keys, list, natural, under};
-use claims::{Step, key};
+use certificate_parts::OfForm;
+use claims::{ObjectKey, Step};
 use iolb_model::limits;
+use json_parts::{CertError, Part, fault, has_keys, list, natural, under};
 use serde_json::{Category, Value};
 use std::alloc::Global;
 
@@ -27,7 +28,8 @@ fn form_over(alloc: Global, value: &Value, variables: usize) -> Result<Form, Cer
 {
     let numbers = list(alloc, value)?;
     if numbers.len() == variables + 1 {
-        form(alloc, value)
+        let form = <OfForm as Part>::read(alloc, value)?;
+        Ok(form)
     } else {
         Err(fault(alloc, 2))
     }
@@ -145,7 +147,7 @@ fn schedule(alloc: Global, program: &Program, value: &Value) -> Result<Schedule,
     };
     match rows(alloc, program, member) {
         Ok(rows) => Ok(Schedule::new(rows)),
-        Err(error) => Err(under(alloc, Step::Key(key::KEYS), error)),
+        Err(error) => Err(under(alloc, Step::Key(ObjectKey("keys")), error)),
     }
 }
 

@@ -18,7 +18,7 @@ use Rattle.affine_form.specs.System.{IsMet}
 use Rattle.affine_form.proofs.ShownLemmas.{Shows-none}
 use Rattle.affine_form.proofs.SubstitutionLemmas.{form_value-substitution}
 use Rattle.affine_form.proofs.Meaning.{form_value-widened, form_value-difference}
-use Rattle.dep_quast.specs.Claims.{IsFew}
+use Rattle.claims.specs.Shown.{IsFew}
 use Rattle.claims.specs.Claims.{AllHold, Claim}
 use Rattle.claims.proofs.Laws.{AllHold-left, AllHold-right}
 use Rattle.claims.proofs.Members.{suc-moved}
@@ -26,7 +26,7 @@ use Rattle.dep_quast.specs.Context.{ReadOf}
 use Rattle.dep_quast.specs.Tree.{Leaf as TreeLeaf, source, input as input_leaf, empty, blank, SelectionTree, leaf, test, leaf_at}
 use Rattle.dep_quast.specs.Truth.{IsTrueLeaf, source_at}
 use Rattle.reuse_paths.specs.LeafClaims.{LeafClaim, no_point, stops, is_credited, goes_on, arrives}
-use Rattle.reuse_paths.specs.OpenLeaves.{OpenLeaf, is_input, form_at, no_at, open_leaf, open_leaves}
+use Rattle.dep_quast.specs.OpenLeaves.{OpenLeaf, is_input, form_at, no_at, open_leaf, open_leaves}
 use Rattle.wavefront.specs.Leaves.{IsClosed, leaf_claim, leaves_claims}
 
 -- what is claimed at the leaves of two rows of leaves is what is claimed at each

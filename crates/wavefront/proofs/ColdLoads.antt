@@ -1,4 +1,5 @@
 -- Cold terms cost their count.
+use Rattle.std.specs.Prelude.{codes}
 use Rattle.std.proofs.Common.{sym, subst, ℕ, ◌≤◌, List, [], ◌∷◌, ◌++◌, length, map, arith}
 use Rattle.std.specs.List.{AllByRecursion, IsDistinct}
 use Rattle.std.proofs.Math.IntN.{ℤ}
@@ -17,7 +18,6 @@ use Rattle.execution_laws.proofs.Domains.{domains_executed, way-there}
 use Rattle.pebble_game.proofs.InputVertices.{each_read_loaded, input_reads_loaded, input_reads_vertices}
 use Rattle.claims.specs.declared.place.Step.{Step}
 use Rattle.claims.specs.declared.place.Step.TheVariants.{Key}
-use Rattle.claims.specs.declared.key.TheConstants.{INSIDE, LEAVES}
 use Rattle.affine_form.specs.System.{IsMet}
 use Rattle.affine_form.specs.Rows.{variables_from, step_of}
 use Rattle.affine_form.proofs.Meaning.{values-front, within_rows-says}
@@ -25,7 +25,8 @@ use Rattle.affine_program.specs.Domain.{path_of}
 use Rattle.dep_quast.specs.Tree.{SelectionTree}
 use Rattle.dep_quast.specs.Truth.{IsTrueTree}
 use Rattle.execution_laws.proofs.Ways.{holds-there}
-use Rattle.dep_quast.proofs.Shown.{goals-met, within_rows-few}
+use Rattle.claims.proofs.Systems.{goals-met}
+use Rattle.dep_quast.proofs.Fits.{within_rows-few}
 use Rattle.domain_count.specs.Points.{points}
 use Rattle.wavefront.specs.Term.{ColdTerm, nest_variables, nest_system, instance_point, inside_goals, cell_forms}
 use Rattle.wavefront.specs.Loads.{ColdFits, ColdTermsAreLoaded, ColdWordsAreLoaded, IsSoundCold, SoundColdsAreLoaded, instance_values, all_instances, footprint_of}
@@ -64,7 +65,7 @@ module _ (program : AffineProgram) (place : List Step) (tree : SelectionTree) (t
       let params : List AffineForm = variables_from vars 0 (length program.parameters) in
       let path : List PathStep = path_of program term.reader.statement in
       let goals : IsMet (inside_goals program term) at =
-      goals-met 10 (place ++ Key INSIDE ∷ []) (nest_system program term) 0 (inside_goals program term) term.inside at
+      goals-met 10 (place ++ Key (codes "inside") ∷ []) (nest_system program term) 0 (inside_goals program term) term.inside at
       (omega (arith, fits.parts.inside, within_rows-few vars path params term.point)) holds-inside met in
       let inside : IsWithin path values (instance_values term values u) =
       subst (λ (q : List ℤ). IsWithin path q (instance_values term values u)) (values-front vars (length program.parameters) values u (sym admitted.each) (omega arith))
@@ -76,7 +77,7 @@ module _ (program : AffineProgram) (place : List Step) (tree : SelectionTree) (t
         there = fits.parts.read.read;
         place = there.0;
         executed = there.1;
-        source = tree-input program term.reader values there.0 (instance_values term values u) vars (nest_system program term).rows (instance_point program term) (place ++ Key LEAVES ∷ []) at met
+        source = tree-input program term.reader values there.0 (instance_values term values u) vars (nest_system program term).rows (instance_point program term) (place ++ Key (codes "leaves") ∷ []) at met
             (instance-at program term values u admitted.each) 0 [] tree term.leaves (omega (arith, fits.leaves)) holds-leaves tt (true_tree values there.0 (instance_values term values u) admitted there.1);
       }
 

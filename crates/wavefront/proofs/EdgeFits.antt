@@ -12,10 +12,10 @@ use Rattle.dep_quast.specs.Context.{ReadOf, variables_at, no_row}
 use Rattle.dep_quast.specs.Tree.{Leaf, source as source_leaf, input, empty, blank, SelectionTree, leaf, test}
 use Rattle.dep_quast.specs.Truth.{FitsUnder, LeafFits}
 use Rattle.reuse_paths.specs.LeafClaims.{LeafClaim, no_point, stops, is_credited, goes_on, arrives}
-use Rattle.reuse_paths.specs.OpenLeaves.{LeafOrigin, written, as_input, unknown, OpenLeaf, form_at, no_at, open_leaf, open_leaves, TestsFit}
+use Rattle.dep_quast.specs.OpenLeaves.{LeafOrigin, written, as_input, unknown, OpenLeaf, form_at, no_at, open_leaf, open_leaves, TestsFit}
 use Rattle.reuse_paths.specs.Walks.{SpotForms}
 use Rattle.reuse_paths.specs.WalkViews.{OriginFits}
-use Rattle.reuse_paths.proofs.OpenLeaves.{open-over, tests-fit}
+use Rattle.dep_quast.proofs.OpenLeaves.{open-over, tests-fit}
 use Rattle.wavefront.specs.EdgeViews.{AreFit, EntryFits}
 use Rattle.wavefront.specs.FrontClaims.{front_variables, user_point, edge_leaves}
 use Rattle.wavefront.specs.FrontFits.{EdgeFits, EdgesFit, PartsFit, SourceFits}

@@ -16,7 +16,7 @@ use Rattle.affine_form.specs.Substitution.{values_at}
 use Rattle.affine_form.specs.System.{AllOver}
 use Rattle.domain_count.specs.Points.{points}
 use Rattle.reuse_paths.specs.Arrival.{instance_of}
-use Rattle.reuse_paths.specs.Pieces.{IsVertexOf, PieceFits}
+use Rattle.footprint_pieces.specs.Pieces.{IsVertexOf, PieceFits}
 use Rattle.reuse_paths.specs.Walks.{SpotForms}
 use Rattle.reuse_paths.proofs.NestPoints.{points-within, points-long, nest-met}
 use Rattle.wavefront.specs.FrontClaims.{front_variables, front_system, telling_forms, word_forms}
@@ -26,7 +26,7 @@ use Rattle.wavefront.specs.Fronts.{word_vertex, IsThereAt, IsSoundAt, front_foot
 use Rattle.reuse_paths.specs.Places.{place_of}
 use Rattle.wavefront.specs.FrontTerm.{WavefrontTerm}
 use Rattle.wavefront.proofs.FrontApart.{cell, cell-is, input-there}
-use Rattle.reuse_paths.proofs.PieceVertices.{cell-vertex, wide-values}
+use Rattle.footprint_pieces.proofs.PieceVertices.{cell-vertex, wide-values}
 use Rattle.wavefront.proofs.PiecesCover.{assumed-first}
 use Rattle.iolb_model.specs.declared.limits.TheConstants.{PUT_SIZE}
 

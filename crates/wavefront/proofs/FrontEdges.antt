@@ -28,9 +28,9 @@ use Rattle.dep_quast.specs.Truth.{IsTrueLeaf, source_at}
 use Rattle.execution_laws.proofs.Ways.{there-holds, within-length}
 use Rattle.reuse_paths.specs.Arrival.{instance_of}
 use Rattle.reuse_paths.specs.LeafClaims.{LeafClaim, no_point, stops, is_credited, goes_on, arrives}
-use Rattle.reuse_paths.specs.OpenLeaves.{LeafOrigin, written, as_input, unknown, OpenLeaf}
+use Rattle.dep_quast.specs.OpenLeaves.{LeafOrigin, written, as_input, unknown, OpenLeaf}
 use Rattle.reuse_paths.specs.Walks.{SpotForms}
-use Rattle.reuse_paths.proofs.ChosenLeaves.{StandsAmong}
+use Rattle.dep_quast.proofs.ChosenLeaves.{StandsAmong}
 use Rattle.wavefront.specs.FrontClaims.{AllFollow, IsEdge, edges_claims}
 
 -- goals that follow are met where the rows are

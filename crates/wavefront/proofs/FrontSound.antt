@@ -1,6 +1,6 @@
 -- A wavefront term whose claims hold, over true source trees, is sound.
 use Rattle.std.proofs.Common.{◌≡◌, sym, ◌∙◌, ap, subst, ℕ, ◌+◌, List, [], ◌∷◌, ◌++◌, length, map, arith, zero-add}
-use Rattle.std.specs.Prelude.{Option, Some, None}
+use Rattle.std.specs.Prelude.{Option, Some, None, codes}
 use Rattle.std.specs.List.{AllByRecursion}
 use Rattle.std.proofs.Math.IntN.{ℤ, pos}
 use lib.Signed.{◌≤ℤ◌}
@@ -20,7 +20,6 @@ use Rattle.execution_laws.proofs.Ordered.{All-from, All-member}
 use Rattle.claims.specs.Claims.{Claim, AllHold}
 use Rattle.claims.specs.declared.place.Step.{Step}
 use Rattle.claims.specs.declared.place.Step.TheVariants.{Key}
-use Rattle.claims.specs.declared.key.TheConstants.{BACK, EDGE, INSIDE, REACH}
 use Rattle.claims.proofs.Laws.{AllHold-left, AllHold-right}
 use Rattle.affine_form.specs.System.{IsMet}
 use Rattle.affine_form.specs.Rows.{step_of}
@@ -30,18 +29,18 @@ use Rattle.dep_quast.specs.Context.{parameter_point}
 use Rattle.dep_quast.specs.Tree.{SelectionTree, leaf_at}
 use Rattle.dep_quast.specs.Truth.{IsTrueTree}
 use Rattle.execution_laws.proofs.Ways.{holds-there}
-use Rattle.dep_quast.proofs.Shown.{goals-met}
+use Rattle.claims.proofs.Systems.{goals-met}
 use Rattle.domain_count.specs.Points.{points}
 use Rattle.reuse_paths.specs.Arrival.{instance_of}
-use Rattle.reuse_paths.specs.Quasts.{tree_for}
+use Rattle.dep_quast.specs.Quasts.{tree_for}
 use Rattle.reuse_paths.specs.Reached.{IsReached}
 use Rattle.reuse_paths.specs.WalkFits.{SpotFits}
-use Rattle.reuse_paths.specs.Trees.{RowsFit, RowsAreTrue}
+use Rattle.dep_quast.specs.Trees.{RowsFit, RowsAreTrue}
 use Rattle.reuse_paths.specs.Walks.{SpotForms, ReachClaim}
 use Rattle.reuse_paths.proofs.Arrivals.{reaches-arrive}
-use Rattle.reuse_paths.proofs.ChosenLeaves.{chosen-stands}
+use Rattle.dep_quast.proofs.ChosenLeaves.{chosen-stands}
 use Rattle.reuse_paths.proofs.NestPoints.{distinct-images, points-within, points-long, points-differ, nest-met}
-use Rattle.reuse_paths.proofs.TreeLemmas.{rows-at}
+use Rattle.dep_quast.proofs.TreeLemmas.{rows-at}
 use Rattle.wavefront.specs.FrontClaims.{front_variables, front_system, spot_goals, source_goals, front_goals, front_inside, outer_claims, user_point, word_forms, word_claims, edge_leaves, front_edges, source_reach, front_reach, front_back, wave_claims}
 use Rattle.wavefront.specs.FrontFits.{FrontFits, ReachesFit, ValidFrontsAreSound}
 use Rattle.wavefront.specs.FrontTerm.{WavefrontTerm, user_read}
@@ -136,7 +135,7 @@ module _ (program : AffineProgram) (place : List Step) (trees : List (List Selec
         met = nest-met program term.nest parameters u formed admitted within
 
         goals : IsMet (front_goals program term) at
-        goals = goals-met 10 (place ++ Key INSIDE ∷ []) (front_system program term) 0 (front_goals program term) term.inside at (omega (arith, fits.parts.inside)) holds-inside met
+        goals = goals-met 10 (place ++ Key (codes "inside") ∷ []) (front_system program term) 0 (front_goals program term) term.inside at (omega (arith, fits.parts.inside)) holds-inside met
 
         abbrev is-met : AffineForm → Type 0
         is-met row = pos 0 ≤ℤ form_value row at
@@ -159,7 +158,7 @@ module _ (program : AffineProgram) (place : List Step) (trees : List (List Selec
         behind : IsReached (computation_graph program parameters) (place_of program parameters user) (place_of program parameters vertex)
         behind =
             arrived term.vertex (place_of program parameters user)
-            (reaches-arrive program trees term.nest term.user term.vertex term.back 21 (place ++ Key BACK ∷ []) formed trees-fit trees-true fits.back holds-back
+            (reaches-arrive program trees term.nest term.user term.vertex term.back 21 (place ++ Key (codes "back") ∷ []) formed trees-fit trees-true fits.back holds-back
             parameters u (place_of program parameters user) admitted within user-there)
 
         true-tree : IsTrueTree program (user_read term) (tree_for trees (user_read term))
@@ -177,7 +176,7 @@ module _ (program : AffineProgram) (place : List Step) (trees : List (List Selec
           executed-there program parameters is.0 (instance_of spot parameters u) is.1.0,
           is.1.1 ∙ ap written_at (stands-alone program parameters is.0 (instance_of spot parameters u) formed is.1.0),
           arrived spot (place_of program parameters vertex)
-              (reaches-arrive program trees term.nest term.vertex spot arrives 20 (place ++ Key REACH ∷ []) formed trees-fit trees-true fit h
+              (reaches-arrive program trees term.nest term.vertex spot arrives 20 (place ++ Key (codes "reach") ∷ []) formed trees-fit trees-true fit h
               parameters u (place_of program parameters vertex) admitted within vertex-there),
         )
 
@@ -196,7 +195,7 @@ module _ (program : AffineProgram) (place : List Step) (trees : List (List Selec
           word = there term.source term.reach fits.reach holds-reach
               (said program parameters u formed (user_read term) (place_of program parameters user) (spot_values term.user parameters u) (front_variables program term)
               (front_system program term).rows (user_point program term) met (user-at program term parameters u admitted.each)
-              term.source (long term.source term.reach fits.reach) (place ++ Key EDGE ∷ []) (edge_leaves program (tree_for trees (user_read term)) term) term.edge
+              term.source (long term.source term.reach fits.reach) (place ++ Key (codes "edge") ∷ []) (edge_leaves program (tree_for trees (user_read term)) term) term.edge
               (leaf_at (tree_for trees (user_read term)) (parameters ++ spot_values term.user parameters u)) fits.edges.each holds-edges
               (chosen-stands (front_variables program term) (user_point program term) at (parameters ++ spot_values term.user parameters u) (user-at program term parameters u admitted.each) []
               (tree_for trees (user_read term)) tt)

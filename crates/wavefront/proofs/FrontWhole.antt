@@ -7,7 +7,7 @@ use Rattle.claims.specs.declared.refused.Refused.{Refused}
 use Rattle.claims.proofs.Found.{refused-first, refused-later}
 use Rattle.claims.proofs.Laws.{AllHold-append}
 use Rattle.dep_quast.specs.Tree.{SelectionTree}
-use Rattle.reuse_paths.specs.Quasts.{tree_for}
+use Rattle.dep_quast.specs.Quasts.{tree_for}
 use Rattle.wavefront.specs.FrontClaims.{front_back, front_claims, front_counts, front_reach, point_claims, wave_claims}
 use Rattle.wavefront.specs.FrontTerm.{WavefrontTerm, user_read}
 

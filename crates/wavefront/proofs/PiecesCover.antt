@@ -1,4 +1,5 @@
 -- The pieces of a cold term fit, and cover its footprint.
+use Rattle.std.specs.Prelude.{codes}
 use Rattle.std.proofs.Common.{◌≡◌, refl, sym, ◌∙◌, ap, subst, inl, inr, ℕ, suc, ◌+◌, ◌-◌, ◌<◌, ◌≤◌, Bool, true, false, if◌then◌else◌, List, [], ◌∷◌, ◌++◌, length, map, replicate, get_or, take, drop, append_assoc, arith}
 use Rattle.std.specs.List.{AllByRecursion}
 use Rattle.std.proofs.Math.IntN.{ℤ, pos}
@@ -20,7 +21,6 @@ use Rattle.pebble_game.proofs.InputVertices.{Member-input_cells}
 use Rattle.claims.specs.Claims.{AllHold}
 use Rattle.claims.specs.declared.place.Step.{Step}
 use Rattle.claims.specs.declared.place.Step.TheVariants.{Key}
-use Rattle.claims.specs.declared.key.TheConstants.{LEAVES}
 use Rattle.claims.proofs.Laws.{AllHold-left, AllHold-right}
 use Rattle.affine_form.specs.Form.{variables, IsSmall, IsSmallForm}
 use Rattle.affine_form.specs.Rows.{widened, variables_from, within_rows, step_of}
@@ -28,27 +28,27 @@ use Rattle.affine_form.specs.Substitution.{values_at}
 use Rattle.affine_form.specs.System.{AllOver, IsMet}
 use Rattle.affine_form.proofs.RowLemmas.{length-widened}
 use Rattle.affine_form.proofs.ShownLemmas.{Shows-none}
-use Rattle.dep_quast.specs.Claims.{IsFew}
+use Rattle.claims.specs.Shown.{IsFew}
 use Rattle.dep_quast.specs.Context.{reference_of}
 use Rattle.dep_quast.specs.Tree.{Leaf as TreeLeaf, source, input as input_leaf, empty, blank, SelectionTree, leaf_at}
 use Rattle.dep_quast.specs.Truth.{IsTrueTree, IsTrueLeaf}
 use Rattle.execution_laws.proofs.Ways.{within-length}
 use Rattle.domain_count.specs.Count.{rows_before}
 use Rattle.domain_count.specs.Points.{points}
-use Rattle.reuse_paths.specs.declared.piece.Target.TheVariants.{Cell}
+use Rattle.footprint_pieces.specs.declared.piece.Target.TheVariants.{Cell}
 use Rattle.reuse_paths.specs.declared.leaf.Leaf.{Leaf}
-use Rattle.reuse_paths.specs.declared.piece.Piece.{Piece}
+use Rattle.footprint_pieces.specs.declared.piece.Piece.{Piece}
 use Rattle.reuse_paths.specs.LeafClaims.{LeafClaim, claim_of, is_stop, no_point, stops, is_credited, goes_on, arrives}
-use Rattle.reuse_paths.specs.Pieces.{FootprintPiece, piece_of, IsVertexOf, IsInPieces, PieceFits}
+use Rattle.footprint_pieces.specs.Pieces.{FootprintPiece, piece_of, IsVertexOf, IsInPieces, PieceFits}
 use Rattle.wavefront.specs.Term.{ColdTerm, nest_variables, nest_system, instance_point, cell_forms}
-use Rattle.reuse_paths.specs.OpenLeaves.{OpenLeaf, is_input}
+use Rattle.dep_quast.specs.OpenLeaves.{OpenLeaf, is_input}
 use Rattle.wavefront.specs.Leaves.{IsClosed, leaves_claims, inside_claims, term_leaves}
 use Rattle.wavefront.specs.Loads.{TermFits, ColdFits, instance_values, all_instances, footprint_of}
 use Rattle.wavefront.specs.ColdClaims.{matrix_claims, instance_claims}
 use Rattle.wavefront.specs.ColdPieces.{rows_at_leaf, leaf_piece, stop_pieces, leaves_of, cold_pieces, LeavesAreFew, ColdPiecesCover}
 use Rattle.reuse_paths.proofs.NestPoints.{points-within, nest-met}
-use Rattle.reuse_paths.proofs.PieceVertices.{wide-values, cell-vertex}
-use Rattle.reuse_paths.proofs.ChosenLeaves.{StandsAmong, chosen-stands}
+use Rattle.footprint_pieces.proofs.PieceVertices.{wide-values, cell-vertex}
+use Rattle.dep_quast.proofs.ChosenLeaves.{StandsAmong, chosen-stands}
 use Rattle.wavefront.proofs.ColdCells.{instance-at, cell-is}
 use Rattle.wavefront.proofs.ColdLoads.{all-read}
 use Rattle.iolb_model.specs.declared.limits.TheConstants.{PUT_SIZE}
@@ -197,7 +197,7 @@ module _ (program : AffineProgram) (place : List Step) (tree : SelectionTree) (t
       (AllHold-left (inside_claims program place term ++ term_leaves program place tree term) (matrix_claims program place term) holds)
 
   are-few : LeavesAreFew program tree term
-  are-few = few-from program term (place ++ Key LEAVES ∷ []) 0 (leaves_of program tree term) term.leaves (omega (arith, fits.leaves)) at-leaves
+  are-few = few-from program term (place ++ Key (codes "leaves") ∷ []) 0 (leaves_of program tree term) term.leaves (omega (arith, fits.leaves)) at-leaves
 
   module _ (parameters : List ℤ) (admitted : IsAdmitted program parameters) where
     -- the cell of a point of the nest
@@ -215,7 +215,7 @@ module _ (program : AffineProgram) (place : List Step) (tree : SelectionTree) (t
         → IsInPieces program parameters (cold_pieces program tree term) (input_vertex program parameters (read_cell program parameters term.reader.statement term.reader.read (instance_values term parameters u)))
     point-in u within read =
         let values : List ℤ = instance_values term parameters u in
-        tree-in program term parameters u (input_vertex program parameters (read_cell program parameters term.reader.statement term.reader.read values)) read.place (place ++ Key LEAVES ∷ [])
+        tree-in program term parameters u (input_vertex program parameters (read_cell program parameters term.reader.statement term.reader.read values)) read.place (place ++ Key (codes "leaves") ∷ [])
         (within-length (map step_of term.nest) parameters u within ∙ length-map term.nest step_of)
         (nest-met program term.nest parameters u formed admitted within) (instance-at program term parameters u admitted.each) (cell-there u read)
         tree (omega (arith, fits.leaves)) at-leaves (true_tree parameters read.place values admitted read.executed)

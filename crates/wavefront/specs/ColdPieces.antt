@@ -6,15 +6,15 @@ use Rattle.iolb_model.specs.Program.{AffineProgram, IsWellFormed}
 use Rattle.claims.specs.Claims.{AllHold}
 use Rattle.claims.specs.declared.place.Step.{Step}
 use Rattle.affine_form.specs.Rows.{widened}
-use Rattle.dep_quast.specs.Claims.{IsFew}
+use Rattle.claims.specs.Shown.{IsFew}
 use Rattle.dep_quast.specs.Context.{reference_of}
 use Rattle.dep_quast.specs.Tree.{SelectionTree}
 use Rattle.dep_quast.specs.Truth.{IsTrueTree}
-use Rattle.reuse_paths.specs.declared.piece.Target.TheVariants.{Cell}
+use Rattle.footprint_pieces.specs.declared.piece.Target.TheVariants.{Cell}
 use Rattle.reuse_paths.specs.LeafClaims.{LeafClaim, is_stop}
-use Rattle.reuse_paths.specs.Pieces.{FootprintPiece, AreCovered}
+use Rattle.footprint_pieces.specs.Pieces.{FootprintPiece, AreCovered}
 use Rattle.wavefront.specs.ColdClaims.{instance_claims}
-use Rattle.reuse_paths.specs.OpenLeaves.{OpenLeaf, open_leaves}
+use Rattle.dep_quast.specs.OpenLeaves.{OpenLeaf, open_leaves}
 use Rattle.wavefront.specs.Loads.{ColdFits, footprint_of}
 use Rattle.wavefront.specs.Term.{ColdTerm, nest_variables, nest_system, instance_point, cell_forms}
 

@@ -5,7 +5,7 @@ use Rattle.iolb_model.specs.Form.{AffineForm}
 use Rattle.affine_form.specs.Rows.{IsSmallOver}
 use Rattle.affine_form.specs.System.{AllOver}
 use Rattle.reuse_paths.specs.LeafClaims.{LeafClaim, no_point, stops, is_credited, goes_on, arrives}
-use Rattle.reuse_paths.specs.OpenLeaves.{LeafOrigin, written, as_input, unknown, OpenLeaf}
+use Rattle.dep_quast.specs.OpenLeaves.{LeafOrigin, written, as_input, unknown, OpenLeaf}
 use Rattle.reuse_paths.specs.Walks.{SpotForms}
 
 -- An instance's loop values, as forms over so many variables of the reader, can be compared with a spot's, as forms over so many

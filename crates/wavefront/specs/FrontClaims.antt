@@ -1,5 +1,5 @@
 -- What a wavefront term claims, in the order in which it is tested.
-use Rattle.std.specs.Prelude.{◌≡◌, ℕ, suc, ◌+◌, pos, true, ⊤, List, [], ◌∷◌, ◌++◌, length, drop, Option, Some, None}
+use Rattle.std.specs.Prelude.{◌≡◌, ℕ, suc, ◌+◌, pos, true, ⊤, List, [], ◌∷◌, ◌++◌, length, drop, Option, Some, None, codes}
 use Rattle.std.specs.List.{AllByRecursion}
 use Rattle.iolb_model.specs.Form.{AffineForm}
 use Rattle.iolb_model.specs.Program.{AffineProgram}
@@ -10,15 +10,14 @@ use Rattle.affine_program.specs.Domain.{path_of}
 use Rattle.claims.specs.Claims.{Claim, numbered}
 use Rattle.claims.specs.declared.place.Step.{Step}
 use Rattle.claims.specs.declared.place.Step.TheVariants.{Key, Index}
-use Rattle.claims.specs.declared.key.TheConstants.{BACK, EDGE, INSIDE, OUTER_SUMS, POINT, REACH, VERTEX}
-use Rattle.dep_quast.specs.Claims.{IsFew, IsPointless, Follows, follow_claims}
+use Rattle.claims.specs.Shown.{IsFew, IsPointless, Follows, follow_claims}
 use Rattle.dep_quast.specs.Context.{parameter_point, reference_of}
 use Rattle.dep_quast.specs.Tree.{SelectionTree}
 use Rattle.domain_count.specs.Count.{rows_before}
 use Rattle.domain_count.specs.CountClaims.{count_claims, sums_claims}
 use Rattle.reuse_paths.specs.LeafClaims.{LeafClaim, no_point, stops, is_credited, goes_on, arrives}
-use Rattle.reuse_paths.specs.OpenLeaves.{LeafOrigin, written, as_input, unknown, OpenLeaf, is_input, open_leaves}
-use Rattle.reuse_paths.specs.Quasts.{tree_for}
+use Rattle.dep_quast.specs.OpenLeaves.{LeafOrigin, written, as_input, unknown, OpenLeaf, is_input, open_leaves}
+use Rattle.dep_quast.specs.Quasts.{tree_for}
 use Rattle.reuse_paths.specs.EntryClaims.{IsWrittenBy}
 use Rattle.reuse_paths.specs.ReachClaims.{reach_claims}
 use Rattle.reuse_paths.specs.Walks.{SpotForms, ReachClaim}
@@ -47,7 +46,7 @@ abbrev pub front_goals : AffineProgram → WavefrontTerm → List AffineForm
 front_goals program term = spot_goals program term term.user ++ spot_goals program term term.vertex ++ source_goals program term term.source
 
 abbrev pub front_inside : AffineProgram → List Step → WavefrontTerm → List Claim
-front_inside program place term = follow_claims 10 (place ++ Key INSIDE ∷ []) (front_system program term) 0 (front_goals program term) term.inside
+front_inside program place term = follow_claims 10 (place ++ Key (codes "inside") ∷ []) (front_system program term) 0 (front_goals program term) term.inside
 
 -- ---- that the vertex depends on the outer variables alone (condition 22)
 
@@ -58,7 +57,7 @@ IsWithoutPast variables form = AllByRecursion (λ coefficient. coefficient ≡ p
 abbrev pub outer_claim : ℕ → List Step → ℕ → AffineForm → List Claim
 outer_claim variables place index form = record {
   condition = 22;
-  place = place ++ Key VERTEX ∷ Key POINT ∷ Index index ∷ [];
+  place = place ++ Key (codes "vertex") ∷ Key (codes "point") ∷ Index index ∷ [];
   statement = IsWithoutPast variables form;
 } ∷ []
 
@@ -137,7 +136,7 @@ edge_leaves program tree term = open_leaves (front_variables program term) (user
 
 abbrev pub front_edges : AffineProgram → List Step → SelectionTree → WavefrontTerm → List Claim
 front_edges program place tree term =
-    edges_claims (front_variables program term) (front_system program term).rows (user_point program term) term.source (place ++ Key EDGE ∷ []) 0
+    edges_claims (front_variables program term) (front_system program term).rows (user_point program term) term.source (place ++ Key (codes "edge") ∷ []) 0
     (edge_leaves program tree term) term.edge
 
 -- ---- that the word is there when the vertex is computed (condition 20), and its user isn't computed before (condition 21)
@@ -145,13 +144,13 @@ front_edges program place tree term =
 abbrev pub source_reach : AffineProgram → List Step → List (List SelectionTree) → WavefrontTerm → Option SpotForms → Option ReachClaim → List Claim
 source_reach program place trees term None reach = []
 source_reach program place trees term (Some spot) None = []
-source_reach program place trees term (Some spot) (Some reach) = reach_claims program trees term.nest term.vertex spot reach 20 (place ++ Key REACH ∷ [])
+source_reach program place trees term (Some spot) (Some reach) = reach_claims program trees term.nest term.vertex spot reach 20 (place ++ Key (codes "reach") ∷ [])
 
 abbrev pub front_reach : AffineProgram → List Step → List (List SelectionTree) → WavefrontTerm → List Claim
 front_reach program place trees term = source_reach program place trees term term.source term.reach
 
 abbrev pub front_back : AffineProgram → List Step → List (List SelectionTree) → WavefrontTerm → List Claim
-front_back program place trees term = reach_claims program trees term.nest term.user term.vertex term.back 21 (place ++ Key BACK ∷ [])
+front_back program place trees term = reach_claims program trees term.nest term.user term.vertex term.back 21 (place ++ Key (codes "back") ∷ [])
 
 -- ---- all
 
@@ -168,7 +167,7 @@ wave_claims program place trees term =
 -- what is claimed of the counts: of the nest's points, and of those of its outer variables, whose ranges are among the nest's
 abbrev pub front_counts : AffineProgram → List Step → WavefrontTerm → List Claim
 front_counts program place term =
-    count_claims program term.nest term.count place ++ sums_claims program (outer_nest term) term.outer_sums place OUTER_SUMS
+    count_claims program term.nest term.count place ++ sums_claims program (outer_nest term) term.outer_sums place (codes "outer_sums")
 
 -- what a wavefront term claims over the source trees
 abbrev pub front_claims : AffineProgram → List Step → List (List SelectionTree) → WavefrontTerm → List Claim

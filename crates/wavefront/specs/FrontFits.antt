@@ -8,10 +8,10 @@ use Rattle.claims.specs.declared.place.Step.{Step}
 use Rattle.dep_quast.specs.Tree.{SelectionTree}
 use Rattle.dep_quast.specs.Truth.{ReadFits, TreeFits}
 use Rattle.reuse_paths.specs.LeafClaims.{LeafClaim, no_point, stops, is_credited, goes_on, arrives}
-use Rattle.reuse_paths.specs.Quasts.{tree_at, tree_for}
+use Rattle.dep_quast.specs.Quasts.{tree_at, tree_for}
 use Rattle.reuse_paths.specs.ReachFits.{ReachFits}
 use Rattle.reuse_paths.specs.WalkFits.{NestFits, SpotFits}
-use Rattle.reuse_paths.specs.Trees.{RowsFit, RowsAreTrue}
+use Rattle.dep_quast.specs.Trees.{RowsFit, RowsAreTrue}
 use Rattle.reuse_paths.specs.Walks.{SpotForms, ReachClaim}
 use Rattle.wavefront.specs.FrontTerm.{WavefrontTerm, user_read}
 use Rattle.wavefront.specs.FrontClaims.{front_variables, front_goals, word_forms, edge_leaves, wave_claims}

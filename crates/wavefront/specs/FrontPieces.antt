@@ -3,9 +3,9 @@ use Rattle.std.specs.Prelude.{List, [], ◌∷◌, map, length, Option, Some, No
 use Rattle.iolb_model.specs.Program.{AffineProgram, IsWellFormed}
 use Rattle.affine_form.specs.Rows.{widened}
 use Rattle.dep_quast.specs.Context.{reference_of}
-use Rattle.reuse_paths.specs.declared.piece.Target.{Target}
-use Rattle.reuse_paths.specs.declared.piece.Target.TheVariants.{Cell, Instance}
-use Rattle.reuse_paths.specs.Pieces.{FootprintPiece, AreCovered}
+use Rattle.footprint_pieces.specs.declared.piece.Target.{Target}
+use Rattle.footprint_pieces.specs.declared.piece.Target.TheVariants.{Cell, Instance}
+use Rattle.footprint_pieces.specs.Pieces.{FootprintPiece, AreCovered}
 use Rattle.reuse_paths.specs.Walks.{SpotForms}
 use Rattle.wavefront.specs.FrontClaims.{front_variables, front_system, word_forms}
 use Rattle.wavefront.specs.Fronts.{IsSoundFront, front_footprint}

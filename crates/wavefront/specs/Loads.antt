@@ -20,7 +20,7 @@ use Rattle.dep_quast.specs.Tree.{SelectionTree}
 use Rattle.dep_quast.specs.Truth.{ReadFits, IsTrueTree}
 use Rattle.domain_count.specs.Points.{points, count}
 use Rattle.wavefront.specs.Term.{ColdTerm, nest_variables, instance_point}
-use Rattle.reuse_paths.specs.OpenLeaves.{open_leaves, TestsFit}
+use Rattle.dep_quast.specs.OpenLeaves.{open_leaves, TestsFit}
 use Rattle.wavefront.specs.ColdClaims.{instance_claims}
 use Rattle.iolb_model.specs.declared.limits.TheConstants.{NEST_VARIABLES}
 

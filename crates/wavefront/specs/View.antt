@@ -5,8 +5,8 @@ use Rattle.dep_quast.specs.Tree.{SelectionTree}
 use Rattle.dep_quast.specs.Truth.{IsTrueTree}
 use Rattle.domain_count.specs.Claims.{FitsCount}
 use Rattle.reuse_paths.specs.LeafClaims.{claim_of}
-use Rattle.reuse_paths.specs.Quasts.{tree_at, tree_for}
-use Rattle.reuse_paths.specs.Trees.{RowsFit, RowsAreTrue}
+use Rattle.dep_quast.specs.Quasts.{tree_at, tree_for}
+use Rattle.dep_quast.specs.Trees.{RowsFit, RowsAreTrue}
 use Rattle.reuse_paths.specs.Walks.{spot_of, reach_of}
 use Rattle.wavefront.specs.declared.cold.Cold.{Cold}
 use Rattle.wavefront.specs.declared.front.Wavefront.{Wavefront}

@@ -7,7 +7,7 @@ ghost use Rattle.affine_form.specs.System.{AllOver};
 ghost use Rattle.affine_program.specs.Parts.{meaning};
 ghost use Rattle.claims.specs.Claims.{Decides};
 ghost use Rattle.dep_quast.specs.Tree.{tree_of};
-ghost use Rattle.reuse_paths.specs.OpenLeaves.{OpenLeaf as open_leaf, open_leaves};
+ghost use Rattle.dep_quast.specs.OpenLeaves.{OpenLeaf as open_leaf, open_leaves};
 ghost use Rattle.wavefront.specs.ColdClaims.{matrix_claims};
 ghost use Rattle.wavefront.specs.Leaves.{inside_claims, term_leaves};
 ghost use Rattle.wavefront.specs.Loads.{ColdFits, TermFits};
@@ -20,13 +20,12 @@ use crate::inverse_shown::inverse_shown;
 use crate::leaves_shown::leaves_shown;
 use affine_form::Memory;
 use affine_program::Program;
-use claims::key::{INSIDE, LEAVES};
-use claims::{Place, Refused, Step};
+use claims::shown::goals_shown;
+use claims::{ObjectKey, Place, Refused, Step};
 use dep_quast::Quast;
-use dep_quast::claims_shown::goals_shown;
+use dep_quast::open_leaves::{OpenLeaf, push_open_leaves};
 use dep_quast::point_rows::domain_rows;
 use domain_count::rows_before;
-use reuse_paths::open_leaves::{OpenLeaf, push_open_leaves};
 use std::alloc::Global;
 
 /// Whether the instances are shown to be in their statement's domain.
@@ -42,7 +41,7 @@ pub(crate) fn inside_shown(
     let vars = variables(program, term);
     let system = rows_before(alloc, program, term.nest.bounds())?;
     let goals = domain_rows(alloc, program, vars, term.statement, term.point.as_slice())?;
-    let list = place.within(alloc, Step::Key(INSIDE))?;
+    let list = place.within(alloc, Step::Key(ObjectKey("inside")))?;
     goals_shown(
         alloc,
         10,
@@ -67,7 +66,7 @@ pub(crate) fn tree_shown(
     let vars = variables(program, term);
     let system = rows_before(alloc, program, term.nest.bounds())?;
     let leaves = leaves_of(alloc, program, quast, term)?;
-    let list = place.within(alloc, Step::Key(LEAVES))?;
+    let list = place.within(alloc, Step::Key(ObjectKey("leaves")))?;
     leaves_shown(
         alloc,
         vars,

@@ -21,11 +21,10 @@ use crate::front::Wavefront;
 use crate::front_shown::{user_at, variables};
 use affine_form::{Form, Memory};
 use affine_program::Program;
-use claims::key::EDGE;
-use claims::{Place, Refused, Step};
+use claims::{ObjectKey, Place, Refused, Step};
 use dep_quast::Quast;
+use dep_quast::open_leaves::{OpenLeaf, push_open_leaves};
 use domain_count::rows_before;
-use reuse_paths::open_leaves::{OpenLeaf, push_open_leaves};
 use reuse_paths::{Leaf, Spot};
 use std::alloc::Global;
 
@@ -90,7 +89,7 @@ pub(crate) fn edges_shown(
     let point = user_at(alloc, program, term)?;
     let system = rows_before(alloc, program, term.nest.bounds())?;
     let leaves = leaves_at(alloc, program, quast, term)?;
-    let list = place.within(alloc, Step::Key(EDGE))?;
+    let list = place.within(alloc, Step::Key(ObjectKey("edge")))?;
     all_shown(
         alloc,
         vars,

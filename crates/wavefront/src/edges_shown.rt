@@ -6,20 +6,20 @@ ghost use Rattle.std.specs.List.{AllByRecursion};
 ghost use Rattle.affine_form.specs.Rows.{equality_rows, put_in, IsSmallOver};
 ghost use Rattle.affine_form.specs.System.{AllOver};
 ghost use Rattle.claims.specs.Claims.{Decides};
-ghost use Rattle.dep_quast.specs.Claims.{IsFew};
+ghost use Rattle.claims.specs.Shown.{IsFew};
 ghost use Rattle.reuse_paths.specs.LeafClaims.{arrives, claim_of};
-ghost use Rattle.reuse_paths.specs.OpenLeaves.{origin_of};
+ghost use Rattle.dep_quast.specs.OpenLeaves.{origin_of};
 ghost use Rattle.reuse_paths.specs.Walks.{spot_of};
 ghost use Rattle.wavefront.specs.EdgeViews.{EntryFits, EqualFits};
 ghost use Rattle.wavefront.specs.FrontClaims.{edge_claim, AllFollow, IsInputWord, IsSourceWord};
 ghost use Rattle.iolb_model.specs.declared.limits.TheConstants.{VARIABLES};
 
 use affine_form::{Form, Memory, Multipliers, System, difference, entails, put, system_of};
+use claims::lists::followed_by;
+use claims::shown::system_shown;
 use claims::{Place, Refused, refusal};
-use dep_quast::claims_shown::system_shown;
-use dep_quast::lists::followed_by;
+use dep_quast::open_leaves::{OpenLeaf, Origin};
 use iolb_model::limits;
-use reuse_paths::open_leaves::{OpenLeaf, Origin};
 use reuse_paths::{Leaf, Spot};
 use std::alloc::Global;
 

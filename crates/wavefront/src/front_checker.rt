@@ -11,7 +11,7 @@ ghost use Rattle.domain_count.specs.Count.{CountsPoints, IsCount, IsSumFrom};
 ghost use Rattle.poly_tree.specs.Expansion.{IsCanonical};
 ghost use Rattle.poly_tree.specs.Poly.{IsLegal};
 ghost use Rattle.poly_tree.specs.Printed.{polynomial_of};
-ghost use Rattle.reuse_paths.specs.Quasts.{trees_of};
+ghost use Rattle.dep_quast.specs.Quasts.{trees_of};
 ghost use Rattle.wavefront.specs.FrontClaims.{front_back, front_claims, front_counts, front_reach, point_claims};
 ghost use Rattle.wavefront.specs.FrontFits.{EdgesFit, PartsFit};
 ghost use Rattle.wavefront.specs.FrontTerm.{outer_nest};
@@ -22,8 +22,7 @@ use crate::edge_leaves::edges_shown;
 use crate::front::Wavefront;
 use crate::front_shown::{front_inside_shown, outer_shown, words_shown};
 use affine_program::Program;
-use claims::key::{BACK, OUTER_SUMS, REACH};
-use claims::{Place, Refused, Step};
+use claims::{ObjectKey, Place, Refused, Step};
 use dep_quast::Quast;
 use domain_count::law::first_variables_are_counted;
 use domain_count::{check_count, check_sums};
@@ -106,7 +105,7 @@ fn counted(
     first_variables_are_counted();
     let bounds = &term.nest.bounds()[..usize::from(term.outer)];
     let sums = term.outer_sums.as_slice();
-    let outer = check_sums(alloc, program, bounds, sums, place, OUTER_SUMS)?;
+    let outer = check_sums(alloc, program, bounds, sums, place, ObjectKey("outer_sums"))?;
     // Their readers say that the polynomials are in lowest terms.
     let (_den, _outer_den) = (pairs.den(), outer.den());
     Ok((pairs, outer))
@@ -150,7 +149,7 @@ fn source_reached(
         return Ok(());
     };
     let (nest, vertex) = (&term.nest, &term.vertex);
-    let inner = place.within(alloc, Step::Key(REACH))?;
+    let inner = place.within(alloc, Step::Key(ObjectKey("reach")))?;
     check_reach(
         alloc, program, quasts, nest, vertex, source, reach, 20, &inner,
     )
@@ -169,7 +168,7 @@ fn vertex_reached(
     ensures refused { IfErr result (λ refused. IsRefusal (front_back (meaning program.now) place.now (trees_of quasts.now) (front_of term.now)) refused) }
 {
     let (nest, user, vertex) = (&term.nest, &term.user, &term.vertex);
-    let inner = place.within(alloc, Step::Key(BACK))?;
+    let inner = place.within(alloc, Step::Key(ObjectKey("back")))?;
     check_reach(
         alloc, program, quasts, nest, user, vertex, &term.back, 21, &inner,
     )

@@ -7,7 +7,7 @@ ghost use Rattle.affine_form.specs.Rows.{widened};
 ghost use Rattle.affine_form.specs.System.{AllOver};
 ghost use Rattle.affine_program.specs.Parts.{meaning};
 ghost use Rattle.dep_quast.specs.Context.{reference_of};
-ghost use Rattle.reuse_paths.specs.Pieces.{PieceFits, piece_of};
+ghost use Rattle.footprint_pieces.specs.Pieces.{PieceFits, piece_of};
 ghost use Rattle.reuse_paths.specs.Walks.{spot_of};
 ghost use Rattle.wavefront.specs.FrontClaims.{front_variables, word_forms};
 ghost use Rattle.wavefront.specs.FrontFits.{PartsFit};

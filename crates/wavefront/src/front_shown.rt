@@ -1,14 +1,13 @@
 //! Whether what a wavefront term claims of its instances is shown.
 #![tactic(auto, using(claims::proofs::Found::in_a_row))]
 
-ghost use Rattle.std.specs.Prelude.{◌≡◌, ◌+◌, ◌≤◌, ◌↔◌, ◌++◌, ◌∷◌, [], length, Some, None, IfOk, IsTrue};
+ghost use Rattle.std.specs.Prelude.{◌≡◌, ◌+◌, ◌≤◌, ◌↔◌, ◌++◌, ◌∷◌, [], length, Some, None, IfOk, IsTrue, codes};
 ghost use Rattle.std.specs.List.{AllByRecursion};
 ghost use Rattle.affine_form.specs.Form.{variables as form_variables, IsSmallForm};
 ghost use Rattle.affine_form.specs.Rows.{IsSmallOver};
 ghost use Rattle.affine_program.specs.Parts.{meaning, IsProgram};
 ghost use Rattle.claims.specs.Claims.{Decides};
 ghost use Rattle.claims.specs.declared.place.Step.TheVariants.{Index, Key};
-ghost use Rattle.claims.specs.declared.key.TheConstants.{POINT as POINT_KEY, VERTEX as VERTEX_KEY};
 ghost use Rattle.dep_quast.specs.Context.{variables_at};
 ghost use Rattle.wavefront.specs.FrontClaims.{front_goals, front_inside, front_variables, outer_claims, telling_forms, user_point, word_claims, IsWithoutPast};
 ghost use Rattle.wavefront.specs.FrontFits.{PartsFit};
@@ -20,10 +19,9 @@ use crate::front::Wavefront;
 use crate::inverse_shown::inverse_shown;
 use affine_form::{Form, Memory, put_all, variables_from};
 use affine_program::Program;
-use claims::key::{INSIDE, POINT, VERTEX};
-use claims::{Place, Refused, Step, refusal};
-use dep_quast::claims_shown::goals_shown;
-use dep_quast::lists::followed_by;
+use claims::lists::followed_by;
+use claims::shown::goals_shown;
+use claims::{ObjectKey, Place, Refused, Step, refusal};
 use dep_quast::point_rows::domain_rows;
 use dep_quast::reader::{Reader, reference};
 use domain_count::rows_before;
@@ -96,7 +94,7 @@ pub(crate) fn front_inside_shown(
 {
     let goals = goals_of(alloc, program, term)?;
     let system = rows_before(alloc, program, term.nest.bounds())?;
-    let list = place.within(alloc, Step::Key(INSIDE))?;
+    let list = place.within(alloc, Step::Key(ObjectKey("inside")))?;
     goals_shown(
         alloc,
         10,
@@ -138,10 +136,10 @@ fn is_without(form: &Form, first: usize) -> bool
 
 /// The place of a form of the vertex.
 fn outer_place(alloc: Global, place: &Place, i: usize) -> Result<Place, Memory>
-    ensures { IfOk result (λ form. form ≡ place.now ++ Key VERTEX_KEY ∷ Key POINT_KEY ∷ Index i ∷ []) }
+    ensures { IfOk result (λ form. form ≡ place.now ++ Key (codes "vertex") ∷ Key (codes "point") ∷ Index i ∷ []) }
 {
-    let vertex = place.within(alloc, Step::Key(VERTEX))?;
-    let point = vertex.within(alloc, Step::Key(POINT))?;
+    let vertex = place.within(alloc, Step::Key(ObjectKey("vertex")))?;
+    let point = vertex.within(alloc, Step::Key(ObjectKey("point")))?;
     point.within(alloc, Step::Index(i as u64))
 }
 

@@ -14,7 +14,7 @@ ghost use Rattle.iolb_model.specs.declared.limits.TheConstants.{PARAMETERS, NEST
 use crate::cold::Cold;
 use affine_form::{Form, Memory, put_all, variables_from};
 use affine_program::Program;
-use dep_quast::lists::followed_by;
+use claims::lists::followed_by;
 use dep_quast::reader::{Reader, reference};
 use std::alloc::Global;
 

@@ -9,8 +9,7 @@ ghost use Rattle.iolb_model.specs.declared.limits.TheConstants.{VARIABLES};
 use crate::cold::Inverse;
 use crate::inverse::first_difference;
 use affine_form::{Form, Memory};
-use claims::key::{INVERSE, MATRIX};
-use claims::{Place, Refused, Step, refusal};
+use claims::{ObjectKey, Place, Refused, Step, refusal};
 use std::alloc::Global;
 
 /// Whether the matrix turns the forms back into the scale times the variables past the parameters, so many of them.
@@ -40,8 +39,8 @@ pub(crate) fn inverse_shown(
 fn entry_at(alloc: Global, place: &Place, row: usize, col: usize) -> Result<Place, Memory>
     ensures { IfOk result (λ entry. entry ≡ entry_place place.now row col) }
 {
-    let inverse = place.within(alloc, Step::Key(INVERSE))?;
-    let matrix = inverse.within(alloc, Step::Key(MATRIX))?;
+    let inverse = place.within(alloc, Step::Key(ObjectKey("inverse")))?;
+    let matrix = inverse.within(alloc, Step::Key(ObjectKey("matrix")))?;
     let row = matrix.within(alloc, Step::Index(row as u64))?;
     row.within(alloc, Step::Index(col as u64))
 }

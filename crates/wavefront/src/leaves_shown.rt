@@ -4,20 +4,20 @@
 ghost use Rattle.std.specs.Prelude.{◌≡◌, ◌≤◌, ◌++◌, [], ◌∷◌, length, map};
 ghost use Rattle.std.specs.List.{AllByRecursion};
 ghost use Rattle.affine_form.specs.System.{AllOver};
-ghost use Rattle.dep_quast.specs.Claims.{IsFew};
+ghost use Rattle.claims.specs.Shown.{IsFew};
 ghost use Rattle.claims.specs.Claims.{Decides};
 ghost use Rattle.reuse_paths.specs.LeafClaims.{claim_of};
-ghost use Rattle.reuse_paths.specs.OpenLeaves.{OpenLeaf as open_leaf, is_input};
+ghost use Rattle.dep_quast.specs.OpenLeaves.{OpenLeaf as open_leaf, is_input};
 ghost use Rattle.wavefront.specs.Leaves.{leaf_claim, leaves_claims};
 ghost use Rattle.iolb_model.specs.declared.limits.TheConstants.{VARIABLES};
 
 use affine_form::Form;
+use claims::lists::followed_by;
+use claims::shown::system_shown;
 use claims::{Place, Refused, Step, refusal};
-use dep_quast::claims_shown::system_shown;
-use dep_quast::lists::followed_by;
+use dep_quast::open_leaves::OpenLeaf;
 use iolb_model::limits;
 use reuse_paths::Leaf;
-use reuse_paths::open_leaves::OpenLeaf;
 use std::alloc::Global;
 
 /// Whether what is claimed at leaves is shown, each by its entry: the first that isn't, by its place in the list at this

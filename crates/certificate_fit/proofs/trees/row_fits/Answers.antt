@@ -4,7 +4,7 @@ use Rattle.std.proofs.lemmas.List.{drop_all, length-map}
 use Rattle.claims.specs.declared.place.Step.{Step}
 use Rattle.affine_program.specs.Parts.{meaning, statement_of}
 use Rattle.dep_quast.specs.Tree.{tree_of}
-use Rattle.reuse_paths.proofs.TreeLemmas.{read-few}
+use Rattle.dep_quast.proofs.TreeLemmas.{read-few}
 use Rattle.claims.specs.Claims.{AllHold, IsRefusal}
 use Rattle.certificate_fit.specs.TreeFit.{tree_fit, tree_at}
 use Rattle.certificate_fit.proofs.FitFound.{mapped-stop, mapped-next, mapped-ended}

@@ -3,7 +3,7 @@ use Rattle.std.proofs.lemmas.List.{take_all}
 use Rattle.flow_deps.specs.declared.wanted.Wanted.TheVariants.{Short}
 use Rattle.iolb_model.specs.Form.{AffineForm}
 use Rattle.reuse_paths.specs.LeafClaims.{claim_of}
-use Rattle.reuse_paths.specs.OpenLeaves.{OpenLeaf, is_input}
+use Rattle.dep_quast.specs.OpenLeaves.{OpenLeaf, is_input}
 use Rattle.cold_terms.specs.Entries.{AreClosed, FindsEntry, system_at}
 use Rattle.cold_terms.proofs.EntryLaws.{closed-at, closed-more}
 use Rattle.cold_terms.proofs.entries.entries_at.Goals as goal

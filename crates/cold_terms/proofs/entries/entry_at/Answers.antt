@@ -4,8 +4,8 @@ use Rattle.iolb_model.specs.declared.limits.TheConstants.{ROWS}
 use Rattle.affine_form.specs.System.{AffineSystem}
 use Rattle.flow_deps.specs.Answers.{HasShortAnswer, IsAnswered, IsAsShort, pointless}
 use Rattle.flow_deps.proofs.AnswerLaws.{found-none, found-some}
-use Rattle.dep_quast.specs.Claims.{IsFew}
-use Rattle.reuse_paths.specs.OpenLeaves.{OpenLeaf, is_input}
+use Rattle.claims.specs.Shown.{IsFew}
+use Rattle.dep_quast.specs.OpenLeaves.{OpenLeaf, is_input}
 use Rattle.affine_form.specs.Multipliers.{FarkasMultipliers}
 use Rattle.reuse_paths.specs.LeafClaims.{stops}
 use Rattle.cold_terms.specs.Entries.{Closes, system_at}

@@ -5,7 +5,7 @@ use Rattle.affine_form.specs.Rows.{IsSmallOver}
 use Rattle.affine_program.specs.Parts.{meaning}
 use Rattle.dep_quast.specs.Context.{variables_at}
 use Rattle.dep_quast.proofs.Fits.{read-over}
-use Rattle.reuse_paths.proofs.OpenLeaves.{reader-few}
+use Rattle.dep_quast.proofs.OpenLeaves.{reader-few}
 use Rattle.cold_terms.specs.Outline.{outline_of}
 use Rattle.cold_terms.proofs.outlined.cell_of.Goals as goal
 

@@ -6,7 +6,7 @@ use Rattle.affine_form.specs.System.{AffineSystem}
 use Rattle.affine_program.specs.Domain.{path_of}
 use Rattle.affine_program.specs.Parts.{meaning}
 use Rattle.flow_deps.specs.Answers.{Answers, HasNoShort, following}
-use Rattle.dep_quast.specs.Claims.{IsFew}
+use Rattle.claims.specs.Shown.{IsFew}
 use Rattle.dep_quast.specs.Context.{parameter_point}
 use Rattle.domain_count.specs.Count.{rows_before}
 use Rattle.wavefront.specs.Term.{ColdTerm, inside_goals, nest_system, nest_variables}

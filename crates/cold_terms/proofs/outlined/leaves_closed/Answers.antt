@@ -7,8 +7,8 @@ use Rattle.affine_form.specs.System.{AffineSystem, AllOver}
 use Rattle.affine_program.specs.Parts.{meaning}
 use Rattle.dep_quast.specs.Tree.{SelectionTree, tree_of}
 use Rattle.domain_count.specs.Count.{rows_before}
-use Rattle.reuse_paths.specs.OpenLeaves.{OpenLeaf, TestsFit, open_leaves}
-use Rattle.reuse_paths.proofs.OpenLeaves.{reader-few, open-over}
+use Rattle.dep_quast.specs.OpenLeaves.{OpenLeaf, TestsFit, open_leaves}
+use Rattle.dep_quast.proofs.OpenLeaves.{reader-few, open-over}
 use Rattle.wavefront.specs.ColdPieces.{leaves_of}
 use Rattle.wavefront.specs.Term.{ColdTerm, nest_system, nest_variables}
 use Rattle.cold_terms.specs.Entries.{FindsEntries}

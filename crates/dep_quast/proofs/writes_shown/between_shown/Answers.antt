@@ -8,7 +8,8 @@ use Rattle.claims.specs.Claims.{AllHold, IsRefusal}
 use Rattle.dep_quast.specs.Levels.{levels, level_count}
 use Rattle.dep_quast.specs.Views.{read_of, claim_of}
 use Rattle.claims.proofs.Found.{handed-on}
-use Rattle.dep_quast.proofs.Chunks.{claims_from, flat-many, length-levels, writers-stop, writers-go, writers-end, writers-room, writers-first}
+use Rattle.claims.proofs.Pointless.{claims_from}
+use Rattle.dep_quast.proofs.Chunks.{flat-many, length-levels, writers-stop, writers-go, writers-end, writers-room, writers-first}
 use Rattle.dep_quast.proofs.writes_shown.between_shown.Goals as goal
 
 pub levels_between_shown-requires-clause-enough : goal.levels_between_shown-requires-clause-enough

@@ -2,7 +2,7 @@ use Rattle.std.proofs.Common.{◌+◌, ◌≤◌, length, drop, map}
 use Rattle.std.specs.Prelude.{Result, flat_map}
 use Rattle.claims.specs.declared.refused.Refused.{Refused}
 use Rattle.affine_program.specs.Parts.{meaning}
-use Rattle.dep_quast.specs.Claims.{pointless_claims}
+use Rattle.claims.specs.Shown.{pointless_claims}
 use Rattle.dep_quast.specs.Context.{write_between, writes_between}
 use Rattle.dep_quast.specs.Levels.{levels}
 use Rattle.claims.specs.Claims.{Decides}

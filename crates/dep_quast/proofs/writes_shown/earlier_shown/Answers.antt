@@ -10,7 +10,8 @@ use Rattle.claims.specs.Claims.{AllHold, IsRefusal}
 use Rattle.dep_quast.specs.Levels.{levels, level_count, IsWriter}
 use Rattle.dep_quast.specs.Views.{read_of}
 use Rattle.claims.proofs.Found.{handed-on}
-use Rattle.dep_quast.proofs.Chunks.{claims_from, length-levels, writers-stop, writers-go, writers-end, writers-room, writers-first}
+use Rattle.claims.proofs.Pointless.{claims_from}
+use Rattle.dep_quast.proofs.Chunks.{length-levels, writers-stop, writers-go, writers-end, writers-room, writers-first}
 use Rattle.dep_quast.proofs.writes_shown.earlier_shown.Goals as goal
 
 pub levels_shown-requires-clause-enough : goal.levels_shown-requires-clause-enough

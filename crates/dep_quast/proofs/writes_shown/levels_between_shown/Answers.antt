@@ -9,7 +9,8 @@ use Rattle.claims.specs.Claims.{AllHold, IsRefusal}
 use Rattle.dep_quast.specs.Levels.{levels, level_count}
 use Rattle.dep_quast.specs.Views.{read_of, claim_of}
 use Rattle.claims.proofs.Found.{handed-on}
-use Rattle.dep_quast.proofs.Chunks.{claims_from, afters-stop, afters-go, afters-end, levels-room, length-levels}
+use Rattle.claims.proofs.Pointless.{claims_from}
+use Rattle.dep_quast.proofs.Chunks.{afters-stop, afters-go, afters-end, levels-room, length-levels}
 use Rattle.dep_quast.proofs.writes_shown.levels_between_shown.Goals as goal
 
 pub returns-in_err-levels_shown : goal.returns-in_err-levels_shown

@@ -6,7 +6,8 @@ use Rattle.affine_program.specs.Parts.{meaning}
 use Rattle.dep_quast.specs.Context.{before_reader}
 use Rattle.dep_quast.specs.Views.{read_of}
 use Rattle.claims.proofs.Found.{handed-on}
-use Rattle.dep_quast.proofs.Chunks.{claims_from, levels-stop, levels-go, levels-end}
+use Rattle.claims.proofs.Pointless.{claims_from}
+use Rattle.dep_quast.proofs.Chunks.{levels-stop, levels-go, levels-end}
 use Rattle.dep_quast.proofs.writes_shown.levels_shown.Goals as goal
 
 pub returns-in_err-system_shown : goal.returns-in_err-system_shown

@@ -3,7 +3,7 @@ use Rattle.std.specs.Prelude.{Result}
 use Rattle.std.specs.List.{range_with_len}
 use Rattle.claims.specs.declared.refused.Refused.{Refused}
 use Rattle.affine_program.specs.Parts.{meaning}
-use Rattle.dep_quast.specs.Claims.{pointless_claims}
+use Rattle.claims.specs.Shown.{pointless_claims}
 use Rattle.dep_quast.specs.Context.{before_reader}
 use Rattle.dep_quast.specs.Levels.{levels}
 use Rattle.claims.specs.Claims.{Decides}

@@ -3,7 +3,7 @@ use Rattle.affine_program.specs.Parts.{meaning}
 use Rattle.flow_deps.specs.declared.wanted.Wanted.TheVariants.{Short}
 use Rattle.flow_deps.specs.Answers.{Answers, HasNoShort, Question, following}
 use Rattle.flow_deps.proofs.AnswerLaws.{found-none, found-some}
-use Rattle.dep_quast.specs.Claims.{IsFew}
+use Rattle.claims.specs.Shown.{IsFew}
 use Rattle.dep_quast.specs.Tree.{SelectionTree, tree_of}
 use Rattle.reuse_paths.specs.LeafClaims.{claim_of}
 use Rattle.wavefront.specs.ColdPieces.{leaves_of}

@@ -9,10 +9,10 @@ use Rattle.find_terms.proofs.growing.grown.Goals as goal
 pub returns-in-Taken-clause-opening : goal.returns-in-Taken-clause-opening
 returns-in-Taken-clause-opening c =
     subst (λ (parts : CertificateParts). BeginsWithOpening (meaning c.args.program.now) parts.branches) (sym c.in_ok-larger.ensures)
-    (begins-pushed (meaning c.args.program.now) c.args.accepted.certificate.branches c.args.branch c.requires.opening)
+    (begins-pushed (meaning c.args.program.now) c.args.growing.certificate.branches c.args.branch c.requires.opening)
 
 pub returns-in-Left-clause-opening : goal.returns-in-Left-clause-opening
 returns-in-Left-clause-opening c =
     subst (λ (all : List Branch). BeginsWithOpening (meaning c.args.program.now) all)
-    (sym (c.without_last.ensures.branches c.args.accepted.certificate.branches c.args.branch (ap (λ (parts : CertificateParts). parts.branches) c.in_ok-larger.ensures)))
+    (sym (c.without_last.ensures.branches c.args.growing.certificate.branches c.args.branch (ap (λ (parts : CertificateParts). parts.branches) c.in_ok-larger.ensures)))
     c.requires.opening

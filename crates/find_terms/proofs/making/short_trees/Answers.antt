@@ -2,8 +2,8 @@ use Rattle.std.proofs.Common.{refl, []}
 use Rattle.std.specs.Prelude.{None, Some}
 use Rattle.affine_program.specs.Parts.{meaning}
 use Rattle.claims.proofs.Found.{IfOk-then}
-use Rattle.reuse_paths.specs.Quasts.{trees_of}
-use Rattle.reuse_paths.specs.declared.quasts.Quasts.{Quasts}
+use Rattle.dep_quast.specs.Quasts.{trees_of}
+use Rattle.dep_quast.specs.declared.quasts.Quasts.{Quasts}
 use Rattle.find_terms.specs.Opened.{HasTreesFor}
 use Rattle.find_terms.specs.Trees.{HasTrees}
 use Rattle.find_terms.specs.declared.trees.Scope.TheVariants.{Few}

@@ -1,7 +1,7 @@
 use Rattle.std.proofs.Common.{◌≡◌}
 use Rattle.affine_program.specs.Parts.{meaning}
 use Rattle.claims.proofs.Found.{IfOk-then}
-use Rattle.reuse_paths.specs.Quasts.{trees_of}
+use Rattle.dep_quast.specs.Quasts.{trees_of}
 use Rattle.find_terms.specs.Shortened.{AreShortParts, opened_parts}
 use Rattle.find_terms.specs.declared.accepted.Accepted.{Accepted}
 use Rattle.find_terms.proofs.Shortened.{parts-short}

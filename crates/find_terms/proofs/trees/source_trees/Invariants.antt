@@ -1,6 +1,6 @@
 use Rattle.std.proofs.Common.{◌≡◌, ◌≤◌, length, map}
 use Rattle.affine_program.specs.Parts.{meaning}
-use Rattle.reuse_paths.specs.Quasts.{row_trees}
+use Rattle.dep_quast.specs.Quasts.{row_trees}
 use Rattle.find_terms.specs.Trees.{RowsStand}
 use Rattle.find_terms.proofs.trees.source_trees.Given as goal
 

@@ -4,9 +4,9 @@ use Rattle.affine_program.specs.Parts.{ProgramParts, meaning}
 use Rattle.claims.specs.Claims.{Claim, AllHold, IsRefusal, numbered}
 use Rattle.claims.proofs.Found.{refused-first, refused-later}
 use Rattle.claims.proofs.Laws.{AllHold-append}
-use Rattle.reuse_paths.specs.declared.quasts.Quasts.{Quasts}
-use Rattle.reuse_paths.specs.Quasts.{trees_of}
-use Rattle.reuse_paths.specs.Trees.{RowsFit, rows_claims}
+use Rattle.dep_quast.specs.declared.quasts.Quasts.{Quasts}
+use Rattle.dep_quast.specs.Quasts.{trees_of}
+use Rattle.dep_quast.specs.Trees.{RowsFit, rows_claims}
 use Rattle.iolb_check.specs.declared.term.Branch.{Branch}
 use Rattle.iolb_check.specs.Bounds.{BoundParts, IsBound, lists}
 use Rattle.iolb_check.specs.Claims.{claim_of_branch, claim_of_certificate}

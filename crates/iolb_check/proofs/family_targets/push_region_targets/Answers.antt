@@ -2,9 +2,9 @@ use Rattle.std.proofs.Common.{sym, ◌∙◌, ap, ◌≤◌, List, ◌++◌, len
 use Rattle.std.specs.Prelude.{option_map}
 use Rattle.std.proofs.lemmas.List.{length-map}
 use Rattle.affine_program.specs.Parts.{meaning, statement_of}
-use Rattle.reuse_paths.specs.declared.piece.Target.{Target}
+use Rattle.footprint_pieces.specs.declared.piece.Target.{Target}
 use Rattle.reuse_paths.specs.Families.{node_of, node_region}
-use Rattle.reuse_paths.specs.Quasts.{trees_of}
+use Rattle.dep_quast.specs.Quasts.{trees_of}
 use Rattle.iolb_check.proofs.FamilyTargets.{none-told}
 use Rattle.iolb_check.proofs.family_targets.push_region_targets.Goals as goal
 

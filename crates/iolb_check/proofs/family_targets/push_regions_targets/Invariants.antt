@@ -2,7 +2,7 @@ use Rattle.std.proofs.Common.{◌≡◌, ◌++◌, drop, map}
 use Rattle.std.specs.Prelude.{option_map}
 use Rattle.affine_program.specs.Parts.{meaning}
 use Rattle.reuse_paths.specs.Families.{node_of, node_region}
-use Rattle.reuse_paths.specs.Quasts.{trees_of}
+use Rattle.dep_quast.specs.Quasts.{trees_of}
 use Rattle.iolb_check.specs.FamilyTargets.{regions_targets}
 use Rattle.iolb_check.proofs.family_targets.push_regions_targets.Given as goal
 

@@ -3,7 +3,7 @@ use Rattle.std.specs.Prelude.{Option, None}
 use Rattle.std.specs.List.{cons_option}
 use Rattle.std.proofs.Math.Numerals.{suc-eq-add-one}
 use Rattle.reuse_paths.specs.declared.leaf.Leaf.{Leaf}
-use Rattle.reuse_paths.specs.declared.piece.Target.{Target}
+use Rattle.footprint_pieces.specs.declared.piece.Target.{Target}
 use Rattle.reuse_paths.specs.LeafClaims.{claim_of}
 use Rattle.iolb_check.specs.FamilyTargets.{taken_target, taken_targets}
 use Rattle.iolb_check.proofs.family_targets.push_taken_targets.Goals as goal

@@ -3,7 +3,7 @@ use Rattle.std.specs.Prelude.{flat_map}
 use Rattle.affine_program.specs.Parts.{meaning}
 use Rattle.k_partition.specs.View.{partition_of}
 use Rattle.reuse_paths.specs.Families.{family_of}
-use Rattle.reuse_paths.specs.Quasts.{trees_of}
+use Rattle.dep_quast.specs.Quasts.{trees_of}
 use Rattle.iolb_check.specs.FamilyTargets.{family_targets, partition_targets}
 use Rattle.iolb_check.proofs.family_targets.targets_of_partition.Given as goal
 

@@ -1,7 +1,7 @@
 use Rattle.std.proofs.Common.{◌≡◌, ◌++◌, drop, map}
 use Rattle.affine_program.specs.Parts.{meaning}
-use Rattle.reuse_paths.specs.Quasts.{trees_of}
-use Rattle.reuse_paths.specs.TargetPairs.{items_of}
+use Rattle.dep_quast.specs.Quasts.{trees_of}
+use Rattle.footprint_pieces.specs.TargetPairs.{items_of}
 use Rattle.iolb_check.specs.Claims.{claim_of_term}
 use Rattle.iolb_check.specs.PairFit.{term_targets}
 use Rattle.iolb_check.proofs.fit_pairs.branch_targets.Given as goal

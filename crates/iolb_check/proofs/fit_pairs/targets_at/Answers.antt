@@ -1,7 +1,7 @@
 use Rattle.std.proofs.Common.{◌≡◌, refl, sym, ◌∙◌, ap, ℕ, zero, suc, ◌≤◌, min, List, [], ◌∷◌, ◌++◌, length, map, drop, append-nil, arith}
 use Rattle.std.specs.Prelude.{Option}
 use Rattle.reuse_paths.specs.declared.leaf.Leaf.{Leaf}
-use Rattle.reuse_paths.specs.declared.piece.Target.{Target}
+use Rattle.footprint_pieces.specs.declared.piece.Target.{Target}
 use Rattle.reuse_paths.specs.LeafClaims.{claim_of}
 use Rattle.iolb_check.specs.PairFit.{stop_targets}
 use Rattle.iolb_check.proofs.fit_pairs.targets_at.Goals as goal

@@ -1,7 +1,7 @@
+use Rattle.std.specs.Prelude.{codes}
 use Rattle.std.proofs.Common.{◌≡◌, sym, ◌∙◌, ap, subst, List, [], ◌∷◌, ◌++◌}
 use Rattle.affine_program.specs.Parts.{meaning}
 use Rattle.claims.specs.Claims.{Claim, Decides}
-use Rattle.claims.specs.declared.key.TheConstants.{CREDITS}
 use Rattle.claims.specs.declared.place.Step.{Step}
 use Rattle.claims.specs.declared.place.Step.TheVariants.{Key}
 use Rattle.k_partition.specs.View.{partition_of}
@@ -16,9 +16,9 @@ returns c =
     let P = meaning c.args.program.now in
     let term = partition_of c.args.term.now in
     let place = c.args.place.now in
-    let at : List Step = place ++ Key CREDITS ∷ [] in
+    let at : List Step = place ++ Key (codes "credits") ∷ [] in
     let credits : List Credit = c.args.term.now.credits.items in
     let same : held_credits P c.in_ok-list.list c.as_slice.result.now ≡ credits_fit P place term =
     ap (λ (p : List Step). held_credits P p c.as_slice.result.now) c.in_ok-list.ensures ∙ ap (held_credits P at) c.as_slice.ensures.value
     ∙ sym (credits-same P at 0 credits) in
-    subst (λ (claims : List Claim). Decides claims c.credits_fits.result) same c.credits_fits.ensures
+    subst (λ (claims : List Claim). Decides claims c.all_credits_fit.result) same c.all_credits_fit.ensures

@@ -4,43 +4,43 @@ use Rattle.claims.specs.Claims.{Claim, AllHold, IsRefusal, numbered}
 use Rattle.claims.proofs.Found.{refused-first, refused-later}
 use Rattle.claims.proofs.Laws.{AllHold-append}
 use Rattle.certificate_fit.specs.TreeFit.{trees_fit}
-use Rattle.reuse_paths.specs.declared.quasts.Quasts.{Quasts}
-use Rattle.reuse_paths.specs.Quasts.{trees_of}
+use Rattle.dep_quast.specs.declared.quasts.Quasts.{Quasts}
+use Rattle.dep_quast.specs.Quasts.{trees_of}
 use Rattle.iolb_check.specs.declared.term.Branch.{Branch}
 use Rattle.iolb_check.specs.Claims.{claim_of_branch}
 use Rattle.iolb_check.specs.TermFit.{branch_at}
 use Rattle.iolb_check.proofs.FitParts.{parts-fit}
 use Rattle.iolb_check.proofs.fit_parts.parts_fit.Goals as goal
 
-pub returns-in_err-branches_fits-clause-fit : goal.returns-in_err-branches_fits-clause-fit
-returns-in_err-branches_fits-clause-fit c =
+pub returns-in_err-all_branches_fit-clause-fit : goal.returns-in_err-all_branches_fit-clause-fit
+returns-in_err-all_branches_fit-clause-fit c =
     let program = meaning c.args.program.now in
     let quasts = c.args.certificate.now.quasts in
     let branches : Quasts → List Branch → List Claim = λ q bs. numbered (branch_at program (trees_of q)) 0 (map claim_of_branch bs) in
     let given = c.args.certificate.now.branches in
     let same : branches c.quasts-quasts.result.now c.branches-branches.result.now ≡ branches quasts given =
     ap (λ (q : Quasts). branches q c.branches-branches.result.now) c.quasts-quasts.ensures.quasts ∙ ap (branches quasts) c.branches-branches.ensures.branches in
-    let r = c.in_err-branches_fits.field-0.0 in
+    let r = c.in_err-all_branches_fit.field-0.0 in
     let refused : IsRefusal (branches quasts given ++ trees_fit program (trees_of quasts)) r =
-    refused-first (branches quasts given) (trees_fit program (trees_of quasts)) r (subst (λ (claims : List Claim). IsRefusal claims r) same c.in_err-branches_fits.ensures) in
+    refused-first (branches quasts given) (trees_fit program (trees_of quasts)) r (subst (λ (claims : List Claim). IsRefusal claims r) same c.in_err-all_branches_fit.ensures) in
     search rules
 
-pub returns-in_err-quasts_fits-clause-fit : goal.returns-in_err-quasts_fits-clause-fit
-returns-in_err-quasts_fits-clause-fit c =
+pub returns-in_err-all_quasts_fit-clause-fit : goal.returns-in_err-all_quasts_fit-clause-fit
+returns-in_err-all_quasts_fit-clause-fit c =
     let program = meaning c.args.program.now in
     let quasts = c.args.certificate.now.quasts in
     let branches : Quasts → List Branch → List Claim = λ q bs. numbered (branch_at program (trees_of q)) 0 (map claim_of_branch bs) in
     let given = c.args.certificate.now.branches in
     let same : branches c.quasts-quasts.result.now c.branches-branches.result.now ≡ branches quasts given =
     ap (λ (q : Quasts). branches q c.branches-branches.result.now) c.quasts-quasts.ensures.quasts ∙ ap (branches quasts) c.branches-branches.ensures.branches in
-    let r = c.in_err-quasts_fits.field-0.0 in
+    let r = c.in_err-all_quasts_fit.field-0.0 in
     let refused : IsRefusal (branches quasts given ++ trees_fit program (trees_of quasts)) r =
-    refused-later (branches quasts given) (trees_fit program (trees_of quasts)) r (subst AllHold same c.in_ok-branches_fits.ensures)
-    (subst (λ (q : Quasts). IsRefusal (trees_fit program (trees_of q)) r) c.quasts-quasts.ensures.quasts c.in_err-quasts_fits.ensures) in
+    refused-later (branches quasts given) (trees_fit program (trees_of quasts)) r (subst AllHold same c.in_ok-all_branches_fit.ensures)
+    (subst (λ (q : Quasts). IsRefusal (trees_fit program (trees_of q)) r) c.quasts-quasts.ensures.quasts c.in_err-all_quasts_fit.ensures) in
     search rules
 
 -- all of it fits
-all : (c : goal.In_ok-quasts_fits) → AllHold (numbered (branch_at (meaning c.args.program.now) (trees_of c.args.certificate.now.quasts)) 0 (map claim_of_branch c.args.certificate.now.branches)
+all : (c : goal.In_ok-all_quasts_fit) → AllHold (numbered (branch_at (meaning c.args.program.now) (trees_of c.args.certificate.now.quasts)) 0 (map claim_of_branch c.args.certificate.now.branches)
     ++ trees_fit (meaning c.args.program.now) (trees_of c.args.certificate.now.quasts))
 all c =
     let program = meaning c.args.program.now in
@@ -49,8 +49,8 @@ all c =
     let given = c.args.certificate.now.branches in
     let same : branches c.quasts-quasts.result.now c.branches-branches.result.now ≡ branches quasts given =
     ap (λ (q : Quasts). branches q c.branches-branches.result.now) c.quasts-quasts.ensures.quasts ∙ ap (branches quasts) c.branches-branches.ensures.branches in
-    AllHold-append (branches quasts given) (trees_fit program (trees_of quasts)) (subst AllHold same c.in_ok-branches_fits.ensures)
-    (subst (λ (q : Quasts). AllHold (trees_fit program (trees_of q))) c.quasts-quasts.ensures.quasts c.in_ok-quasts_fits.ensures)
+    AllHold-append (branches quasts given) (trees_fit program (trees_of quasts)) (subst AllHold same c.in_ok-all_branches_fit.ensures)
+    (subst (λ (q : Quasts). AllHold (trees_fit program (trees_of q))) c.quasts-quasts.ensures.quasts c.in_ok-all_quasts_fit.ensures)
 
 pub returns-clause-fit : goal.returns-clause-fit
 returns-clause-fit c = all c

@@ -4,16 +4,16 @@ use Rattle.affine_form.specs.Multipliers.{FarkasMultipliers}
 use Rattle.affine_program.specs.Parts.{ProgramParts, meaning}
 use Rattle.claims.specs.Claims.{AllHold}
 use Rattle.claims.specs.declared.place.Step.{Step}
-use Rattle.dep_quast.specs.Claims.{pointless_claims}
+use Rattle.claims.specs.Shown.{pointless_claims}
 use Rattle.dep_quast.specs.Tree.{SelectionTree}
-use Rattle.reuse_paths.specs.declared.piece.Piece.{Piece}
-use Rattle.reuse_paths.specs.declared.piece.Target.{Target}
-use Rattle.reuse_paths.specs.DisjointClaims.{pairwise_systems}
-use Rattle.reuse_paths.specs.Pieces.{FootprintPiece, PieceFits, pieces_of}
-use Rattle.reuse_paths.specs.Quasts.{trees_of}
-use Rattle.reuse_paths.specs.TargetPairs.{pairwise_targets}
-use Rattle.reuse_paths.proofs.PairCounts.{pairs-many}
-use Rattle.reuse_paths.proofs.SharedVertices.{pairwise-apart}
+use Rattle.footprint_pieces.specs.declared.piece.Piece.{Piece}
+use Rattle.footprint_pieces.specs.declared.piece.Target.{Target}
+use Rattle.footprint_pieces.specs.DisjointClaims.{pairwise_systems}
+use Rattle.footprint_pieces.specs.Pieces.{FootprintPiece, PieceFits, pieces_of}
+use Rattle.dep_quast.specs.Quasts.{trees_of}
+use Rattle.footprint_pieces.specs.TargetPairs.{pairwise_targets}
+use Rattle.footprint_pieces.proofs.PairCounts.{pairs-many}
+use Rattle.footprint_pieces.proofs.SharedVertices.{pairwise-apart}
 use Rattle.iolb_check.specs.declared.term.Branch.{Branch}
 use Rattle.iolb_check.specs.declared.term.Term.{Term}
 use Rattle.iolb_check.specs.Claims.{claim_of_term}

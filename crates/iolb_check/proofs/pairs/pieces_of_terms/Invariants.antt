@@ -1,8 +1,8 @@
 use Rattle.std.proofs.Common.{◌≡◌, ◌++◌, drop, map}
 use Rattle.std.specs.List.{AllByRecursion}
 use Rattle.affine_program.specs.Parts.{meaning}
-use Rattle.reuse_paths.specs.Pieces.{PieceFits, pieces_of}
-use Rattle.reuse_paths.specs.Quasts.{trees_of}
+use Rattle.footprint_pieces.specs.Pieces.{PieceFits, pieces_of}
+use Rattle.dep_quast.specs.Quasts.{trees_of}
 use Rattle.iolb_check.specs.Claims.{claim_of_term}
 use Rattle.iolb_check.specs.Conditions.{branch_pieces}
 use Rattle.iolb_check.proofs.pairs.pieces_of_terms.Given as goal

@@ -1,9 +1,9 @@
 use Rattle.std.proofs.Common.{subst, ℕ, zero-add}
 use Rattle.affine_program.specs.Parts.{meaning}
 use Rattle.dep_quast.specs.Truth.{IsTrueTree}
-use Rattle.reuse_paths.specs.Quasts.{tree_for, trees_of}
-use Rattle.reuse_paths.specs.Trees.{read_of}
-use Rattle.reuse_paths.proofs.TreeLemmas.{rows-at}
+use Rattle.dep_quast.specs.Quasts.{tree_for, trees_of}
+use Rattle.dep_quast.specs.Trees.{read_of}
+use Rattle.dep_quast.proofs.TreeLemmas.{rows-at}
 use Rattle.wavefront.specs.declared.cold.Cold.{Cold}
 use Rattle.wavefront.specs.View.{term_of}
 use Rattle.iolb_check.proofs.term_checks.check_cold_term.Goals as goal

@@ -1,7 +1,11 @@
-use Rattle.std.proofs.Common.{◌≡◌, subst, sym, ℕ, length}
+use Rattle.std.proofs.Common.{rules, ◌≡◌, subst, sym, ℕ, List, length}
 use Rattle.affine_program.specs.Parts.{meaning}
+use Rattle.claims.specs.Claims.{AllHold, IsRefusal}
+use Rattle.claims.specs.declared.place.Step.{Step}
+use Rattle.dep_quast.specs.Quasts.{trees_of}
 use Rattle.domain_count.specs.Points.{count}
 use Rattle.poly_tree.specs.Expansion.{IsCanonical}
+use Rattle.wavefront.specs.FrontClaims.{front_claims}
 use Rattle.wavefront.specs.FrontTerm.{outer_nest}
 use Rattle.wavefront.specs.View.{front_of}
 use Rattle.iolb_check.proofs.Terms.{whole}
@@ -37,3 +41,14 @@ returns-clause-holds c =
         },
       );
     }
+
+pub returns-in_err-counts-clause-refused : goal.returns-in_err-counts-clause-refused
+returns-in_err-counts-clause-refused c =
+    let refused =
+    subst (λ (place : List Step). IsRefusal (front_claims (meaning c.args.program.now) place (trees_of c.args.quasts.now) (front_of c.args.front.now)) c.in_err-counts.field-0.0) c.in-Ok.ensures
+    c.in_err-counts.ensures.refused in
+    search rules
+
+pub returns-clause-accepted : goal.returns-clause-accepted
+returns-clause-accepted c =
+    subst (λ (place : List Step). AllHold (front_claims (meaning c.args.program.now) place (trees_of c.args.quasts.now) (front_of c.args.front.now))) c.in-Ok.ensures c.in_ok-counts.ensures.holds

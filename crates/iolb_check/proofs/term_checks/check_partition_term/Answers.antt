@@ -1,18 +1,21 @@
-use Rattle.std.proofs.Common.{◌≡◌, sym, subst, ℕ, ◌≤◌, List, length, arith}
+use Rattle.std.proofs.Common.{rules, ◌≡◌, sym, subst, ℕ, ◌≤◌, List, length, arith}
 use Rattle.affine_program.specs.Parts.{ProgramParts, meaning}
 use Rattle.dep_quast.specs.Tree.{SelectionTree}
+use Rattle.claims.specs.Claims.{IsRefusal}
+use Rattle.claims.specs.declared.place.Step.{Step}
 use Rattle.domain_count.specs.Points.{count}
 use Rattle.poly_tree.specs.Expansion.{IsCanonical}
 use Rattle.k_partition.specs.declared.term.Partition.{Partition}
 use Rattle.k_partition.specs.declared.term.Shape.{Shape}
 use Rattle.k_partition.specs.declared.term.Shape.TheVariants.{Each, Sum}
 use Rattle.k_partition.specs.Numbers.{factor_under}
+use Rattle.k_partition.specs.PartitionClaims.{partition_claims}
 use Rattle.k_partition.specs.Term.{PartitionTerm}
 use Rattle.k_partition.specs.TermLoads.{credited_count, weight_of}
 use Rattle.k_partition.specs.View.{partition_of, FitsPartition}
 use Rattle.affine_form.specs.Matrix.{HasShape}
-use Rattle.reuse_paths.specs.Quasts.{trees_of}
-use Rattle.reuse_paths.specs.Trees.{RowsFit, RowsAreTrue}
+use Rattle.dep_quast.specs.Quasts.{trees_of}
+use Rattle.dep_quast.specs.Trees.{RowsFit, RowsAreTrue}
 use Rattle.uniform_cover.proofs.Powers.{self_pow_pos}
 use Rattle.iolb_check.specs.Fit.{PartitionTermFits}
 use Rattle.iolb_check.proofs.Terms.{whole}
@@ -67,3 +70,10 @@ returns-clause-holds c =
 pub returns-clause-pieces : goal.returns-clause-pieces
 returns-clause-pieces c =
     (fits-partition c.args.program.now (trees_of c.args.quasts.now) c.args.partition.now c.requires.fits c.requires.trees_fit c.requires.are_true c.rows-rows.ensures.shape, c.in_ok-bound.ensures.few)
+
+pub returns-in_err-bound-clause-refused : goal.returns-in_err-bound-clause-refused
+returns-in_err-bound-clause-refused c =
+    let refused =
+    subst (λ (place : List Step). IsRefusal (partition_claims (meaning c.args.program.now) (trees_of c.args.quasts.now) place (partition_of c.args.partition.now)) c.in_err-bound.field-0.0) c.in-Ok.ensures
+    c.in_err-bound.ensures.refused in
+    search rules

@@ -25,8 +25,8 @@ returns-in-Ok-check-clause-comes c =
     onward (claim_of_certificate c.in-Ok.certificate) (has_certificate c.args.bytes.now (claim_of_certificate c.in-Ok.certificate) c.in-Ok.ensures)
     (onward c.in-Ok-check.bound.branches c.in-Ok-check.ensures.meets c.answer.ensures.comes)
 
-pub returns-in-Err-No-clause-comes : goal.returns-in-Err-No-clause-comes
-returns-in-Err-No-clause-comes c =
+pub returns-in-Err-Failed-clause-comes : goal.returns-in-Err-Failed-clause-comes
+returns-in-Err-Failed-clause-comes c =
     onward (claim_of_certificate c.in-Ok.certificate) (has_certificate c.args.bytes.now (claim_of_certificate c.in-Ok.certificate) c.in-Ok.ensures)
-    (stopping c.in-Err-No.failed (subst (λ (refused : Refused). IsRefusal (conditions (meaning c.args.program.now) (claim_of_certificate c.in-Ok.certificate)) refused) c.in-Err-No.field-0-is c.in-Err-No.ensures.refused)
-    (ap (λ failed. stops (RefusedStop (Condition failed))) c.in-Err-No.failed-is))
+    (stopping c.in-Err-Failed.failed (subst (λ (refused : Refused). IsRefusal (conditions (meaning c.args.program.now) (claim_of_certificate c.in-Ok.certificate)) refused) c.in-Err-Failed.field-0-is c.in-Err-Failed.ensures.refused)
+    (ap (λ failed. stops (RefusedStop (Condition failed))) c.in-Err-Failed.failed-is))

@@ -8,5 +8,5 @@ use Rattle.json_parts.proofs.puts.write_object.Goals as goal
 pub returns-clause-read : goal.returns-clause-read
 returns-clause-read g c =
     let names : List (List ℕ) = names_of c.args.names.now in
-    object-back (g.M.Puts.fields names c.args.numbers.now) (g.M.Puts.said c.args.members.now)
-    (subst (λ (ns : List (List ℕ)). rises ns ≡ true) (sym (g.met.M.Puts.names_are names c.args.numbers.now (length-map c.args.names.now _ ∙ c.requires.names))) c.requires.rise) c.in_ok-write.ensures.read
+    object-back (g.M.Puts.fields names) (g.M.Puts.said c.args.members.now)
+    (subst (λ (ns : List (List ℕ)). rises ns ≡ true) (sym (g.met.M.Puts.names_are names (length-map c.args.names.now _ ∙ c.requires.names))) c.requires.rise) c.in_ok-write.ensures.read

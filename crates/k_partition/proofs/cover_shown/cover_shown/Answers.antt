@@ -1,8 +1,8 @@
+use Rattle.std.specs.Prelude.{codes}
 use Rattle.std.proofs.Common.{◌≡◌, List, ap, subst, ℕ, ◌<◌, ◌≤◌, ◌++◌, ◌∷◌, [], length, rules, arith}
 use Rattle.claims.specs.declared.place.Step.{Step}
 use Rattle.claims.proofs.Found.{refused-here}
 use Rattle.claims.specs.Claims.{IsRefusalAt}
-use Rattle.claims.specs.declared.key.TheConstants.{MATRIX}
 use Rattle.claims.specs.declared.place.Step.TheVariants.{Index, Key}
 use Rattle.claims.proofs.Members.{counts-refused, counts-hold}
 use Rattle.k_partition.specs.PartitionClaims.{cover_claim, weight_at}
@@ -17,7 +17,7 @@ returns-then-weight_at-term c =
     let below : i < length term.nest = omega (arith, c.loop-i-test.true, ap length c.bounds-size.ensures) in
     let is : c.weight_at.result ≡ weight_at term.families i = search rules in
     counts-refused (cover_claim place term) (length term.nest) i c.refusal.result below c.loop-i.invariant
-    (refused-here (record { condition = 17; place = place ++ Key MATRIX ∷ Index i ∷ []; statement = term.q ≤ weight_at term.families i }) [] c.refusal.result
+    (refused-here (record { condition = 17; place = place ++ Key (codes "matrix") ∷ Index i ∷ []; statement = term.q ≤ weight_at term.families i }) [] c.refusal.result
     (λ (h : term.q ≤ weight_at term.families i). omega (arith, h, is, c.if-weight_at-term.true))
     (subst (λ (p : List Step). IsRefusalAt 17 p c.refusal.result) c.in_ok-row.ensures c.refusal.ensures))
 

@@ -1,10 +1,9 @@
 use Rattle.std.proofs.Common.{◌≡◌, refl, sym, ◌∙◌, ap, subst, ℕ, List, ◌+◌, ◌++◌, ◌∷◌, [], map, length, drop, take, append_assoc, rules, arith}
-use Rattle.std.specs.Prelude.{Ok, Err}
+use Rattle.std.specs.Prelude.{Ok, Err, codes}
 use Rattle.std.proofs.lemmas.List.{drop_all, length-map}
 use Rattle.std.proofs.Math.Numerals.{suc-eq-add-one}
 use Rattle.affine_program.specs.Parts.{meaning}
 use Rattle.claims.specs.Claims.{Claim, AllHold, IsRefusal, numbered}
-use Rattle.claims.specs.declared.key.TheConstants.{CREDITS}
 use Rattle.claims.specs.declared.place.Step.{Step}
 use Rattle.claims.specs.declared.place.Step.TheVariants.{Index, Key}
 use Rattle.claims.proofs.Found.{refused-first}
@@ -18,8 +17,8 @@ use Rattle.k_partition.proofs.Members.{member-of}
 use Rattle.k_partition.proofs.credits_counted.credits_counted.Goals as goal
 
 -- the place of a credit
-placed : (place list inner : List Step) (i : ℕ) → list ≡ place ++ Key CREDITS ∷ [] → inner ≡ list ++ Index i ∷ [] → inner ≡ credit_place place i
-placed place list inner i f g = g ∙ ap (λ (l : List Step). l ++ Index i ∷ []) f ∙ append_assoc place (Key CREDITS ∷ []) (Index i ∷ [])
+placed : (place list inner : List Step) (i : ℕ) → list ≡ place ++ Key (codes "credits") ∷ [] → inner ≡ list ++ Index i ∷ [] → inner ≡ credit_place place i
+placed place list inner i f g = g ∙ ap (λ (l : List Step). l ++ Index i ∷ []) f ∙ append_assoc place (Key (codes "credits") ∷ []) (Index i ∷ [])
 
 pub returns-in_err-total-2-clause-refused : goal.returns-in_err-total-2-clause-refused
 returns-in_err-total-2-clause-refused c =

@@ -1,7 +1,7 @@
+use Rattle.std.specs.Prelude.{codes}
 use Rattle.std.proofs.Common.{ℕ, length, ◌++◌, ◌∷◌, [], rules}
 use Rattle.affine_program.specs.Parts.{meaning}
 use Rattle.claims.specs.Claims.{Claim, IsRefusal}
-use Rattle.claims.specs.declared.key.TheConstants.{SUMS}
 use Rattle.claims.specs.declared.place.Step.TheVariants.{Key}
 use Rattle.claims.proofs.Found.{refused-first, refused-later}
 use Rattle.claims.proofs.Laws.{AllHold-append}
@@ -16,7 +16,7 @@ returns-in_err-count-clause-refused c =
     let program = meaning c.args.program.now in
     let place = c.args.place.now in
     let credit = credit_term_of c.args.credit.now in
-    let last : Claim = record { condition = 2; place = place ++ Key SUMS ∷ []; statement = HasWithCredit (length c.args.program.now.params) c.args.before.now credit } in
+    let last : Claim = record { condition = 2; place = place ++ Key (codes "sums") ∷ []; statement = HasWithCredit (length c.args.program.now.params) c.args.before.now credit } in
     let refused : IsRefusal (next_claims program place c.args.before.now credit) c.in_err-count.field-0.0 =
     refused-first (count_claims program credit.nest.nest credit.count place) (last ∷ []) c.in_err-count.field-0.0 c.in_err-count.ensures.refused in
     search rules
@@ -27,10 +27,10 @@ returns-in_err-sum-clause-refused c =
     let place = c.args.place.now in
     let credit = credit_term_of c.args.credit.now in
     let parameters : ℕ = length c.args.program.now.params in
-    let last : Claim = record { condition = 2; place = place ++ Key SUMS ∷ []; statement = HasWithCredit parameters c.args.before.now credit } in
+    let last : Claim = record { condition = 2; place = place ++ Key (codes "sums") ∷ []; statement = HasWithCredit parameters c.args.before.now credit } in
     let refused : IsRefusal (next_claims program place c.args.before.now credit) c.in_err-sum.field-0.0 =
     refused-later (count_claims program credit.nest.nest credit.count place) (last ∷ []) c.in_err-sum.field-0.0 c.in_ok-count.ensures.holds
-    (added-refused parameters c.args.before.now c.in_ok-count.count credit (place ++ Key SUMS ∷ []) c.in_err-sum.field-0.0 c.in_ok-count.ensures.right.sums c.in_err-sum.ensures.refused) in
+    (added-refused parameters c.args.before.now c.in_ok-count.count credit (place ++ Key (codes "sums") ∷ []) c.in_err-sum.field-0.0 c.in_ok-count.ensures.right.sums c.in_err-sum.ensures.refused) in
     search rules
 
 pub returns-clause-sum : goal.returns-clause-sum
@@ -41,6 +41,6 @@ returns-clause-holds c =
     let program = meaning c.args.program.now in
     let place = c.args.place.now in
     let credit = credit_term_of c.args.credit.now in
-    let last : Claim = record { condition = 2; place = place ++ Key SUMS ∷ []; statement = HasWithCredit (length c.args.program.now.params) c.args.before.now credit } in
+    let last : Claim = record { condition = 2; place = place ++ Key (codes "sums") ∷ []; statement = HasWithCredit (length c.args.program.now.params) c.args.before.now credit } in
     AllHold-append (count_claims program credit.nest.nest credit.count place) (last ∷ []) c.in_ok-count.ensures.holds
     ((c.in_ok-sum.sum, (c.in_ok-count.count, (c.in_ok-count.ensures.right.sums, c.in_ok-sum.ensures.sum))), tt)

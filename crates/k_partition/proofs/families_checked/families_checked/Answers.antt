@@ -1,10 +1,9 @@
 use Rattle.std.proofs.Common.{◌≡◌, sym, ◌∙◌, ap, subst, ℕ, List, ◌+◌, ◌++◌, ◌∷◌, [], map, length, drop, append_assoc, rules, arith}
-use Rattle.std.specs.Prelude.{Ok, Err}
+use Rattle.std.specs.Prelude.{Ok, Err, codes}
 use Rattle.std.proofs.lemmas.List.{drop_all, length-map}
 use Rattle.base_laws.proofs.Lists.{All-at}
 use Rattle.affine_program.specs.Parts.{meaning}
 use Rattle.claims.specs.Claims.{Claim, AllHold, IsRefusal, numbered}
-use Rattle.claims.specs.declared.key.TheConstants.{FAMILIES}
 use Rattle.claims.specs.declared.place.Step.{Step}
 use Rattle.claims.specs.declared.place.Step.TheVariants.{Index, Key}
 use Rattle.claims.proofs.Found.{refused-first}
@@ -14,7 +13,7 @@ use Rattle.reuse_paths.specs.declared.family.Family.{Family}
 use Rattle.reuse_paths.specs.Families.{CreditedNest, FamilyForms, credit_of, family_of}
 use Rattle.reuse_paths.specs.FamilyClaims.{family_claims}
 use Rattle.reuse_paths.specs.FamilyFits.{FamilyFits}
-use Rattle.reuse_paths.specs.Quasts.{trees_of}
+use Rattle.dep_quast.specs.Quasts.{trees_of}
 use Rattle.iolb_model.specs.Program.{AffineProgram}
 use Rattle.k_partition.specs.PartitionClaims.{family_claims_at}
 use Rattle.k_partition.specs.Term.{PartitionTerm, credited_nests}
@@ -24,11 +23,11 @@ use Rattle.k_partition.proofs.families_checked.families_checked.Goals as goal
 
 -- the claims of a family, by what the code holds
 same : (program : AffineProgram) (trees : List (List SelectionTree)) (term : PartitionTerm) (place list inner : List Step) (nests : List CreditedNest) (i : ℕ) (family : FamilyForms)
-    → nests ≡ credited_nests term → list ≡ place ++ Key FAMILIES ∷ [] → inner ≡ list ++ Index i ∷ []
+    → nests ≡ credited_nests term → list ≡ place ++ Key (codes "families") ∷ [] → inner ≡ list ++ Index i ∷ []
     → family_claims program trees term.statement term.nest term.matrix nests family inner ≡ family_claims_at program trees place term i family
 same program trees term place list inner nests i family e f g =
     ap (λ (ns : List CreditedNest). family_claims program trees term.statement term.nest term.matrix ns family inner) e
-    ∙ ap (family_claims program trees term.statement term.nest term.matrix (credited_nests term) family) (g ∙ ap (λ (l : List Step). l ++ Index i ∷ []) f ∙ append_assoc place (Key FAMILIES ∷ []) (Index i ∷ []))
+    ∙ ap (family_claims program trees term.statement term.nest term.matrix (credited_nests term) family) (g ∙ ap (λ (l : List Step). l ++ Index i ∷ []) f ∙ append_assoc place (Key (codes "families") ∷ []) (Index i ∷ []))
 
 pub check_family-requires-clause-fits : goal.check_family-requires-clause-fits
 check_family-requires-clause-fits c =

@@ -3,7 +3,7 @@ use Rattle.std.specs.Prelude.{Result}
 use Rattle.claims.specs.Claims.{Decides, numbered}
 use Rattle.claims.specs.declared.refused.Refused.{Refused}
 use Rattle.affine_program.specs.Parts.{meaning}
-use Rattle.reuse_paths.specs.Quasts.{trees_of}
+use Rattle.dep_quast.specs.Quasts.{trees_of}
 use Rattle.k_partition.specs.PartitionClaims.{family_claims_at}
 use Rattle.k_partition.specs.View.{partition_of}
 use Rattle.k_partition.proofs.families_checked.families_checked.Given as goal

@@ -5,8 +5,8 @@ use Rattle.claims.specs.declared.refused.Refused.{Refused}
 use Rattle.claims.proofs.Found.{refused-first, refused-later}
 use Rattle.claims.proofs.Laws.{AllHold-append}
 use Rattle.dep_quast.proofs.Fits.{params-few}
-use Rattle.reuse_paths.specs.Pieces.{AreCovered}
-use Rattle.reuse_paths.specs.Quasts.{trees_of}
+use Rattle.footprint_pieces.specs.Pieces.{AreCovered}
+use Rattle.dep_quast.specs.Quasts.{trees_of}
 use Rattle.k_partition.specs.PartitionClaims.{apart_claims, no_points, partition_claims, sound_claims}
 use Rattle.k_partition.specs.PartitionPieces.{partition_pieces, CountsCredits}
 use Rattle.k_partition.specs.TermLoads.{term_footprint}

@@ -3,10 +3,10 @@ use Rattle.std.specs.List.{AllByRecursion}
 use Rattle.std.proofs.lemmas.List.{map-append}
 use Rattle.base_laws.proofs.Lists.{All-append}
 use Rattle.affine_program.specs.Parts.{meaning}
-use Rattle.reuse_paths.specs.declared.piece.Piece.{Piece}
+use Rattle.footprint_pieces.specs.declared.piece.Piece.{Piece}
 use Rattle.reuse_paths.specs.Families.{family_of}
-use Rattle.reuse_paths.specs.Pieces.{piece_of, pieces_of, PieceFits}
-use Rattle.reuse_paths.specs.Quasts.{trees_of}
+use Rattle.footprint_pieces.specs.Pieces.{piece_of, pieces_of, PieceFits}
+use Rattle.dep_quast.specs.Quasts.{trees_of}
 use Rattle.k_partition.specs.PartitionPieces.{partition_pieces}
 use Rattle.k_partition.specs.View.{partition_of}
 use Rattle.k_partition.proofs.ToldFamilies.{fits-at, few-at, flat-next}

@@ -3,8 +3,8 @@ use Rattle.std.specs.Prelude.{flat_map}
 use Rattle.std.specs.List.{AllByRecursion}
 use Rattle.affine_program.specs.Parts.{meaning}
 use Rattle.reuse_paths.specs.FamilyPieces.{family_pieces}
-use Rattle.reuse_paths.specs.Pieces.{pieces_of, PieceFits}
-use Rattle.reuse_paths.specs.Quasts.{trees_of}
+use Rattle.footprint_pieces.specs.Pieces.{pieces_of, PieceFits}
+use Rattle.dep_quast.specs.Quasts.{trees_of}
 use Rattle.k_partition.specs.PartitionPieces.{partition_pieces}
 use Rattle.k_partition.specs.View.{partition_of}
 use Rattle.k_partition.proofs.partition_checker.partition_pieces.Given as goal

@@ -2,8 +2,8 @@ use Rattle.std.proofs.Common.{◌≡◌, ◌++◌, drop, map}
 use Rattle.std.specs.List.{AllByRecursion}
 use Rattle.affine_program.specs.Parts.{meaning}
 use Rattle.reuse_paths.specs.FamilyPieces.{family_pieces}
-use Rattle.reuse_paths.specs.Pieces.{pieces_of, PieceFits}
-use Rattle.reuse_paths.specs.Quasts.{trees_of}
+use Rattle.footprint_pieces.specs.Pieces.{pieces_of, PieceFits}
+use Rattle.dep_quast.specs.Quasts.{trees_of}
 use Rattle.k_partition.specs.PartitionClaims.{pieces_of_families}
 use Rattle.k_partition.specs.View.{partition_of}
 use Rattle.k_partition.proofs.partition_checker.pieces_of_families.Given as goal

@@ -3,7 +3,7 @@ use Rattle.affine_program.specs.Parts.{meaning}
 use Rattle.claims.specs.Claims.{AllHold, IsRefusal, numbered}
 use Rattle.domain_count.specs.CountClaims.{count_claims}
 use Rattle.reuse_paths.specs.declared.family.Credit.{Credit}
-use Rattle.reuse_paths.specs.Quasts.{trees_of}
+use Rattle.dep_quast.specs.Quasts.{trees_of}
 use Rattle.k_partition.specs.PartitionClaims.{inside_claims, credit_claims, unit_claims, cover_claims, family_claims_at, sound_claims}
 use Rattle.k_partition.specs.View.{partition_of, credit_term_of}
 use Rattle.k_partition.proofs.Phases.{stop-first, stop-second, stop-third, stop-fourth, stop-fifth, all-hold}

@@ -1,10 +1,10 @@
+use Rattle.std.specs.Prelude.{codes}
 use Rattle.std.proofs.Common.{true, ◌≡◌, List, ap, subst, ℕ, ◌<◌, ◌++◌, ◌∷◌, [], length, arith}
 use Rattle.claims.specs.declared.place.Step.{Step}
 use Rattle.claims.proofs.Found.{refused-here}
 use Rattle.execution_laws.specs.Inverse.{product_entry, scaled_entry}
 use Rattle.reuse_paths.specs.MatrixRows.{matrix_rows}
 use Rattle.claims.specs.Claims.{IsRefusalAt}
-use Rattle.claims.specs.declared.key.TheConstants.{INVERSE}
 use Rattle.claims.specs.declared.place.Step.TheVariants.{Index, Key}
 use Rattle.claims.proofs.Members.{counts-refused, counts-hold}
 use Rattle.k_partition.specs.PartitionClaims.{unit_claim}
@@ -22,7 +22,7 @@ returns-then-not-is_unit_entry c =
     let differs : product_entry (matrix_rows term.inverse) (matrix_rows term.matrix) row col ≡ scaled_entry 1 row col → ⊥ =
     λ e. let yes : c.is_unit_entry.result ≡ true = c.is_unit_entry.ensures.1 e in cc in
     counts-refused each (length term.nest) col c.refusal.result below c.loop-col.invariant
-    (refused-here (record { condition = 16; place = place ++ Key INVERSE ∷ Index row ∷ Index col ∷ []; statement = product_entry (matrix_rows term.inverse) (matrix_rows term.matrix) row col ≡ scaled_entry 1 row col }) []
+    (refused-here (record { condition = 16; place = place ++ Key (codes "inverse") ∷ Index row ∷ Index col ∷ []; statement = product_entry (matrix_rows term.inverse) (matrix_rows term.matrix) row col ≡ scaled_entry 1 row col }) []
     c.refusal.result differs (subst (λ (p : List Step). IsRefusalAt 16 p c.refusal.result) c.in_ok-entry.ensures c.refusal.ensures))
 
 pub returns : goal.returns

@@ -1,5 +1,5 @@
 use Rattle.affine_program.specs.Parts.{meaning}
-use Rattle.reuse_paths.specs.Quasts.{trees_of}
+use Rattle.dep_quast.specs.Quasts.{trees_of}
 use Rattle.projective_bounds.proofs.Conditions.{limits-kept}
 use Rattle.projective_bounds.proofs.Parts.{can-be-shown, in-reach, parts-certified}
 use Rattle.projective_bounds.proofs.certificates.certify.Goals as goal

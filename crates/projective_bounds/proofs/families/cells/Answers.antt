@@ -8,7 +8,7 @@ use Rattle.affine_program.specs.Parts.{meaning, statement_of}
 use Rattle.claims.proofs.Found.{IfOk-then}
 use Rattle.dep_quast.specs.Context.{reference_of}
 use Rattle.dep_quast.specs.Truth.{ReadFits}
-use Rattle.reuse_paths.specs.Trees.{read_of}
+use Rattle.dep_quast.specs.Trees.{read_of}
 use Rattle.reuse_paths.proofs.FamilyLabels.{read-few}
 use Rattle.projective_bounds.specs.Families.{array_subscripts, cell_label, place_among}
 use Rattle.projective_bounds.proofs.families.cells.Goals as goal

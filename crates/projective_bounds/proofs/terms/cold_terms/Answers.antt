@@ -6,7 +6,7 @@ use Rattle.affine_program.specs.declared.statement.Statement.{Statement}
 use Rattle.affine_program.specs.declared.reference.Reference.{Reference}
 use Rattle.affine_program.specs.Parts.{ProgramParts, access_of, meaning, statement_of}
 use Rattle.dep_quast.proofs.Fits.{statement-is}
-use Rattle.reuse_paths.specs.Quasts.{trees_of}
+use Rattle.dep_quast.specs.Quasts.{trees_of}
 use Rattle.projective_bounds.specs.Colds.{AreColdsOf, is_first_read}
 use Rattle.projective_bounds.proofs.Codes.{ColdsTo, arrays-differ, colds-few, colds-kept, colds-more}
 use Rattle.projective_bounds.proofs.terms.cold_terms.Goals as goal

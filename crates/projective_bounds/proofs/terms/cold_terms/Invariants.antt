@@ -1,4 +1,4 @@
-use Rattle.reuse_paths.specs.Quasts.{trees_of}
+use Rattle.dep_quast.specs.Quasts.{trees_of}
 use Rattle.projective_bounds.proofs.Codes.{ColdsTo}
 use Rattle.projective_bounds.proofs.terms.cold_terms.Given as goal
 

@@ -1,6 +1,6 @@
 use Rattle.affine_program.specs.Parts.{meaning}
 use Rattle.dep_quast.specs.Tree.{tree_of}
-use Rattle.reuse_paths.specs.Quasts.{trees_of}
+use Rattle.dep_quast.specs.Quasts.{trees_of}
 use Rattle.projective.proofs.ReadTrees.{found-is, never-none}
 use Rattle.projective_bounds.proofs.terms.placed_cold.Goals as goal
 

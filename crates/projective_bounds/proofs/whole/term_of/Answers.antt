@@ -16,7 +16,7 @@ use Rattle.k_partition.specs.declared.term.Shape.TheVariants.{Sum}
 use Rattle.k_partition.specs.View.{credit_term_of}
 use Rattle.projective.specs.Projective.{coordinates, projection_sets, reference_to}
 use Rattle.projective.specs.Products.{IsProductCount}
-use Rattle.reuse_paths.specs.Quasts.{trees_of}
+use Rattle.dep_quast.specs.Quasts.{trees_of}
 use Rattle.projective_bounds.specs.Families.{array_families}
 use Rattle.projective_bounds.specs.Multipliers.{rows_taken}
 use Rattle.projective_bounds.specs.Whole.{IsWholeTerm, identity_matrix, stretch_for}

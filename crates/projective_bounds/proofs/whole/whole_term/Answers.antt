@@ -3,7 +3,7 @@ use Rattle.std.proofs.lemmas.List.{length-map}
 use Rattle.affine_program.specs.Parts.{meaning, statement_of}
 use Rattle.dep_quast.proofs.Fits.{depth-few}
 use Rattle.k_partition.specs.View.{partition_of}
-use Rattle.reuse_paths.specs.Quasts.{trees_of}
+use Rattle.dep_quast.specs.Quasts.{trees_of}
 use Rattle.projective_bounds.specs.Readable.{AreReadable}
 use Rattle.projective_bounds.proofs.Held.{whole-terms-fit, whole-terms-hold}
 use Rattle.projective_bounds.proofs.Readings.{pairs-readable}

@@ -6,7 +6,7 @@ use Rattle.affine_program.specs.Domain.{depth_of}
 use Rattle.affine_program.specs.Parts.{statement_of}
 use Rattle.dep_quast.proofs.Fits.{depth-few}
 use Rattle.reuse_paths.specs.Families.{CreditedNest, credit_of}
-use Rattle.reuse_paths.specs.OpenLeaves.{origin_of, written}
+use Rattle.dep_quast.specs.OpenLeaves.{origin_of, written}
 use Rattle.reuse_paths.specs.WalkFits.{CreditFits}
 use Rattle.reuse_paths.specs.WalkSettings.{KeptLabels, WalkSetting}
 use Rattle.reuse_paths.specs.WalkViews.{kept_of, walk_of, OriginFits}

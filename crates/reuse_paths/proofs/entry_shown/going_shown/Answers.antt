@@ -1,3 +1,4 @@
+use Rattle.std.specs.Prelude.{codes}
 use Rattle.std.proofs.Common.{◌≡◌, ◌∙◌, sym, ap, subst, arith, ℕ, ◌+◌, List, [], ◌∷◌, ◌++◌, map, length}
 use Rattle.std.specs.List.{AllByRecursion}
 use Rattle.std.proofs.lemmas.List.{length-map}
@@ -5,14 +6,13 @@ use Rattle.iolb_model.specs.Form.{AffineForm}
 use Rattle.claims.specs.Claims.{Claim, Decides}
 use Rattle.claims.specs.declared.place.Step.{Step}
 use Rattle.claims.specs.declared.place.Step.TheVariants.{Key}
-use Rattle.claims.specs.declared.key.TheConstants.{ROWS}
 use Rattle.affine_form.specs.Rows.{IsSmallOver}
 use Rattle.affine_form.specs.System.{AffineSystem}
 use Rattle.affine_program.specs.Domain.{depth_of}
 use Rattle.affine_program.specs.Parts.{statement_of}
-use Rattle.dep_quast.specs.Claims.{follow_claims}
+use Rattle.claims.specs.Shown.{follow_claims}
 use Rattle.dep_quast.proofs.Fits.{depth-few}
-use Rattle.reuse_paths.specs.OpenLeaves.{LeafOrigin, origin_of, written, form_at}
+use Rattle.dep_quast.specs.OpenLeaves.{LeafOrigin, origin_of, written, form_at}
 use Rattle.reuse_paths.specs.EntryClaims.{IsInRegion, going_goals}
 use Rattle.reuse_paths.specs.WalkSettings.{WalkSetting, forms_behind, reading_point, region_variables, spot_variables}
 use Rattle.reuse_paths.specs.Walks.{WalkRegion, region_of}
@@ -51,9 +51,9 @@ returns c =
     let place : List Step = c.args.place.now in
     let system : AffineSystem = record { vars = vars; rows = c.args.rows.now } in
     let region : WalkRegion = region_of c.in-Some.region.now in
-    let entered : List AffineForm → List Claim = λ values. follow_claims condition (place ++ Key ROWS ∷ []) system 0 (forms_behind walk vars (map (form_at vars point) values) region.rows) c.args.shown.now in
+    let entered : List AffineForm → List Claim = λ values. follow_claims condition (place ++ Key (codes "rows") ∷ []) system 0 (forms_behind walk vars (map (form_at vars point) values) region.rows) c.args.shown.now in
     let claimed : LeafOrigin → List Claim = λ origin.
-    record { condition = condition; place = place; statement = IsInRegion walk origin } ∷ follow_claims condition (place ++ Key ROWS ∷ []) system 0 (going_goals walk vars point origin) c.args.shown.now in
+    record { condition = condition; place = place; statement = IsInRegion walk origin } ∷ follow_claims condition (place ++ Key (codes "rows") ∷ []) system 0 (going_goals walk vars point origin) c.args.shown.now in
     subst (λ (origin : LeafOrigin). Decides (claimed origin) c.region_shown.result) (sym (ap origin_of c.in-Written.is))
     (going-found condition walk place system point c.in-Written.writer c.in-Written.point.items region c.args.shown.now c.region_shown.result c.in-Some.ensures
     (subst (λ (values : List AffineForm). Decides (entered values) c.region_shown.result) c.as_slice.ensures.value c.region_shown.ensures))

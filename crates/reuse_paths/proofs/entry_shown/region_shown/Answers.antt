@@ -1,12 +1,12 @@
+use Rattle.std.specs.Prelude.{codes}
 use Rattle.std.proofs.Common.{◌∙◌, ap, subst, ℕ, map, List, [], ◌∷◌, ◌++◌}
 use Rattle.iolb_model.specs.Form.{AffineForm}
 use Rattle.claims.specs.Claims.{Claim, Decides}
 use Rattle.claims.specs.declared.place.Step.{Step}
 use Rattle.claims.specs.declared.place.Step.TheVariants.{Key}
-use Rattle.claims.specs.declared.key.TheConstants.{ROWS}
 use Rattle.affine_form.specs.System.{AffineSystem}
-use Rattle.dep_quast.specs.Claims.{follow_claims}
-use Rattle.reuse_paths.specs.OpenLeaves.{form_at}
+use Rattle.claims.specs.Shown.{follow_claims}
+use Rattle.dep_quast.specs.OpenLeaves.{form_at}
 use Rattle.reuse_paths.specs.WalkSettings.{WalkSetting, forms_behind, reading_point, region_variables}
 use Rattle.reuse_paths.specs.WalkViews.{walk_of}
 use Rattle.reuse_paths.proofs.entry_shown.region_shown.Goals as goal
@@ -16,7 +16,7 @@ returns c =
     let walk : WalkSetting = walk_of c.args.walking.now in
     let vars : ℕ = region_variables walk c.args.statement in
     let condition : ℕ = c.args.walking.now.condition in
-    let list : List Step = c.args.place.now ++ Key ROWS ∷ [] in
+    let list : List Step = c.args.place.now ++ Key (codes "rows") ∷ [] in
     let system : AffineSystem = record { vars = vars; rows = c.args.rows.now } in
     let shown = c.args.shown.now in
     subst (λ (cs : List Claim). Decides cs c.goals_shown.result)

@@ -1,6 +1,6 @@
+use Rattle.std.specs.Prelude.{codes}
 use Rattle.std.proofs.Common.{rules, ◌≡◌, ◌∙◌, sym, ap, subst, List, [], ◌∷◌}
 use Rattle.claims.specs.Claims.{Claim, AllHold, IsRefusal, numbered}
-use Rattle.claims.specs.declared.key.TheConstants.{NODES, START, TREE}
 use Rattle.claims.specs.declared.place.Step.{Step}
 use Rattle.claims.specs.declared.place.Step.TheVariants.{Key}
 use Rattle.claims.specs.declared.refused.Refused.{Refused}
@@ -10,7 +10,7 @@ use Rattle.affine_program.specs.Parts.{meaning}
 use Rattle.reuse_paths.specs.Families.{FamilyForms, family_of}
 use Rattle.reuse_paths.specs.FamilyClaims.{family_setting, start_rows}
 use Rattle.reuse_paths.specs.FewContexts.{few_contexts, few_region, few_walk, ReadersFit, RegionsTakeFit, TakesFit}
-use Rattle.reuse_paths.specs.Quasts.{trees_of}
+use Rattle.dep_quast.specs.Quasts.{trees_of}
 use Rattle.reuse_paths.specs.WalkSettings.{WalkSetting, region_context}
 use Rattle.reuse_paths.specs.WalkViews.{walk_of, SettingFits}
 use Rattle.reuse_paths.proofs.ToldFamilies.{all-take, readers-fit, setting-fits, start-takes}
@@ -59,10 +59,10 @@ returns-in_err-push_start-clause-refused c =
     let family : FamilyForms = family_of c.args.family.now in
     let walk : WalkSetting = family_setting program trees [] family family.start_label in
     let is : walk_of c.walking_from-walking.result ≡ walk = c.walking_from-walking.ensures.setting ∙ ap (family_setting program trees [] family) c.as_slice-label.ensures.value in
-    let start : WalkSetting → List Claim = λ w. few_walk w c.args.statement (Key START ∷ Key TREE ∷ []) (region_context w c.args.statement (start_rows w c.args.statement c.args.nest.now)) family.start in
+    let start : WalkSetting → List Claim = λ w. few_walk w c.args.statement (Key (codes "start") ∷ Key (codes "tree") ∷ []) (region_context w c.args.statement (start_rows w c.args.statement c.args.nest.now)) family.start in
     let r : Refused = c.in_err-push_start.field-0.0 in
     let refused : IsRefusal (few_contexts program trees c.args.statement c.args.nest.now family []) r =
-    refused-first (start walk) (numbered (few_region walk (Key NODES ∷ [])) 0 walk.nodes) r (subst (λ (w : WalkSetting). IsRefusal (start w) r) is c.in_err-push_start.ensures.refused) in
+    refused-first (start walk) (numbered (few_region walk (Key (codes "nodes") ∷ [])) 0 walk.nodes) r (subst (λ (w : WalkSetting). IsRefusal (start w) r) is c.in_err-push_start.ensures.refused) in
     search rules
 
 pub returns-in_err-push_regions-clause-refused : goal.returns-in_err-push_regions-clause-refused
@@ -72,12 +72,12 @@ returns-in_err-push_regions-clause-refused c =
     let family : FamilyForms = family_of c.args.family.now in
     let walk : WalkSetting = family_setting program trees [] family family.start_label in
     let is : walk_of c.walking_from-walking.result ≡ walk = c.walking_from-walking.ensures.setting ∙ ap (family_setting program trees [] family) c.as_slice-label.ensures.value in
-    let start : WalkSetting → List Claim = λ w. few_walk w c.args.statement (Key START ∷ Key TREE ∷ []) (region_context w c.args.statement (start_rows w c.args.statement c.args.nest.now)) family.start in
+    let start : WalkSetting → List Claim = λ w. few_walk w c.args.statement (Key (codes "start") ∷ Key (codes "tree") ∷ []) (region_context w c.args.statement (start_rows w c.args.statement c.args.nest.now)) family.start in
     let nodes : WalkSetting → List Step → List Claim = λ w place. numbered (few_region w place) 0 w.nodes in
     let r : Refused = c.in_err-push_regions.field-0.0 in
     let refused : IsRefusal (few_contexts program trees c.args.statement c.args.nest.now family []) r =
-    refused-later (start walk) (nodes walk (Key NODES ∷ [])) r (subst (λ (w : WalkSetting). AllHold (start w)) is c.in_ok-push_start.ensures.few)
-    (subst (λ (w : WalkSetting). IsRefusal (nodes w (Key NODES ∷ [])) r) is
+    refused-later (start walk) (nodes walk (Key (codes "nodes") ∷ [])) r (subst (λ (w : WalkSetting). AllHold (start w)) is c.in_ok-push_start.ensures.few)
+    (subst (λ (w : WalkSetting). IsRefusal (nodes w (Key (codes "nodes") ∷ [])) r) is
     (subst (λ (place : List Step). IsRefusal (nodes (walk_of c.walking_from-walking.result) place) r) c.in_ok-list.ensures c.in_err-push_regions.ensures.refused)) in
     search rules
 
@@ -88,8 +88,8 @@ returns-clause-few c =
     let family : FamilyForms = family_of c.args.family.now in
     let walk : WalkSetting = family_setting program trees [] family family.start_label in
     let is : walk_of c.walking_from-walking.result ≡ walk = c.walking_from-walking.ensures.setting ∙ ap (family_setting program trees [] family) c.as_slice-label.ensures.value in
-    let start : WalkSetting → List Claim = λ w. few_walk w c.args.statement (Key START ∷ Key TREE ∷ []) (region_context w c.args.statement (start_rows w c.args.statement c.args.nest.now)) family.start in
+    let start : WalkSetting → List Claim = λ w. few_walk w c.args.statement (Key (codes "start") ∷ Key (codes "tree") ∷ []) (region_context w c.args.statement (start_rows w c.args.statement c.args.nest.now)) family.start in
     let nodes : WalkSetting → List Step → List Claim = λ w place. numbered (few_region w place) 0 w.nodes in
-    AllHold-append (start walk) (nodes walk (Key NODES ∷ [])) (subst (λ (w : WalkSetting). AllHold (start w)) is c.in_ok-push_start.ensures.few)
-    (subst (λ (w : WalkSetting). AllHold (nodes w (Key NODES ∷ []))) is
+    AllHold-append (start walk) (nodes walk (Key (codes "nodes") ∷ [])) (subst (λ (w : WalkSetting). AllHold (start w)) is c.in_ok-push_start.ensures.few)
+    (subst (λ (w : WalkSetting). AllHold (nodes w (Key (codes "nodes") ∷ []))) is
     (subst (λ (place : List Step). AllHold (nodes (walk_of c.walking_from-walking.result) place)) c.in_ok-list.ensures c.in_ok-push_regions.ensures.few))

@@ -12,8 +12,8 @@ use Rattle.dep_quast.proofs.Fits.{depth-few, read-over}
 use Rattle.reuse_paths.specs.Families.{node_of, node_region}
 use Rattle.reuse_paths.specs.FamilyPieces.{region_pieces}
 use Rattle.reuse_paths.specs.FewContexts.{few_walk, RegionTakesFit}
-use Rattle.reuse_paths.specs.Pieces.{PieceFits}
-use Rattle.reuse_paths.specs.Trees.{read_of}
+use Rattle.footprint_pieces.specs.Pieces.{PieceFits}
+use Rattle.dep_quast.specs.Trees.{read_of}
 use Rattle.reuse_paths.specs.WalkPieces.{walk_pieces}
 use Rattle.reuse_paths.specs.WalkSettings.{region_context, region_variables}
 use Rattle.reuse_paths.specs.Walks.{WalkRegion, region_of}

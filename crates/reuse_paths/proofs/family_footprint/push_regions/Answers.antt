@@ -8,7 +8,7 @@ use Rattle.reuse_paths.specs.declared.family.FamilyNode.{FamilyNode}
 use Rattle.reuse_paths.specs.Families.{node_of, node_region}
 use Rattle.reuse_paths.specs.FamilyPieces.{regions_pieces}
 use Rattle.reuse_paths.specs.FewContexts.{few_region, RegionTakesFit}
-use Rattle.reuse_paths.specs.Pieces.{FootprintPiece, pieces_of}
+use Rattle.footprint_pieces.specs.Pieces.{FootprintPiece, pieces_of}
 use Rattle.reuse_paths.specs.Walks.{WalkRegion}
 use Rattle.reuse_paths.specs.WalkViews.{walk_of}
 use Rattle.reuse_paths.proofs.ToldRegions.{fit-ended, fit-next, region_in, region-at, takes-at, told-ended, told-next}

@@ -5,7 +5,7 @@ use Rattle.claims.specs.Claims.{Decides, numbered}
 use Rattle.claims.specs.declared.refused.Refused.{Refused}
 use Rattle.reuse_paths.specs.FamilyPieces.{regions_pieces}
 use Rattle.reuse_paths.specs.FewContexts.{few_region}
-use Rattle.reuse_paths.specs.Pieces.{pieces_of, PieceFits}
+use Rattle.footprint_pieces.specs.Pieces.{pieces_of, PieceFits}
 use Rattle.reuse_paths.specs.WalkViews.{walk_of}
 use Rattle.reuse_paths.proofs.family_footprint.push_regions.Given as goal
 

@@ -10,8 +10,8 @@ use Rattle.claims.proofs.Found.{IfOk-then}
 use Rattle.dep_quast.proofs.Fits.{depth-few, read-over}
 use Rattle.reuse_paths.specs.FamilyClaims.{start_rows}
 use Rattle.reuse_paths.specs.FewContexts.{few_walk}
-use Rattle.reuse_paths.specs.Pieces.{PieceFits}
-use Rattle.reuse_paths.specs.Trees.{read_of}
+use Rattle.footprint_pieces.specs.Pieces.{PieceFits}
+use Rattle.dep_quast.specs.Trees.{read_of}
 use Rattle.reuse_paths.specs.WalkPieces.{walk_pieces}
 use Rattle.reuse_paths.specs.WalkSettings.{region_context, region_variables}
 use Rattle.reuse_paths.specs.Walks.{tree_of_walk}

@@ -4,7 +4,7 @@ use Rattle.claims.proofs.Found.{decided-then}
 use Rattle.reuse_paths.specs.Families.{CreditedNest, FamilyForms, credit_of, family_of}
 use Rattle.reuse_paths.specs.FamilyClaims.{family_claims}
 use Rattle.reuse_paths.specs.SoundFamilies.{IsSoundFamily}
-use Rattle.reuse_paths.specs.Quasts.{trees_of}
+use Rattle.dep_quast.specs.Quasts.{trees_of}
 use Rattle.reuse_paths.proofs.family_shown.check_family.Goals as goal
 
 pub returns-clause-sound : goal.returns-clause-sound

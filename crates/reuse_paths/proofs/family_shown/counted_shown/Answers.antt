@@ -4,7 +4,7 @@ use Rattle.affine_program.specs.Domain.{depth_of}
 use Rattle.affine_program.specs.Parts.{meaning}
 use Rattle.reuse_paths.specs.Families.{CreditedNest, FamilyForms, credit_of, family_of}
 use Rattle.reuse_paths.specs.FamilyClaims.{family_setting}
-use Rattle.reuse_paths.specs.Quasts.{trees_of}
+use Rattle.dep_quast.specs.Quasts.{trees_of}
 use Rattle.reuse_paths.specs.WalkFits.{WalkFits}
 use Rattle.reuse_paths.specs.WalkSettings.{WalkSetting}
 use Rattle.reuse_paths.specs.WalkViews.{walk_of, ReadingFits}

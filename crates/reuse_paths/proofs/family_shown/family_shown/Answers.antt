@@ -1,7 +1,7 @@
 use Rattle.std.proofs.Common.{List, map}
 use Rattle.affine_program.specs.Parts.{meaning}
 use Rattle.reuse_paths.specs.Families.{CreditedNest, FamilyForms, credit_of, family_of}
-use Rattle.reuse_paths.specs.Quasts.{trees_of}
+use Rattle.dep_quast.specs.Quasts.{trees_of}
 use Rattle.reuse_paths.proofs.FamilyParts.{counted-reading}
 use Rattle.reuse_paths.proofs.family_shown.family_shown.Goals as goal
 

@@ -4,7 +4,7 @@ use Rattle.affine_program.specs.Parts.{meaning}
 use Rattle.reuse_paths.specs.Families.{CreditedNest, FamilyForms, NodeForms, credit_of, family_of, node_of}
 use Rattle.reuse_paths.specs.FamilyClaims.{family_setting}
 use Rattle.reuse_paths.specs.FamilyFits.{NodeFits}
-use Rattle.reuse_paths.specs.Quasts.{trees_of}
+use Rattle.dep_quast.specs.Quasts.{trees_of}
 use Rattle.reuse_paths.specs.WalkFits.{RegionFits}
 use Rattle.reuse_paths.specs.WalkSettings.{WalkSetting}
 use Rattle.reuse_paths.specs.WalkViews.{walk_of, ReadingFits}

@@ -8,7 +8,7 @@ use Rattle.reuse_paths.specs.declared.family.FamilyNode.{FamilyNode}
 use Rattle.reuse_paths.specs.Families.{CreditedNest, FamilyForms, NodeForms, credit_of, family_of, node_of}
 use Rattle.reuse_paths.specs.FamilyClaims.{node_walk}
 use Rattle.reuse_paths.specs.FamilyFits.{NodeFits}
-use Rattle.reuse_paths.specs.Quasts.{trees_of}
+use Rattle.dep_quast.specs.Quasts.{trees_of}
 use Rattle.reuse_paths.proofs.FamilyParts.{node-fits, node-reading}
 use Rattle.reuse_paths.proofs.family_shown.nodes_shown.Goals as goal
 

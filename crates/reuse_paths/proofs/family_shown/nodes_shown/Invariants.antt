@@ -5,7 +5,7 @@ use Rattle.claims.specs.declared.refused.Refused.{Refused}
 use Rattle.affine_program.specs.Parts.{meaning}
 use Rattle.reuse_paths.specs.Families.{credit_of, family_of}
 use Rattle.reuse_paths.specs.FamilyClaims.{node_walk}
-use Rattle.reuse_paths.specs.Quasts.{trees_of}
+use Rattle.dep_quast.specs.Quasts.{trees_of}
 use Rattle.reuse_paths.proofs.family_shown.nodes_shown.Given as goal
 
 abbrev pub invariant-loop-i : goal.invariant-loop-i

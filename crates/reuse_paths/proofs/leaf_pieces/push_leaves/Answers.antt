@@ -4,7 +4,7 @@ use Rattle.claims.specs.Claims.{Claim, IsRefusal}
 use Rattle.dep_quast.specs.Views.{read_of}
 use Rattle.reuse_paths.specs.FewContexts.{few_leaves}
 use Rattle.reuse_paths.specs.LeafClaims.{claim_of}
-use Rattle.reuse_paths.specs.Pieces.{FootprintPiece, pieces_of}
+use Rattle.footprint_pieces.specs.Pieces.{FootprintPiece, pieces_of}
 use Rattle.reuse_paths.specs.WalkPieces.{leaves_pieces}
 use Rattle.reuse_paths.specs.WalkViews.{walk_of}
 use Rattle.reuse_paths.proofs.ToldLeaves.{few-ended, few-next, few-stops, told-ended, told-next}

@@ -5,7 +5,7 @@ use Rattle.claims.specs.declared.refused.Refused.{Refused}
 use Rattle.dep_quast.specs.Views.{read_of}
 use Rattle.reuse_paths.specs.FewContexts.{few_leaves}
 use Rattle.reuse_paths.specs.LeafClaims.{claim_of}
-use Rattle.reuse_paths.specs.Pieces.{pieces_of}
+use Rattle.footprint_pieces.specs.Pieces.{pieces_of}
 use Rattle.reuse_paths.specs.WalkPieces.{leaves_pieces}
 use Rattle.reuse_paths.specs.WalkViews.{walk_of}
 use Rattle.reuse_paths.proofs.leaf_pieces.push_leaves.Given as goal

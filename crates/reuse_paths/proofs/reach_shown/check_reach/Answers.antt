@@ -1,7 +1,7 @@
 use Rattle.affine_program.specs.Parts.{meaning}
 use Rattle.claims.proofs.Found.{decided-then}
 use Rattle.reuse_paths.specs.Arrival.{Arrives}
-use Rattle.reuse_paths.specs.Quasts.{trees_of}
+use Rattle.dep_quast.specs.Quasts.{trees_of}
 use Rattle.reuse_paths.specs.ReachClaims.{reach_claims}
 use Rattle.reuse_paths.specs.Walks.{reach_of, spot_of}
 use Rattle.reuse_paths.proofs.Arrivals.{reaches-arrive}

@@ -2,7 +2,7 @@ use Rattle.std.proofs.Common.{sym, ap, subst, List, map}
 use Rattle.std.specs.Prelude.{Option, option_map}
 use Rattle.affine_program.specs.Parts.{meaning}
 use Rattle.reuse_paths.specs.declared.walk.Region.{Region}
-use Rattle.reuse_paths.specs.Quasts.{trees_of}
+use Rattle.dep_quast.specs.Quasts.{trees_of}
 use Rattle.reuse_paths.specs.ReachFits.{FitsIn, ReachFits}
 use Rattle.reuse_paths.specs.ReachClaims.{setting_of}
 use Rattle.reuse_paths.specs.Walks.{ReachClaim, WalkRegion, reach_of, region_of, spot_of, walked}

@@ -1,7 +1,7 @@
 use Rattle.std.proofs.Common.{◌≡◌, ◌∙◌, ap}
 use Rattle.affine_form.specs.Rows.{widened}
 use Rattle.claims.proofs.Found.{IfOk-then}
-use Rattle.reuse_paths.specs.OpenLeaves.{form_at}
+use Rattle.dep_quast.specs.OpenLeaves.{form_at}
 use Rattle.reuse_paths.proofs.region.form_at.Goals as goal
 
 pub put-requires-clause-few : goal.put-requires-clause-few

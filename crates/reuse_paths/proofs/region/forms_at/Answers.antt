@@ -2,8 +2,8 @@ use Rattle.std.proofs.Common.{ap, List, ◌++◌, length, map, arith}
 use Rattle.base_laws.proofs.Lists.{All-read}
 use Rattle.iolb_model.specs.Form.{AffineForm}
 use Rattle.affine_form.specs.Rows.{IsSmallOver}
-use Rattle.reuse_paths.specs.OpenLeaves.{form_at}
-use Rattle.reuse_paths.proofs.MovedForms.{mapped-more, mapped-all}
+use Rattle.dep_quast.specs.OpenLeaves.{form_at}
+use Rattle.footprint_pieces.proofs.MovedForms.{mapped-more, mapped-all}
 use Rattle.reuse_paths.proofs.region.forms_at.Goals as goal
 
 pub loop-form-init : goal.loop-form-init

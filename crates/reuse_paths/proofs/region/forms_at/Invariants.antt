@@ -1,5 +1,5 @@
 use Rattle.std.proofs.Common.{◌≡◌, ◌++◌, drop, map}
-use Rattle.reuse_paths.specs.OpenLeaves.{form_at}
+use Rattle.dep_quast.specs.OpenLeaves.{form_at}
 use Rattle.reuse_paths.proofs.region.forms_at.Given as goal
 
 abbrev pub invariant-loop-form : goal.invariant-loop-form

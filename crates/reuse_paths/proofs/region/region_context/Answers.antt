@@ -10,7 +10,7 @@ use Rattle.dep_quast.proofs.Fits.{wide-over, over-append}
 use Rattle.domain_count.specs.Count.{rows_before}
 use Rattle.reuse_paths.specs.WalkSettings.{WalkSetting, region_values, region_variables}
 use Rattle.reuse_paths.specs.WalkViews.{walk_of}
-use Rattle.reuse_paths.proofs.MovedForms.{over-within}
+use Rattle.footprint_pieces.proofs.MovedForms.{over-within}
 use Rattle.reuse_paths.proofs.region.region_context.Goals as goal
 
 pub returns-clause-over : goal.returns-clause-over

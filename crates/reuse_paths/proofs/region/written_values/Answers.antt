@@ -4,7 +4,7 @@ use Rattle.iolb_model.specs.Form.{AffineForm}
 use Rattle.affine_form.specs.Rows.{IsSmallOver}
 use Rattle.affine_program.specs.Domain.{depth_of}
 use Rattle.claims.proofs.Found.{IfOk-then}
-use Rattle.reuse_paths.specs.OpenLeaves.{form_at}
+use Rattle.dep_quast.specs.OpenLeaves.{form_at}
 use Rattle.reuse_paths.specs.WalkSettings.{WalkSetting, reading_point, region_variables, spot_variables}
 use Rattle.reuse_paths.specs.WalkViews.{walk_of}
 use Rattle.reuse_paths.proofs.Renamed.{forms_at-small}

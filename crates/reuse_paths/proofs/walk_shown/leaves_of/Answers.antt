@@ -5,13 +5,14 @@ use Rattle.affine_form.specs.Rows.{IsSmallOver}
 use Rattle.dep_quast.specs.Context.{ReadOf, variables_at}
 use Rattle.dep_quast.specs.Tree.{SelectionTree, tree_of}
 use Rattle.dep_quast.specs.Truth.{TreeFits}
-use Rattle.reuse_paths.specs.OpenLeaves.{OpenLeaf, open_leaves, TestsFit}
-use Rattle.reuse_paths.specs.Quasts.{tree_or_blank, tree_for}
+use Rattle.dep_quast.specs.OpenLeaves.{OpenLeaf, open_leaves, TestsFit}
+use Rattle.dep_quast.specs.Quasts.{tree_or_blank, tree_for}
 use Rattle.reuse_paths.specs.WalkSettings.{WalkSetting, reading_point, region_variables}
-use Rattle.reuse_paths.specs.Trees.{read_of}
+use Rattle.dep_quast.specs.Trees.{read_of}
 use Rattle.reuse_paths.specs.WalkViews.{walk_of, OpenLeafFits}
-use Rattle.reuse_paths.proofs.OpenLeaves.{tests-fit, open-fits}
-use Rattle.reuse_paths.proofs.TreeLemmas.{rows-fit-at}
+use Rattle.dep_quast.proofs.OpenLeaves.{tests-fit}
+use Rattle.reuse_paths.proofs.OpenLeaves.{open-fits}
+use Rattle.dep_quast.proofs.TreeLemmas.{rows-fit-at}
 use Rattle.reuse_paths.proofs.walk_shown.leaves_of.Goals as goal
 
 pub push_open_leaves-requires-clause-fit : goal.push_open_leaves-requires-clause-fit

@@ -57,3 +57,10 @@ same_shown-requires-clause-own_over c = own-over (walk_of c.args.walking.now) c.
 pub same_shown-requires-clause-one_each : goal.same_shown-requires-clause-one_each
 same_shown-requires-clause-one_each c = (label-fits (walk_of c.args.walking.now) (read_of c.args.reader) (kept_of c.args.kept) c.in-Some.label.now c.requires.aim c.requires.fits c.params-params.ensures.kept.well_formed c.requires.read_fits
     (label-is (walk_of c.args.walking.now).program (read_of c.args.reader) c.reference-cell.result.now (kept_of c.args.kept).cells c.in-Some.label.now c.reference-cell.ensures c.in-Some.ensures)).each
+
+pub returns : goal.returns
+returns c =
+    let walk : WalkSetting = walk_of c.args.walking.now in
+    let found = label-is walk.program (read_of c.args.reader) c.reference-cell.result.now (kept_of c.args.kept).cells c.in-Some.label.now c.reference-cell.ensures c.in-Some.ensures in
+    let same = subscripts-are walk.program (read_of c.args.reader) c.reference-cell.result.now c.as_slice.result.now c.as_slice.ensures.value c.reference-cell.ensures in
+    rw (found, ← same) c.in_ok-same_shown.ensures

@@ -4,7 +4,7 @@ use Rattle.claims.specs.Claims.{Claim, Decides}
 use Rattle.affine_form.specs.System.{AffineSystem}
 use Rattle.dep_quast.specs.Views.{read_of}
 use Rattle.reuse_paths.specs.EntryClaims.{label_claims, word_label}
-use Rattle.reuse_paths.specs.OpenLeaves.{LeafOrigin, origin_of, written}
+use Rattle.dep_quast.specs.OpenLeaves.{LeafOrigin, origin_of, written}
 use Rattle.reuse_paths.specs.WalkSettings.{KeptLabels, WalkSetting, reading_point, region_variables}
 use Rattle.reuse_paths.specs.WalkViews.{kept_of, walk_of}
 use Rattle.reuse_paths.proofs.word_labels.label_shown.Goals as goal

@@ -5,7 +5,7 @@ use Rattle.iolb_model.specs.Form.{AffineForm}
 use Rattle.affine_form.specs.Form.{variables}
 use Rattle.affine_form.specs.Rows.{variables_from}
 use Rattle.dep_quast.proofs.Fits.{length-equality_rows}
-use Rattle.reuse_paths.specs.OpenLeaves.{form_at}
+use Rattle.dep_quast.specs.OpenLeaves.{form_at}
 use Rattle.reuse_paths.specs.WalkSettings.{WalkSetting, reading_point, region_variables, spot_variables}
 use Rattle.reuse_paths.specs.WalkViews.{walk_of}
 use Rattle.reuse_paths.proofs.FamilyLabels.{own-small, own-within}

@@ -7,7 +7,7 @@ use Rattle.claims.proofs.Found.{IfOk-then}
 use Rattle.affine_form.specs.Form.{variables, IsSmallForm}
 use Rattle.affine_form.specs.Rows.{IsSmallOver}
 use Rattle.dep_quast.proofs.Fits.{params-few}
-use Rattle.reuse_paths.specs.OpenLeaves.{form_at}
+use Rattle.dep_quast.specs.OpenLeaves.{form_at}
 use Rattle.reuse_paths.specs.WalkSettings.{WalkSetting, forms_behind, reading_point, region_variables, spot_variables}
 use Rattle.reuse_paths.specs.WalkViews.{walk_of}
 use Rattle.reuse_paths.proofs.FamilyLabels.{behind-small, behind-within}

@@ -6,9 +6,9 @@ use Rattle.claims.proofs.Laws.{AllHold-append}
 use Rattle.dep_quast.specs.Tree.{SelectionTree, tree_of}
 use Rattle.dep_quast.specs.Truth.{IsTrueTree}
 use Rattle.domain_count.specs.CountClaims.{count_claims}
-use Rattle.reuse_paths.specs.Quasts.{tree_or_blank, tree_for, trees_of}
+use Rattle.dep_quast.specs.Quasts.{tree_or_blank, tree_for, trees_of}
 use Rattle.wavefront.specs.ColdClaims.{cold_claims, instance_claims}
-use Rattle.reuse_paths.specs.Pieces.{AreCovered}
+use Rattle.footprint_pieces.specs.Pieces.{AreCovered}
 use Rattle.wavefront.specs.ColdPieces.{LeavesAreFew, cold_pieces}
 use Rattle.wavefront.specs.Loads.{ColdFits, IsSoundCold, HasFootprint, CostsItsCount, footprint_of}
 use Rattle.wavefront.specs.Term.{ColdTerm}

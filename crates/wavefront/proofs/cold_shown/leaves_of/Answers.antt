@@ -6,9 +6,9 @@ use Rattle.affine_form.specs.Rows.{IsSmallOver}
 use Rattle.affine_program.specs.Parts.{meaning}
 use Rattle.dep_quast.specs.Tree.{tree_of}
 use Rattle.wavefront.specs.Term.{instance_point, nest_variables}
-use Rattle.reuse_paths.specs.OpenLeaves.{OpenLeaf, open_leaves, TestsFit}
+use Rattle.dep_quast.specs.OpenLeaves.{OpenLeaf, open_leaves, TestsFit}
 use Rattle.wavefront.specs.View.{term_of}
-use Rattle.reuse_paths.proofs.OpenLeaves.{reader-few, open-over}
+use Rattle.dep_quast.proofs.OpenLeaves.{reader-few, open-over}
 use Rattle.wavefront.proofs.cold_shown.leaves_of.Goals as goal
 
 pub push_open_leaves-requires-clause-few_forms : goal.push_open_leaves-requires-clause-few_forms

@@ -7,8 +7,8 @@ use Rattle.dep_quast.specs.Context.{variables_at}
 use Rattle.dep_quast.specs.Tree.{tree_of}
 use Rattle.reuse_paths.specs.declared.leaf.Leaf.{Leaf}
 use Rattle.reuse_paths.specs.LeafClaims.{claim_of}
-use Rattle.reuse_paths.specs.OpenLeaves.{OpenLeaf}
-use Rattle.reuse_paths.proofs.OpenLeaves.{reader-few}
+use Rattle.dep_quast.specs.OpenLeaves.{OpenLeaf}
+use Rattle.dep_quast.proofs.OpenLeaves.{reader-few}
 use Rattle.wavefront.specs.EdgeViews.{AreFit}
 use Rattle.wavefront.specs.FrontClaims.{edge_leaves, front_variables, user_point}
 use Rattle.wavefront.specs.FrontTerm.{WavefrontTerm, user_read}

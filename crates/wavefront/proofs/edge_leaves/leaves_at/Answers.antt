@@ -2,8 +2,8 @@ use Rattle.std.proofs.Common.{sym, ◌∙◌, ap, subst, ℕ, ◌≤◌, List, [
 use Rattle.iolb_model.specs.Form.{AffineForm}
 use Rattle.affine_program.specs.Parts.{meaning}
 use Rattle.dep_quast.specs.Tree.{tree_of}
-use Rattle.reuse_paths.specs.OpenLeaves.{OpenLeaf, open_leaves, TestsFit}
-use Rattle.reuse_paths.proofs.OpenLeaves.{reader-few, tests-fit}
+use Rattle.dep_quast.specs.OpenLeaves.{OpenLeaf, open_leaves, TestsFit}
+use Rattle.dep_quast.proofs.OpenLeaves.{reader-few, tests-fit}
 use Rattle.wavefront.specs.FrontClaims.{front_variables}
 use Rattle.wavefront.specs.FrontTerm.{user_read}
 use Rattle.wavefront.specs.View.{front_of}

@@ -2,7 +2,7 @@ use Rattle.std.proofs.Common.{ap, subst, rules}
 use Rattle.affine_program.specs.Parts.{meaning}
 use Rattle.claims.specs.Claims.{AllHold, IsRefusal}
 use Rattle.dep_quast.specs.Tree.{SelectionTree, tree_of}
-use Rattle.reuse_paths.specs.Quasts.{tree_or_blank, trees_of}
+use Rattle.dep_quast.specs.Quasts.{tree_or_blank, trees_of}
 use Rattle.wavefront.specs.FrontClaims.{front_claims, point_claims, wave_claims}
 use Rattle.wavefront.specs.FrontFits.{EdgesFit}
 use Rattle.wavefront.specs.View.{front_of}

@@ -1,9 +1,9 @@
+use Rattle.std.specs.Prelude.{codes}
 use Rattle.std.proofs.Common.{◌≡◌, sym, ◌∙◌, ap, subst, rules, ℕ, List, length, take}
 use Rattle.iolb_model.specs.Form.{AffineForm}
 use Rattle.affine_form.specs.Rows.{BoundsFit}
 use Rattle.affine_program.specs.Parts.{meaning}
 use Rattle.claims.specs.Claims.{Claim, AllHold, IsRefusal}
-use Rattle.claims.specs.declared.key.TheConstants.{OUTER_SUMS}
 use Rattle.claims.proofs.Found.{refused-first, refused-later}
 use Rattle.claims.proofs.Laws.{AllHold-append}
 use Rattle.domain_count.specs.Count.{IsSumFrom}
@@ -21,7 +21,7 @@ returns-in_err-pairs-clause-refused c =
     let place = c.args.place.now in
     let term = front_of c.args.term.now in
     let refused : IsRefusal (front_counts program place term) c.in_err-pairs.field-0.0 =
-    refused-first (count_claims program term.nest term.count place) (sums_claims program (outer_nest term) term.outer_sums place OUTER_SUMS) c.in_err-pairs.field-0.0 c.in_err-pairs.ensures.refused in
+    refused-first (count_claims program term.nest term.count place) (sums_claims program (outer_nest term) term.outer_sums place (codes "outer_sums")) c.in_err-pairs.field-0.0 c.in_err-pairs.ensures.refused in
     search rules
 
 pub check_sums-requires-clause-fit : goal.check_sums-requires-clause-fit
@@ -33,12 +33,12 @@ returns-in_err-outer-clause-refused c =
     let program = meaning c.args.program.now in
     let place = c.args.place.now in
     let term = front_of c.args.term.now in
-    let is : sums_claims program (take c.from.result c.bounds.result.now) c.as_slice-sums.result.now place OUTER_SUMS ≡ sums_claims program (outer_nest term) term.outer_sums place OUTER_SUMS =
-    ap (λ (n : ℕ). sums_claims program (take n c.bounds.result.now) c.as_slice-sums.result.now place OUTER_SUMS) c.from.ensures
-    ∙ ap (λ (nest : List (AffineForm × AffineForm)). sums_claims program (take term.outer nest) c.as_slice-sums.result.now place OUTER_SUMS) c.bounds.ensures
-    ∙ ap (λ (sums : List Quotient). sums_claims program (outer_nest term) sums place OUTER_SUMS) c.as_slice-sums.ensures.value in
+    let is : sums_claims program (take c.from.result c.bounds.result.now) c.as_slice-sums.result.now place (codes "outer_sums") ≡ sums_claims program (outer_nest term) term.outer_sums place (codes "outer_sums") =
+    ap (λ (n : ℕ). sums_claims program (take n c.bounds.result.now) c.as_slice-sums.result.now place (codes "outer_sums")) c.from.ensures
+    ∙ ap (λ (nest : List (AffineForm × AffineForm)). sums_claims program (take term.outer nest) c.as_slice-sums.result.now place (codes "outer_sums")) c.bounds.ensures
+    ∙ ap (λ (sums : List Quotient). sums_claims program (outer_nest term) sums place (codes "outer_sums")) c.as_slice-sums.ensures.value in
     let refused : IsRefusal (front_counts program place term) c.in_err-outer.field-0.0 =
-    refused-later (count_claims program term.nest term.count place) (sums_claims program (outer_nest term) term.outer_sums place OUTER_SUMS) c.in_err-outer.field-0.0 c.in_ok-pairs.ensures.holds
+    refused-later (count_claims program term.nest term.count place) (sums_claims program (outer_nest term) term.outer_sums place (codes "outer_sums")) c.in_err-outer.field-0.0 c.in_ok-pairs.ensures.holds
     (subst (λ (cs : List Claim). IsRefusal cs c.in_err-outer.field-0.0) is c.in_err-outer.ensures.refused) in
     search rules
 
@@ -47,11 +47,11 @@ returns-clause-holds c =
     let program = meaning c.args.program.now in
     let place = c.args.place.now in
     let term = front_of c.args.term.now in
-    let is : sums_claims program (take c.from.result c.bounds.result.now) c.as_slice-sums.result.now place OUTER_SUMS ≡ sums_claims program (outer_nest term) term.outer_sums place OUTER_SUMS =
-    ap (λ (n : ℕ). sums_claims program (take n c.bounds.result.now) c.as_slice-sums.result.now place OUTER_SUMS) c.from.ensures
-    ∙ ap (λ (nest : List (AffineForm × AffineForm)). sums_claims program (take term.outer nest) c.as_slice-sums.result.now place OUTER_SUMS) c.bounds.ensures
-    ∙ ap (λ (sums : List Quotient). sums_claims program (outer_nest term) sums place OUTER_SUMS) c.as_slice-sums.ensures.value in
-    AllHold-append (count_claims program term.nest term.count place) (sums_claims program (outer_nest term) term.outer_sums place OUTER_SUMS) c.in_ok-pairs.ensures.holds
+    let is : sums_claims program (take c.from.result c.bounds.result.now) c.as_slice-sums.result.now place (codes "outer_sums") ≡ sums_claims program (outer_nest term) term.outer_sums place (codes "outer_sums") =
+    ap (λ (n : ℕ). sums_claims program (take n c.bounds.result.now) c.as_slice-sums.result.now place (codes "outer_sums")) c.from.ensures
+    ∙ ap (λ (nest : List (AffineForm × AffineForm)). sums_claims program (take term.outer nest) c.as_slice-sums.result.now place (codes "outer_sums")) c.bounds.ensures
+    ∙ ap (λ (sums : List Quotient). sums_claims program (outer_nest term) sums place (codes "outer_sums")) c.as_slice-sums.ensures.value in
+    AllHold-append (count_claims program term.nest term.count place) (sums_claims program (outer_nest term) term.outer_sums place (codes "outer_sums")) c.in_ok-pairs.ensures.holds
     (subst AllHold is c.in_ok-outer.ensures.holds)
 
 pub returns-clause-outer_counts : goal.returns-clause-outer_counts

@@ -5,7 +5,7 @@ use Rattle.affine_form.specs.Rows.{IsSmallOver}
 use Rattle.affine_program.specs.Parts.{meaning}
 use Rattle.dep_quast.specs.Context.{variables_at}
 use Rattle.dep_quast.proofs.Fits.{read-over}
-use Rattle.reuse_paths.proofs.OpenLeaves.{reader-few}
+use Rattle.dep_quast.proofs.OpenLeaves.{reader-few}
 use Rattle.wavefront.specs.FrontTerm.{user_read}
 use Rattle.wavefront.specs.View.{front_of}
 use Rattle.wavefront.proofs.front_shown.cell_at.Goals as goal

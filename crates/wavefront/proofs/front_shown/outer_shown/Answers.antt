@@ -1,9 +1,8 @@
 use Rattle.std.proofs.Common.{◌≡◌, ◌∙◌, ap, subst, true, ℕ, ◌+◌, ◌<◌, ◌++◌, ◌∷◌, [], List, length, get_or, arith}
-use Rattle.std.specs.Prelude.{Ok, Err}
+use Rattle.std.specs.Prelude.{Ok, Err, codes}
 use Rattle.std.proofs.lemmas.List.{drop_all}
 use Rattle.iolb_model.specs.Form.{AffineForm}
 use Rattle.claims.specs.Claims.{AllHold, IsRefusal, IsRefusalAt, numbered}
-use Rattle.claims.specs.declared.key.TheConstants.{POINT, VERTEX}
 use Rattle.claims.specs.declared.place.Step.{Step}
 use Rattle.claims.specs.declared.place.Step.TheVariants.{Index, Key}
 use Rattle.claims.proofs.Found.{refused-here}
@@ -24,7 +23,7 @@ returns-then-not-is_without c =
     subst (λ (n : ℕ). IsRefusal (numbered (outer_claim n place) 0 forms) r) (ap (λ l. length l + c.from.result) c.params.ensures.params ∙ ap (λ n. length c.args.program.now.params + n) c.from.ensures)
     (c.loop-i.invariant (Err r)
     (numbered-stop (outer_claim first place) forms i form below is r
-    (refused-here (record { condition = 22; place = place ++ Key VERTEX ∷ Key POINT ∷ Index i ∷ []; statement = IsWithoutPast first form }) [] r
+    (refused-here (record { condition = 22; place = place ++ Key (codes "vertex") ∷ Key (codes "point") ∷ Index i ∷ []; statement = IsWithoutPast first form }) [] r
     (λ holds. let yes : c.is_without.result ≡ true = c.is_without.ensures.1 holds in cc)
     (subst (λ (p : List Step). IsRefusalAt 22 p r) c.in_ok-form.ensures c.refusal.ensures))))
 

@@ -6,7 +6,7 @@ use Rattle.affine_program.specs.Parts.{meaning}
 use Rattle.dep_quast.specs.Context.{variables_at}
 use Rattle.dep_quast.proofs.Fits.{read-over}
 use Rattle.wavefront.specs.View.{term_of}
-use Rattle.reuse_paths.proofs.OpenLeaves.{reader-few}
+use Rattle.dep_quast.proofs.OpenLeaves.{reader-few}
 use Rattle.wavefront.proofs.instance.cell_of.Goals as goal
 
 count : (c : goal.After-as_slice) → length c.as_slice.result.now ≡ variables_at (meaning c.args.program.now) (term_of c.args.term.now).reader

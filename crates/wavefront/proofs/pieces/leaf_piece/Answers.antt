@@ -6,7 +6,7 @@ use Rattle.affine_form.specs.Rows.{widened}
 use Rattle.affine_form.specs.System.{AffineSystem, AllOver}
 use Rattle.affine_program.specs.Parts.{meaning}
 use Rattle.domain_count.specs.Count.{rows_before}
-use Rattle.reuse_paths.specs.Pieces.{PieceFits}
+use Rattle.footprint_pieces.specs.Pieces.{PieceFits}
 use Rattle.wavefront.specs.Term.{ColdTerm, cell_forms, nest_variables, nest_system}
 use Rattle.wavefront.specs.View.{term_of}
 use Rattle.wavefront.proofs.PiecesCover.{leaf-fits}

@@ -4,10 +4,10 @@ use Rattle.std.proofs.lemmas.List.{map-append}
 use Rattle.base_laws.proofs.Lists.{All-append, there}
 use Rattle.affine_program.specs.Parts.{meaning}
 use Rattle.reuse_paths.specs.declared.leaf.Leaf.{Leaf}
-use Rattle.reuse_paths.specs.declared.piece.Piece.{Piece}
+use Rattle.footprint_pieces.specs.declared.piece.Piece.{Piece}
 use Rattle.reuse_paths.specs.LeafClaims.{claim_of, is_stop}
-use Rattle.reuse_paths.specs.OpenLeaves.{OpenLeaf}
-use Rattle.reuse_paths.specs.Pieces.{FootprintPiece, PieceFits, piece_of}
+use Rattle.dep_quast.specs.OpenLeaves.{OpenLeaf}
+use Rattle.footprint_pieces.specs.Pieces.{FootprintPiece, PieceFits, piece_of}
 use Rattle.wavefront.specs.ColdPieces.{stop_pieces}
 use Rattle.wavefront.specs.Term.{ColdTerm}
 use Rattle.wavefront.specs.View.{term_of}

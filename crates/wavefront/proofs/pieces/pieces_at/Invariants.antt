@@ -2,7 +2,7 @@ use Rattle.std.proofs.Common.{◌≡◌, ◌++◌, drop, map}
 use Rattle.std.specs.List.{AllByRecursion}
 use Rattle.affine_program.specs.Parts.{meaning}
 use Rattle.reuse_paths.specs.LeafClaims.{claim_of}
-use Rattle.reuse_paths.specs.Pieces.{PieceFits, piece_of}
+use Rattle.footprint_pieces.specs.Pieces.{PieceFits, piece_of}
 use Rattle.wavefront.specs.ColdPieces.{stop_pieces}
 use Rattle.wavefront.specs.View.{term_of}
 use Rattle.wavefront.proofs.pieces.pieces_at.Given as goal

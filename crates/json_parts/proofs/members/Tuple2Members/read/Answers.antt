@@ -8,7 +8,7 @@ returns g c =
     let first = c.in_ok-first.ensures in
     let rest = c.in_ok-rest.ensures in (
       (first.0, rest.0),
-      more-read g.R.Members.COUNT c.args.names.now _ c.args.numbers.now g.S.Part.shape.reads (λ (names : List (List ℕ)) (numbers : List ℕ). (g.R.Members.fields names numbers).reads (view c.args.value.now)) (view c.args.value.now) first.0 rest.0
-          c.requires.names c.requires.numbers first.1 rest.1,
+      more-read g.R.Members.COUNT c.args.names.now _ g.S.Part.shape.reads (λ (names : List (List ℕ)). (g.R.Members.fields names).reads (view c.args.value.now)) (view c.args.value.now) first.0 rest.0
+          c.requires.names first.1 rest.1,
       (first.2, rest.2),
     )

@@ -1,4 +1,0 @@
-use Rattle.cert_parts.proofs.trees.+nested.Given as goal
-
-abbrev pub decreases-nested : goal.decreases-nested
-decreases-nested l = l.left

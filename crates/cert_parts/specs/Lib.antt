@@ -1,9 +1,0 @@
-pub mod Parts
-pub mod Rows
-pub mod Polynomials
-pub mod Apart
-pub mod Nests
-pub mod Trees
-pub mod Leaves
-pub mod Read
-pub mod Walks

@@ -1,0 +1,14 @@
+pub mod ApartLists
+pub mod FormNumbers
+pub mod MatrixRows
+pub mod TermLoop
+pub mod Weights
+pub mod NestedTrees
+pub mod Plain
+pub mod PlainWalks
+pub mod PlainFamilies
+pub mod ReadParts
+pub mod ReadPolynomials
+pub mod ReadReaches
+pub mod ReadRecords
+pub mod ReadTrees

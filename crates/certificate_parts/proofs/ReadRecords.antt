@@ -1,0 +1,52 @@
+-- Records that are written, read.
+use Rattle.std.proofs.Common.{◌≡◌, List, [], ◌∷◌, length, map, true, None, Some, refl, Vec, Global, arith}
+use Rattle.std.specs.Prelude.{Option, IfSome, option_map}
+use Rattle.std.specs.List.{AllByRecursion}
+use Rattle.std.proofs.lemmas.Bool.{le-leb, ne_eqb}
+use Rattle.iolb_model.specs.Form.{AffineForm}
+use Rattle.iolb_model.specs.declared.limits.TheConstants.{FAMILIES, WEIGHTS}
+use Rattle.certificate_fit.specs.Limits.{AreSmall, IsSmallFamily, IsSmallLabel, IsSmallFamilyNode}
+use Rattle.reuse_paths.specs.declared.family.Family.{Family}
+use Rattle.reuse_paths.specs.declared.family.FamilyNode.{FamilyNode}
+use Rattle.reuse_paths.specs.Families.{FamilyForms, forms_of, node_of, family_of}
+use Rattle.json_parts.specs.Fields.{object_shape}
+use Rattle.json_parts.specs.Shape.{IsReadBack}
+use Rattle.json_parts.proofs.Back.{few_read}
+use Rattle.certificate_parts.specs.Credits.{WrittenCredit, credit_fields, credit_parts, credit_shape}
+use Rattle.certificate_parts.specs.Families.{node_shape, IsSmallForms, family_fields, family_parts, family_shape, families_shape, weights_of, AreSmallFamilies}
+
+pub credit_read : (credit : WrittenCredit) → IsReadBack (object_shape credit_fields) (credit_parts credit) → IsReadBack credit_shape credit
+unfolding credit_shape
+credit_read credit h = rw h refl
+
+pub family_read : (family : FamilyForms) → IsReadBack (object_shape family_fields) (family_parts family) → IsReadBack family_shape family
+unfolding family_shape
+family_read family h = rw h refl
+
+pub families_read : (families : List FamilyForms) → AreSmallFamilies families → AllByRecursion (IsReadBack family_shape) families → IsReadBack families_shape families
+unfolding families_shape
+families_read families small h =
+    rw (
+      few_read FAMILIES family_shape.reads family_shape.data_of families small.few h,
+      ne_eqb (length families) 0 (λ none. omega (arith, none, small.some)),
+      le-leb (weights_of families) WEIGHTS small.light,
+    ) refl
+
+-- ---- what is within the limits, as it is written
+
+pub labels_fit : (labels : List (Option (Vec AffineForm Global))) → AllByRecursion IsSmallLabel (map (option_map forms_of) labels)
+    → AllByRecursion (λ one. IfSome one (λ (label : Vec AffineForm Global). AreSmall label.items × (true ≡ true))) labels
+labels_fit [] h = tt
+labels_fit (None ∷ labels) h = (tt, labels_fit labels h.1)
+labels_fit (Some label ∷ labels) h = ((h.0, refl), labels_fit labels h.1)
+
+pub family_nodes_fit : (nodes : List (Option FamilyNode)) → AllByRecursion IsSmallFamilyNode (map (option_map node_of) nodes)
+    → AllByRecursion (λ one. IfSome one (λ (node : FamilyNode). IsSmallForms (node_of node) × (node_shape.is_present ≡ true))) nodes
+unfolding node_shape
+family_nodes_fit [] h = tt
+family_nodes_fit (None ∷ nodes) h = (tt, family_nodes_fit nodes h.1)
+family_nodes_fit (Some node ∷ nodes) h = ((record { label = h.0.0; region = h.0.1 }, refl), family_nodes_fit nodes h.1)
+
+pub all_fit : (families : List Family) → AllByRecursion IsSmallFamily (map family_of families) → AllByRecursion (λ (family : Family). IsSmallFamily (family_of family)) families
+all_fit [] h = tt
+all_fit (family ∷ families) h = (h.0, all_fit families h.1)

@@ -1,0 +1,12 @@
+pub mod Forms
+pub mod Multipliers
+pub mod Matrices
+pub mod Nests
+pub mod Polynomials
+pub mod Leaves
+pub mod Nested
+pub mod Trees
+pub mod Walks
+pub mod Reaches
+pub mod Families
+pub mod Credits

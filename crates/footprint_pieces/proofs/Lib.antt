@@ -1,0 +1,5 @@
+pub mod MovedForms
+pub mod SharedVertices
+pub mod PairsFound
+pub mod PairCounts
+pub mod PieceVertices
