@@ -1,30 +1,25 @@
 PREFIX ?= /usr/local
 
-# The libraries that the program stands on; crates of worked cases aside.
-crates := $(shell sed -n 's/^\([a-z0-9_]*\):.*/\1/p' crates.txt)
-libraries := $(filter-out iolb_cli plain_graph worked_%,$(crates))
-below = $(filter $(libraries),$(shell sed -n 's/^$(1)://p' crates.txt))
-sources = $(shell find crates/$(1) -name '*.rt' -o -name '*.antt')
-built = crates/$(1)/out/built
+# The program and the libraries that it stands on, the lowest first; what only cases use is the gate's.
+parts := $(shell awk -F: '/^[a-z]/ { below[$$1] = $$2 } \
+	function visit(it, names, n, i) { if (it in seen || !(it in below)) return; seen[it]; n = split(below[it], names, " "); \
+	for (i = 1; i <= n; i++) visit(names[i]); print it } END { visit("iolb_cli") }' crates.txt)
+sources := crates.txt HANDLES $(shell find $(parts:%=crates/%) \( -name '*.rt' -o -name '*.antt' \) -not -path '*/out/*')
 
 .PHONY: all test install clean
 
 all: bin/iolb
 
-# A library is proved and built once those below it are.
-define library
-$(call built,$(1)): crates.txt $(call sources,$(1)) $(foreach it,$(call below,$(1)),$(call built,$(it)))
-	@mkdir -p crates/$(1)/out
-	@cd crates/$(1) && rt lib $(1) > out/build.log 2>&1 || { cat out/build.log; exit 1; }
-	@touch $$@
-	@echo "$$$$(ls crates/*/out/built | wc -l) of $(words $(libraries)): $(1)"
-endef
-$(foreach it,$(libraries),$(eval $(call library,$(it))))
-
-bin/iolb: $(call sources,iolb_cli) $(foreach it,$(call below,iolb_cli),$(call built,$(it)))
-	@mkdir -p crates/iolb_cli/out bin
-	@cd crates/iolb_cli && rt run > out/build.log 2>&1; test -x out/iolb_cli || { cat out/build.log; exit 1; }
-	@cp crates/iolb_cli/out/iolb_cli bin/iolb
+# The prover of the gate works on a copy that has no edits and no cases: each crate is proved as soon as those below it are, as
+# many side by side as processors and memory allow, and the program is compiled and run on its stored example.
+bin/iolb: $(sources)
+	@mkdir -p bin
+	@room=$$(mktemp -d) && trap 'rm -rf "$$room"' EXIT && mkdir "$$room/crates" \
+	&& for it in $(parts); do mkdir "$$room/crates/$$it" && (cd crates/$$it && cp -r $$(ls | grep -vx -e out -e must-fail -e README.md) "$$room/crates/$$it") || exit 1; done \
+	&& cp HANDLES "$$room" && for it in $(parts); do grep "^$$it:" crates.txt; done > "$$room/crates.txt" \
+	&& (cd "$$room" && rt ci 2>&1) | tee bin/build.log | awk '/^rt: [a-z0-9_]+ proved$$/ { print ++done " of $(words $(parts)): " $$2; fflush() }' \
+	&& tail -n 1 bin/build.log | grep -q ' passed, 0 failed$$' || { tail -n 40 bin/build.log; exit 1; } \
+	&& cp "$$room/crates/iolb_cli/out/iolb_cli" bin/iolb
 	@echo "bin/iolb is built"
 
 test:

@@ -15,3 +15,4 @@ pub mod Among
 pub mod TreeFits
 pub mod Made
 pub mod OneProgram
+pub mod ProductPrograms

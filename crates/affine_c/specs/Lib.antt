@@ -4,3 +4,4 @@ pub mod PrintedWords
 pub mod Meaning
 pub mod Built
 pub mod Laws
+pub mod Products

@@ -1,4 +1,5 @@
-pub mod Splits
 pub mod Digits
+pub mod ReadNumbers
 pub mod ReadSizes
-pub mod SizedWords
+pub mod Requested
+pub mod Splits

@@ -1,3 +1,4 @@
 pub mod Numbers
 pub mod Sizes
+pub mod Settings
 pub mod Requests

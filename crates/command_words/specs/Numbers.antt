@@ -1,8 +1,8 @@
 -- Numbers on the command line: decimal digits, the bytes 48 to 57 alone.
-use Rattle.std.specs.Prelude.{ℕ, ◌+◌, ◌-◌, ◌*◌, ◌^◌, ◌==◌, ◌&&◌, nat_le, if◌then◌else◌, Bool, ℤ, pos, ◌-ℤ◌, List, [], ◌∷◌, length, Option, None, Some, option_map, option_and_then}
+use Rattle.std.specs.Prelude.{ℕ, ◌+◌, ◌-◌, ◌*◌, ◌^◌, ◌==◌, ◌&&◌, nat_le, sum, if◌then◌else◌, ℤ, pos, ◌-ℤ◌, List, [], ◌∷◌, length, Option, None, Some, option_map, option_and_then}
 use Rattle.std.specs.Char.{is_ascii_digit}
-use Rattle.std.specs.List.{list_all}
-use Rattle.iolb_model.specs.declared.limits.TheConstants.{VALUE_SIZE}
+use Rattle.std.specs.List.{list_all, slice_split}
+use Rattle.iolb_model.specs.declared.limits.TheConstants.{LEVELS, PROCESSORS, VALUE_SIZE}
 
 -- a number with these digits behind it
 abbrev pub with_digits : ℕ → List ℕ → ℕ
@@ -20,6 +20,23 @@ if_within least most n = if nat_le least n && nat_le n most then Some n else Non
 -- how many red pebbles a word says: 1 to 19 digits, from 1 to 2^63 - 1
 abbrev pub memory_in : List ℕ → Option ℕ
 memory_in word = option_and_then (if_within 1 (2 ^ 63 - 1)) (natural_in 19 word)
+
+-- how many processors a word says: 1 to 7 digits, from 1 to 2^20
+abbrev pub processors_in : List ℕ → Option ℕ
+processors_in word = option_and_then (if_within 1 PROCESSORS) (natural_in 7 word)
+
+-- the numbers of red pebbles that words say
+abbrev pub memories_in : List (List ℕ) → Option (List ℕ)
+memories_in [] = Some []
+memories_in (word ∷ words) = option_and_then (λ s. option_map (λ others. s ∷ others) (memories_in words)) (memory_in word)
+
+-- the capacities of fast levels: at most so many levels, which together hold at most 2^63 - 1 words
+abbrev pub if_levels : List ℕ → Option (List ℕ)
+if_levels capacities = if nat_le (length capacities) LEVELS && nat_le (sum capacities) (2 ^ 63 - 1) then Some capacities else None
+
+-- those that a word says, as numbers of red pebbles joined by commas
+abbrev pub capacities_in : List ℕ → Option (List ℕ)
+capacities_in word = option_and_then if_levels (memories_in (slice_split (λ byte. byte == 44) word))
 
 -- a size below 2^40 of 1 to 13 digits
 abbrev pub small_in : List ℕ → Option ℕ

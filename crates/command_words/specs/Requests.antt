@@ -1,29 +1,31 @@
 -- What the words behind the program's name ask for.
-use Rattle.std.specs.Prelude.{ℕ, ⊤, ◌==◌, ◌≤◌, ◌<◌, ◌^◌, unsigned_abs, if◌then◌else◌, Bool, false, List, [], ◌∷◌, length, take, drop, map, codes, Option, None, Some, String, string_bytes, option_map, option_and_then, bytes_eq, slice_index_or}
+use Rattle.std.specs.Prelude.{ℕ, ⊤, ◌==◌, ◌≤◌, if◌then◌else◌, Bool, false, List, [], ◌∷◌, length, take, drop, map, codes, Option, None, Some, String, string_bytes, option_map, option_and_then, bytes_eq, slice_index_or}
 use Rattle.std.specs.Global.{Global}
-use Rattle.std.specs.List.{AllByRecursion, list_any}
-use Rattle.command_words.specs.declared.size.Size.{Size}
+use Rattle.std.specs.List.{list_any}
 use Rattle.command_words.specs.declared.command.Command.{Command}
 use Rattle.command_words.specs.declared.command.Job.{Job}
-use Rattle.command_words.specs.declared.command.Job.TheVariants.{Check, Eval}
-use Rattle.command_words.specs.declared.command.Setting.{Setting}
-use Rattle.command_words.specs.declared.command.SizedCall.{SizedCall}
+use Rattle.command_words.specs.declared.command.Job.TheVariants.{Check, Eval, Parallel, Levels}
 use Rattle.command_words.specs.declared.command.Work.{Work as WorkInCode}
-use Rattle.command_words.specs.declared.command.Work.TheVariants.{Judge, Replay, Bound}
-use Rattle.command_words.specs.Numbers.{memory_in}
-use Rattle.command_words.specs.Sizes.{NamedSize, named_of, sizes_in}
-use Rattle.iolb_model.specs.declared.limits.TheConstants.{VALUE_SIZE}
+use Rattle.command_words.specs.declared.command.Work.TheVariants.{Judge, Replay, Climb, Bound}
+use Rattle.command_words.specs.Numbers.{processors_in}
+use Rattle.command_words.specs.Settings.{IsSmallLevels, IsSmallSetting, NamedLevels, NamedSetting, levels_in, levels_of, setting_in, setting_of}
+use Rattle.command_words.specs.Sizes.{NamedSize}
+use Rattle.iolb_model.specs.declared.limits.TheConstants.{PROCESSORS}
 
--- What is asked of a certificate: to check it, or to value its bound with so many red pebbles at these sizes.
+-- What is asked of a certificate: to check it, or to value its bound at these sizes, with so many red pebbles; with so many
+-- processors that have so many red pebbles each; or with fast levels of these capacities.
 pub data Task : Type 0 where
   checks : Task
   evaluates : ℕ → List NamedSize → Task
+  shares : ℕ → ℕ → List NamedSize → Task
+  levels : List ℕ → List NamedSize → Task
 
--- What is to be done with a program: a task for the certificate in a second file, or to play the schedule in it with so many
--- red pebbles at these sizes; or to make a certificate.
+-- What is to be done with a program: a task for the certificate in a second file; or to play the schedule in it with so many
+-- red pebbles, or the moves in it over fast levels of these capacities, at these sizes; or to make a certificate.
 pub data Work : Type 0 where
   judges : Task → Work
   replays : ℕ → List NamedSize → Work
+  climbs : List ℕ → List NamedSize → Work
   bounds : Work
 
 -- Work on files, by their names in the order of the words. The first is the program's.
@@ -44,40 +46,51 @@ begins_with_dash (byte ∷ bytes) = byte == 45
 abbrev pub work_on : ℕ → Work → List (List ℕ) → Option Request
 work_on count work words = if length words == count then Some (record { files = words; work = work }) else None
 
--- what words FILE... S NAME=NUMBER... say
-pub record SizedWords : Type 0 where
-  pub files : List (List ℕ)
-  pub s : ℕ
-  pub named : List NamedSize
+-- ---- requests on files, by what stands behind their names
 
-abbrev pub setting_in : List (List ℕ) → List (List ℕ) → Option SizedWords
-setting_in files [] = None
-setting_in files (memory ∷ words) =
-    option_and_then (λ s. option_map (λ named. record { files = files; s = s; named = named }) (sizes_in words)) (memory_in memory)
+abbrev pub evaluation : List (List ℕ) → NamedSetting → Request
+evaluation files setting = record { files = files; work = judges (evaluates setting.s setting.named) }
 
--- the same with so many files
-abbrev pub sized_in : ℕ → List (List ℕ) → Option SizedWords
-sized_in count words = setting_in (take count words) (drop count words)
+abbrev pub replay : List (List ℕ) → NamedSetting → Request
+replay files setting = record { files = files; work = replays setting.s setting.named }
 
-abbrev pub evaluation : SizedWords → Request
-evaluation said = record { files = said.files; work = judges (evaluates said.s said.named) }
+abbrev pub sharing : List (List ℕ) → ℕ → NamedSetting → Request
+sharing files processors setting = record { files = files; work = judges (shares processors setting.s setting.named) }
 
-abbrev pub replay : SizedWords → Request
-replay said = record { files = said.files; work = replays said.s said.named }
+-- words P S NAME=NUMBER...
+abbrev pub sharing_in : List (List ℕ) → List (List ℕ) → Option Request
+sharing_in files [] = None
+sharing_in files (processors ∷ words) = option_and_then (λ p. option_map (sharing files p) (setting_in words)) (processors_in processors)
 
--- `check PROGRAM CERTIFICATE`, `bound PROGRAM`, `eval PROGRAM CERTIFICATE S NAME=NUMBER...`, and
--- `replay PROGRAM SCHEDULE S NAME=NUMBER...`
+abbrev pub levelling : List (List ℕ) → NamedLevels → Request
+levelling files setting = record { files = files; work = judges (levels setting.capacities setting.named) }
+
+abbrev pub climbing : List (List ℕ) → NamedLevels → Request
+climbing files setting = record { files = files; work = climbs setting.capacities setting.named }
+
+-- what a command on two files asks for, by the words behind their names: `eval PROGRAM CERTIFICATE S NAME=NUMBER...`,
+-- `replay PROGRAM SCHEDULE S NAME=NUMBER...`, `parallel PROGRAM CERTIFICATE P S NAME=NUMBER...`,
+-- `levels PROGRAM CERTIFICATE S,S... NAME=NUMBER...`, and `climb PROGRAM MOVES S,S... NAME=NUMBER...`
+abbrev pub sized_request : List ℕ → List (List ℕ) → List (List ℕ) → Option Request
+sized_request command files words =
+    if bytes_eq command (codes "eval") then option_map (evaluation files) (setting_in words)
+    else (if bytes_eq command (codes "replay") then option_map (replay files) (setting_in words)
+    else (if bytes_eq command (codes "parallel") then sharing_in files words
+    else (if bytes_eq command (codes "levels") then option_map (levelling files) (levels_in words)
+    else (if bytes_eq command (codes "climb") then option_map (climbing files) (levels_in words) else None))))
+
+-- these, `check PROGRAM CERTIFICATE`, and `bound PROGRAM`
 abbrev pub request_in : List (List ℕ) → Option Request
 request_in [] = None
 request_in (command ∷ words) =
     if bytes_eq command (codes "check") then work_on 2 (judges checks) words
-    else (if bytes_eq command (codes "bound") then work_on 1 bounds words
-    else (if bytes_eq command (codes "eval") then option_map evaluation (sized_in 2 words)
-    else (if bytes_eq command (codes "replay") then option_map replay (sized_in 2 words) else None)))
+    else (if bytes_eq command (codes "bound") then work_on 1 bounds words else sized_request command (take 2 words) (drop 2 words))
 
 -- What words ask for; nothing where one begins with `-`.
 abbrev pub request_of : List (List ℕ) → Option Request
 request_of words = if list_any begins_with_dash words then None else request_in words
+
+-- ---- what the code holds
 
 -- the bytes of words
 abbrev pub bytes_of : List (String Global) → List (List ℕ)
@@ -86,30 +99,28 @@ bytes_of words = map (λ word. string_bytes word) words
 -- the request that a command is
 abbrev pub task_of : Job → Task
 task_of Check = checks
-task_of (Eval setting) = evaluates setting.memory (map named_of setting.sizes.items)
+task_of (Eval setting) = evaluates (setting_of setting).s (setting_of setting).named
+task_of (Parallel processors setting) = shares processors (setting_of setting).s (setting_of setting).named
+task_of (Levels setting) = levels (levels_of setting).capacities (levels_of setting).named
 
 abbrev pub work_of : WorkInCode → Work
 work_of (Judge job) = judges (task_of job)
-work_of (Replay setting) = replays setting.memory (map named_of setting.sizes.items)
+work_of (Replay setting) = replays (setting_of setting).s (setting_of setting).named
+work_of (Climb setting) = climbs (levels_of setting).capacities (levels_of setting).named
 work_of Bound = bounds
 
 abbrev pub asked : Command → Request
 asked command = record { files = bytes_of command.files.now; work = work_of command.work }
 
-abbrev pub sized_of : SizedCall → SizedWords
-sized_of words = record { files = bytes_of words.files.now; s = words.setting.memory; named = map named_of words.setting.sizes.items }
-
--- from 1 to 2^63 - 1 red pebbles, and sizes below 2^40
-abbrev pub IsSmallSetting : Setting → Type 0
-IsSmallSetting setting = (1 ≤ setting.memory) × (setting.memory < 2 ^ 63) × AllByRecursion (λ (size : Size). unsigned_abs size.value < VALUE_SIZE) setting.sizes.items
-
--- an evaluation has such
+-- numbers within the limits of the words
 abbrev pub IsSmallJob : Job → Type 0
 IsSmallJob Check = ⊤
 IsSmallJob (Eval setting) = IsSmallSetting setting
+IsSmallJob (Parallel processors setting) = (1 ≤ processors) × (processors ≤ PROCESSORS) × IsSmallSetting setting
+IsSmallJob (Levels setting) = IsSmallLevels setting
 
--- and so has a replay
 abbrev pub IsSmallWork : WorkInCode → Type 0
 IsSmallWork (Judge job) = IsSmallJob job
 IsSmallWork (Replay setting) = IsSmallSetting setting
+IsSmallWork (Climb setting) = IsSmallLevels setting
 IsSmallWork Bound = ⊤

@@ -2,19 +2,13 @@
 
 ghost use Rattle.std.specs.Prelude.{◌≡◌, map, option_map, string_bytes, IfOk, IfSome};
 ghost use Rattle.std.specs.List.{list_any};
-ghost use Rattle.command_words.specs.Requests.{asked, begins_with_dash, bytes_of, evaluation, file_at as name_at, replay, request_of, setting_in, sized_in, sized_of, work_of, work_on as work_on_words, IsSmallSetting, IsSmallWork};
+ghost use Rattle.command_words.specs.Requests.{asked, begins_with_dash, bytes_of, climbing, evaluation, file_at as name_at, levelling, replay, request_of, sharing_in, sized_request, work_of, work_on as work_on_words, IsSmallWork};
+ghost use Rattle.command_words.specs.Settings.{levels_in, setting_in as setting_in_words};
 
-use crate::number::memory_of;
-use crate::size::{Size, sizes_of};
+use crate::number::processors_of;
+use crate::setting::{LevelSetting, Setting, level_setting_in, setting_in};
 use affine_form::Memory;
 use std::alloc::Global;
-
-/// So many red pebbles, and sizes of a program's parameters.
-#[derive(Debug, Drop)]
-pub struct Setting {
-    pub memory: u64,
-    pub sizes: Vec<Size>,
-}
 
 /// What is to be done with a program and a certificate.
 #[derive(Debug, Drop)]
@@ -23,6 +17,10 @@ pub enum Job {
     Check,
     /// Check it, and value its bound at this setting.
     Eval(Setting),
+    /// Check it, and value its bound for so many processors, each of which has this setting's red pebbles.
+    Parallel { processors: u32, setting: Setting },
+    /// Check it, and value its bound at each of these levels.
+    Levels(LevelSetting),
 }
 
 /// What is to be done with a program, and with the other files.
@@ -32,6 +30,8 @@ pub enum Work {
     Judge(Job),
     /// The second file holds a schedule: play it at this setting.
     Replay(Setting),
+    /// The second file holds moves: play them over these levels.
+    Climb(LevelSetting),
     /// There is no second file: make a certificate.
     Bound,
 }
@@ -41,13 +41,6 @@ pub enum Work {
 pub struct Command<'a> {
     pub files: &'a [String],
     pub work: Work,
-}
-
-/// Words FILE... S NAME=NUMBER...
-#[derive(Drop)]
-pub(crate) struct SizedCall<'a> {
-    pub(crate) files: &'a [String],
-    pub(crate) setting: Setting,
 }
 
 /// The name at a place, from 0 on, and none where there is no such place.
@@ -83,49 +76,12 @@ fn has_option(words: &[String]) -> bool
     false
 }
 
-/// What words S NAME=NUMBER... say behind the names of files.
-fn setting_words<'a>(
-    alloc: Global,
-    files: &'a [String],
-    words: &[String],
-) -> Result<Option<SizedCall<'a>>, Memory>
-    ensures words { IfOk result (λ found. option_map sized_of found ≡ setting_in (bytes_of files.now) (bytes_of words.now)) }
-    ensures small { IfOk result (λ found. IfSome found (λ said. IsSmallSetting said.setting)) }
-{
-    let [memory, sizes @ ..] = words else {
-        return Ok(None);
-    };
-    let Some(memory) = memory_of(memory.as_bytes()) else {
-        return Ok(None);
-    };
-    match sizes_of(alloc, sizes)? {
-        Some(sizes) => Ok(Some(SizedCall {
-            files,
-            setting: Setting { memory, sizes },
-        })),
-        None => Ok(None),
-    }
-}
-
-/// What words say of which so many name files, and the others are S NAME=NUMBER...
-fn sized_words(
-    alloc: Global,
-    count: usize,
-    words: &[String],
-) -> Result<Option<SizedCall<'_>>, Memory>
-    ensures words { IfOk result (λ found. option_map sized_of found ≡ sized_in count (bytes_of words.now)) }
-    ensures small { IfOk result (λ found. IfSome found (λ said. IsSmallSetting said.setting)) }
-{
-    if words.len() < count {
-        return Ok(None);
-    }
-    setting_words(alloc, &words[..count], &words[count..])
-}
-
 /// What the words behind the program's name ask for: `check PROGRAM CERTIFICATE`, `bound PROGRAM`,
-/// `eval PROGRAM CERTIFICATE S NAME=NUMBER...`, or `replay PROGRAM SCHEDULE S NAME=NUMBER...`, where S is 1 to 19 digits,
-/// from 1 to 2^63 - 1, a NUMBER an optional `-` and 1 to 13 digits, of size below 2^40, and a NAME the bytes before the first
-/// `=`. `None` where they ask for nothing of this, or a word begins with `-`.
+/// `eval PROGRAM CERTIFICATE S NAME=NUMBER...`, `replay PROGRAM SCHEDULE S NAME=NUMBER...`,
+/// `parallel PROGRAM CERTIFICATE P S NAME=NUMBER...`, `levels PROGRAM CERTIFICATE S,S... NAME=NUMBER...`, or
+/// `climb PROGRAM MOVES S,S... NAME=NUMBER...`, where S is 1 to 19 digits, from 1 to 2^63 - 1 (one to four joined by commas no
+/// more than that together), P 1 to 7 digits, from 1 to 2^20, a NUMBER an optional `-` and 1 to 13 digits, of size below 2^40,
+/// and a NAME the bytes before the first `=`. `None` where they ask for nothing of this, or a word begins with `-`.
 pub fn command_of(alloc: Global, words: &[String]) -> Result<Option<Command<'_>>, Memory>
     ensures command { IfOk result (λ command. option_map asked command ≡ request_of (map (λ word. string_bytes word) words.now)) }
     ensures small { IfOk result (λ found. IfSome found (λ command. IsSmallWork command.work)) }
@@ -136,19 +92,17 @@ pub fn command_of(alloc: Global, words: &[String]) -> Result<Option<Command<'_>>
     let Some((command, arguments)) = words.split_first() else {
         return Ok(None);
     };
-    if command.as_str() == "check" {
+    let command = command.as_str();
+    if command == "check" {
         return Ok(work_on(2, Work::Judge(Job::Check), arguments));
     }
-    if command.as_str() == "bound" {
+    if command == "bound" {
         return Ok(work_on(1, Work::Bound, arguments));
     }
-    if command.as_str() == "eval" {
-        return eval_command(alloc, arguments);
+    if arguments.len() < 2 {
+        return Ok(None);
     }
-    if command.as_str() == "replay" {
-        return replay_command(alloc, arguments);
-    }
-    Ok(None)
+    sized_command(alloc, command, &arguments[..2], &arguments[2..])
 }
 
 /// This work on so many files, which all words name.
@@ -164,13 +118,45 @@ fn work_on(count: usize, work: Work, words: &[String]) -> Option<Command<'_>>
     }
 }
 
-/// The evaluation that words PROGRAM CERTIFICATE S NAME=NUMBER... ask for.
-fn eval_command(alloc: Global, words: &[String]) -> Result<Option<Command<'_>>, Memory>
-    ensures command { IfOk result (λ command. option_map asked command ≡ option_map evaluation (sized_in 2 (bytes_of words.now))) }
+/// What a command on files asks for, by the words behind their names.
+fn sized_command<'a>(
+    alloc: Global,
+    command: &str,
+    files: &'a [String],
+    words: &[String],
+) -> Result<Option<Command<'a>>, Memory>
+    ensures command { IfOk result (λ found. option_map asked found ≡ sized_request command.now (bytes_of files.now) (bytes_of words.now)) }
+    ensures small { IfOk result (λ found. IfSome found (λ made. IsSmallWork made.work)) }
+{
+    if command == "eval" {
+        return eval_command(alloc, files, words);
+    }
+    if command == "replay" {
+        return replay_command(alloc, files, words);
+    }
+    if command == "parallel" {
+        return parallel_command(alloc, files, words);
+    }
+    if command == "levels" {
+        return levels_command(alloc, files, words);
+    }
+    if command == "climb" {
+        return climb_command(alloc, files, words);
+    }
+    Ok(None)
+}
+
+/// The evaluation that words S NAME=NUMBER... ask for.
+fn eval_command<'a>(
+    alloc: Global,
+    files: &'a [String],
+    words: &[String],
+) -> Result<Option<Command<'a>>, Memory>
+    ensures command { IfOk result (λ found. option_map asked found ≡ option_map (evaluation (bytes_of files.now)) (setting_in_words (bytes_of words.now))) }
     ensures small { IfOk result (λ found. IfSome found (λ command. IsSmallWork command.work)) }
 {
-    match sized_words(alloc, 2, words)? {
-        Some(SizedCall { files, setting }) => Ok(Some(Command {
+    match setting_in(alloc, words)? {
+        Some(setting) => Ok(Some(Command {
             files,
             work: Work::Judge(Job::Eval(setting)),
         })),
@@ -178,15 +164,82 @@ fn eval_command(alloc: Global, words: &[String]) -> Result<Option<Command<'_>>, 
     }
 }
 
-/// The replay that words PROGRAM SCHEDULE S NAME=NUMBER... ask for.
-fn replay_command(alloc: Global, words: &[String]) -> Result<Option<Command<'_>>, Memory>
-    ensures command { IfOk result (λ command. option_map asked command ≡ option_map replay (sized_in 2 (bytes_of words.now))) }
+/// The replay that words S NAME=NUMBER... ask for.
+fn replay_command<'a>(
+    alloc: Global,
+    files: &'a [String],
+    words: &[String],
+) -> Result<Option<Command<'a>>, Memory>
+    ensures command { IfOk result (λ found. option_map asked found ≡ option_map (replay (bytes_of files.now)) (setting_in_words (bytes_of words.now))) }
     ensures small { IfOk result (λ found. IfSome found (λ command. IsSmallWork command.work)) }
 {
-    match sized_words(alloc, 2, words)? {
-        Some(SizedCall { files, setting }) => Ok(Some(Command {
+    match setting_in(alloc, words)? {
+        Some(setting) => Ok(Some(Command {
             files,
             work: Work::Replay(setting),
+        })),
+        None => Ok(None),
+    }
+}
+
+/// The evaluation for several processors that words P S NAME=NUMBER... ask for.
+fn parallel_command<'a>(
+    alloc: Global,
+    files: &'a [String],
+    words: &[String],
+) -> Result<Option<Command<'a>>, Memory>
+    ensures command { IfOk result (λ found. option_map asked found ≡ sharing_in (bytes_of files.now) (bytes_of words.now)) }
+    ensures small { IfOk result (λ found. IfSome found (λ command. IsSmallWork command.work)) }
+{
+    let [processors, words @ ..] = words else {
+        return Ok(None);
+    };
+    let Some(processors) = processors_of(processors.as_bytes()) else {
+        return Ok(None);
+    };
+    match setting_in(alloc, words)? {
+        Some(setting) => Ok(Some(Command {
+            files,
+            work: Work::Judge(Job::Parallel {
+                processors,
+                setting,
+            }),
+        })),
+        None => Ok(None),
+    }
+}
+
+/// The evaluation at levels that words S,S... NAME=NUMBER... ask for.
+fn levels_command<'a>(
+    alloc: Global,
+    files: &'a [String],
+    words: &[String],
+) -> Result<Option<Command<'a>>, Memory>
+    ensures command { IfOk result (λ found. option_map asked found ≡ option_map (levelling (bytes_of files.now)) (levels_in (bytes_of words.now))) }
+    ensures small { IfOk result (λ found. IfSome found (λ command. IsSmallWork command.work)) }
+{
+    match level_setting_in(alloc, words)? {
+        Some(setting) => Ok(Some(Command {
+            files,
+            work: Work::Judge(Job::Levels(setting)),
+        })),
+        None => Ok(None),
+    }
+}
+
+/// The play over levels that words S,S... NAME=NUMBER... ask for.
+fn climb_command<'a>(
+    alloc: Global,
+    files: &'a [String],
+    words: &[String],
+) -> Result<Option<Command<'a>>, Memory>
+    ensures command { IfOk result (λ found. option_map asked found ≡ option_map (climbing (bytes_of files.now)) (levels_in (bytes_of words.now))) }
+    ensures small { IfOk result (λ found. IfSome found (λ command. IsSmallWork command.work)) }
+{
+    match level_setting_in(alloc, words)? {
+        Some(setting) => Ok(Some(Command {
+            files,
+            work: Work::Climb(setting),
         })),
         None => Ok(None),
     }

@@ -3,8 +3,8 @@
 ghost use Rattle.std.specs.Prelude.{◌≡◌, ◌≤◌, ◌<◌, ◌^◌, [], ◌∷◌, min, pos, option_map, unsigned_abs, IfSome};
 ghost use Rattle.std.specs.Char.{is_ascii_digit};
 ghost use Rattle.std.specs.List.{list_all};
-ghost use Rattle.command_words.specs.Numbers.{memory_in, small_in, natural_in, whole_in as whole_in_word, with_digits};
-ghost use Rattle.iolb_model.specs.declared.limits.TheConstants.{VALUE_SIZE};
+ghost use Rattle.command_words.specs.Numbers.{memory_in, processors_in, small_in, natural_in, whole_in as whole_in_word, with_digits};
+ghost use Rattle.iolb_model.specs.declared.limits.TheConstants.{PROCESSORS, VALUE_SIZE};
 
 use iolb_model::limits;
 
@@ -62,6 +62,20 @@ pub(crate) fn memory_of(word: &[u8]) -> Option<u64>
     let number = natural_of(word, 19)?;
     if 1 <= number && number < 1 << 63 {
         Some(number as u64)
+    } else {
+        None
+    }
+}
+
+/// How many processors a word says: 1 to 7 digits, from 1 to 2^20.
+pub(crate) fn processors_of(word: &[u8]) -> Option<u32>
+    ensures processors { result ≡ processors_in word.now }
+    ensures some { IfSome result (λ p. 1 ≤ p) }
+    ensures few { IfSome result (λ p. p ≤ PROCESSORS) }
+{
+    let number = natural_of(word, 7)?;
+    if 1 <= number && number <= u128::from(limits::PROCESSORS) {
+        Some(number as u32)
     } else {
         None
     }

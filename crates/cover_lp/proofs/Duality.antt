@@ -1,9 +1,9 @@
 -- No packing over one denominator is greater than a cover over another (weak duality; Gale, Kuhn and Tucker 1951).
-use Rattle.std.proofs.Common.{◌≡◌, refl, ◌∙◌, ap, ℕ, zero, suc, ◌+◌, ◌*◌, ◌<◌, ◌≤◌, Bool, true, false, cond, List, [], ◌∷◌, length, sum, arith}
+use Rattle.std.proofs.Common.{◌≡◌, refl, sym, ◌∙◌, ap, ℕ, zero, suc, ◌+◌, ◌*◌, ◌<◌, ◌≤◌, Bool, true, false, cond, List, [], ◌∷◌, length, sum, arith}
 use Rattle.std.specs.List.{AllByRecursion}
 use Rattle.std.proofs.lemmas.List.Sums.{sum_by-cons}
 use Rattle.std.proofs.Math.Nat.{mul-le-mul_left}
-use Rattle.cover_lp.specs.Cover.{holds, weight_at, packed_from, IsCover, IsPacking}
+use Rattle.cover_lp.specs.Cover.{holds, weight_at, packed_from, IsCover, IsPacking, PairsHaveOneTotal}
 
 -- amounts times weights, added up over the coordinates from one on
 abbrev pub paired : ℕ → List ℕ → List (List ℕ) → List ℕ → ℕ
@@ -68,3 +68,12 @@ no-greater sets d (suc q) other weights packing some less cover packs =
 
       below : (p w q other : ℕ) → other ≤ suc q → p * suc q ≤ other * w → p ≤ w
       below p w q other less within = cancel p w q (omega (arith, within, mul-le-mul_left w less))
+
+-- pairs over two denominators have one total, as a ratio
+pub one-total : PairsHaveOneTotal
+one-total sets d q other weights packing other_weights other_packing one more =
+    let below : sum packing * other ≤ q * sum other_weights = dual sets d other q other_weights packing more.cover one.packs in
+    let above : sum other_packing * q ≤ other * sum weights = dual sets d q other weights other_packing one.cover more.packs in
+    let left : sum packing * other ≡ sum weights * other = ap (λ (n : ℕ). n * other) (sym one.equal) in
+    let right : sum other_packing * q ≡ sum other_weights * q = ap (λ (n : ℕ). n * q) (sym more.equal) in
+    omega (arith, below, above, left, right)

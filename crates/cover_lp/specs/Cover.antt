@@ -1,7 +1,7 @@
 -- Covers of coordinates by weighted sets, and packings of coordinates into sets (Loomis and Whitney 1949; Bollobás and
 -- Thomason 1995; the two linear programs and their duality are those of Gale, Kuhn and Tucker 1951), in whole numbers over a
 -- common denominator q.
-use Rattle.std.specs.Prelude.{◌≡◌, ℕ, suc, ◌+◌, ◌<◌, ◌≤◌, Bool, false, cond, nat_eq, List, [], ◌∷◌, length, sum}
+use Rattle.std.specs.Prelude.{◌≡◌, ℕ, suc, ◌+◌, ◌*◌, ◌<◌, ◌≤◌, Bool, false, cond, nat_eq, List, [], ◌∷◌, length, sum}
 use Rattle.std.specs.List.{AllByRecursion}
 use Rattle.std.specs.Set.{is_member}
 
@@ -68,3 +68,8 @@ pub record IsPairInReach (sets : List (List ℕ)) (d q : ℕ) (weights packing :
 abbrev pub PairsInReachHaveLeast : Type 0
 PairsInReachHaveLeast = (sets : List (List ℕ)) (d q : ℕ) (weights packing : List ℕ) → IsPairInReach sets d q weights packing
     → (least : ℕ) × (least_weights : List ℕ) × (least_packing : List ℕ) × IsLeastPair sets d least least_weights least_packing × IsPairInReach sets d least least_weights least_packing
+
+-- A law: pairs over two denominators have one total, as a ratio.
+abbrev pub PairsHaveOneTotal : Type 0
+PairsHaveOneTotal = (sets : List (List ℕ)) (d q other : ℕ) (weights packing other_weights other_packing : List ℕ)
+    → IsPair sets d q weights packing → IsPair sets d other other_weights other_packing → sum weights * other ≡ sum other_weights * q

@@ -1,6 +1,6 @@
 -- What a search for weights, or for amounts, finds.
 use Rattle.std.specs.Prelude.{◌≡◌, ⊤, ℕ, suc, ◌-◌, ◌≤◌, cond, List, [], ◌∷◌, length, sum, Option, Some, None}
-use Rattle.cover_lp.specs.Cover.{holds, packed_from, weight_at}
+use Rattle.cover_lp.specs.Cover.{holds, packed_from, weight_at, IsCover, IsPacking, IsPair}
 
 -- something with a property, or nothing where nothing has it
 abbrev pub IsFound : (List ℕ → Type 0) → Option (List ℕ) → Type 0
@@ -46,3 +46,21 @@ abbrev pub HaveRoom : List (List ℕ) → List ℕ → ℕ → ℕ → Type 0
 HaveRoom [] rooms coordinate amount = ⊤
 HaveRoom (set ∷ sets) [] coordinate amount = ⊥
 HaveRoom (set ∷ sets) (room ∷ rooms) coordinate amount = (cond (holds set coordinate) amount 0 ≤ room) × HaveRoom sets rooms coordinate amount
+
+-- some cover and packing over this denominator have this total
+pub record IsRatio (sets : List (List ℕ)) (d q total : ℕ) : Type 0 where
+  pub positive : 1 ≤ q
+  pub weights : List ℕ
+  pub packing : List ℕ
+  pub is_pair : IsPair sets d q weights packing
+  pub adds_up : sum weights ≡ total
+
+-- a cover of this total
+pub record IsCoverOf (sets : List (List ℕ)) (d q total : ℕ) (weights : List ℕ) : Type 0 where
+  pub cover : IsCover sets d q weights
+  pub adds_up : sum weights ≡ total
+
+-- a packing of this total
+pub record IsPackingOf (sets : List (List ℕ)) (d q total : ℕ) (packing : List ℕ) : Type 0 where
+  pub packs : IsPacking sets d q packing
+  pub adds_up : sum packing ≡ total

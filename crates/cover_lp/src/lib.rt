@@ -6,6 +6,8 @@ mod cover;
 pub mod law;
 mod least;
 mod packings;
+mod ratio;
+mod tableau;
 mod weights;
 
 pub use cover::{CoordSet, Cover, CoverFault};

@@ -13,7 +13,7 @@ use Rattle.wavefront.specs.declared.cold.Cold.{Cold}
 use Rattle.find_terms.specs.Found.{FindsFirst, HasNoEarlier}
 use Rattle.find_terms.specs.Openings.{AreRising, AreOpenings, HasPlainRead, IsEarlierRead, IsFirstOpening, IsPlainRead}
 use Rattle.cold_terms.specs.Held.{array_read}
-use Rattle.iolb_model.specs.declared.limits.TheConstants.{TERMS}
+use Rattle.iolb_model.specs.declared.limits.TheConstants.{OPENING_TERMS}
 
 -- ---- the order of reads
 
@@ -93,9 +93,9 @@ module _ (program : AffineProgram) where
     pub each : AllByRecursion (IsFirstOpening program) colds
     pub order : AreRising (map (array_read program) colds)
     pub below : AllByRecursion (λ (cold : Cold). array_read program cold < end) colds
-    pub few : length colds ≤ TERMS
+    pub few : length colds ≤ OPENING_TERMS
     pub all : (array : ℕ) → array < end → HasPlainRead program array → Contains (map (array_read program) colds) array
-        ⊎ ((length colds ≡ TERMS) × AllByRecursion (λ (cold : Cold). array_read program cold < array) colds)
+        ⊎ ((length colds ≡ OPENING_TERMS) × AllByRecursion (λ (cold : Cold). array_read program cold < array) colds)
 
   pub openings-none : AreOpeningsTo 0 []
   openings-none = record { each = tt; order = tt; below = tt; few = omega arith; all = λ array less. absurd (omega arith) }
@@ -118,7 +118,7 @@ module _ (program : AffineProgram) where
     }
 
     -- or that comes after those of 16 terms
-    pub openings-full : length colds ≡ TERMS → AreOpeningsTo (end + 1) colds
+    pub openings-full : length colds ≡ OPENING_TERMS → AreOpeningsTo (end + 1) colds
     openings-full full = record {
       each = h.each;
       order = h.order;
@@ -131,7 +131,7 @@ module _ (program : AffineProgram) where
     }
 
     -- or that has a term
-    pub openings-more : (cold : Cold) (more : List Cold) → length colds < TERMS → array_read program cold ≡ end → IsFirstOpening program cold → more ≡ colds ++ cold ∷ [] → AreOpeningsTo (end + 1) more
+    pub openings-more : (cold : Cold) (more : List Cold) → length colds < OPENING_TERMS → array_read program cold ≡ end → IsFirstOpening program cold → more ≡ colds ++ cold ∷ [] → AreOpeningsTo (end + 1) more
     openings-more cold more room reads first pushed = subst (AreOpeningsTo (end + 1)) (sym pushed) (
         let arrays : List ℕ = map (array_read program) colds in
         let pushed_arrays : map (array_read program) (colds ++ cold ∷ []) ≡ arrays ++ array_read program cold ∷ [] = map-append (array_read program) colds (cold ∷ []) in

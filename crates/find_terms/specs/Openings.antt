@@ -21,7 +21,7 @@ use Rattle.iolb_check.specs.declared.term.Branch.{Branch}
 use Rattle.cold_terms.specs.Held.{array_read, reader_of}
 use Rattle.cold_terms.specs.Outline.{ColdOutline, outline_in}
 use Rattle.find_terms.specs.Shown.{IsShownCold}
-use Rattle.iolb_model.specs.declared.limits.TheConstants.{TERMS}
+use Rattle.iolb_model.specs.declared.limits.TheConstants.{OPENING_TERMS}
 
 -- ---- the loops that subscripts name
 
@@ -150,9 +150,9 @@ AreRising (n ∷ ns) = AllByRecursion (λ (later : ℕ). n < later) ns × AreRis
 pub record AreOpenings (program : AffineProgram) (colds : List Cold) : Type 0 where
   pub each : AllByRecursion (IsFirstOpening program) colds
   pub order : AreRising (map (array_read program) colds)
-  pub few : length colds ≤ TERMS
+  pub few : length colds ≤ OPENING_TERMS
   pub all : (array : ℕ) → HasPlainRead program array → Contains (map (array_read program) colds) array
-      ⊎ ((length colds ≡ TERMS) × AllByRecursion (λ (cold : Cold). array_read program cold < array) colds)
+      ⊎ ((length colds ≡ OPENING_TERMS) × AllByRecursion (λ (cold : Cold). array_read program cold < array) colds)
 
 -- The opening branch: the opening terms, and no multipliers that show them to have no vertex in common, since their arrays
 -- differ.

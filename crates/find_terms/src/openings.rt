@@ -92,9 +92,10 @@ pub(crate) fn first_of(
 fn opening_terms(alloc: Global, program: &Program) -> Result<Vec<Cold>, Memory>
     ensures { IfOk result (λ colds. AreOpenings (meaning program.now) colds.items) }
 {
+    let most = limits::OPENING_TERMS;
     let mut colds = Vec::new(alloc);
     for array in 0..program.arrays().len() {
-        if colds.len() < limits::TERMS {
+        if colds.len() < most {
             if let Some(cold) = first_of(alloc, program, array)? {
                 colds.push(cold)?;
             }

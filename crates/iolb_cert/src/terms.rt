@@ -71,12 +71,12 @@ impl Part for OfTerm {
     }
 }
 
-/// A branch: at most 16 terms.
+/// A branch: at most 32 terms.
 pub(crate) struct OfBranch {}
 
 type Shown = ListOf<OfMultipliers>;
 
-type Terms = Few<OfTerm, 16>;
+type Terms = Few<OfTerm, 32>;
 
 impl Part for OfBranch {
     type Value = Branch;

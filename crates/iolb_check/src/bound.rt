@@ -62,7 +62,7 @@ impl Bound {
     }
 
     /// The values of each branch's terms.
-    pub(crate) fn branch_lists(&self) -> &[Vec<Value>]
+    pub fn branch_lists(&self) -> &[Vec<Value>]
         ensures branches { lists result.now ≡ self.now.branches }
         ensures legal { IsBound self.now }
     {

@@ -68,8 +68,8 @@ impl Bound {
     }
 }
 
-/// The sizes, and then zeros.
-fn widened(sizes: &[i64]) -> [i128; 24]
+/// The sizes, and then zeros, as a point for forms and polynomials.
+pub fn widened(sizes: &[i64]) -> [i128; 24]
     requires { length sizes.now ≤ VARIABLES }
     ensures { take (length sizes.now) result ≡ sizes.now }
 {
@@ -137,7 +137,7 @@ fn value_of(term: &Value, assumed: &System, point: &[i128], s: u64) -> Result<u1
         Value::Partition(bound) => partition_at(bound, assumed, point, s)?,
         Value::Wavefront { pairs, outer } => {
             let words = count_at(pairs, assumed, point)?;
-            let red = red_at(outer, assumed, point, s)?;
+            let red = red_at(outer, assumed, point, u128::from(s))?;
             words.saturating_sub(red)
         }
     };
@@ -145,7 +145,7 @@ fn value_of(term: &Value, assumed: &System, point: &[i128], s: u64) -> Result<u1
 }
 
 /// How many words may be red in all when so many vertices are computed as a polynomial counts: s for each.
-fn red_at(outer: &Poly, assumed: &System, point: &[i128], s: u64) -> Result<u128, Wide>
+pub fn red_at(outer: &Poly, assumed: &System, point: &[i128], s: u128) -> Result<u128, Wide>
     requires counting { IsCounting assumed.now outer.now }
     requires each { length point.now ≡ assumed.now.vars }
     requires met { AreMet assumed.now.rows point.now }
@@ -153,14 +153,15 @@ fn red_at(outer: &Poly, assumed: &System, point: &[i128], s: u64) -> Result<u128
     ensures wide { IsErr result ↔ (IsWideAt point.now outer.now ⊎ IsWideTimes point.now s outer.now) }
 {
     let vertices = count_at(outer, assumed, point)?;
-    match u128::from(s).checked_mul(vertices) {
+    match s.checked_mul(vertices) {
         Some(red) if red < limits::MEASURE => Ok(red),
         _ => Err(Wide),
     }
 }
 
-/// The value at sizes that meet the assumptions of a polynomial that counts something.
-pub(crate) fn count_at(count: &Poly, assumed: &System, point: &[i128]) -> Result<u128, Wide>
+/// The value at sizes that meet the assumptions of a polynomial that counts something. It is `Wide` exactly where the terms
+/// reach 2^126 in sum, each coefficient's size times the powers of the variables' sizes.
+pub fn count_at(count: &Poly, assumed: &System, point: &[i128]) -> Result<u128, Wide>
     requires counting { IsCounting assumed.now count.now }
     requires each { length point.now ≡ assumed.now.vars }
     requires met { AreMet assumed.now.rows point.now }

@@ -35,8 +35,9 @@ pub(crate) fn partition_at(
     Ok(events.saturating_sub(credited))
 }
 
-/// The events of as many stretches as so many points fill, but for the last of them.
-fn events_at(bound: &PartitionBound, points: u128, s: u64) -> Result<u128, Wide>
+/// The events of as many stretches as so many points fill, but for the last of them. They are `Wide` exactly where they reach
+/// 2^126, or the labels of a stretch, to the power of the weights, 2^127.
+pub fn events_at(bound: &PartitionBound, points: u128, s: u64) -> Result<u128, Wide>
     requires some_q { 1 ≤ bound.now.q }
     requires some_den { 1 ≤ bound.now.den }
     requires some { 1 ≤ s }

@@ -1,16 +1,21 @@
 -- Words that ask for work at a setting name at least one red pebble, and words that ask for a certificate one file.
 use Rattle.std.proofs.Common.{◌≡◌, subst, refl, ℕ, zero, suc, ◌-◌, ◌^◌, ◌≤◌, Bool, true, false, List, [], ◌∷◌, length, take, drop, arith}
-use Rattle.std.specs.Prelude.{⊤, Option, None, Some, IfSome, option_map, option_and_then, if◌then◌else◌, ◌&&◌, ◌==◌, nat_le, codes, bytes_eq}
-use Rattle.std.specs.List.{list_any}
+use Rattle.std.specs.Prelude.{⊤, Option, None, Some, IfSome, option_map, option_and_then, if◌then◌else◌, ◌&&◌, ◌==◌, nat_le, sum, codes, bytes_eq}
+use Rattle.std.specs.List.{AllByRecursion, list_any, slice_split}
 use Rattle.std.proofs.lemmas.Bool.{eqb-true}
-use Rattle.command_words.specs.Numbers.{if_within, memory_in, natural_in}
-use Rattle.command_words.specs.Requests.{Request, SizedWords, Work, checks, evaluates, judges, replays, bounds, begins_with_dash, evaluation, replay, request_in, request_of, setting_in, sized_in, work_on}
-use Rattle.command_words.specs.Sizes.{sizes_in}
+use Rattle.command_words.specs.Numbers.{capacities_in, if_levels, if_within, memories_in, memory_in, natural_in, processors_in}
+use Rattle.command_words.specs.Requests.{Request, Work, checks, evaluates, shares, levels, judges, replays, climbs, bounds, begins_with_dash, climbing, evaluation, levelling, replay, request_in, request_of, sharing, sharing_in, sized_request, work_on}
+use Rattle.command_words.specs.Settings.{NamedLevels, NamedSetting, levels_in, setting_in}
+use Rattle.command_words.specs.Sizes.{NamedSize, sizes_in}
+use Rattle.iolb_model.specs.declared.limits.TheConstants.{LEVELS, PROCESSORS}
 
 abbrev pub IsFormed : Request → Work → Type 0
 IsFormed request (judges checks) = ⊤
 IsFormed request (judges (evaluates s named)) = 1 ≤ s
+IsFormed request (judges (shares processors s named)) = (1 ≤ processors) × (1 ≤ s)
+IsFormed request (judges (levels capacities named)) = AllByRecursion (λ capacity. 1 ≤ capacity) capacities
 IsFormed request (replays s named) = 1 ≤ s
+IsFormed request (climbs capacities named) = ⊤
 IsFormed request bounds = length request.files ≡ 1
 
 -- a request that is, if there is one
@@ -41,18 +46,69 @@ within most (suc n) = chosen (nat_le 1 (suc n) && nat_le (suc n) most) (λ s. 1 
 memory : (word : List ℕ) → IfSome (memory_in word) (λ s. 1 ≤ s)
 memory word = chained (if_within 1 (2 ^ 63 - 1)) (λ _. ⊤) (λ s. 1 ≤ s) (natural_in 19 word) (every ⊤ (natural_in 19 word) tt) (λ n _. within (2 ^ 63 - 1) n)
 
-setting : (files words : List (List ℕ)) → IfSome (setting_in files words) (λ said. 1 ≤ said.s)
-setting files [] = tt
-setting files (word ∷ words) =
-    chained (λ s. option_map (λ named. record { files = files; s = s; named = named }) (sizes_in words)) (λ s. 1 ≤ s) (λ (said : SizedWords). 1 ≤ said.s) (memory_in word) (memory word)
-    (λ s some. mapped (λ named. record { files = files; s = s; named = named }) (λ (said : SizedWords). 1 ≤ said.s) (sizes_in words) (every (1 ≤ s) (sizes_in words) some))
+processor : (word : List ℕ) → IfSome (processors_in word) (λ p. 1 ≤ p)
+processor word = chained (if_within 1 PROCESSORS) (λ _. ⊤) (λ p. 1 ≤ p) (natural_in 7 word) (every ⊤ (natural_in 7 word) tt) (λ n _. within PROCESSORS n)
 
-sized : (ask : SizedWords → Request) (count : ℕ) (words : List (List ℕ)) → ((said : SizedWords) → 1 ≤ said.s → IsFormed (ask said) (ask said).work) → AreFormed (option_map ask (sized_in count words))
-sized ask count words formed =
-    mapped ask (λ (request : Request). IsFormed request request.work) (sized_in count words) (by (sized_in count words) (setting (take count words) (drop count words))) where
-      by : (o : Option SizedWords) → IfSome o (λ said. 1 ≤ said.s) → IfSome o (λ said. IsFormed (ask said) (ask said).work)
-      by None some = tt
-      by (Some said) some = formed said some
+setting : (words : List (List ℕ)) → IfSome (setting_in words) (λ said. 1 ≤ said.s)
+setting [] = tt
+setting (word ∷ words) =
+    chained (λ s. option_map (with s) (sizes_in words)) (λ s. 1 ≤ s) (λ (said : NamedSetting). 1 ≤ said.s) (memory_in word) (memory word)
+    (λ s some. mapped (with s) (λ (said : NamedSetting). 1 ≤ said.s) (sizes_in words) (every (1 ≤ s) (sizes_in words) some)) where
+      with : ℕ → List NamedSize → NamedSetting
+      with s named = record { s = s; named = named }
+
+-- each of these is at least 1
+abbrev AreSome : List ℕ → Type 0
+AreSome numbers = AllByRecursion (λ number. 1 ≤ number) numbers
+
+memories : (words : List (List ℕ)) → IfSome (memories_in words) AreSome
+memories [] = tt
+memories (word ∷ words) =
+    chained (λ s. option_map (λ others. s ∷ others) (memories_in words)) (λ s. 1 ≤ s) AreSome (memory_in word) (memory word)
+    (λ s some. mapped (λ others. s ∷ others) AreSome (memories_in words) (both s some (memories_in words) (memories words))) where
+      both : (s : ℕ) → 1 ≤ s → (o : Option (List ℕ)) → IfSome o AreSome → IfSome o (λ others. AreSome (s ∷ others))
+      both s some None are = tt
+      both s some (Some others) are = (some, are)
+
+held : (word : List ℕ) → IfSome (capacities_in word) AreSome
+held word = chained if_levels AreSome AreSome (memories_in (slice_split (λ byte. byte == 44) word)) (memories (slice_split (λ byte. byte == 44) word))
+    (λ numbers are. chosen (nat_le (length numbers) LEVELS && nat_le (sum numbers) (2 ^ 63 - 1)) AreSome (Some numbers) None are tt)
+
+level_setting : (words : List (List ℕ)) → IfSome (levels_in words) (λ said. AreSome said.capacities)
+level_setting [] = tt
+level_setting (word ∷ words) =
+    chained (λ capacities. option_map (with capacities) (sizes_in words)) AreSome (λ (said : NamedLevels). AreSome said.capacities) (capacities_in word) (held word)
+    (λ capacities are. mapped (with capacities) (λ (said : NamedLevels). AreSome said.capacities) (sizes_in words) (every (AreSome capacities) (sizes_in words) are)) where
+      with : List ℕ → List NamedSize → NamedLevels
+      with capacities named = record { capacities = capacities; named = named }
+
+-- what is asked for by what words say
+asking : {A : Type 0} (ask : A → Request) (IsSo : A → Type 0) (o : Option A) → IfSome o IsSo → ((said : A) → IsSo said → IsFormed (ask said) (ask said).work) → AreFormed (option_map ask o)
+asking ask IsSo None so formed = tt
+asking ask IsSo (Some said) so formed = formed said so
+
+parallel : (files words : List (List ℕ)) → AreFormed (sharing_in files words)
+parallel files [] = tt
+parallel files (word ∷ words) =
+    chained (λ p. option_map (sharing files p) (setting_in words)) (λ p. 1 ≤ p) (λ (r : Request). IsFormed r r.work) (processors_in word) (processor word)
+    (λ p some. asking (sharing files p) (λ (said : NamedSetting). 1 ≤ said.s) (setting_in words) (setting words) (λ said fine. (some, fine)))
+
+sized : (command : List ℕ) (files words : List (List ℕ)) → AreFormed (sized_request command files words)
+sized command files words =
+    let IsSo : Request → Type 0 = λ r. IsFormed r r.work in
+    let climb = if bytes_eq command (codes "climb") then option_map (climbing files) (levels_in words) else None in
+    let level = if bytes_eq command (codes "levels") then option_map (levelling files) (levels_in words) else climb in
+    let share = if bytes_eq command (codes "parallel") then sharing_in files words else level in
+    let play = if bytes_eq command (codes "replay") then option_map (replay files) (setting_in words) else share in
+    chosen (bytes_eq command (codes "eval")) IsSo (option_map (evaluation files) (setting_in words)) play
+    (asking (evaluation files) (λ (said : NamedSetting). 1 ≤ said.s) (setting_in words) (setting words) (λ _ some. some))
+    (chosen (bytes_eq command (codes "replay")) IsSo (option_map (replay files) (setting_in words)) share
+    (asking (replay files) (λ (said : NamedSetting). 1 ≤ said.s) (setting_in words) (setting words) (λ _ some. some))
+    (chosen (bytes_eq command (codes "parallel")) IsSo (sharing_in files words) level (parallel files words)
+    (chosen (bytes_eq command (codes "levels")) IsSo (option_map (levelling files) (levels_in words)) climb
+    (asking (levelling files) (λ (said : NamedLevels). AreSome said.capacities) (levels_in words) (level_setting words) (λ _ are. are))
+    (chosen (bytes_eq command (codes "climb")) IsSo (option_map (climbing files) (levels_in words)) None
+    (asking (climbing files) (λ (said : NamedLevels). AreSome said.capacities) (levels_in words) (level_setting words) (λ _ _. tt)) tt))))
 
 named : (count : ℕ) (work : Work) (words : List (List ℕ)) → (length words ≡ count → IsFormed (record { files = words; work = work }) work) → AreFormed (work_on count work words)
 named count work words formed = by (length words == count) refl where
@@ -64,13 +120,10 @@ request : (words : List (List ℕ)) → AreFormed (request_in words)
 request [] = tt
 request (command ∷ words) =
     let IsSo : Request → Type 0 = λ r. IsFormed r r.work in
-    let others = if bytes_eq command (codes "replay") then option_map replay (sized_in 2 words) else None in
-    let behind = if bytes_eq command (codes "eval") then option_map evaluation (sized_in 2 words) else others in
-    chosen (bytes_eq command (codes "check")) IsSo (work_on 2 (judges checks) words) (if bytes_eq command (codes "bound") then work_on 1 bounds words else behind)
+    let others = sized_request command (take 2 words) (drop 2 words) in
+    chosen (bytes_eq command (codes "check")) IsSo (work_on 2 (judges checks) words) (if bytes_eq command (codes "bound") then work_on 1 bounds words else others)
     (named 2 (judges checks) words (λ _. tt))
-    (chosen (bytes_eq command (codes "bound")) IsSo (work_on 1 bounds words) behind (named 1 bounds words (λ one. one))
-    (chosen (bytes_eq command (codes "eval")) IsSo (option_map evaluation (sized_in 2 words)) others (sized evaluation 2 words (λ _ some. some))
-    (chosen (bytes_eq command (codes "replay")) IsSo (option_map replay (sized_in 2 words)) None (sized replay 2 words (λ _ some. some)) tt)))
+    (chosen (bytes_eq command (codes "bound")) IsSo (work_on 1 bounds words) others (named 1 bounds words (λ one. one)) (sized command (take 2 words) (drop 2 words)))
 
 pub formed : (words : List (List ℕ)) (r : Request) → request_of words ≡ Some r → IsFormed r r.work
 formed words r asks = subst AreFormed asks (chosen (list_any begins_with_dash words) (λ (q : Request). IsFormed q q.work) None (request_in words) tt (request words))

@@ -3,14 +3,19 @@ use Rattle.std.proofs.Common.{◌≡◌, refl, sym, ◌∙◌, ap, subst, inr, �
 use Rattle.std.specs.Prelude.{ℤ, Option, Some, None, Result, Ok, Err, IsSomeAnd}
 use Rattle.iolb_model.specs.Bound.{AreMet}
 use Rattle.iolb_model.specs.Form.{AffineForm}
+use Rattle.iolb_model.specs.Graph.{ComputationGraph, computation_graph}
 use Rattle.iolb_model.specs.Program.{AffineProgram}
+use Rattle.iolb_model.specs.declared.tower.TowerMove.{TowerMove}
+use Rattle.memory_levels.specs.Climbs.{CompleteOrUnfinished, FirstIllegalIsOne, FirstUnfinishedIsOne, LegalOrIllegal}
+use Rattle.memory_levels.specs.declared.illegal.TowerIllegal.{TowerIllegal}
+use Rattle.memory_levels.specs.MovesText.{MovesOrFault, TextsHaveOneFault, TextsHaveOneList}
 use Rattle.affine_c.specs.declared.fault.ProgramFault.{ProgramFault}
 use Rattle.affine_c.specs.Laws.{TextsMeanOneProgram}
 use Rattle.c_grammar.specs.Program.{Means}
 use Rattle.affine_c.specs.Meaning.{HasFault}
 use Rattle.affine_c.proofs.OneProgram.{meant_without_fault}
 use Rattle.iolb_cert.specs.OneCertificate.{TextsHaveOneCertificate, TextsHaveOneAnswer}
-use Rattle.command_words.specs.Requests.{Request, Task, checks, evaluates, Work, judges, replays, bounds, file_at}
+use Rattle.command_words.specs.Requests.{Request, Task, checks, evaluates, shares, levels, Work, judges, replays, climbs, bounds, file_at}
 use Rattle.iolb_check.specs.declared.bound.Value.{Value}
 use Rattle.iolb_check.specs.Exact.{RefusalsAreOne, ValidCertificatesGiveOne, ValidCertificatesHaveValues, ValidCertificatesStand}
 use Rattle.iolb_host.specs.declared.files.FileFault.{FileFault}
@@ -18,7 +23,7 @@ use Rattle.iolb_host.specs.declared.files.FileFault.TheVariants.{Missing, TooLon
 use Rattle.iolb_host.specs.Files.{FileMap, Answers, content_of}
 use Rattle.iolb_commands.specs.Bounded.{IsBounded}
 use Rattle.iolb_commands.specs.Held.{HoldsProgram}
-use Rattle.iolb_commands.specs.Phases.{End, answers, unsaid, saying, AtSizes, Narrow, FileComes, TaskComes, CertificateComes, ScheduleComes, WorkComes, RequestComes}
+use Rattle.iolb_commands.specs.Phases.{End, answers, unsaid, saying, AtSizes, Narrow, ClimbComes, FileComes, TaskComes, CertificateComes, MovesCome, ScheduleComes, WorkComes, RequestComes}
 use Rattle.iolb_commands.specs.Reading.{IsContent}
 use Rattle.iolb_commands.specs.Stop.{IsPlainFault}
 use Rattle.iolb_commands.specs.Works.{most_bytes, sizes_for}
@@ -40,6 +45,13 @@ pub record AreExact : Type 0 where
   pub one_order : PlayedOrdersAreOne
   pub one_unplayed : UnplayedAreOne
   pub played_or_refused : PlayedOrRefused
+  pub one_list : TextsHaveOneList
+  pub one_line : TextsHaveOneFault
+  pub moves_or_line : MovesOrFault
+  pub one_illegal : FirstIllegalIsOne
+  pub legal_or_not : LegalOrIllegal
+  pub one_unfinished : FirstUnfinishedIsOne
+  pub complete_or_not : CompleteOrUnfinished
 
 -- ---- files and programs
 
@@ -70,6 +82,10 @@ same_fault source f g has again =
       injective : {T E : Type 0} (r : Result T E) (a b : E) → r ≡ Err a → r ≡ Err b → a ≡ b
       injective r a b e f = cc
 
+-- two moves that aren't allowed are one
+same_pair : (here there : ℕ × TowerIllegal) → (here.0 ≡ there.0) × (here.1 ≡ there.1) → here ≡ there
+same_pair here there e = ap (λ (n : ℕ). let one : ℕ × TowerIllegal = (n, here.1) in one) e.0 ∙ ap (λ (illegal : TowerIllegal). let one : ℕ × TowerIllegal = (there.0, illegal) in one) e.1
+
 -- ---- each phase has one end
 
 -- it made a certificate for this program
@@ -87,6 +103,8 @@ module _ (Both : End → End → Type 0) where
   task_one : (task : Task) (program : AffineProgram) (sizes : List ℤ) (values : List (List Value)) → One Both (TaskComes task program sizes values)
   task_one checks program sizes values = says_one Both
   task_one (evaluates s named) program sizes values = sizes_one _ _ _ (narrow_one _ _ (says_one Both))
+  task_one (shares processors s named) program sizes values = sizes_one _ _ _ (narrow_one _ _ (says_one Both))
+  task_one (levels capacities named) program sizes values = sizes_one _ _ _ (narrow_one _ _ (says_one Both))
 
   certificate_one : AreExact → (task : Task) (program : AffineProgram) (sizes : List ℤ) (bytes : List ℕ) → One Both (CertificateComes task program sizes bytes)
   certificate_one exact task program sizes bytes = phase_one Both
@@ -110,6 +128,24 @@ module _ (Both : End → End → Type 0) where
       (λ p q can again. exact.one_order program schedule sizes s p q can again)
       (λ order _. says_one Both))
 
+  climb_one : AreExact → (capacities : List ℕ) (graph : ComputationGraph) (moves : List TowerMove) → One Both (ClimbComes capacities graph moves)
+  climb_one exact capacities graph moves = phase_one Both
+      (λ here there first again _ _. same_pair here there (exact.one_illegal graph capacities moves here.0 there.0 here.1 there.1 first again))
+      (λ here _ first legal _. exact.legal_or_not graph capacities moves here.0 here.1 legal first)
+      (λ _ _ _ _. refl)
+      (λ _ _. phase_one Both
+      (λ v w first again _ _. exact.one_unfinished graph capacities moves v w first again)
+      (λ v _ first complete _. exact.complete_or_not graph capacities moves v complete first)
+      (λ _ _ _ _. refl) (λ _ _. says_one Both))
+
+  moves_one : AreExact → (capacities : List ℕ) (program : AffineProgram) (sizes : List ℤ) (bytes : List ℕ) → One Both (MovesCome capacities program sizes bytes)
+  moves_one exact capacities program sizes bytes = phase_one Both
+      (λ p q bad again _ _. exact.one_line bytes p q bad again)
+      (λ p moves bad has _. exact.moves_or_line bytes moves p has bad)
+      (λ a b has again. exact.one_list bytes a b has again)
+      (λ moves _. sizes_one _ _ _ (phase_one Both (λ _ _ _ _ _ _. refl) (λ _ _ many few _. many few) (λ _ _ _ _. refl)
+      (λ _ _. climb_one exact capacities (computation_graph program sizes) moves)))
+
   file_one : (map : FileMap) (names : List (List ℕ)) (work : Work) (place : ℕ) (Onward : List ℕ → End → Type 0)
       → ((bytes : List ℕ) → IsContent (Some map) (file_at names place) (most_bytes work place) bytes → One Both (Onward bytes)) → One Both (FileComes (Some map) names work place Onward)
   file_one map names work place Onward on = phase_one Both
@@ -123,6 +159,8 @@ module _ (Both : End → End → Type 0) where
       file_one map names (judges task) 1 _ (λ bytes _. certificate_one exact task program sizes bytes) one other ok fine here there
   work_one exact map names (replays s named) program sizes both one other ok fine here there =
       file_one map names (replays s named) 1 _ (λ bytes _. schedule_one exact s program sizes bytes) one other ok fine here there
+  work_one exact map names (climbs capacities named) program sizes both one other ok fine here there =
+      file_one map names (climbs capacities named) 1 _ (λ bytes _. moves_one exact capacities program sizes bytes) one other ok fine here there
   work_one exact map names bounds program sizes both one other ok fine (unsaid is) there = absurd (subst IsPlainEnd is ok)
   work_one exact map names bounds program sizes both one other ok fine here (unsaid is) = absurd (subst IsPlainEnd is fine)
   work_one exact map names bounds program sizes both one other ok fine (saying text note so is) (saying another beside too does) =

@@ -7,7 +7,7 @@ use Rattle.iolb_model.specs.Bound.{IsAdmitted}
 use Rattle.iolb_model.specs.Graph.{computation_graph}
 use Rattle.iolb_model.specs.Headline.{BoundHolds}
 use Rattle.iolb_model.specs.Program.{AffineProgram}
-use Rattle.command_words.specs.Requests.{Request, Task, checks, evaluates, Work, judges, replays, bounds, file_at}
+use Rattle.command_words.specs.Requests.{Request, Task, checks, evaluates, shares, levels, Work, judges, replays, climbs, bounds, file_at}
 use Rattle.command_words.specs.Sizes.{NamedSize, times, value_for, values_for}
 use Rattle.pebble_replay.specs.Played.{played}
 use Rattle.tile_sched.proofs.Refusals.{same_some}
@@ -17,7 +17,7 @@ use Rattle.iolb_commands.specs.declared.status.Status.{Status}
 use Rattle.iolb_commands.specs.declared.status.Status.TheVariants.{Done}
 use Rattle.iolb_commands.specs.Held.{HoldsProgram}
 use Rattle.iolb_commands.specs.Phases.{TaskComes, WorkComes, answers}
-use Rattle.iolb_commands.specs.Task.{IsAnswer, LoadsAtLeast, bound_with}
+use Rattle.iolb_commands.specs.Task.{HoldsFor, IsAnswer, LoadsAtLeast, bound_with}
 use Rattle.iolb_commands.specs.Works.{sizes_for}
 use Rattle.iolb_commands.specs.Outcome.{Call, Outcome}
 use Rattle.iolb_commands.specs.Headline.{IsDoneAsAsked, IsPrinted}
@@ -28,11 +28,22 @@ use Rattle.iolb_commands.proofs.Phases.{answered, found, said}
 
 -- ---- status 0
 
-at_least : (task : Task) (program : AffineProgram) (values : List (List Value)) (text : List ℕ) → IsAnswer task program values text → BoundHolds program (bound_with program values)
+at_least : (task : Task) (program : AffineProgram) (values : List (List Value)) (text : List ℕ) → IsAnswer task program values text → HoldsFor task program (bound_with program values)
     → LoadsAtLeast task program values
 at_least checks program values text answer holds = tt
 at_least (evaluates s named) program values text answer holds = λ sizes moves given game.
     holds sizes s moves (subst (IsAdmitted program) (same_some answer.sizes sizes (sym answer.given ∙ given)) answer.admitted) answer.some game
+at_least (shares processors s named) program values text answer holds = λ sizes steps given game.
+    holds.1 sizes processors s steps (subst (IsAdmitted program) (same_some answer.sizes sizes (sym answer.given ∙ given)) answer.admitted) answer.some_processor answer.some game
+at_least (levels capacities named) program values text answer holds = λ sizes steps given play.
+    holds.1 sizes capacities steps (subst (IsAdmitted program) (same_some answer.sizes sizes (sym answer.given ∙ given)) answer.admitted) answer.each play
+
+-- a bound that is known of so holds
+bound_holds : (task : Task) (program : AffineProgram) (values : List (List Value)) → HoldsFor task program (bound_with program values) → BoundHolds program (bound_with program values)
+bound_holds checks program values holds = holds
+bound_holds (evaluates s named) program values holds = holds
+bound_holds (shares processors s named) program values holds = holds.0
+bound_holds (levels capacities named) program values holds = holds.0
 
 if_some : (test : Bool) (these sizes : List ℤ) → (if test then Some these else None) ≡ Some sizes → these ≡ sizes
 if_some true these sizes e = same_some these sizes e
@@ -48,7 +59,7 @@ sizes_many names named sizes given =
 -- what answers a task
 task_answer : (request : Request) (task : Task) (program : AffineProgram) (sizes : List ℤ) (values : List (List Value)) (text note : List ℕ) → IsFormed request (judges task)
     → sizes_for (judges task) program.parameters ≡ Some sizes → TaskComes task program sizes values (answers text note)
-    → BoundHolds program (bound_with program values) × IsAnswer task program values text × (note ≡ [])
+    → HoldsFor task program (bound_with program values) × IsAnswer task program values text × (note ≡ [])
 task_answer request checks program sizes values text note some given comes = said text note comes
 task_answer request (evaluates s named) program sizes values text note some given comes =
     let met = found text note comes in
@@ -59,6 +70,37 @@ task_answer request (evaluates s named) program sizes values text note some give
         sizes = sizes;
         given = given;
         some = some;
+        admitted = record { each = sizes_many program.parameters named sizes given; met = met.1 };
+        narrow = narrow.1;
+        printed = says.1;
+      },
+      says.2,
+    )
+task_answer request (shares processors s named) program sizes values text note some given comes =
+    let met = found text note comes in
+    let narrow = found text note met.2 in
+    let says = said text note narrow.2 in (
+      says.0,
+      record {
+        sizes = sizes;
+        given = given;
+        some_processor = some.0;
+        some = some.1;
+        admitted = record { each = sizes_many program.parameters named sizes given; met = met.1 };
+        narrow = narrow.1;
+        printed = says.1;
+      },
+      says.2,
+    )
+task_answer request (levels capacities named) program sizes values text note some given comes =
+    let met = found text note comes in
+    let narrow = found text note met.2 in
+    let says = said text note narrow.2 in (
+      says.0,
+      record {
+        sizes = sizes;
+        given = given;
+        each = some;
         admitted = record { each = sizes_many program.parameters named sizes given; met = met.1 };
         narrow = narrow.1;
         printed = says.1;
@@ -80,7 +122,7 @@ printed complete call left request program sizes text note (judges task) some th
       holds_certificate = record { bytes = file.0; content = file.1; has = read.1 };
       values = checked.0;
       valid = checked.1;
-      holds = answer.0;
+      holds = bound_holds task program checked.0 answer.0;
       text = text;
       answer = answer.1;
       printed = gains;
@@ -104,6 +146,25 @@ printed complete call left request program sizes text note (replays s named) som
       moves = played (computation_graph program sizes) s can.0;
       plays = refl;
       complete = complete program read.0 sizes s can.0 can.1;
+      printed = subst (λ (t : List ℕ). Gains left.output t) says.1 gains;
+      error_stays = nothing_more left.error (subst (λ (n : List ℕ). Gains left.error n) says.2 noted);
+    }
+printed complete call left request program sizes text note (climbs capacities named) some there given comes gains noted =
+    let file = found text note comes in
+    let read = found text note file.2 in
+    let met = found text note read.2 in
+    let few = found text note met.2 in
+    let legal = found text note few.2 in
+    let played_out = found text note legal.2 in
+    let says = said text note played_out.2 in record {
+      program = program;
+      holds_program = there;
+      moves = read.0;
+      holds_moves = record { bytes = file.0; content = file.1; has = read.1 };
+      sizes = sizes;
+      given = given;
+      admitted = record { each = sizes_many program.parameters named sizes given; met = met.1 };
+      complete = played_out.1;
       printed = subst (λ (t : List ℕ). Gains left.output t) says.1 gains;
       error_stays = nothing_more left.error (subst (λ (n : List ℕ). Gains left.error n) says.2 noted);
     }

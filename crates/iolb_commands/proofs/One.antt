@@ -2,21 +2,24 @@
 use Rattle.std.proofs.Common.{◌≡◌, ◌≢◌, ◌⊎◌, refl, sym, ◌∙◌, ap, subst, inl, inr, ℕ, List, []}
 use Rattle.std.specs.Prelude.{ℤ, Option, Some, None}
 use Rattle.iolb_model.specs.Bound.{AreMet}
+use Rattle.iolb_model.specs.Graph.{computation_graph}
 use Rattle.iolb_model.specs.Program.{AffineProgram}
+use Rattle.memory_levels.specs.Values.{IsWideAtLevels}
+use Rattle.parallel_bound.specs.Widths.{HasWideParallelBranch}
 use Rattle.c_grammar.specs.Program.{Means}
-use Rattle.command_words.specs.Requests.{Request, Task, checks, evaluates, Work, judges, replays, bounds, file_at, request_of}
+use Rattle.command_words.specs.Requests.{Request, Task, checks, evaluates, shares, levels, Work, judges, replays, climbs, bounds, file_at, request_of}
 use Rattle.iolb_check.specs.declared.bound.Value.{Value}
 use Rattle.iolb_check.specs.Bounds.{HasWideBranch}
 use Rattle.iolb_host.specs.Files.{FileMap}
 use Rattle.iolb_commands.specs.declared.status.Status.{Status}
 use Rattle.iolb_commands.specs.declared.status.Status.TheVariants.{Done, Refused, Words as WordsRefused, ProgramText as ProgramRefused, OtherText, FileAbsent, ReadFault, WriteFault, Wide as WideValue, NoMemory}
 use Rattle.iolb_commands.specs.declared.stop.Stop.{Stop}
-use Rattle.iolb_commands.specs.Laws.{GainSame, IsUndisturbed, OutcomesAreOne, HasAnswer, ValidCertificatesPass, OthersNeverPass, PlayableSchedulesPass, ReadableProgramsHaveCertificates, WriteAlike}
+use Rattle.iolb_commands.specs.Laws.{GainSame, IsUndisturbed, OutcomesAreOne, HasAnswer, ValidCertificatesPass, OthersNeverPass, PlayableSchedulesPass, CompletePlaysPass, ReadableProgramsHaveCertificates, WriteAlike}
 use Rattle.iolb_commands.specs.Lines.{usage}
 use Rattle.iolb_commands.specs.Outcome.{Call, IsStopped, Outcome, Stops}
 use Rattle.iolb_commands.specs.Phases.{End, stops, answers, RequestComes, TaskComes, WorkComes}
 use Rattle.tile_sched.proofs.Refusals.{none_some, same_some}
-use Rattle.iolb_commands.specs.Held.{HoldsCertificate, HoldsProgram, HoldsSchedule}
+use Rattle.iolb_commands.specs.Held.{HoldsCertificate, HoldsMoves, HoldsProgram, HoldsSchedule}
 use Rattle.iolb_commands.specs.Stop.{stop_line, stop_status}
 use Rattle.iolb_commands.specs.Works.{HasSizes, sizes_for}
 use Rattle.iolb_commands.specs.Use.{CallUse, Gains, Stays}
@@ -192,6 +195,8 @@ passes exact call map request work program left status tells asked works holds s
 has_sizes : (task : Task) (program : AffineProgram) (values : List (List Value)) → HasAnswer task program values → HasSizes (judges task) program.parameters
 has_sizes checks program values has = ([], refl)
 has_sizes (evaluates s named) program values has = (has.0, has.1)
+has_sizes (shares processors s named) program values has = (has.0, has.1)
+has_sizes (levels capacities named) program values has = (has.0, has.1)
 
 -- a task that can be answered is
 task_done : (task : Task) (program : AffineProgram) (sizes : List ℤ) (values : List (List Value)) → HasAnswer task program values → sizes_for (judges task) program.parameters ≡ Some sizes
@@ -201,6 +206,16 @@ task_done (evaluates s named) program sizes values (named_sizes, gives, admitted
     let same : named_sizes ≡ sizes = same_some named_sizes sizes (sym gives ∙ given) in
     let met = subst (λ (z : List ℤ). AreMet program.assumptions z) same admitted.met in
     let never = subst (λ (z : List ℤ). ¬ HasWideBranch z s values) same narrow in
+    let so = answered end ok (through_narrow end ok _ _ never (through_sizes end ok program.assumptions sizes _ met comes)) in (so.0, so.1, so.3)
+task_done (shares processors s named) program sizes values (named_sizes, gives, admitted, narrow) given end ok comes =
+    let same : named_sizes ≡ sizes = same_some named_sizes sizes (sym gives ∙ given) in
+    let met = subst (λ (z : List ℤ). AreMet program.assumptions z) same admitted.met in
+    let never = subst (λ (z : List ℤ). ¬ HasWideParallelBranch z processors s values) same narrow in
+    let so = answered end ok (through_narrow end ok _ _ never (through_sizes end ok program.assumptions sizes _ met comes)) in (so.0, so.1, so.3)
+task_done (levels capacities named) program sizes values (named_sizes, gives, admitted, narrow) given end ok comes =
+    let same : named_sizes ≡ sizes = same_some named_sizes sizes (sym gives ∙ given) in
+    let met = subst (λ (z : List ℤ). AreMet program.assumptions z) same admitted.met in
+    let never = subst (λ (z : List ℤ). ¬ IsWideAtLevels z capacities values) same narrow in
     let so = answered end ok (through_narrow end ok _ _ never (through_sizes end ok program.assumptions sizes _ met comes)) in (so.0, so.1, so.3)
 
 pub valid_pass : AreExact → ValidCertificatesPass
@@ -223,6 +238,19 @@ playable_pass exact call request s named program schedule sizes order left statu
     (through order (λ unplayed kept _. exact.played_or_refused program schedule sizes s order unplayed can kept) (λ other plays. exact.one_order program schedule sizes s other order plays can) end ok
     (through schedule (λ fault faulty _. exact.schedules.either program held.bytes schedule fault held.has faulty) (λ other again. exact.schedules.one_schedule program held.bytes other schedule again held.has) end ok
     (through_file exact reads.map end ok request.files (replays s named) 1 _ held.bytes held.content comes))) in (so.0, so.1, so.3)) outcome calm
+
+pub climbs_pass : AreExact → CompletePlaysPass
+climbs_pass exact call request capacities named program moves sizes left status reads given met few complete outcome calm =
+    let held = subst (λ (files : Option FileMap). HoldsMoves files (file_at request.files 1) moves) reads.told reads.holds_moves in
+    let graph = computation_graph program sizes in
+    passes exact call reads.map request (climbs capacities named) program left status reads.told reads.asked reads.climbs_it reads.holds_program sizes given
+    (λ end ok comes. let so = answered end ok
+    (through tt (λ v first _. exact.complete_or_not graph capacities moves v complete first) (λ _ _. refl) end ok
+    (through tt (λ refused first _. exact.legal_or_not graph capacities moves refused.0 refused.1 complete.allowed first) (λ _ _. refl) end ok
+    (through tt (λ _ many _. many few) (λ _ _. refl) end ok
+    (through_sizes end ok program.assumptions sizes _ met
+    (through moves (λ place bad _. exact.moves_or_line held.bytes moves place held.has bad) (λ other has. exact.one_list held.bytes other moves has held.has) end ok
+    (through_file exact reads.map end ok request.files (climbs capacities named) 1 _ held.bytes held.content comes)))))) in (so.0, so.1, so.3)) outcome calm
 
 pub readable_pass : AreExact → ReadableProgramsHaveCertificates
 readable_pass exact call map request program left status tells asked works holds outcome calm =

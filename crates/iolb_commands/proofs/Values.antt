@@ -35,3 +35,7 @@ lines-step branches i terms sizes s value old new all e v n whole =
     ∙ ap (λ (j : ℕ). codes "branch " ++ decimal i ++ codes " " ++ decimal (branch_value (terms_of terms) sizes s) ++ codes "\n" ++ branch_value_lines (i + 1) (drop j (map terms_of branches)) sizes s) next in
     ap (λ l. l ++ rest) n ∙ ap (λ (x : ℕ). (old ++ codes "branch " ++ decimal i ++ codes " " ++ decimal x ++ codes "\n") ++ rest) v
     ∙ simp append_assoc (simp append_assoc at (sym (ap (λ l. old ++ l) split)) ∙ whole)
+
+-- a line more
+pub line-more : (old new line rest part all : List ℕ) → new ≡ old ++ line → part ≡ line ++ rest → old ++ part ≡ all → new ++ rest ≡ all
+line-more old new line rest part all more parts whole = ap (λ l. l ++ rest) more ∙ append_assoc old line rest ∙ ap (λ l. old ++ l) (sym parts) ∙ whole

@@ -7,9 +7,11 @@ use Rattle.iolb_model.specs.Graph.{computation_graph}
 use Rattle.iolb_model.specs.Headline.{BoundHolds}
 use Rattle.iolb_model.specs.Printed.{bound_text}
 use Rattle.iolb_model.specs.Program.{AffineProgram}
+use Rattle.iolb_model.specs.Tower.{IsCompleteTower}
+use Rattle.iolb_model.specs.declared.tower.TowerMove.{TowerMove}
 use Rattle.iolb_cert.specs.OneCertificate.{HasCertificate}
 use Rattle.iolb_check.specs.Claims.{CertificateClaim}
-use Rattle.command_words.specs.Requests.{Request, Task, Work, judges, replays, bounds, file_at, request_of}
+use Rattle.command_words.specs.Requests.{Request, Task, Work, judges, replays, climbs, bounds, file_at, request_of}
 use Rattle.command_words.specs.Sizes.{NamedSize, values_for}
 use Rattle.pebble_replay.specs.Played.{played}
 use Rattle.tile_sched.specs.declared.schedule.Key.{Key}
@@ -17,11 +19,12 @@ use Rattle.tile_sched.specs.Order.{IsOrder, said}
 use Rattle.tile_sched.specs.Lines.{play_text}
 use Rattle.iolb_check.specs.declared.bound.Value.{Value}
 use Rattle.iolb_commands.specs.Bounded.{IsOfMaker}
-use Rattle.iolb_commands.specs.Held.{HoldsCertificate, HoldsProgram, HoldsSchedule}
+use Rattle.iolb_commands.specs.Held.{HoldsCertificate, HoldsMoves, HoldsProgram, HoldsSchedule}
 use Rattle.iolb_commands.specs.Outcome.{Call}
 use Rattle.iolb_commands.specs.Task.{IsAnswer, LoadsAtLeast, bound_with}
 use Rattle.iolb_commands.specs.Use.{CallUse, FilesStay, Gains, Stays}
 use Rattle.iolb_check.specs.Conditions.{MeetsConditions}
+use Rattle.iolb_commands.specs.Values.{climb_text}
 
 -- A request with a task for a certificate. Its first file holds a text that means a program, and the second that of a
 -- certificate, which meets the conditions for the program. (Where the files don't tell what they hold, this says that there
@@ -30,7 +33,10 @@ use Rattle.iolb_check.specs.Conditions.{MeetsConditions}
 -- pebbling of the program's computation graph with S red pebbles, without recomputation, makes at least as many loads as the
 -- bound's value. The output has gained exactly the answer: for `check` the text of the bound, and for `eval` the values of
 -- its branches and its own value V at the sizes and the S of the words, where the sizes meet the assumptions and no value is
--- beyond 128 bits; so every complete pebbling at these sizes and this S makes at least V loads.
+-- beyond 128 bits; so every complete pebbling at these sizes and this S makes at least V loads. For `parallel` it is the
+-- bound's value V for the P processors of the words: in every complete parallel pebbling with P processors and S red pebbles
+-- for each, some processor makes at least V loads. For `levels` it is a value for each boundary of the words' levels: every
+-- complete play over them brings at least so many words over it.
 pub record IsLowerBoundPrinted (call : Call) (left : CallUse) (request : Request) (task : Task) : Type 0 where
   pub program : AffineProgram
   pub holds_program : HoldsProgram call.files (file_at request.files 0) program
@@ -65,6 +71,22 @@ pub record IsPlayPrinted (call : Call) (left : CallUse) (request : Request) (s :
   pub printed : Gains left.output (play_text moves)
   pub error_stays : Stays left.error
 
+-- A request to play moves over levels of memory. Its first file holds a text that means a program, and the second the lines of the
+-- moves. The sizes of the words meet the assumptions, and the moves are a complete play on the program's computation graph at
+-- these sizes, over fast levels with the capacities of the words. The output has gained exactly a line for each boundary: how many
+-- words the moves bring over it, and how many they send.
+pub record IsClimbPrinted (call : Call) (left : CallUse) (request : Request) (capacities : List ℕ) (named : List NamedSize) : Type 0 where
+  pub program : AffineProgram
+  pub holds_program : HoldsProgram call.files (file_at request.files 0) program
+  pub moves : List TowerMove
+  pub holds_moves : HoldsMoves call.files (file_at request.files 1) moves
+  pub sizes : List ℤ
+  pub given : values_for program.parameters named ≡ Some sizes
+  pub admitted : IsAdmitted program sizes
+  pub complete : IsCompleteTower (computation_graph program sizes) capacities moves
+  pub printed : Gains left.output (climb_text capacities moves)
+  pub error_stays : Stays left.error
+
 -- A request for a certificate. Its file holds a text that means a program. The output has gained exactly the text of a
 -- certificate, which meets the conditions for the program, and the standard error exactly the text of its bound, which has the
 -- program's assumptions and for each term the value that the conditions give. The bound holds. For a projective
@@ -88,6 +110,7 @@ pub record IsCertificatePrinted (call : Call) (left : CallUse) (request : Reques
 abbrev pub IsPrinted : Call → CallUse → Request → Work → Type 0
 IsPrinted call left request (judges task) = IsLowerBoundPrinted call left request task
 IsPrinted call left request (replays s named) = IsPlayPrinted call left request s named
+IsPrinted call left request (climbs capacities named) = IsClimbPrinted call left request capacities named
 IsPrinted call left request bounds = IsCertificatePrinted call left request
 
 -- The words make a request, and what it asks for was printed, with nothing else. No read and no write had a fault.

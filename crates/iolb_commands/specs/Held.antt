@@ -5,10 +5,12 @@ use Rattle.c_grammar.specs.Program.{Means}
 use Rattle.iolb_check.specs.Claims.{CertificateClaim}
 use Rattle.iolb_cert.specs.OneCertificate.{HasCertificate}
 use Rattle.iolb_host.specs.Files.{FileMap}
+use Rattle.iolb_model.specs.declared.tower.TowerMove.{TowerMove}
+use Rattle.memory_levels.specs.MovesText.{IsMovesText}
 use Rattle.tile_sched.specs.declared.schedule.Key.{Key}
 use Rattle.tile_sched.specs.Texts.{IsTextOf}
 use Rattle.iolb_commands.specs.Reading.{IsContent}
-use Rattle.iolb_model.specs.declared.limits.TheConstants.{CERTIFICATE_BYTES, PROGRAM_BYTES, SCHEDULE_BYTES}
+use Rattle.iolb_model.specs.declared.limits.TheConstants.{CERTIFICATE_BYTES, MOVES_BYTES, PROGRAM_BYTES, SCHEDULE_BYTES}
 
 -- the file of this name holds a text that means this program; where the files don't tell their content, it may
 pub record HoldsProgram (files : Option FileMap) (name : List ℕ) (program : AffineProgram) : Type 0 where
@@ -27,3 +29,9 @@ pub record HoldsSchedule (files : Option FileMap) (name : List ℕ) (program : A
   pub bytes : List ℕ
   pub content : IsContent files name SCHEDULE_BYTES bytes
   pub has : IsTextOf program bytes schedule
+
+-- the lines of these moves
+pub record HoldsMoves (files : Option FileMap) (name : List ℕ) (moves : List TowerMove) : Type 0 where
+  pub bytes : List ℕ
+  pub content : IsContent files name MOVES_BYTES bytes
+  pub has : IsMovesText bytes moves

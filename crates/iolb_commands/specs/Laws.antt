@@ -1,11 +1,17 @@
 -- A call has one outcome.
 use Rattle.std.specs.Prelude.{◌≡◌, ◌≢◌, ◌⊎◌, ⊤, ℕ, ◌≤◌, ◌<◌, ℤ, List, length, Some, None}
 use Rattle.iolb_model.specs.declared.game.Move.{Move}
-use Rattle.iolb_model.specs.Bound.{Bound, IsAdmitted, bound_value}
+use Rattle.iolb_model.specs.Bound.{AreMet, Bound, IsAdmitted, bound_value}
 use Rattle.iolb_model.specs.Game.{loads}
+use Rattle.iolb_model.specs.Graph.{computation_graph}
 use Rattle.iolb_model.specs.Program.{AffineProgram}
+use Rattle.iolb_model.specs.Tower.{IsCompleteTower}
+use Rattle.iolb_model.specs.declared.tower.TowerMove.{TowerMove}
+use Rattle.loop_graph.specs.Builds.{IsWithinReach}
+use Rattle.memory_levels.specs.Values.{IsWideAtLevels}
+use Rattle.parallel_bound.specs.Widths.{HasWideParallelBranch}
 use Rattle.iolb_check.specs.Claims.{CertificateClaim}
-use Rattle.command_words.specs.Requests.{Request, Task, checks, evaluates, judges, replays, bounds, file_at, request_of}
+use Rattle.command_words.specs.Requests.{Request, Task, checks, evaluates, shares, levels, judges, replays, climbs, bounds, file_at, request_of}
 use Rattle.command_words.specs.Sizes.{NamedSize, values_for}
 use Rattle.iolb_check.specs.declared.bound.Value.{Value}
 use Rattle.iolb_check.specs.Bounds.{HasWideBranch}
@@ -21,7 +27,7 @@ use Rattle.tile_sched.specs.declared.schedule.Key.{Key}
 use Rattle.tile_sched.specs.Lines.{play_text}
 use Rattle.tile_sched.specs.Plays.{CanBePlayed}
 use Rattle.iolb_commands.specs.Bounded.{IsBounded}
-use Rattle.iolb_commands.specs.Held.{HoldsCertificate, HoldsProgram, HoldsSchedule}
+use Rattle.iolb_commands.specs.Held.{HoldsCertificate, HoldsMoves, HoldsProgram, HoldsSchedule}
 use Rattle.iolb_commands.specs.Outcome.{Call, Outcome}
 use Rattle.iolb_commands.specs.Phases.{RequestStop}
 use Rattle.iolb_commands.specs.Lines.{condition_line, file_line, usage}
@@ -95,6 +101,10 @@ abbrev pub HasAnswer : Task → AffineProgram → List (List Value) → Type 0
 HasAnswer checks program values = ⊤
 HasAnswer (evaluates s named) program values = (sizes : List ℤ) × (values_for program.parameters named ≡ Some sizes)
     × IsAdmitted program sizes × (¬ HasWideBranch sizes s values)
+HasAnswer (shares processors s named) program values = (sizes : List ℤ) × (values_for program.parameters named ≡ Some sizes)
+    × IsAdmitted program sizes × (¬ HasWideParallelBranch sizes processors s values)
+HasAnswer (levels capacities named) program values = (sizes : List ℤ) × (values_for program.parameters named ≡ Some sizes)
+    × IsAdmitted program sizes × (¬ IsWideAtLevels sizes capacities values)
 
 -- A call about a certificate of which all conditions hold, and that can be answered with the values that the conditions give, ends
 -- with 0 or for want of memory, where it wasn't disturbed. For `check` there is no more to be answered.
@@ -126,6 +136,26 @@ abbrev pub PlayableSchedulesPass : Type 0
 PlayableSchedulesPass = (call : Call) (request : Request) (s : ℕ) (named : List NamedSize) (program : AffineProgram) (schedule : List (List Key)) (sizes : List ℤ) (order : List ℕ)
     (left : CallUse) (status : Status)
     → ReadsSchedule call request s named program schedule → values_for program.parameters named ≡ Some sizes → CanBePlayed program schedule sizes s order
+    → Outcome status call left → IsUndisturbed left → (status ≡ Done) ⊎ (status ≡ NoMemory)
+
+-- ---- moves over levels of memory
+
+-- The words make this request, to play moves over levels, and its two files hold this program and these moves.
+pub record ReadsMoves (call : Call) (request : Request) (capacities : List ℕ) (named : List NamedSize) (program : AffineProgram) (moves : List TowerMove) : Type 0 where
+  pub map : FileMap
+  pub told : call.files ≡ Some map
+  pub asked : request_of call.words ≡ Some request
+  pub climbs_it : request.work ≡ climbs capacities named
+  pub holds_program : HoldsProgram call.files (file_at request.files 0) program
+  pub holds_moves : HoldsMoves call.files (file_at request.files 1) moves
+
+-- A call about moves that are a complete play at sizes whose graph is within reach ends with 0 or for want of memory, where it wasn't
+-- disturbed.
+abbrev pub CompletePlaysPass : Type 0
+CompletePlaysPass = (call : Call) (request : Request) (capacities : List ℕ) (named : List NamedSize) (program : AffineProgram) (moves : List TowerMove) (sizes : List ℤ)
+    (left : CallUse) (status : Status)
+    → ReadsMoves call request capacities named program moves → values_for program.parameters named ≡ Some sizes → AreMet program.assumptions sizes → IsWithinReach program sizes
+    → IsCompleteTower (computation_graph program sizes) capacities moves
     → Outcome status call left → IsUndisturbed left → (status ≡ Done) ⊎ (status ≡ NoMemory)
 
 -- ---- readable programs

@@ -7,14 +7,16 @@ use Rattle.claims.specs.declared.place.Step.{Step}
 use Rattle.tile_sched.specs.declared.unplayed.Unplayed.{Unplayed as NoPlay}
 use Rattle.tile_sched.specs.declared.unplayed.Unplayed.TheVariants.{Assumption, TooMany, OutOfOrder, TooSmall}
 use Rattle.iolb_commands.specs.declared.stop.OtherFault.{OtherFault}
-use Rattle.iolb_commands.specs.declared.stop.OtherFault.TheVariants.{Certificate, Schedule}
+use Rattle.iolb_commands.specs.declared.stop.OtherFault.TheVariants.{Certificate, Schedule, Moves}
 use Rattle.iolb_commands.specs.declared.stop.Refusal.{Refusal}
-use Rattle.iolb_commands.specs.declared.stop.Refusal.TheVariants.{Assumption as OutsideAssumption, Condition, Unplayed as NotPlayed}
+use Rattle.iolb_commands.specs.declared.stop.Refusal.TheVariants.{Assumption as OutsideAssumption, Condition, Unplayed as NotPlayed, TooMany as OutOfReach, Illegal, NotComplete}
 use Rattle.iolb_commands.specs.PointerText.{pointer_text}
+use Rattle.memory_levels.specs.declared.illegal.TowerIllegal.{TowerIllegal}
+use Rattle.memory_levels.specs.Towers.{illegal_number}
 
 -- the usage text
 abbrev pub usage : List ℕ
-usage = codes "usage: iolb check PROGRAM CERTIFICATE\n       iolb bound PROGRAM\n       iolb eval PROGRAM CERTIFICATE S NAME=NUMBER...\n       iolb replay PROGRAM SCHEDULE S NAME=NUMBER...\n       iolb sample N\n"
+usage = codes "usage: iolb check PROGRAM CERTIFICATE\n       iolb bound PROGRAM\n       iolb eval PROGRAM CERTIFICATE S NAME=NUMBER...\n       iolb replay PROGRAM SCHEDULE S NAME=NUMBER...\n       iolb sample N\n       iolb parallel PROGRAM CERTIFICATE P S NAME=NUMBER...\n       iolb levels PROGRAM CERTIFICATE CAPS NAME=NUMBER...\n       iolb climb PROGRAM MOVES CAPS NAME=NUMBER...\n"
 
 abbrev pub out_of_memory : List ℕ
 out_of_memory = codes "out of memory\n"
@@ -37,10 +39,15 @@ place_part number place = if number == 1 then codes "" else codes " at " ++ poin
 abbrev pub text_line : List ℕ → ℕ → List Step → List ℕ
 text_line words number place = words ++ decimal number ++ place_part number place ++ codes "\n"
 
+-- the first line that is none of a move, by its first byte
+abbrev pub moves_line : ℕ → List ℕ
+moves_line place = codes "moves text refused: fault 1 at byte " ++ decimal place ++ codes "\n"
+
 -- the fault of a text other than the program's
 abbrev pub other_line : OtherFault → List ℕ
 other_line (Certificate fault) = text_line (codes "certificate text refused: fault ") fault.number fault.place
 other_line (Schedule fault) = text_line (codes "schedule text refused: fault ") fault.number fault.place
+other_line (Moves place) = moves_line place
 
 abbrev pub condition_line : ℕ → List Step → List ℕ
 condition_line condition place = codes "certificate refused: condition " ++ decimal condition ++ codes " at " ++ pointer_text place ++ codes "\n"
@@ -53,10 +60,22 @@ assumption_line number = codes "assumption " ++ decimal number ++ codes " is fal
 abbrev pub wide_line : List ℕ
 wide_line = codes "value beyond 128 bits\n"
 
+-- a graph is out of reach
+abbrev pub too_many_line : List ℕ
+too_many_line = codes "too many vertices\n"
+
+-- the first move that isn't allowed, by its line from 1
+abbrev pub illegal_line : ℕ → TowerIllegal → List ℕ
+illegal_line line illegal = codes "illegal move " ++ decimal (illegal_number illegal) ++ codes " at line " ++ decimal line ++ codes "\n"
+
+-- the first instance that a play leaves unfinished
+abbrev pub not_complete_line : ℕ → List ℕ
+not_complete_line vertex = codes "not complete: " ++ decimal vertex ++ codes "\n"
+
 -- why a schedule isn't played
 abbrev pub unplayed_line : NoPlay → List ℕ
 unplayed_line (Assumption number) = assumption_line number
-unplayed_line TooMany = codes "too many vertices\n"
+unplayed_line TooMany = too_many_line
 unplayed_line (OutOfOrder vertex source) = codes "out of order: " ++ decimal vertex ++ codes " before " ++ decimal source ++ codes "\n"
 unplayed_line (TooSmall vertex need) = codes "too small: " ++ decimal vertex ++ codes " needs " ++ decimal need ++ codes "\n"
 
@@ -65,3 +84,6 @@ abbrev pub refusal_line : Refusal → List ℕ
 refusal_line (Condition failed) = condition_line failed.condition failed.place
 refusal_line (OutsideAssumption number) = assumption_line number
 refusal_line (NotPlayed unplayed) = unplayed_line unplayed
+refusal_line OutOfReach = too_many_line
+refusal_line (Illegal line illegal) = illegal_line line illegal
+refusal_line (NotComplete vertex) = not_complete_line vertex

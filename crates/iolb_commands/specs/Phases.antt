@@ -1,16 +1,18 @@
 -- What a request comes to, phase by phase. Each phase stops the work for a cause, or finds something and hands it on.
-use Rattle.std.specs.Prelude.{◌≡◌, ⊤, ℕ, ℤ, List, [], Option, Some, None}
+use Rattle.std.specs.Prelude.{◌≡◌, ⊤, ℕ, ℤ, List, [], length, Option, Some, None}
 use Rattle.iolb_model.specs.Bound.{AreMet}
 use Rattle.iolb_model.specs.Form.{AffineForm}
-use Rattle.iolb_model.specs.Graph.{computation_graph}
+use Rattle.iolb_model.specs.Graph.{ComputationGraph, computation_graph}
 use Rattle.iolb_model.specs.Headline.{BoundHolds}
 use Rattle.iolb_model.specs.Printed.{bound_text}
 use Rattle.iolb_model.specs.Program.{AffineProgram}
+use Rattle.iolb_model.specs.Tower.{IsCompleteTower, tower_left}
+use Rattle.iolb_model.specs.declared.tower.TowerMove.{TowerMove}
 use Rattle.affine_c.specs.Meaning.{HasFault}
 use Rattle.affine_program.specs.Assumptions.{IsFirstUnmet}
 use Rattle.c_grammar.specs.Program.{Means}
 use Rattle.claims.specs.Claims.{FirstFails}
-use Rattle.command_words.specs.Requests.{Request, Task, checks, evaluates, Work, judges, replays, bounds, file_at}
+use Rattle.command_words.specs.Requests.{Request, Task, checks, evaluates, shares, levels, Work, judges, replays, climbs, bounds, file_at}
 use Rattle.iolb_cert.specs.OneCertificate.{HasCertificate}
 use Rattle.iolb_cert.specs.Texts.{IsTextFault}
 use Rattle.iolb_check.specs.declared.bound.Value.{Value}
@@ -18,19 +20,26 @@ use Rattle.iolb_check.specs.Bounds.{HasWideBranch}
 use Rattle.iolb_check.specs.Conditions.{MeetsConditions, conditions}
 use Rattle.iolb_host.specs.declared.files.FileFault.{FileFault}
 use Rattle.iolb_host.specs.Files.{FileMap}
+use Rattle.loop_graph.specs.Builds.{IsWithinReach}
+use Rattle.memory_levels.specs.declared.illegal.TowerIllegal.{TowerIllegal}
+use Rattle.memory_levels.specs.Climbs.{AreLegal, IsFirstIllegal}
+use Rattle.memory_levels.specs.MovesText.{IsFirstBadLine, IsMovesText}
+use Rattle.memory_levels.specs.Towers.{IsFirstUnfinished}
+use Rattle.memory_levels.specs.Values.{IsWideAtLevels}
+use Rattle.parallel_bound.specs.Widths.{HasWideParallelBranch}
 use Rattle.pebble_replay.specs.Played.{played}
 use Rattle.tile_sched.specs.Lines.{play_text}
 use Rattle.tile_sched.specs.OneSchedule.{IsTextFault as IsScheduleFault}
 use Rattle.tile_sched.specs.Plays.{CanBePlayed, IsUnplayed}
 use Rattle.tile_sched.specs.Texts.{IsTextOf}
-use Rattle.iolb_commands.specs.declared.stop.OtherFault.TheVariants.{Certificate, Schedule}
-use Rattle.iolb_commands.specs.declared.stop.Refusal.TheVariants.{Assumption, Condition, Unplayed}
+use Rattle.iolb_commands.specs.declared.stop.OtherFault.TheVariants.{Certificate, Schedule, Moves}
+use Rattle.iolb_commands.specs.declared.stop.Refusal.TheVariants.{Assumption, Condition, Unplayed, TooMany, Illegal, NotComplete}
 use Rattle.iolb_commands.specs.declared.stop.Stop.{Stop}
 use Rattle.iolb_commands.specs.declared.stop.Stop.TheVariants.{Words, File, ProgramText, OtherText, Refused, Wide, Memory}
 use Rattle.iolb_commands.specs.Bounded.{IsBounded}
 use Rattle.iolb_commands.specs.Reading.{FaultCause, IsContent}
-use Rattle.iolb_commands.specs.Task.{bound_with}
-use Rattle.iolb_commands.specs.Values.{values_text}
+use Rattle.iolb_commands.specs.Task.{HoldsFor, bound_with}
+use Rattle.iolb_commands.specs.Values.{climb_text, levels_text, parallel_text, values_text}
 use Rattle.iolb_commands.specs.Works.{most_bytes, sizes_for}
 
 -- How work ends: it stops, or a text answers it, with a note for the standard error.
@@ -82,6 +91,12 @@ TaskComes checks program sizes values =
 TaskComes (evaluates s named) program sizes values =
     AtSizes program.assumptions sizes (Narrow (HasWideBranch sizes s values)
     (Says (BoundHolds program (bound_with program values)) (values_text (bound_with program values) sizes s)))
+TaskComes (shares processors s named) program sizes values =
+    AtSizes program.assumptions sizes (Narrow (HasWideParallelBranch sizes processors s values)
+    (Says (HoldsFor (shares processors s named) program (bound_with program values)) (parallel_text processors (bound_with program values) sizes s)))
+TaskComes (levels capacities named) program sizes values =
+    AtSizes program.assumptions sizes (Narrow (IsWideAtLevels sizes capacities values)
+    (Says (HoldsFor (levels capacities named) program (bound_with program values)) (levels_text (bound_with program values) sizes capacities)))
 
 -- a certificate: its text, the conditions, the task
 abbrev pub CertificateComes : Task → AffineProgram → List ℤ → List ℕ → End → Type 0
@@ -95,10 +110,24 @@ ScheduleComes s program sizes bytes = Phase (IsScheduleFault program bytes) (λ 
     (λ schedule. Phase (IsUnplayed program schedule sizes s) (λ unplayed. Refused (Unplayed unplayed)) (CanBePlayed program schedule sizes s)
     (λ order. Says ⊤ (play_text (played (computation_graph program sizes) s order))))
 
+-- moves over levels of memory on a graph: that each is allowed, and that they are a complete play
+abbrev pub ClimbComes : List ℕ → ComputationGraph → List TowerMove → End → Type 0
+ClimbComes capacities graph moves = Phase (λ (refused : ℕ × TowerIllegal). IsFirstIllegal graph capacities moves refused.0 refused.1) (λ refused. Refused (Illegal refused.0 refused.1))
+    (λ (legal : ⊤). AreLegal graph capacities moves)
+    (λ _. Phase (IsFirstUnfinished graph (length capacities) (tower_left graph capacities moves)) (λ vertex. Refused (NotComplete vertex))
+    (λ (complete : ⊤). IsCompleteTower graph capacities moves) (λ _. Says ⊤ (climb_text capacities moves)))
+
+-- a text of moves: its lines, the assumptions, the graph, and the play
+abbrev pub MovesCome : List ℕ → AffineProgram → List ℤ → List ℕ → End → Type 0
+MovesCome capacities program sizes bytes = Phase (IsFirstBadLine bytes) (λ place. OtherText (Moves place)) (IsMovesText bytes)
+    (λ moves. AtSizes program.assumptions sizes (Phase (λ (many : ⊤). ¬ IsWithinReach program sizes) (λ _. Refused TooMany)
+    (λ (few : ⊤). IsWithinReach program sizes) (λ _. ClimbComes capacities (computation_graph program sizes) moves)))
+
 -- the work on a program, at the sizes that the words give
 abbrev pub WorkComes : Option FileMap → List (List ℕ) → Work → AffineProgram → List ℤ → End → Type 0
 WorkComes files names (judges task) program sizes = FileComes files names (judges task) 1 (CertificateComes task program sizes)
 WorkComes files names (replays s named) program sizes = FileComes files names (replays s named) 1 (ScheduleComes s program sizes)
+WorkComes files names (climbs capacities named) program sizes = FileComes files names (climbs capacities named) 1 (MovesCome capacities program sizes)
 WorkComes files names bounds program sizes = Answered (IsBounded program)
 
 -- the names of the program's parameters, and the work

@@ -1,15 +1,18 @@
 -- What work asks for: sizes, the length of its files, and how its answer is written.
 use Rattle.std.specs.Prelude.{◌≡◌, ◌==◌, if◌then◌else◌, ℕ, ℤ, List, [], Option, Some}
-use Rattle.command_words.specs.Requests.{checks, evaluates, Work, judges, replays, bounds}
+use Rattle.command_words.specs.Requests.{checks, evaluates, shares, levels, Work, judges, replays, climbs, bounds}
 use Rattle.command_words.specs.Sizes.{values_for}
-use Rattle.iolb_model.specs.declared.limits.TheConstants.{CERTIFICATE_BYTES, PROGRAM_BYTES, SCHEDULE_BYTES}
+use Rattle.iolb_model.specs.declared.limits.TheConstants.{CERTIFICATE_BYTES, MOVES_BYTES, PROGRAM_BYTES, SCHEDULE_BYTES}
 
 -- The sizes that it gives to parameters with these names, where it names each exactly once and nothing else: to none where no
 -- sizes are asked for.
 abbrev pub sizes_for : Work → List (List ℕ) → Option (List ℤ)
 sizes_for (judges checks) names = Some []
 sizes_for (judges (evaluates s named)) names = values_for names named
+sizes_for (judges (shares processors s named)) names = values_for names named
+sizes_for (judges (levels capacities named)) names = values_for names named
 sizes_for (replays s named) names = values_for names named
+sizes_for (climbs capacities named) names = values_for names named
 sizes_for bounds names = Some []
 
 abbrev pub HasSizes : Work → List (List ℕ) → Type 0
@@ -19,6 +22,7 @@ HasSizes work names = (sizes : List ℤ) × (sizes_for work names ≡ Some sizes
 abbrev pub second_bytes : Work → ℕ
 second_bytes (judges task) = CERTIFICATE_BYTES
 second_bytes (replays s named) = SCHEDULE_BYTES
+second_bytes (climbs capacities named) = MOVES_BYTES
 second_bytes bounds = 0
 
 -- how many bytes the file at a place of the words may have
@@ -34,4 +38,5 @@ pub data Form : Type 0 where
 abbrev pub form_of : Work → Form
 form_of (judges task) = whole
 form_of (replays s named) = by_lines
+form_of (climbs capacities named) = whole
 form_of bounds = with_note

@@ -8,6 +8,7 @@ ghost use Rattle.affine_program.specs.Parts.{meaning};
 ghost use Rattle.affine_form.specs.Form.{IsSmall};
 ghost use Rattle.command_words.specs.Requests.{IsSmallJob, judges, task_of};
 ghost use Rattle.iolb_model.specs.Headline.{BoundHolds};
+ghost use Rattle.iolb_model.specs.Parallel.{HoldsInParallel};
 ghost use Rattle.iolb_check.specs.declared.bound.Value.{Value as value};
 ghost use Rattle.iolb_check.specs.Bounds.{HasWideBranch, bound_of, terms_of};
 ghost use Rattle.iolb_commands.specs.Phases.{AtSizes, Narrow, Says, TaskComes};
@@ -18,6 +19,8 @@ ghost use Rattle.iolb_commands.specs.Written.{IsOfWork, answer_form, end_of};
 ghost use Rattle.iolb_model.specs.declared.limits.TheConstants.{VALUE_SIZE};
 
 use crate::answered::Answer;
+use crate::levelling::levels_answer;
+use crate::sharing::parallel_answer;
 use crate::stop::{Refusal, Stop};
 use affine_form::Memory;
 use affine_program::Program;
@@ -36,6 +39,7 @@ pub(crate) fn answer(
 ) -> Result<Answer, Stop>
     requires assumed { bound.now.assumed ≡ program.now.assumed }
     requires holds { BoundHolds (meaning program.now) (bound_of bound.now) }
+    requires parallel { HoldsInParallel (meaning program.now) (bound_of bound.now) }
     requires job { IsSmallJob job.now }
     requires given { sizes_for (judges (task_of job.now)) program.now.params ≡ Some sizes.now }
     requires small { AllByRecursion (IsSmall VALUE_SIZE) sizes.now }
@@ -50,6 +54,11 @@ pub(crate) fn answer(
             Err(Memory) => Err(Stop::Memory),
         },
         Job::Eval(setting) => valued(alloc, bound, sizes, setting.memory),
+        Job::Parallel {
+            processors,
+            setting,
+        } => parallel_answer(alloc, bound, sizes, *processors, setting.memory),
+        Job::Levels(setting) => levels_answer(alloc, bound, sizes, setting.capacities.as_slice()),
     }
 }
 

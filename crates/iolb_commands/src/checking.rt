@@ -19,6 +19,7 @@ use claims::Refused;
 use command_words::Job;
 use iolb_cert::{CertError, read_certificate};
 use iolb_check::check;
+use parallel_bound::holds::accepted_bounds_hold_in_parallel;
 use std::alloc::Global;
 
 /// Reads a certificate from its text, checks it for the program, and answers the job.
@@ -41,6 +42,8 @@ pub(crate) fn judged(
         Err(CertError::Fault(fault)) => return Err(Stop::OtherText(OtherFault::Certificate(fault))),
         Err(CertError::Memory) => return Err(Stop::Memory),
     };
+    accepted_bounds_hold_in_parallel();
+    let _params = program.params();
     match check(alloc, program, &certificate) {
         Ok(bound) => answer(alloc, program, &bound, job, sizes),
         Err(Refused::Failed(failed)) => Err(Stop::Refused(Refusal::Condition(failed))),

@@ -1,5 +1,6 @@
 //! What `iolb` does when it is called: it makes certificates of lower bounds on the loads of affine loop nests, checks
-//! certificates, evaluates them, and plays schedules of the nests, whose loads are upper bounds.
+//! certificates, evaluates them, for one processor, several, or levels of memory, and plays schedules of the nests and moves over
+//! levels of memory, whose loads are upper bounds.
 #![tactic(auto)]
 
 mod answer;
@@ -7,11 +8,14 @@ mod answered;
 mod bounding;
 mod call;
 mod checking;
+mod climbing;
 mod law;
+mod levelling;
 mod lines;
 mod playing;
 mod pointer_text;
 mod requests;
+mod sharing;
 mod status;
 mod stop;
 mod system;

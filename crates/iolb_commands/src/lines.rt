@@ -1,7 +1,7 @@
 //! The lines that are written to the standard error.
 
 ghost use Rattle.std.specs.Prelude.{◌≡◌, ◌++◌, ℕ, codes, decimal, IfOk};
-ghost use Rattle.iolb_commands.specs.Lines.{usage, out_of_memory, file_line as line_of_file, program_line as line_of_program, place_part as part_of_place, text_line as line_of_text, other_line as line_of_other, refusal_line as line_of_refusal, condition_line as line_of_condition, assumption_line as line_of_assumption, unplayed_line as line_of_unplayed};
+ghost use Rattle.iolb_commands.specs.Lines.{usage, out_of_memory, file_line as line_of_file, program_line as line_of_program, place_part as part_of_place, text_line as line_of_text, other_line as line_of_other, refusal_line as line_of_refusal, condition_line as line_of_condition, assumption_line as line_of_assumption, unplayed_line as line_of_unplayed, moves_line as line_of_moves, illegal_line as line_of_illegal, not_complete_line as line_of_not_complete};
 ghost use Rattle.command_words.specs.Requests.{bytes_of};
 ghost use Rattle.iolb_commands.specs.Stop.{stop_line as line_of_stop};
 
@@ -13,11 +13,12 @@ use claims::{FailedCondition, Place};
 use command_words::file_at;
 use iolb_cert::CertFault;
 use iolb_host::FileFault;
+use memory_levels::TowerIllegal;
 use std::alloc::Global;
 use tile_sched::{SchedFault, Unplayed};
 
 const USAGE: &[u8] =
-    b"usage: iolb check PROGRAM CERTIFICATE\n       iolb bound PROGRAM\n       iolb eval PROGRAM CERTIFICATE S NAME=NUMBER...\n       iolb replay PROGRAM SCHEDULE S NAME=NUMBER...\n       iolb sample N\n";
+    b"usage: iolb check PROGRAM CERTIFICATE\n       iolb bound PROGRAM\n       iolb eval PROGRAM CERTIFICATE S NAME=NUMBER...\n       iolb replay PROGRAM SCHEDULE S NAME=NUMBER...\n       iolb sample N\n       iolb parallel PROGRAM CERTIFICATE P S NAME=NUMBER...\n       iolb levels PROGRAM CERTIFICATE CAPS NAME=NUMBER...\n       iolb climb PROGRAM MOVES CAPS NAME=NUMBER...\n";
 
 /// The line for a value beyond 128 bits.
 const WIDE: &[u8] = b"value beyond 128 bits\n";
@@ -77,6 +78,14 @@ fn text_line(alloc: Global, words: &[u8], number: u8, place: &Place) -> Result<V
     Ok(line)
 }
 
+/// The first line that is none of a move, by its first byte.
+fn moves_line(alloc: Global, place: u64) -> Result<Vec<u8>, Memory>
+    ensures { IfOk result (λ line. line.items ≡ line_of_moves place) }
+{
+    let line = format!(in alloc; "moves text refused: fault 1 at byte {place}\n")?;
+    Ok(Vec::from_slice(alloc, line.as_bytes())?)
+}
+
 /// The fault of a text other than the program's.
 fn other_line(alloc: Global, fault: &OtherFault) -> Result<Vec<u8>, Memory>
     ensures { IfOk result (λ line. line.items ≡ line_of_other fault.now) }
@@ -88,6 +97,7 @@ fn other_line(alloc: Global, fault: &OtherFault) -> Result<Vec<u8>, Memory>
         OtherFault::Schedule(SchedFault { number, place }) => {
             text_line(alloc, b"schedule text refused: fault ", *number, place)
         }
+        OtherFault::Moves(place) => moves_line(alloc, *place),
     }
 }
 
@@ -127,6 +137,23 @@ fn need_line(alloc: Global, vertex: u32, need: u64) -> Result<Vec<u8>, Memory>
     Ok(Vec::from_slice(alloc, line.as_bytes())?)
 }
 
+/// The first move that isn't allowed, by its line.
+fn illegal_line(alloc: Global, line: u64, illegal: TowerIllegal) -> Result<Vec<u8>, Memory>
+    ensures { IfOk result (λ text. text.items ≡ line_of_illegal line illegal) }
+{
+    let number = illegal.number();
+    let text = format!(in alloc; "illegal move {number} at line {line}\n")?;
+    Ok(Vec::from_slice(alloc, text.as_bytes())?)
+}
+
+/// The first instance that a play leaves unfinished.
+fn not_complete_line(alloc: Global, vertex: u32) -> Result<Vec<u8>, Memory>
+    ensures { IfOk result (λ line. line.items ≡ line_of_not_complete vertex) }
+{
+    let line = format!(in alloc; "not complete: {vertex}\n")?;
+    Ok(Vec::from_slice(alloc, line.as_bytes())?)
+}
+
 /// Why a schedule isn't played.
 fn unplayed_line(alloc: Global, unplayed: Unplayed) -> Result<Vec<u8>, Memory>
     ensures { IfOk result (λ line. line.items ≡ line_of_unplayed unplayed) }
@@ -147,6 +174,9 @@ fn refusal_line(alloc: Global, refusal: &Refusal) -> Result<Vec<u8>, Memory>
         Refusal::Condition(failed) => condition_line(alloc, failed),
         Refusal::Assumption(number) => assumption_line(alloc, *number),
         Refusal::Unplayed(unplayed) => unplayed_line(alloc, *unplayed),
+        Refusal::TooMany => Ok(Vec::from_slice(alloc, TOO_MANY)?),
+        Refusal::Illegal { line, illegal } => illegal_line(alloc, *line, *illegal),
+        Refusal::NotComplete(vertex) => not_complete_line(alloc, *vertex),
     }
 }
 

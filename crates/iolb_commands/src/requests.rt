@@ -15,6 +15,7 @@ ghost use Rattle.iolb_model.specs.declared.limits.TheConstants.{VALUE_SIZE};
 use crate::answered::Answer;
 use crate::bounding::bounded;
 use crate::checking::judged;
+use crate::climbing::climb_answer;
 use crate::playing::readied;
 use crate::stop::Stop;
 use affine_c::{ProgramError, read_program};
@@ -35,6 +36,7 @@ fn most_bytes(work: &Work, place: usize) -> u64
     match work {
         Work::Judge(_) => limits::CERTIFICATE_BYTES as u64,
         Work::Replay(_) => limits::SCHEDULE_BYTES as u64,
+        Work::Climb(_) => limits::MOVES_BYTES as u64,
         Work::Bound => 0,
     }
 }
@@ -64,7 +66,10 @@ fn sizes_for(alloc: Global, names: &[Name], work: &Work) -> Result<Option<Vec<i6
     ensures small { IfOk result (λ found. IfSome found (λ sizes. AllByRecursion (IsSmall VALUE_SIZE) sizes.items)) }
 {
     match work {
-        Work::Judge(Job::Eval(setting)) | Work::Replay(setting) => {
+        Work::Judge(Job::Eval(setting) | Job::Parallel { setting, .. }) | Work::Replay(setting) => {
+            values_for(alloc, names, setting.sizes.as_slice())
+        }
+        Work::Judge(Job::Levels(setting)) | Work::Climb(setting) => {
             values_for(alloc, names, setting.sizes.as_slice())
         }
         Work::Judge(Job::Check) | Work::Bound => Ok(Some(Vec::new(alloc))),
@@ -96,6 +101,16 @@ fn work_at<F: Files>(
         Work::Replay(setting) => {
             let bytes = read_at(command, 1, files)?;
             readied(alloc, program, setting.memory, sizes, bytes.as_slice())
+        }
+        Work::Climb(setting) => {
+            let bytes = read_at(command, 1, files)?;
+            climb_answer(
+                alloc,
+                program,
+                setting.capacities.as_slice(),
+                sizes,
+                bytes.as_slice(),
+            )
         }
         Work::Bound => bounded(alloc, program),
     }

@@ -8,6 +8,7 @@ use affine_c::ProgramFault;
 use claims::FailedCondition;
 use iolb_cert::CertFault;
 use iolb_host::FileFault;
+use memory_levels::TowerIllegal;
 use tile_sched::{SchedFault, Unplayed};
 
 /// A fault of a text other than the program's.
@@ -15,6 +16,8 @@ use tile_sched::{SchedFault, Unplayed};
 pub enum OtherFault {
     Certificate(CertFault),
     Schedule(SchedFault),
+    /// The first line that is none of a move begins at this byte.
+    Moves(u64),
 }
 
 /// Why what was read isn't answered.
@@ -26,6 +29,12 @@ pub enum Refusal {
     Assumption(u16),
     /// The schedule can't be played.
     Unplayed(Unplayed),
+    /// The computation graph is out of reach.
+    TooMany,
+    /// The move on this line, counted from 1, is the first that isn't allowed.
+    Illegal { line: u64, illegal: TowerIllegal },
+    /// The play leaves this instance unfinished, the first such.
+    NotComplete(u32),
 }
 
 /// Why a call of the program stops before it is done.

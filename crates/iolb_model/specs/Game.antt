@@ -81,6 +81,18 @@ is_load (Erase v) = false
 abbrev pub loads : List Move → ℕ
 loads moves = count_by is_load moves
 
+-- whether a move is a store
+abbrev pub is_store : Move → Bool
+is_store (Load v) = false
+is_store (Store v) = true
+is_store (Compute v) = false
+is_store (Drop v) = false
+is_store (Erase v) = false
+
+-- how many words the moves store
+abbrev pub stores : List Move → ℕ
+stores moves = count_by is_store moves
+
 -- whether a vertex stands in a set, which is given by its members
 abbrev pub stands_in : List ℕ → ℕ → Bool
 stands_in set vertex = is_member nat_eq set vertex

@@ -12,3 +12,5 @@ pub mod Bound
 pub mod Footprint
 pub mod Printed
 pub mod Headline
+pub mod Parallel
+pub mod Tower

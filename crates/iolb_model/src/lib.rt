@@ -4,3 +4,4 @@
 
 pub mod game;
 pub mod limits;
+pub mod tower;

@@ -73,7 +73,10 @@ pub const REGION_ROWS: usize = 16;
 pub const SCALE: u32 = 1 << 20;
 
 /// Terms of a branch, at most.
-pub const TERMS: usize = 16;
+pub const TERMS: usize = 32;
+
+/// Terms of an opening branch, at most.
+pub const OPENING_TERMS: usize = 16;
 
 /// Branches of a certificate, at most.
 pub const BRANCHES: usize = 8;
@@ -110,3 +113,15 @@ pub const CERTIFICATE_BYTES: usize = 64 << 20;
 
 /// The bytes of a schedule's file, at most.
 pub const SCHEDULE_BYTES: usize = 1 << 20;
+
+/// Processors of a parallel machine, at most.
+pub const PROCESSORS: u32 = 1 << 20;
+
+/// Fast levels of a memory, at most.
+pub const LEVELS: usize = 4;
+
+/// The bytes of a file of moves, at most.
+pub const MOVES_BYTES: usize = 64 << 20;
+
+/// Matrix products of a sample program, at most.
+pub const PRODUCTS: u8 = 32;

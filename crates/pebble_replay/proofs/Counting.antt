@@ -8,12 +8,12 @@ use Rattle.std.proofs.Math.Nat.{mul-le-mul}
 use Rattle.iolb_model.specs.declared.game.Move.{Move}
 use Rattle.iolb_model.specs.declared.game.Move.TheVariants.{Load, Store, Compute, Drop}
 use Rattle.iolb_model.specs.Graph.{ComputationGraph}
-use Rattle.iolb_model.specs.Game.{Board, marked, vertices, predecessors_at, first_board, final_board, is_load, loads}
+use Rattle.iolb_model.specs.Game.{Board, marked, vertices, predecessors_at, first_board, final_board, is_load, loads, is_store, stores}
 use Rattle.execution_laws.proofs.Ordered.{All-member}
 use Rattle.pebble_game.specs.Boards.{is_full}
 use Rattle.pebble_game.specs.Graphs.{IsWellFormedGraph, IsGraph}
 use Rattle.pebble_game.proofs.Marks.{standing-member}
-use Rattle.pebble_replay.specs.Played.{is_used, victim, moves_out, room_moves, load_moves, store_moves, compute_moves, instance_moves, moves_of_first, is_store, is_compute, stores, computes}
+use Rattle.pebble_replay.specs.Played.{is_used, victim, moves_out, room_moves, load_moves, store_moves, compute_moves, instance_moves, moves_of_first, is_compute, computes}
 use Rattle.pebble_replay.specs.Player.{moves_before, moves_at}
 use Rattle.pebble_replay.specs.Order.{HoldsEachOnce}
 use Rattle.pebble_replay.proofs.Moves.{final-append}

@@ -2,10 +2,10 @@
 use Rattle.std.proofs.Common.{◌≡◌, refl, sym, ◌∙◌, ap, subst, ℕ, suc, ◌+◌, ◌<◌, ◌^◌, List, drop, length, get_or, Some, None}
 use Rattle.iolb_model.specs.declared.game.Move.{Move}
 use Rattle.iolb_model.specs.Graph.{ComputationGraph}
-use Rattle.iolb_model.specs.Game.{Board, first_board, final_board, loads, is_load}
+use Rattle.iolb_model.specs.Game.{Board, first_board, final_board, loads, is_load, is_store, stores}
 use Rattle.pebble_game.specs.Boards.{PlayedBoard}
 use Rattle.pebble_game.specs.Graphs.{IsGraph}
-use Rattle.pebble_replay.specs.Played.{instance_moves, is_store, is_compute, stores, computes}
+use Rattle.pebble_replay.specs.Played.{instance_moves, is_compute, computes}
 use Rattle.pebble_replay.specs.Turns.{IsBetween}
 use Rattle.pebble_replay.specs.Player.{moves_before, moves_at, Holds, StandsFor, IsStopped}
 use Rattle.pebble_replay.specs.declared.counts.Counts.{Counts}

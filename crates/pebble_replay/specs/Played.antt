@@ -77,14 +77,7 @@ moves_of_first graph s (suc n) (v ∷ later) board =
 abbrev pub played : ComputationGraph → ℕ → List ℕ → List Move
 played graph s order = moves_of_first graph s (length order) order (first_board graph)
 
--- whether a move stores, and whether it computes
-abbrev pub is_store : Move → Bool
-is_store (Store v) = true
-is_store (Load v) = false
-is_store (Compute v) = false
-is_store (Drop v) = false
-is_store (Erase v) = false
-
+-- whether a move computes
 abbrev pub is_compute : Move → Bool
 is_compute (Compute v) = true
 is_compute (Load v) = false
@@ -92,9 +85,6 @@ is_compute (Store v) = false
 is_compute (Drop v) = false
 is_compute (Erase v) = false
 
--- how many words the moves store, and how many instances they compute
-abbrev pub stores : List Move → ℕ
-stores moves = count_by is_store moves
-
+-- how many instances the moves compute
 abbrev pub computes : List Move → ℕ
 computes moves = count_by is_compute moves

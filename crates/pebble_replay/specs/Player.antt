@@ -2,9 +2,9 @@
 use Rattle.std.specs.Prelude.{◌≡◌, ℕ, suc, ◌≤◌, List, length, drop, slice_index_or, Some, None}
 use Rattle.iolb_model.specs.declared.game.Move.{Move}
 use Rattle.iolb_model.specs.Graph.{ComputationGraph}
-use Rattle.iolb_model.specs.Game.{first_board, final_board, loads}
+use Rattle.iolb_model.specs.Game.{first_board, final_board, loads, stores}
 use Rattle.pebble_replay.specs.Order.{HoldsEachOnce, replay_fault}
-use Rattle.pebble_replay.specs.Played.{instance_moves, moves_of_first, stores, computes}
+use Rattle.pebble_replay.specs.Played.{instance_moves, moves_of_first, computes}
 use Rattle.pebble_replay.specs.Turns.{IsBetween}
 use Rattle.pebble_replay.specs.declared.hand.Hand.{Hand}
 use Rattle.pebble_replay.specs.declared.player.Player.{Player}

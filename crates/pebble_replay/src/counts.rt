@@ -1,8 +1,8 @@
 //! Counts of moves.
 
 ghost use Rattle.std.specs.Prelude.{◌≡◌, ◌+◌, ◌<◌, ◌^◌};
-ghost use Rattle.iolb_model.specs.Game.{loads};
-ghost use Rattle.pebble_replay.specs.Played.{stores, computes};
+ghost use Rattle.iolb_model.specs.Game.{loads, stores};
+ghost use Rattle.pebble_replay.specs.Played.{computes};
 
 use iolb_model::game::Move;
 

@@ -1,10 +1,10 @@
 //! Replays.
 
 ghost use Rattle.std.specs.Prelude.{◌≡◌, ◌⊎◌, ◌≤◌, None, Some, IfOk, IfErr, OnOk};
-ghost use Rattle.iolb_model.specs.Game.{IsCompletePebbling, loads};
+ghost use Rattle.iolb_model.specs.Game.{IsCompletePebbling, loads, stores};
 ghost use Rattle.pebble_replay.specs.declared.fault.ReplayFault.TheVariants.{Memory as WantOfMemory};
 ghost use Rattle.pebble_replay.specs.Order.{HoldsEachOnce, replay_fault};
-ghost use Rattle.pebble_replay.specs.Played.{played, stores, computes};
+ghost use Rattle.pebble_replay.specs.Played.{played, computes};
 
 use crate::fault::ReplayFault;
 use crate::played::Replay;

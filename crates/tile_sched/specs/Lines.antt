@@ -2,8 +2,8 @@
 use Rattle.std.specs.Prelude.{ℕ, List, ◌++◌, flat_map, codes, decimal}
 use Rattle.iolb_model.specs.declared.game.Move.{Move}
 use Rattle.iolb_model.specs.declared.game.Move.TheVariants.{Load, Store, Compute, Drop, Erase}
-use Rattle.iolb_model.specs.Game.{loads}
-use Rattle.pebble_replay.specs.Played.{stores, computes}
+use Rattle.iolb_model.specs.Game.{loads, stores}
+use Rattle.pebble_replay.specs.Played.{computes}
 
 -- words, a number, and the line's end
 abbrev pub number_line : List ℕ → ℕ → List ℕ

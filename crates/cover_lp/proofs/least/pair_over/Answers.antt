@@ -1,44 +1,23 @@
-use Rattle.std.proofs.Common.{◌≡◌, refl, sym, ◌∙◌, ap, subst, ℕ, List, length, replicate, arith}
-use Rattle.cover_lp.specs.Search.{Meets, Fills}
-use Rattle.cover_lp.proofs.Search.{found-none, found-some}
-use Rattle.cover_lp.proofs.Pairs.{meets-cover, fills-packing, no-lesser, no-pair}
+use Rattle.std.proofs.Common.{◌≡◌, ℕ, List}
+use Rattle.std.specs.Prelude.{◌≤◌, sum, Some, None, Ok, Err, IfOk, IfNone}
+use Rattle.cover_lp.specs.Cover.{IsPair}
+use Rattle.cover_lp.proofs.Pairs.{known-ratio, only-total, no-other}
 use Rattle.cover_lp.proofs.least.pair_over.Goals as goal
 
-pub loop-total-preserved : goal.loop-total-preserved
-loop-total-preserved c =
-    let needs : c.as_slice.result.now ≡ replicate c.args.d c.args.q = rw c.as_slice.ensures.value (c.in_ok-needs.ensures ∙ ap (λ (n : ℕ). replicate n c.args.q) c.from.ensures) in
-    no-lesser c.args.sets.now c.args.d c.args.q c.loop-total.total c.loop-total.invariant
-    (subst (λ (list : List ℕ). (found : List ℕ) → Meets c.args.sets.now list c.loop-total.total found → ⊥) needs
-    (found-none (Meets c.args.sets.now c.as_slice.result.now c.loop-total.total) c.in_ok-weights.field-0 c.in_default.is c.in_ok-weights.ensures))
+pub total_over-requires : goal.total_over-requires
+total_over-requires c = (known-ratio c.args.sets.now c.args.d c.args.ratio c.in-Some.ratio c.in-Some.is c.requires.known).positive
 
-pub returns-in_default-2-clause-none : goal.returns-in_default-2-clause-none
-returns-in_default-2-clause-none c =
-    let needs : c.as_slice.result.now ≡ replicate c.args.d c.args.q = rw c.as_slice.ensures.value (c.in_ok-needs.ensures ∙ ap (λ (n : ℕ). replicate n c.args.q) c.from.ensures) in
-    let rooms : c.as_slice-in-loop-total.result.now ≡ replicate (length c.args.sets.now) c.args.q = rw c.as_slice-in-loop-total.ensures.value c.in_ok-rooms.ensures in
-    let meets : Meets c.args.sets.now (replicate c.args.d c.args.q) c.loop-total.total c.in-Some.weights.items =
-    subst (λ (list : List ℕ). Meets c.args.sets.now list c.loop-total.total c.in-Some.weights.items) needs
-    (found-some (Meets c.args.sets.now c.as_slice.result.now c.loop-total.total) c.in_ok-weights.field-0 c.in-Some.weights c.in-Some.is c.in_ok-weights.ensures) in
-    λ weights packing small is_pair. no-pair c.args.sets.now c.args.d c.args.q c.loop-total.total c.in-Some.weights.items c.requires
-    (meets-cover c.args.sets.now c.args.d c.args.q c.loop-total.total c.in-Some.weights.items meets) meets.adds_up c.loop-total.invariant
-    (subst (λ (list : List ℕ). (found : List ℕ) → Fills c.args.sets.now list 0 c.args.d c.loop-total.total found → ⊥) rooms
-    (found-none (Fills c.args.sets.now c.as_slice-in-loop-total.result.now 0 c.args.d c.loop-total.total) c.in_ok-packing.field-0 c.in_default-2.is c.in_ok-packing.ensures))
-    weights packing is_pair
+pub returns-in-Some-total_over-clause-none : goal.returns-in-Some-total_over-clause-none
+returns-in-Some-total_over-clause-none c =
+    let ratio = known-ratio c.args.sets.now c.args.d c.args.ratio c.in-Some.ratio c.in-Some.is c.requires.known in
+    elim c.pair_of.result as (λ r. IfOk r (λ found. IfNone found ((weights packing : List ℕ) → sum weights ≡ c.in-Some-total_over.total → IsPair c.args.sets.now c.args.d c.args.q weights packing → ⊥))
+    → IfOk r (λ found. IfNone found ((weights packing : List ℕ) → sum weights ≤ 24 → IsPair c.args.sets.now c.args.d c.args.q weights packing → ⊥))) [
+      | Ok (Some cover) ↦ λ h. tt
+      | Ok None ↦ λ none weights packing small is_pair. only-total c.args.sets.now c.args.d c.args.q c.in-Some.ratio.total c.in-Some.ratio.q c.in-Some-total_over.total ratio c.in-Some-total_over.ensures.same none weights packing is_pair
+      | Err e ↦ λ h. tt
+    ] c.pair_of.ensures.none
 
-pub returns-in-loop-total-clause-some : goal.returns-in-loop-total-clause-some
-returns-in-loop-total-clause-some c =
-    let needs : c.as_slice.result.now ≡ replicate c.args.d c.args.q = rw c.as_slice.ensures.value (c.in_ok-needs.ensures ∙ ap (λ (n : ℕ). replicate n c.args.q) c.from.ensures) in
-    let rooms : c.as_slice-in-loop-total.result.now ≡ replicate (length c.args.sets.now) c.args.q = rw c.as_slice-in-loop-total.ensures.value c.in_ok-rooms.ensures in
-    let meets : Meets c.args.sets.now (replicate c.args.d c.args.q) c.loop-total.total c.in-Some.weights.items =
-    subst (λ (list : List ℕ). Meets c.args.sets.now list c.loop-total.total c.in-Some.weights.items) needs
-    (found-some (Meets c.args.sets.now c.as_slice.result.now c.loop-total.total) c.in_ok-weights.field-0 c.in-Some.weights c.in-Some.is c.in_ok-weights.ensures) in
-    let fills : Fills c.args.sets.now (replicate (length c.args.sets.now) c.args.q) 0 c.args.d c.loop-total.total c.in-Some-2.packing.items =
-    subst (λ (list : List ℕ). Fills c.args.sets.now list 0 c.args.d c.loop-total.total c.in-Some-2.packing.items) rooms
-    (found-some (Fills c.args.sets.now c.as_slice-in-loop-total.result.now 0 c.args.d c.loop-total.total) c.in_ok-packing.field-0 c.in-Some-2.packing c.in-Some-2.is c.in_ok-packing.ensures) in (
-      refl,
-      record {
-        cover = meets-cover c.args.sets.now c.args.d c.args.q c.loop-total.total c.in-Some.weights.items meets;
-        packs = fills-packing c.args.sets.now c.args.d c.args.q c.loop-total.total c.in-Some-2.packing.items fills;
-        equal = meets.adds_up ∙ sym fills.adds_up;
-      },
-      omega (arith, meets.adds_up, c.loop-total-test.true),
-    )
+pub returns-in-None-clause-none : goal.returns-in-None-clause-none
+returns-in-None-clause-none c =
+    let ratio = known-ratio c.args.sets.now c.args.d c.args.ratio c.in-Some.ratio c.in-Some.is c.requires.known in
+    no-other c.args.sets.now c.args.d c.args.q c.in-Some.ratio.total c.in-Some.ratio.q ratio c.in-None.ensures.none

@@ -6,7 +6,7 @@ use Rattle.command_words.specs.declared.command.Job.{Job}
 use Rattle.iolb_commands.specs.declared.stop.Stop.TheVariants.{Memory}
 use Rattle.iolb_commands.specs.Phases.{TaskComes, answers, stops, unsaid}
 use Rattle.iolb_commands.specs.Written.{end_of}
-use Rattle.iolb_commands.proofs.Tasks.{check_comes, values_come}
+use Rattle.iolb_commands.proofs.Tasks.{check_comes, levels_come, shares_come, values_come}
 use Rattle.iolb_commands.proofs.answer.answer.Goals as goal
 
 pub returns-in-Ok-clause-comes : goal.returns-in-Ok-clause-comes
@@ -23,3 +23,17 @@ returns-in-Eval-clause-comes c =
     subst (λ (job : Job). TaskComes (task_of job) (meaning c.args.program.now) c.args.sizes.now c.args.bound.now.branches (end_of c.valued.result)) (sym c.in-Eval.is)
     (values_come c.args.program.now c.args.bound.now c.args.sizes.now c.in-Eval.setting.memory (map named_of c.in-Eval.setting.sizes.items) (end_of c.valued.result)
     c.requires.assumed c.requires.holds c.valued.ensures.comes)
+
+pub returns-in-Parallel-clause-comes : goal.returns-in-Parallel-clause-comes
+returns-in-Parallel-clause-comes c =
+    let setting = c.in-Parallel.setting in
+    subst (λ (job : Job). TaskComes (task_of job) (meaning c.args.program.now) c.args.sizes.now c.args.bound.now.branches (end_of c.parallel_answer.result)) (sym c.in-Parallel.is)
+    (shares_come c.args.program.now c.args.bound.now c.args.sizes.now c.in-Parallel.processors setting.memory (map named_of setting.sizes.items) (end_of c.parallel_answer.result)
+    c.requires.assumed c.requires.holds c.requires.parallel c.parallel_answer.ensures.comes)
+
+pub returns-in-Levels-clause-comes : goal.returns-in-Levels-clause-comes
+returns-in-Levels-clause-comes c =
+    let setting = c.in-Levels.setting in
+    subst (λ (job : Job). TaskComes (task_of job) (meaning c.args.program.now) c.args.sizes.now c.args.bound.now.branches (end_of c.levels_answer.result)) (sym c.in-Levels.is)
+    (levels_come c.args.program.now c.args.bound.now c.args.sizes.now setting.capacities.items c.as_slice.result.now (map named_of setting.sizes.items) (end_of c.levels_answer.result)
+    c.requires.assumed c.requires.holds c.as_slice.ensures.value c.levels_answer.ensures.comes)

@@ -2,7 +2,7 @@ use Rattle.iolb_commands.proofs.Causes.{absent_programs, absent_seconds, causes_
 use Rattle.iolb_commands.proofs.Ends.{AreExact}
 use Rattle.iolb_commands.proofs.law.causes_are_answered.Goals as goal
 
-exact : goal.After-replays_are_one → AreExact
+exact : goal.After-plays_have_one_answer → AreExact
 exact c = record {
   one_program = c.texts_mean_one_program.ensures;
   one_certificate = c.texts_have_one_certificate.ensures;
@@ -15,6 +15,13 @@ exact c = record {
   one_order = c.replays_are_one.ensures.orders;
   one_unplayed = c.replays_are_one.ensures.refusals;
   played_or_refused = c.replays_are_one.ensures.apart;
+  one_list = c.texts_of_moves_are_exact.ensures.moves;
+  one_line = c.texts_of_moves_are_exact.ensures.fault;
+  moves_or_line = c.texts_of_moves_are_exact.ensures.apart;
+  one_illegal = c.plays_have_one_answer.ensures.illegal;
+  legal_or_not = c.plays_have_one_answer.ensures.legal;
+  one_unfinished = c.plays_have_one_answer.ensures.unfinished;
+  complete_or_not = c.plays_have_one_answer.ensures.complete;
 }
 
 pub returns-clause-words : goal.returns-clause-words

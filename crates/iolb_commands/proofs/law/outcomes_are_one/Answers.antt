@@ -1,9 +1,9 @@
 use Rattle.iolb_commands.proofs.Beside.{bounds_below}
-use Rattle.iolb_commands.proofs.One.{outcomes_one, valid_pass, others_never, playable_pass, readable_pass}
+use Rattle.iolb_commands.proofs.One.{outcomes_one, valid_pass, others_never, playable_pass, climbs_pass, readable_pass}
 use Rattle.iolb_commands.proofs.Ends.{AreExact}
 use Rattle.iolb_commands.proofs.law.outcomes_are_one.Goals as goal
 
-exact : goal.After-replays_are_one → AreExact
+exact : goal.After-plays_have_one_answer → AreExact
 exact c = record {
   one_program = c.texts_mean_one_program.ensures;
   one_certificate = c.texts_have_one_certificate.ensures;
@@ -16,6 +16,13 @@ exact c = record {
   one_order = c.replays_are_one.ensures.orders;
   one_unplayed = c.replays_are_one.ensures.refusals;
   played_or_refused = c.replays_are_one.ensures.apart;
+  one_list = c.texts_of_moves_are_exact.ensures.moves;
+  one_line = c.texts_of_moves_are_exact.ensures.fault;
+  moves_or_line = c.texts_of_moves_are_exact.ensures.apart;
+  one_illegal = c.plays_have_one_answer.ensures.illegal;
+  legal_or_not = c.plays_have_one_answer.ensures.legal;
+  one_unfinished = c.plays_have_one_answer.ensures.unfinished;
+  complete_or_not = c.plays_have_one_answer.ensures.complete;
 }
 
 pub returns-clause-one : goal.returns-clause-one
@@ -35,3 +42,6 @@ returns-clause-bounded c = readable_pass (exact c)
 
 pub returns-clause-below : goal.returns-clause-below
 returns-clause-below c = bounds_below c.replays_are_one.ensures.complete (exact c)
+
+pub returns-clause-climbed : goal.returns-clause-climbed
+returns-clause-climbed c = climbs_pass (exact c)

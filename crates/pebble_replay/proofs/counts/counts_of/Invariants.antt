@@ -1,6 +1,6 @@
 use Rattle.std.proofs.Common.{◌≡◌, take}
-use Rattle.iolb_model.specs.Game.{loads}
-use Rattle.pebble_replay.specs.Played.{stores, computes}
+use Rattle.iolb_model.specs.Game.{loads, stores}
+use Rattle.pebble_replay.specs.Played.{computes}
 use Rattle.pebble_replay.proofs.counts.counts_of.Given as goal
 
 abbrev pub invariant-loop-step : goal.invariant-loop-step

@@ -1,8 +1,8 @@
 use Rattle.std.proofs.Common.{refl, subst, ℕ}
 use Rattle.std.specs.Prelude.{OnOk, OnErr}
 use Rattle.iolb_host.specs.Sink.{AppendsPart, AppendsPiece}
-use Rattle.iolb_model.specs.Game.{loads}
-use Rattle.pebble_replay.specs.Played.{played, stores, computes}
+use Rattle.iolb_model.specs.Game.{loads, stores}
+use Rattle.pebble_replay.specs.Played.{played, computes}
 use Rattle.tile_sched.specs.Lines.{moves_text, totals_text}
 use Rattle.tile_sched.proofs.Pieces.{on_err, on_err_so, on_ok_so, part_last, part_of, piece_on}
 use Rattle.tile_sched.proofs.writing.put_lines.Goals as goal

@@ -1,6 +1,6 @@
 use Rattle.std.proofs.Common.{refl, sym, ◌∙◌, ap, subst, ℕ, ◌+◌, ◌<◌, ◌^◌, Some, arith, add-one}
-use Rattle.iolb_model.specs.Game.{loads}
-use Rattle.pebble_replay.specs.Played.{stores, computes}
+use Rattle.iolb_model.specs.Game.{loads, stores}
+use Rattle.pebble_replay.specs.Played.{computes}
 use Rattle.pebble_replay.specs.Player.{StandsFor}
 use Rattle.pebble_replay.specs.declared.player.Player.{Player}
 use Rattle.pebble_replay.proofs.Stepping.{going, holds-here, loads-fit, stores-fit, computes-fit, stands-next}

@@ -1,0 +1,7 @@
+pub mod Unions
+pub mod Held
+pub mod Sight
+pub mod Towers
+pub mod Reading
+pub mod Climbing
+pub mod LevelValues

@@ -1,0 +1,295 @@
+-- Lines of moves, and what they say.
+use Rattle.std.proofs.Common.{◌≡◌, ◌≢◌, refl, sym, ◌∙◌, ap, subst, inl, inr, ℕ, zero, suc, ◌+◌, ◌-◌, ◌*◌, ◌<◌, ◌≤◌, ◌^◌, ◌==◌, Bool, true, false, cond, not, ltb, List, [], ◌∷◌, ◌++◌, length, get_or, take, drop, codes, decimal, Option, Some, None, MatchOption, position, arith}
+use Rattle.std.specs.Prelude.{◌⊎◌, IsTrue, MatchBool, nat_eq}
+use Rattle.std.specs.List.{AllByRecursion, position_or_len}
+use Rattle.std.specs.Char.{IsAsciiDigit, IsNotAsciiDigit, digit_value}
+use Rattle.std.specs.Str.Parse.{AllDigits, digits_value, digits_value_after}
+use Rattle.std.proofs.lemmas.Bool.{eqb-true, ne_eqb, eq-eqb, ltb-false}
+use Rattle.std.proofs.lemmas.List.{append_assoc, append_cancel_left, length-append, length-take, take_all}
+use Rattle.std.proofs.lemmas.List.Sums.{prefix_len_passes}
+use Rattle.std.proofs.lemmas.List.Quantifiers.{position-Some}
+use Rattle.std.proofs.lemmas.Fmt.{decimal_is_IsNumeral, decimal_digit, decimal_injective, decimal_nonempty, first_decimal, decimal-digits_value}
+use Rattle.std.proofs.lemmas.Str.{digit_value_digit}
+use Rattle.std.proofs.lemmas.Str.Parse.{digit_from_value, numerals_by_value, tells_digits}
+use Rattle.iolb_model.specs.declared.tower.TowerMove.{TowerMove}
+use Rattle.iolb_model.specs.declared.tower.TowerMove.TheVariants.{Bring, Send, Compute, Drop}
+use Rattle.memory_levels.specs.MovesText.{BeginsWithMove, CanBeWritten, MovesOrFault, TextsHaveOneFault, TextsHaveOneList, behind, move_line, move_words, moves_text, place_words}
+
+-- ---- digits
+
+pub digit-range : {b : ℕ} (tested : Bool) → MatchBool tested (IsAsciiDigit b) (IsNotAsciiDigit b) → IsTrue tested → (48 ≤ b) × (b ≤ 57)
+digit-range true is yes = is
+digit-range false is yes = absurd cc
+
+pub no-digit : {b : ℕ} {A : Type 0} (tested : Bool) → MatchBool tested (IsAsciiDigit b) (IsNotAsciiDigit b) → IsTrue (not tested) → 48 ≤ b → b ≤ 57 → A
+no-digit true is no low high = absurd cc
+no-digit false (inl h) no low high = absurd (omega (arith, h, low))
+no-digit false (inr h) no low high = absurd (omega (arith, h, high))
+
+-- ---- numbers
+
+pub le-after : (n : ℕ) (ds : List ℕ) → n ≤ digits_value_after 10 n ds
+le-after n [] = omega arith
+le-after n (c ∷ cs) = omega (arith, le-after (n * 10 + digit_value c) cs)
+
+-- what a number below 2^32 writes
+pub number-value : (ds : List ℕ) (v : ℕ) → v < 2 ^ 32 → ds ≡ decimal v → AllDigits 10 ds × (digits_value 10 ds ≡ v)
+number-value ds v small e =
+    let is = decimal_is_IsNumeral v (omega (arith, small)) in
+    (subst (λ (l : List ℕ). AllDigits 10 l) (sym e) is.0.1, ap (digits_value 10) e ∙ is.1)
+
+-- digits write it, but for a leading 0
+pub number-is : (ds : List ℕ) → AllDigits 10 ds → 0 < length ds → (get_or ds 0 0 ≡ 48 → length ds ≡ 1) → digits_value 10 ds < 2 ^ 32 → ds ≡ decimal (digits_value 10 ds)
+number-is ds digits some lead small = sym (decimal-digits_value (numerals_by_value _ tells_digits) ds digits some lead (omega (arith, small)))
+
+pub number-some : (ds : List ℕ) (v : ℕ) → v < 2 ^ 32 → ds ≡ decimal v → 0 < length ds
+number-some ds v small e = omega (arith, decimal_nonempty v (omega (arith, small)), ap length e)
+
+-- no number writes a 0 in front of another digit
+pub number-lead : (x v : ℕ) (ds : List ℕ) → v < 2 ^ 32 → 48 ∷ x ∷ ds ≡ decimal v → ⊥
+number-lead x zero ds small e = omega (arith, ap length e, ap length (decimal_digit 0 (omega arith)))
+number-lead x (suc v) ds small e = omega (arith, first_decimal (suc v) (omega arith) (omega (arith, small)), ap (λ (l : List ℕ). get_or l 0 0) e)
+
+drop-at : (bytes : List ℕ) (i : ℕ) → i < length bytes → drop i bytes ≡ get_or bytes i 0 ∷ drop (i + 1) bytes
+drop-at [] i below = absurd (omega (arith, below))
+drop-at (b ∷ bytes) zero below = refl
+drop-at (b ∷ bytes) (suc i) below = drop-at bytes i (omega (arith, below)) ∙ ap (λ (n : ℕ). get_or bytes i 0 ∷ drop n (b ∷ bytes)) (next i) where
+  next : (n : ℕ) → suc (n + 1) ≡ suc n + 1
+  next n = omega arith
+
+-- a value that is too great with one digit more stays so
+pub too-great : (bytes : List ℕ) (i value : ℕ) → i < length bytes → digits_value 10 bytes ≡ digits_value_after 10 value (drop i bytes)
+    → 48 ≤ get_or bytes i 0 → get_or bytes i 0 ≤ 57 → 2 ^ 32 ≤ value * 10 + (get_or bytes i 0 - 48) → digits_value 10 bytes < 2 ^ 32 → ⊥
+too-great bytes i value below e low high big small =
+    omega (arith, e, ap (digits_value_after 10 value) (drop-at bytes i below), le-after (value * 10 + digit_value (get_or bytes i 0)) (drop (i + 1) bytes), digit_value_digit (get_or bytes i 0) (low, high), big, small)
+
+-- ---- words in front
+
+-- a line that ends before the word
+pub behind-short : (word line rest : List ℕ) (i : ℕ) → behind (drop i word) rest ≡ behind word line → i < length word → length rest ≡ 0 → behind word line ≡ None
+behind-short word line (r ∷ rest) i e below short = absurd (omega (arith, short))
+behind-short word line [] i e below short = sym e ∙ ap (λ (w : List ℕ). behind w []) (drop-at word i below)
+
+-- ---- places
+
+pub place-is : (i v : ℕ) → i < 10 → place_words i v ≡ (48 + i) ∷ 32 ∷ decimal v
+place-is i v small = ap (λ (l : List ℕ). l ++ 32 ∷ decimal v) (decimal_digit i small)
+
+pub place-same : (i v j w : ℕ) → i < 10 → v < 2 ^ 32 → j < 10 → w < 2 ^ 32 → place_words i v ≡ place_words j w → (i ≡ j) × (v ≡ w)
+place-same i v j w is vs js ws e =
+    let f : (48 + i) ∷ 32 ∷ decimal v ≡ (48 + j) ∷ 32 ∷ decimal w = sym (place-is i v is) ∙ e ∙ place-is j w js in
+    (omega (arith, ap (λ (l : List ℕ). get_or l 0 0) f), decimal_injective v w (omega (arith, vs)) (omega (arith, ws)) (ap (drop 2) f))
+
+pub place-long : (bytes : List ℕ) (i v : ℕ) → i < 10 → v < 2 ^ 32 → bytes ≡ place_words i v → 2 ≤ length bytes
+place-long bytes i v is vs e = omega (arith, ap length e, ap length (place-is i v is))
+
+pub place-digit : (bytes : List ℕ) (i v : ℕ) → i < 10 → bytes ≡ place_words i v → get_or bytes 0 0 ≡ 48 + i
+place-digit bytes i v is e = ap (λ (l : List ℕ). get_or l 0 0) (e ∙ place-is i v is)
+
+pub place-space : (bytes : List ℕ) (i v : ℕ) → i < 10 → bytes ≡ place_words i v → get_or bytes 1 0 ≡ 32
+place-space bytes i v is e = ap (λ (l : List ℕ). get_or l 1 0) (e ∙ place-is i v is)
+
+pub place-vertex : (bytes : List ℕ) (i v : ℕ) → i < 10 → bytes ≡ place_words i v → drop 2 bytes ≡ decimal v
+place-vertex bytes i v is e = ap (drop 2) (e ∙ place-is i v is)
+
+pub place-read : (bytes : List ℕ) (v : ℕ) → 2 ≤ length bytes → 48 ≤ get_or bytes 0 0 → get_or bytes 0 0 ≤ 57 → get_or bytes 1 0 ≡ 32 → drop 2 bytes ≡ decimal v
+    → bytes ≡ place_words (get_or bytes 0 0 - 48) v
+place-read [] v long low high space e = absurd (omega (arith, long))
+place-read (a ∷ []) v long low high space e = absurd (omega (arith, long))
+place-read (a ∷ b ∷ bytes) v long low high space e =
+    let digit : a ≡ 48 + (a - 48) = omega (arith, low) in
+    ap (λ (c : ℕ). a ∷ c ∷ bytes) space ∙ ap (λ (l : List ℕ). a ∷ 32 ∷ l) e ∙ ap (λ (c : ℕ). c ∷ 32 ∷ decimal v) digit ∙ sym (place-is (a - 48) v (omega (arith, low, high)))
+
+-- a number that has a leading 0 and more
+pub number-led : (bytes : List ℕ) (v : ℕ) → v < 2 ^ 32 → get_or bytes 0 0 ≡ 48 → length bytes ≢ 1 → bytes ≡ decimal v → ⊥
+number-led [] v small lead more e = omega (arith, number-some [] v small e)
+number-led (a ∷ []) v small lead more e = more refl
+number-led (a ∷ b ∷ bytes) v small lead more e = number-lead b v bytes small (ap (λ (c : ℕ). c ∷ b ∷ bytes) (sym lead) ∙ e)
+
+-- what digits say, or that they say nothing
+pub value-none : (bytes : List ℕ) → ¬ (AllDigits 10 bytes × (digits_value 10 bytes < 2 ^ 32)) → (v : ℕ) → v < 2 ^ 32 → bytes ≢ decimal v
+value-none bytes none v small e = let is = number-value bytes v small e in none (is.0, omega (arith, is.1, small))
+
+pub value-some : (bytes : List ℕ) (v : ℕ) → AllDigits 10 bytes → v ≡ digits_value 10 bytes → v < 2 ^ 32 → 0 < length bytes → (get_or bytes 0 0 ≡ 48 → length bytes ≡ 1) → bytes ≡ decimal v
+value-some bytes v digits e small some lead = number-is bytes digits some lead (omega (arith, e, small)) ∙ ap decimal (sym e)
+
+-- the number that is read, or none
+pub number-read : (bytes : List ℕ) (found : Option ℕ) → 0 < length bytes → ((get_or bytes 0 0 ≡ 48) × (length bytes ≡ 1)) ⊎ (get_or bytes 0 0 ≡ 48 → ⊥)
+    → MatchOption found (¬ (AllDigits 10 bytes × (digits_value 10 bytes < 2 ^ 32))) (λ value. AllDigits 10 bytes × (value < 2 ^ 32) × (value ≡ digits_value 10 bytes))
+    → MatchOption found ((v : ℕ) → v < 2 ^ 32 → bytes ≢ decimal v) (λ v. (v < 2 ^ 32) × (bytes ≡ decimal v))
+number-read bytes None some lead none = value-none bytes none
+number-read bytes (Some v) some lead is = (is.1, value-some bytes v is.0 is.2 is.1 some (alone lead)) where
+  alone : ((get_or bytes 0 0 ≡ 48) × (length bytes ≡ 1)) ⊎ (get_or bytes 0 0 ≡ 48 → ⊥) → get_or bytes 0 0 ≡ 48 → length bytes ≡ 1
+  alone (inl one) h = one.1
+  alone (inr other) h = absurd (other h)
+
+-- ---- a line has no newline but its last byte
+
+abbrev pub IsClean : List ℕ → Type 0
+IsClean bytes = AllByRecursion (λ b. nat_eq b 10 ≡ false) bytes
+
+clean-append : (xs ys : List ℕ) → IsClean xs → IsClean ys → IsClean (xs ++ ys)
+clean-append [] ys h k = k
+clean-append (x ∷ xs) ys h k = (h.0, clean-append xs ys h.1 k)
+
+digits-clean : (ds : List ℕ) → AllDigits 10 ds → IsClean ds
+digits-clean [] h = tt
+digits-clean (c ∷ cs) h = let range = digit_from_value c h.0 in (ne_eqb c 10 (λ e. omega (arith, range, e)), digits-clean cs h.1)
+
+decimal-clean : (v : ℕ) → v < 2 ^ 32 → IsClean (decimal v)
+decimal-clean v small = digits-clean (decimal v) (decimal_is_IsNumeral v (omega (arith, small))).0.1
+
+place-clean : (i v : ℕ) → i < 10 → v < 2 ^ 32 → IsClean (place_words i v)
+place-clean i v is vs = clean-append (decimal i) (32 ∷ decimal v) (decimal-clean i (omega (arith, is))) (refl, decimal-clean v vs)
+
+words-clean : (move : TowerMove) → CanBeWritten move → IsClean (move_words move)
+words-clean (Bring i v) h = (refl, (refl, (refl, (refl, (refl, (refl, place-clean i v h.0 h.1))))))
+words-clean (Send i v) h = (refl, (refl, (refl, (refl, (refl, place-clean i v h.0 h.1)))))
+words-clean (Compute v) h = (refl, (refl, (refl, (refl, (refl, (refl, (refl, (refl, decimal-clean v h))))))))
+words-clean (Drop i v) h = (refl, (refl, (refl, (refl, (refl, place-clean i v h.0 h.1)))))
+
+-- what stands before the first newline is one
+pub split-one : (xs ys as_ bs : List ℕ) → IsClean xs → IsClean ys → xs ++ 10 ∷ as_ ≡ ys ++ 10 ∷ bs → (xs ≡ ys) × (as_ ≡ bs)
+split-one [] [] as_ bs h k e = (refl, ap (drop 1) e)
+split-one [] (y ∷ ys) as_ bs h k e = let f : nat_eq y 10 ≡ true = eq-eqb y 10 (sym (ap (λ (l : List ℕ). get_or l 0 0) e)) in absurd cc
+split-one (x ∷ xs) [] as_ bs h k e = let f : nat_eq x 10 ≡ true = eq-eqb x 10 (ap (λ (l : List ℕ). get_or l 0 0) e) in absurd cc
+split-one (x ∷ xs) (y ∷ ys) as_ bs h k e =
+    let head : x ≡ y = ap (λ (l : List ℕ). get_or l 0 0) e in
+    let rest = split-one xs ys as_ bs h.1 k.1 (ap (drop 1) e) in
+    let tail = rest.0 in (cc, rest.1)
+
+-- bytes up to the first newline
+pub clean-before : (bytes : List ℕ) (end : ℕ) → ((k : ℕ) → k < end → nat_eq (get_or bytes k 0) 10 ≡ false) → IsClean (take end bytes)
+clean-before bytes zero h = tt
+clean-before [] (suc end) h = tt
+clean-before (b ∷ bytes) (suc end) h = (h 0 (omega arith), clean-before bytes end (λ k below. h (suc k) (omega (arith, below))))
+
+pub split-at : (bytes : List ℕ) (end : ℕ) → end < length bytes → bytes ≡ take end bytes ++ get_or bytes end 0 ∷ drop (end + 1) bytes
+split-at [] end below = absurd (omega (arith, below))
+split-at (b ∷ bytes) zero below = refl
+split-at (b ∷ bytes) (suc end) below = ap (λ (l : List ℕ). b ∷ l) (split-at bytes end (omega (arith, below))) ∙ ap (λ (n : ℕ). b ∷ take end bytes ++ get_or bytes end 0 ∷ drop n (b ∷ bytes)) (next end) where
+  next : (n : ℕ) → suc (n + 1) ≡ suc n + 1
+  next n = omega arith
+
+line-is : (move : TowerMove) (later : List ℕ) → move_line move ++ later ≡ move_words move ++ 10 ∷ later
+line-is move later = append_assoc (move_words move) (10 ∷ []) later
+
+line-some : (move : TowerMove) → 1 ≤ length (move_line move)
+line-some move = omega (arith, length-append (move_words move) (10 ∷ []))
+
+-- ---- what a line says is one
+
+head-of : (xs ys : List ℕ) → xs ≡ ys → get_or xs 0 0 ≡ get_or ys 0 0
+head-of xs ys e = ap (λ (l : List ℕ). get_or l 0 0) e
+
+words-same : (a b : TowerMove) → CanBeWritten a → CanBeWritten b → move_words a ≡ move_words b → a ≡ b
+words-same (Bring i v) (Bring j w) h k e = let same = place-same i v j w h.0 h.1 k.0 k.1 (append_cancel_left (codes "bring ") (place_words i v) (place_words j w) e) in let one = same.0 in let two = same.1 in cc
+words-same (Send i v) (Send j w) h k e = let same = place-same i v j w h.0 h.1 k.0 k.1 (append_cancel_left (codes "send ") (place_words i v) (place_words j w) e) in let one = same.0 in let two = same.1 in cc
+words-same (Compute v) (Compute w) h k e = ap Compute (decimal_injective v w (omega (arith, h)) (omega (arith, k)) (append_cancel_left (codes "compute ") (decimal v) (decimal w) e))
+words-same (Drop i v) (Drop j w) h k e = let same = place-same i v j w h.0 h.1 k.0 k.1 (append_cancel_left (codes "drop ") (place_words i v) (place_words j w) e) in let one = same.0 in let two = same.1 in cc
+words-same (Bring i v) (Send j w) h k e = absurd (omega (arith, head-of (move_words (Bring i v)) (move_words (Send j w)) e))
+words-same (Bring i v) (Compute w) h k e = absurd (omega (arith, head-of (move_words (Bring i v)) (move_words (Compute w)) e))
+words-same (Bring i v) (Drop j w) h k e = absurd (omega (arith, head-of (move_words (Bring i v)) (move_words (Drop j w)) e))
+words-same (Send i v) (Bring j w) h k e = absurd (omega (arith, head-of (move_words (Send i v)) (move_words (Bring j w)) e))
+words-same (Send i v) (Compute w) h k e = absurd (omega (arith, head-of (move_words (Send i v)) (move_words (Compute w)) e))
+words-same (Send i v) (Drop j w) h k e = absurd (omega (arith, head-of (move_words (Send i v)) (move_words (Drop j w)) e))
+words-same (Compute v) (Bring j w) h k e = absurd (omega (arith, head-of (move_words (Compute v)) (move_words (Bring j w)) e))
+words-same (Compute v) (Send j w) h k e = absurd (omega (arith, head-of (move_words (Compute v)) (move_words (Send j w)) e))
+words-same (Compute v) (Drop j w) h k e = absurd (omega (arith, head-of (move_words (Compute v)) (move_words (Drop j w)) e))
+words-same (Drop i v) (Bring j w) h k e = absurd (omega (arith, head-of (move_words (Drop i v)) (move_words (Bring j w)) e))
+words-same (Drop i v) (Send j w) h k e = absurd (omega (arith, head-of (move_words (Drop i v)) (move_words (Send j w)) e))
+words-same (Drop i v) (Compute w) h k e = absurd (omega (arith, head-of (move_words (Drop i v)) (move_words (Compute w)) e))
+
+lines-same : (a b : TowerMove) (as_ bs : List ℕ) → CanBeWritten a → CanBeWritten b → move_line a ++ as_ ≡ move_line b ++ bs → (a ≡ b) × (as_ ≡ bs)
+lines-same a b as_ bs h k e =
+    let parts = split-one (move_words a) (move_words b) as_ bs (words-clean a h) (words-clean b k) (sym (line-is a as_) ∙ e ∙ line-is b bs) in
+    (words-same a b h k parts.0, parts.1)
+
+-- ---- texts
+
+texts-same : (one two : List TowerMove) → AllByRecursion CanBeWritten one → AllByRecursion CanBeWritten two → moves_text one ≡ moves_text two → one ≡ two
+texts-same [] [] h k e = refl
+texts-same [] (b ∷ two) h k e = absurd (omega (arith, ap length e, length-append (move_line b) (moves_text two), line-some b))
+texts-same (a ∷ one) [] h k e = absurd (omega (arith, ap length e, length-append (move_line a) (moves_text one), line-some a))
+texts-same (a ∷ one) (b ∷ two) h k e =
+    let parts = lines-same a b (moves_text one) (moves_text two) h.0 k.0 e in
+    let head = parts.0 in let tail = texts-same one two h.1 k.1 parts.1 in cc
+
+pub texts_have_one_list : TextsHaveOneList
+texts_have_one_list bytes one two h k = texts-same one two h.each k.each (sym h.text ∙ k.text)
+
+faults-same : (one two : List TowerMove) (as_ bs : List ℕ) → AllByRecursion CanBeWritten one → AllByRecursion CanBeWritten two
+    → ¬ BeginsWithMove as_ → ¬ BeginsWithMove bs → moves_text one ++ as_ ≡ moves_text two ++ bs → length (moves_text one) ≡ length (moves_text two)
+faults-same [] [] as_ bs h k p q e = refl
+faults-same [] (b ∷ two) as_ bs h k p q e =
+    absurd (p (record { move = b; written = k.0; later = moves_text two ++ bs; text = e ∙ append_assoc (move_line b) (moves_text two) bs }))
+faults-same (a ∷ one) [] as_ bs h k p q e =
+    absurd (q (record { move = a; written = h.0; later = moves_text one ++ as_; text = sym e ∙ append_assoc (move_line a) (moves_text one) as_ }))
+faults-same (a ∷ one) (b ∷ two) as_ bs h k p q e =
+    let parts = lines-same a b (moves_text one ++ as_) (moves_text two ++ bs) h.0 k.0 (sym (append_assoc (move_line a) (moves_text one) as_) ∙ e ∙ append_assoc (move_line b) (moves_text two) bs) in
+    let rest = faults-same one two as_ bs h.1 k.1 p q parts.1 in
+    omega (arith, length-append (move_line a) (moves_text one), length-append (move_line b) (moves_text two), rest, ap (λ (m : TowerMove). length (move_line m)) parts.0)
+
+pub texts_have_one_fault : TextsHaveOneFault
+texts_have_one_fault bytes one two h k =
+    h.place_is ∙ faults-same h.before k.before h.left k.left h.each k.each h.bad k.bad (sym h.text ∙ k.text) ∙ sym k.place_is
+
+never-both : (moves before : List TowerMove) (left : List ℕ) → AllByRecursion CanBeWritten moves → AllByRecursion CanBeWritten before → 1 ≤ length left
+    → ¬ BeginsWithMove left → moves_text moves ≡ moves_text before ++ left → ⊥
+never-both [] [] left h k some bad e = omega (arith, some, ap length e)
+never-both [] (b ∷ before) left h k some bad e =
+    omega (arith, ap length e, length-append (move_line b ++ moves_text before) left, length-append (move_line b) (moves_text before), line-some b)
+never-both (a ∷ moves) [] left h k some bad e = bad (record { move = a; written = h.0; later = moves_text moves; text = sym e })
+never-both (a ∷ moves) (b ∷ before) left h k some bad e =
+    let parts = lines-same a b (moves_text moves) (moves_text before ++ left) h.0 k.0 (e ∙ append_assoc (move_line b) (moves_text before) left) in
+    never-both moves before left h.1 k.1 some bad parts.1
+
+pub moves_or_fault : MovesOrFault
+moves_or_fault bytes moves place h k = never-both moves k.before k.left h.each k.each k.some k.bad (sym h.text ∙ k.text)
+
+-- ---- the first line
+
+-- where what stands before the first newline says a move, the bytes begin with its line
+pub line-read : (bytes : List ℕ) (end : ℕ) (move : TowerMove) → end < length bytes → nat_eq (get_or bytes end 0) 10 ≡ true → take end bytes ≡ move_words move
+    → bytes ≡ move_line move ++ drop (end + 1) bytes
+line-read bytes end move below newline e =
+    split-at bytes end below
+    ∙ ap (λ (b : ℕ). take end bytes ++ b ∷ drop (end + 1) bytes) (eqb-true (get_or bytes end 0) 10 newline)
+    ∙ ap (λ (l : List ℕ). l ++ 10 ∷ drop (end + 1) bytes) e
+    ∙ sym (line-is move (drop (end + 1) bytes))
+
+-- where it says none, they don't
+pub line-unread : (bytes : List ℕ) (end : ℕ) → end < length bytes → nat_eq (get_or bytes end 0) 10 ≡ true → ((k : ℕ) → k < end → nat_eq (get_or bytes k 0) 10 ≡ false)
+    → ((move : TowerMove) → CanBeWritten move → take end bytes ≢ move_words move) → ¬ BeginsWithMove bytes
+line-unread bytes end below newline before none begins =
+    none begins.move begins.written (split-one (take end bytes) (move_words begins.move) (drop (end + 1) bytes) begins.later (clean-before bytes end before) (words-clean begins.move begins.written)
+    (ap (λ (b : ℕ). take end bytes ++ b ∷ drop (end + 1) bytes) (sym (eqb-true (get_or bytes end 0) 10 newline)) ∙ sym (split-at bytes end below) ∙ begins.text ∙ line-is begins.move begins.later)).0
+
+-- nor where there is no newline
+has-newline : (xs ys : List ℕ) → AllByRecursion (λ b. nat_eq b 10 ≡ false) (xs ++ 10 ∷ ys) → ⊥
+has-newline [] ys h = let f : nat_eq 10 10 ≡ true = refl in let g : nat_eq 10 10 ≡ false = h.0 in absurd cc
+has-newline (x ∷ xs) ys h = has-newline xs ys h.1
+
+pub unended : (bytes : List ℕ) → IsClean bytes → ¬ BeginsWithMove bytes
+unended bytes h begins = has-newline (move_words begins.move) begins.later (subst (λ (l : List ℕ). IsClean l) (begins.text ∙ line-is begins.move begins.later) h)
+
+-- ---- the first newline
+
+pub newline-at : (bytes : List ℕ) (end : ℕ) → position (λ b. b == 10) bytes ≡ Some end
+    → (end < length bytes) × (nat_eq (get_or bytes end 0) 10 ≡ true) × ((k : ℕ) → k < end → nat_eq (get_or bytes k 0) 10 ≡ false)
+newline-at bytes end e = position-Some (λ b. b == 10) bytes end 0 e
+
+pub no-newline : (bytes : List ℕ) → position (λ b. b == 10) bytes ≡ None → IsClean bytes
+no-newline bytes e = subst (λ (l : List ℕ). IsClean l) (take_all (length bytes) bytes (omega arith)) (clean-before bytes (length bytes) (λ k below. off (get_or bytes k 0 == 10) (prefix_len_passes (λ x. not (x == 10)) bytes k 0 (omega (arith, below, all (position_or_len (λ b. b == 10) bytes) (length bytes) e))))) where
+  off : (b : Bool) → not b ≡ true → b ≡ false
+  off true h = cc
+  off false h = refl
+
+  all : (n m : ℕ) → cond (ltb n m) (Some n) None ≡ None → m ≤ n
+  all n m h = by (ltb n m) refl h where
+    by : (b : Bool) → b ≡ ltb n m → cond b (Some n) None ≡ None → m ≤ n
+    by true same f = cc
+    by false same f = ltb-false n m (sym same)
+
+pub line-length : (bytes : List ℕ) (end : ℕ) (move : TowerMove) → end < length bytes → take end bytes ≡ move_words move → end + 1 ≡ length (move_line move)
+line-length bytes end move below e = omega (arith, ap length e, length-take end bytes, length-append (move_words move) (10 ∷ []))

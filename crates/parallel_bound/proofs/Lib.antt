@@ -1,0 +1,9 @@
+pub mod HeldMarks
+pub mod Merge
+pub mod Sums
+pub mod PlayedByOne
+pub mod OwnRuns
+pub mod OwnShares
+pub mod Parts
+pub mod Accepted
+pub mod Values

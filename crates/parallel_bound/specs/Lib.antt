@@ -1,0 +1,5 @@
+pub mod Merging
+pub mod Shares
+pub mod Holds
+pub mod Widths
+pub mod Faults

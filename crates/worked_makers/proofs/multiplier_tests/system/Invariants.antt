@@ -1,5 +1,0 @@
-use Rattle.std.proofs.Common.{◌≡◌}
-use Rattle.worked_makers.proofs.multiplier_tests.system.Given as goal
-
-abbrev pub invariant-loop : goal.invariant-loop
-invariant-loop l = l.system.vars ≡ 3
