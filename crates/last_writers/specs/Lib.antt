@@ -1,0 +1,3 @@
+pub mod OutputClaims
+pub mod OutputFits
+pub mod Outputs
