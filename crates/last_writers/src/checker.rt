@@ -7,7 +7,7 @@ ghost use Rattle.claims.specs.Claims.{AllHold, Decides, IsRefusal};
 ghost use Rattle.domain_count.specs.Count.{CountsPoints, IsCount};
 ghost use Rattle.footprint_pieces.specs.Pieces.{AreCovered};
 ghost use Rattle.last_writers.specs.OutputClaims.{instance_claims, output_claims};
-ghost use Rattle.last_writers.specs.OutputFits.{FitsOutput, OutputFits};
+ghost use Rattle.last_writers.specs.Fitting.{FitsOutput, OutputFits};
 ghost use Rattle.last_writers.specs.Outputs.{IsSoundOutput, output_footprint, output_piece};
 ghost use Rattle.poly_tree.specs.Expansion.{IsCanonical};
 ghost use Rattle.poly_tree.specs.Poly.{IsLegal};

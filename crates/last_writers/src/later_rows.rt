@@ -10,7 +10,7 @@ ghost use Rattle.affine_program.specs.Parts.{meaning};
 ghost use Rattle.dep_quast.specs.Levels.{level_count};
 ghost use Rattle.iolb_model.specs.declared.limits.TheConstants.{LOOPS, NEST_VARIABLES, PARAMETERS, PUT_SIZE, VARIABLES};
 ghost use Rattle.last_writers.specs.OutputClaims.{later_values, later_write, output_variables, variables_with, write_rows, written_forms};
-ghost use Rattle.last_writers.specs.OutputFits.{OutputFits};
+ghost use Rattle.last_writers.specs.Fitting.{OutputFits};
 ghost use Rattle.store_terms.specs.Claims.{claim_of_output};
 
 use crate::output_shown::variables;

@@ -8,7 +8,7 @@ ghost use Rattle.claims.specs.Claims.{Decides};
 ghost use Rattle.claims.specs.Shown.{pointless_claims};
 ghost use Rattle.dep_quast.specs.Levels.{level_count, levels};
 ghost use Rattle.last_writers.specs.OutputClaims.{later_write, later_writes, output_later, variables_with, write_rows};
-ghost use Rattle.last_writers.specs.OutputFits.{OutputFits};
+ghost use Rattle.last_writers.specs.Fitting.{OutputFits};
 ghost use Rattle.store_terms.specs.Claims.{claim_of_output};
 
 use crate::later_rows::{rows_later, rows_of_write, variables_beside};

@@ -2,6 +2,7 @@
 #![tactic(auto)]
 
 mod checker;
+mod fitting;
 mod inverse_shown;
 mod later_rows;
 mod later_shown;
@@ -10,5 +11,6 @@ mod output_shown;
 mod piece;
 
 pub use checker::check_output;
+pub use fitting::output_fits;
 pub use law::{outputs_are_stored, valid_outputs_are_sound};
 pub use piece::{output_piece, output_pieces_cover};

@@ -6,7 +6,7 @@ ghost use Rattle.affine_program.specs.Parts.{IsProgram, meaning};
 ghost use Rattle.claims.specs.Claims.{Decides};
 ghost use Rattle.iolb_model.specs.declared.limits.TheConstants.{NEST_VARIABLES, PARAMETERS};
 ghost use Rattle.last_writers.specs.OutputClaims.{output_inside, output_inverse, output_variables};
-ghost use Rattle.last_writers.specs.OutputFits.{OutputFits};
+ghost use Rattle.last_writers.specs.Fitting.{OutputFits};
 ghost use Rattle.store_terms.specs.Claims.{claim_of_output};
 
 use crate::inverse_shown::inverse_shown;

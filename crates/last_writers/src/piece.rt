@@ -9,7 +9,7 @@ ghost use Rattle.affine_program.specs.Parts.{meaning};
 ghost use Rattle.footprint_pieces.specs.Pieces.{PieceFits, piece_of};
 ghost use Rattle.iolb_model.specs.declared.limits.TheConstants.{PUT_SIZE};
 ghost use Rattle.last_writers.specs.OutputClaims.{output_variables};
-ghost use Rattle.last_writers.specs.OutputFits.{OutputFits};
+ghost use Rattle.last_writers.specs.Fitting.{OutputFits};
 ghost use Rattle.last_writers.specs.Outputs.{OutputPiecesCover, output_piece};
 ghost use Rattle.store_terms.specs.Claims.{claim_of_output};
 
