@@ -1,5 +1,5 @@
 -- What is asked of stores: that they fit a program and a certificate (condition 1), in the order of a walk through their text.
-use Rattle.std.specs.Prelude.{ℕ, List, [], ◌∷◌, ◌++◌, length, map, Option, Some, None, codes}
+use Rattle.std.specs.Prelude.{ℕ, ◌==◌, List, [], ◌∷◌, ◌++◌, filter, filter_map, flat_map, length, map, Option, Some, None, codes}
 use Rattle.affine_form.specs.System.{AffineSystem}
 use Rattle.certificate_fit.specs.FitClaims.{names}
 use Rattle.certificate_fit.specs.PartFit.{shown_fit}
@@ -8,13 +8,15 @@ use Rattle.claims.specs.declared.place.Step.{Step}
 use Rattle.claims.specs.declared.place.Step.TheVariants.{Index, Key}
 use Rattle.footprint_pieces.specs.DisjointClaims.{pairwise_systems, shared_systems}
 use Rattle.footprint_pieces.specs.Pieces.{FootprintPiece}
-use Rattle.iolb_check.specs.Claims.{CertificateClaim}
+use Rattle.iolb_check.specs.Claims.{CertificateClaim, TermClaim}
 use Rattle.iolb_model.specs.Program.{AffineProgram}
 use Rattle.last_writers.specs.OutputFit.{output_fit}
 use Rattle.last_writers.specs.Outputs.{output_piece}
-use Rattle.store_bound.specs.Counted.{counted_fronts}
+use Rattle.store_bound.specs.Counted.{counted_fronts, word_statement}
 use Rattle.store_terms.specs.Claims.{OutputClaim, StoresClaim}
+use Rattle.store_terms.specs.declared.output.Output.{Output}
 use Rattle.wavefront.specs.FrontPieces.{front_piece}
+use Rattle.wavefront.specs.FrontTerm.{WavefrontTerm}
 
 -- ---- that nothing is counted twice
 
@@ -26,13 +28,29 @@ output_pieces program outputs = map (output_piece program) outputs
 abbrev pub single_pieces : AffineProgram → List OutputClaim → List (List FootprintPiece)
 single_pieces program outputs = map (λ (output : OutputClaim). output_piece program output ∷ []) outputs
 
-abbrev pub word_pieces : AffineProgram → CertificateClaim → Option ℕ → List FootprintPiece
-word_pieces program certificate branch = map (front_piece program) (counted_fronts certificate branch)
+abbrev pub systems_of : AffineProgram → List OutputClaim → List WavefrontTerm → List AffineSystem
+systems_of program outputs fronts =
+    pairwise_systems program (single_pieces program outputs) ++ shared_systems program (output_pieces program outputs) (map (front_piece program) fronts)
 
 abbrev pub apart_systems : AffineProgram → CertificateClaim → StoresClaim → List AffineSystem
-apart_systems program certificate stores =
-    pairwise_systems program (single_pieces program stores.outputs)
-    ++ shared_systems program (output_pieces program stores.outputs) (word_pieces program certificate stores.branch)
+apart_systems program certificate stores = systems_of program stores.outputs (counted_fronts certificate stores.branch)
+
+-- ---- how many pairs there are, by the statements alone
+
+-- for each of some numbers the later ones that are the same, and for each of some numbers those of others that are
+abbrev pub output_pairs : List ℕ → List ℕ
+output_pairs [] = []
+output_pairs (statement ∷ statements) = filter (λ other. statement == other) statements ++ output_pairs statements
+
+abbrev pub word_pairs : List ℕ → List ℕ → List ℕ
+word_pairs statements words = flat_map (λ statement. filter (λ other. statement == other) words) statements
+
+-- the statements of outputs, and those that computed the words of terms
+abbrev pub statements_of : List Output → List ℕ
+statements_of outputs = map (λ (output : Output). output.statement) outputs
+
+abbrev pub word_statements : List TermClaim → List ℕ
+word_statements terms = filter_map word_statement terms
 
 -- ---- condition 1
 
