@@ -1,3 +1,4 @@
 pub mod OutputClaims
-pub mod OutputFits
+pub mod OutputFit
+pub mod Fitting
 pub mod Outputs

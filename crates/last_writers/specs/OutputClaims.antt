@@ -47,16 +47,18 @@ variables_with program output writer = output_variables program output + depth_o
 abbrev pub later_values : AffineProgram → OutputClaim → ℕ → List AffineForm
 later_values program output writer = variables_from (variables_with program output writer) (output_variables program output) (depth_of program writer)
 
+-- the cell that an instance of a statement writes, whose loop values are forms over so many variables
+abbrev pub written_forms : AffineProgram → ℕ → ℕ → List AffineForm → List AffineForm
+written_forms program vars statement values = put_in (parameter_point program vars ++ values) (statement_at program statement).writes.subscripts
+
 -- The rows of a write of the cell by an instance of another statement: those of the nest's point, the writer's domain, and that
 -- the cells are one.
 abbrev pub write_rows : AffineProgram → OutputClaim → ℕ → List AffineForm
 write_rows program output writer =
     let vars = variables_with program output writer in
-    let params = parameter_point program vars in
     let values = later_values program output writer in
-    map (widened vars) (output_system program output).rows ++ within_rows vars (path_of program writer) params values
-    ++ equality_rows vars (put_in (params ++ output.point) (statement_at program output.statement).writes.subscripts)
-    (put_in (params ++ values) (statement_at program writer).writes.subscripts)
+    map (widened vars) (output_system program output).rows ++ within_rows vars (path_of program writer) (parameter_point program vars) values
+    ++ equality_rows vars (written_forms program (output_variables program output) output.statement output.point) (written_forms program vars writer values)
 
 -- with those which say that it comes after the output's instance at a level
 abbrev pub later_write : AffineProgram → OutputClaim → ℕ → ℕ → AffineSystem

@@ -20,7 +20,7 @@ use Rattle.reuse_paths.specs.Walks.{SpotForms}
 use Rattle.store_laws.specs.Stored.{stores_of}
 use Rattle.store_terms.specs.Claims.{OutputClaim}
 use Rattle.last_writers.specs.OutputClaims.{instance_claims, output_system, output_variables}
-use Rattle.last_writers.specs.OutputFits.{OutputFits}
+use Rattle.last_writers.specs.Fitting.{OutputFits}
 
 -- the instance of each point of the nest
 abbrev pub output_spot : OutputClaim → SpotForms

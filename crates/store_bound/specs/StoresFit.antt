@@ -1,22 +1,22 @@
 -- What is asked of stores: that they fit a program and a certificate (condition 1), in the order of a walk through their text.
--- A statement that isn't there counts as one without loops, and nothing writes its array.
-use Rattle.std.specs.Prelude.{ℕ, suc, ◌+◌, ◌*◌, nat_lt, if◌then◌else◌, List, [], ◌∷◌, ◌++◌, length, map, Option, Some, None, codes}
+use Rattle.std.specs.Prelude.{ℕ, ◌==◌, List, [], ◌∷◌, ◌++◌, filter, filter_map, flat_map, length, map, Option, Some, None, codes}
 use Rattle.affine_form.specs.System.{AffineSystem}
-use Rattle.affine_program.specs.Domain.{depth_of}
-use Rattle.certificate_fit.specs.FitClaims.{names, so_many}
-use Rattle.certificate_fit.specs.PartFit.{bounds_fit, forms_fit, matrix_fit, shown_fit, sums_fit}
+use Rattle.certificate_fit.specs.FitClaims.{names}
+use Rattle.certificate_fit.specs.PartFit.{shown_fit}
 use Rattle.claims.specs.Claims.{Claim, numbered}
 use Rattle.claims.specs.declared.place.Step.{Step}
 use Rattle.claims.specs.declared.place.Step.TheVariants.{Index, Key}
 use Rattle.footprint_pieces.specs.DisjointClaims.{pairwise_systems, shared_systems}
 use Rattle.footprint_pieces.specs.Pieces.{FootprintPiece}
-use Rattle.iolb_check.specs.Claims.{CertificateClaim}
+use Rattle.iolb_check.specs.Claims.{CertificateClaim, TermClaim}
 use Rattle.iolb_model.specs.Program.{AffineProgram}
-use Rattle.last_writers.specs.OutputClaims.{later_writes, output_variables}
+use Rattle.last_writers.specs.OutputFit.{output_fit}
 use Rattle.last_writers.specs.Outputs.{output_piece}
-use Rattle.store_bound.specs.Counted.{counted_fronts}
+use Rattle.store_bound.specs.Counted.{counted_fronts, word_statement}
 use Rattle.store_terms.specs.Claims.{OutputClaim, StoresClaim}
+use Rattle.store_terms.specs.declared.output.Output.{Output}
 use Rattle.wavefront.specs.FrontPieces.{front_piece}
+use Rattle.wavefront.specs.FrontTerm.{WavefrontTerm}
 
 -- ---- that nothing is counted twice
 
@@ -28,46 +28,31 @@ output_pieces program outputs = map (output_piece program) outputs
 abbrev pub single_pieces : AffineProgram → List OutputClaim → List (List FootprintPiece)
 single_pieces program outputs = map (λ (output : OutputClaim). output_piece program output ∷ []) outputs
 
-abbrev pub word_pieces : AffineProgram → CertificateClaim → Option ℕ → List FootprintPiece
-word_pieces program certificate branch = map (front_piece program) (counted_fronts certificate branch)
+abbrev pub systems_of : AffineProgram → List OutputClaim → List WavefrontTerm → List AffineSystem
+systems_of program outputs fronts =
+    pairwise_systems program (single_pieces program outputs) ++ shared_systems program (output_pieces program outputs) (map (front_piece program) fronts)
 
 abbrev pub apart_systems : AffineProgram → CertificateClaim → StoresClaim → List AffineSystem
-apart_systems program certificate stores =
-    pairwise_systems program (single_pieces program stores.outputs)
-    ++ shared_systems program (output_pieces program stores.outputs) (word_pieces program certificate stores.branch)
+apart_systems program certificate stores = systems_of program stores.outputs (counted_fronts certificate stores.branch)
+
+-- ---- how many pairs there are, by the statements alone
+
+-- for each of some numbers the later ones that are the same, and for each of some numbers those of others that are
+abbrev pub output_pairs : List ℕ → List ℕ
+output_pairs [] = []
+output_pairs (statement ∷ statements) = filter (λ other. statement == other) statements ++ output_pairs statements
+
+abbrev pub word_pairs : List ℕ → List ℕ → List ℕ
+word_pairs statements words = flat_map (λ statement. filter (λ other. statement == other) words) statements
+
+-- the statements of outputs, and those that computed the words of terms
+abbrev pub statements_of : List Output → List ℕ
+statements_of outputs = map (λ (output : Output). output.statement) outputs
+
+abbrev pub word_statements : List TermClaim → List ℕ
+word_statements terms = filter_map word_statement terms
 
 -- ---- condition 1
-
--- how many later writes an output has to show not to be there
-abbrev pub later_count : AffineProgram → OutputClaim → ℕ
-later_count program output = if nat_lt output.statement (length program.statements) then length (later_writes program output) else 0
-
--- the members of an output in the order of their keys, up to its nest
-abbrev pub output_front_fit : AffineProgram → List Step → OutputClaim → List Claim
-output_front_fit program place output =
-    shown_fit (2 * depth_of program output.statement) (place ++ Key (codes "inside") ∷ []) output.inside
-    ∷ matrix_fit (length output.nest) (depth_of program output.statement) (place ++ Key (codes "inverse") ∷ Key (codes "matrix") ∷ []) output.matrix
-    ++ shown_fit (later_count program output) (place ++ Key (codes "later") ∷ []) output.later ∷ []
-
--- its point
-abbrev pub point_fit : AffineProgram → List Step → OutputClaim → List Claim
-point_fit program place output =
-    so_many (place ++ Key (codes "point") ∷ []) (length output.point) (depth_of program output.statement)
-    ∷ forms_fit (output_variables program output) (place ++ Key (codes "point") ∷ []) output.point
-
--- the members behind its point, but for each sum
-abbrev pub output_back_fit : AffineProgram → List Step → OutputClaim → List Claim
-output_back_fit program place output =
-    shown_fit (length output.nest) (place ++ Key (codes "shown") ∷ []) output.count.shown
-    ∷ names (place ++ Key (codes "statement") ∷ []) output.statement (length program.statements)
-    ∷ so_many (place ++ Key (codes "sums") ∷ []) (length output.count.sums) (length output.nest) ∷ []
-
--- An output.
-abbrev pub output_fit : AffineProgram → List Step → OutputClaim → List Claim
-output_fit program place output =
-    let params = length program.parameters in
-    output_front_fit program place output ++ bounds_fit params (place ++ Key (codes "nest") ∷ []) output.nest ++ point_fit program place output
-    ++ output_back_fit program place output ++ sums_fit (suc params) (place ++ Key (codes "sums") ∷ []) output.count.sums
 
 -- the place of an output
 abbrev pub output_place : ℕ → List Step

@@ -1,11 +1,20 @@
 -- The values of stores at numbers for the parameters, and where they are beyond 128 bits.
-use Rattle.std.specs.Prelude.{ℕ, ◌+◌, ◌≤◌, ◌⊎◌, ℤ, List, [], ◌∷◌, map, sum}
+use Rattle.std.specs.Prelude.{◌≡◌, ⊤, ℕ, ◌+◌, ◌≤◌, ◌⊎◌, true, ℤ, List, [], ◌∷◌, map, sum, Result, Ok, Err}
+use Rattle.std.specs.List.{AllZip}
+use Rattle.affine_program.specs.Assumptions.{IsFirstUnmet}
 use Rattle.iolb_check.specs.Bounds.{HasWideBranch, IsWideAt, terms_of}
+use Rattle.iolb_check.specs.Claims.{TermClaim}
 use Rattle.iolb_check.specs.declared.bound.Value.{Value}
-use Rattle.iolb_model.specs.Bound.{branch_value, count_value}
+use Rattle.iolb_check.specs.declared.bound.Value.TheVariants.{Cold, Partition, Wavefront}
+use Rattle.iolb_check.specs.declared.value_fault.ValueFault.{ValueFault}
+use Rattle.iolb_check.specs.declared.value_fault.ValueFault.TheVariants.{OutsideAssumption, Wide}
+use Rattle.iolb_model.specs.Bound.{AreMet, branch_value, count_value}
+use Rattle.iolb_model.specs.Form.{AffineForm}
 use Rattle.iolb_model.specs.declared.limits.TheConstants.{MEASURE}
 use Rattle.poly_tree.specs.Poly.{Quotient}
 use Rattle.poly_tree.specs.Printed.{polynomial_of}
+use Rattle.store_bound.specs.Counted.{is_computed}
+use Rattle.store_bound.specs.declared.fault.Traffic.{Traffic}
 
 -- how many instances outputs have, by their counts
 abbrev pub output_value : List Quotient → List ℤ → ℕ
@@ -25,3 +34,28 @@ HasWideCount sizes (count ∷ counts) = IsWideAt sizes count ⊎ HasWideCount si
 -- together.
 abbrev pub IsWideTraffic : List ℤ → ℕ → List (List Value) → List Quotient → ℕ → Type 0
 IsWideTraffic sizes s branches counts both = HasWideBranch sizes s branches ⊎ (HasWideCount sizes counts ⊎ (MEASURE ≤ both))
+
+-- ---- of the terms that are counted
+
+-- a value is that of a wavefront term
+abbrev pub IsWavefront : Value → Type 0
+IsWavefront (Cold count) = ⊥
+IsWavefront (Partition bound) = ⊥
+IsWavefront (Wavefront pairs outer) = ⊤
+
+-- each term whose words were computed has such a value
+abbrev pub HasWordValue : TermClaim → Value → Type 0
+HasWordValue term value = is_computed term ≡ true → IsWavefront value
+
+abbrev pub HaveWordValues : List TermClaim → List Value → Type 0
+HaveWordValues terms values = AllZip HasWordValue terms values
+
+-- ---- both values
+
+-- What an evaluation answers: the bound's value and that of the stores, where the assumptions are met and nothing is wide; the
+-- first assumption that isn't met; or that something is wide, where the assumptions are met.
+abbrev pub EvaluatesBoth : List AffineForm → List ℤ → ℕ → ℕ → Type 0 → Result Traffic ValueFault → Type 0
+EvaluatesBoth assumptions sizes least_loads least_stores wide (Ok found) =
+    AreMet assumptions sizes × (¬ wide) × (found.loads ≡ least_loads) × (found.stores ≡ least_stores)
+EvaluatesBoth assumptions sizes least_loads least_stores wide (Err (OutsideAssumption number)) = IsFirstUnmet assumptions sizes number
+EvaluatesBoth assumptions sizes least_loads least_stores wide (Err Wide) = AreMet assumptions sizes × wide

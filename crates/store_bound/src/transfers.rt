@@ -7,9 +7,14 @@ ghost use Rattle.affine_program.specs.Parts.{meaning};
 ghost use Rattle.iolb_model.specs.declared.limits.TheConstants.{VALUE_SIZE};
 ghost use Rattle.store_bound.specs.Faults.{AnswersTraffic, MakesTraffic};
 
+use crate::counted::named_terms;
+use crate::evaluation::both_at;
 use crate::fault::{Traffic, TrafficFault};
+use crate::law::sound_stores_are_made;
+use crate::stores_check::check_stores;
 use affine_program::Program;
-use iolb_check::Certificate;
+use claims::Refused;
+use iolb_check::{Certificate, ValueFault, check};
 use std::alloc::Global;
 use store_terms::Stores;
 
@@ -41,5 +46,23 @@ pub fn traffic(
     ensures answer { AnswersTraffic program.now certificate.now stores.now sizes.now s result }
     ensures transferred { IfOk result (λ traffic. MakesTraffic (meaning program.now) sizes.now s traffic.loads traffic.stores) }
 {
-    unreachable!()
+    let _params = program.params();
+    sound_stores_are_made();
+    let bound = match check(alloc, program, certificate) {
+        Ok(bound) => bound,
+        Err(Refused::Failed(failed)) => return Err(TrafficFault::Refused(failed)),
+        Err(Refused::Memory) => return Err(TrafficFault::Memory),
+    };
+    let counts = match check_stores(alloc, program, certificate, stores) {
+        Ok(counts) => counts,
+        Err(Refused::Failed(failed)) => return Err(TrafficFault::StoresRefused(failed)),
+        Err(Refused::Memory) => return Err(TrafficFault::Memory),
+    };
+    let (branch, counts) = (stores.branch(), counts.as_slice());
+    let terms = named_terms(certificate, branch);
+    match both_at(&bound, counts, terms, branch, sizes, s) {
+        Ok(traffic) => Ok(traffic),
+        Err(ValueFault::OutsideAssumption(number)) => Err(TrafficFault::OutsideAssumption(number)),
+        Err(ValueFault::Wide) => Err(TrafficFault::Wide),
+    }
 }

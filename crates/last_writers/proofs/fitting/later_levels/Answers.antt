@@ -1,0 +1,23 @@
+use Rattle.std.proofs.Common.{◌∙◌, ap, sym, ℕ, List, length, arith}
+use Rattle.std.specs.Prelude.{◌==◌, if◌then◌else◌, flat_map}
+use Rattle.iolb_model.specs.Program.{statement_at}
+use Rattle.affine_program.specs.Parts.{meaning}
+use Rattle.dep_quast.specs.Levels.{levels, writers}
+use Rattle.dep_quast.proofs.Counts.{count-more, length-levels}
+use Rattle.last_writers.proofs.fitting.later_levels.Goals as goal
+
+pub loop-writer-preserved : goal.loop-writer-preserved
+loop-writer-preserved c =
+    let program = meaning c.args.program.now in
+    let s : ℕ = c.args.output.now.statement in
+    let array : ℕ = (statement_at program s).writes.array in
+    let k = c.loop-writer.writer in
+    let g : ℕ → List ℕ = λ writer. levels program s writer in
+    record {
+      few = omega (arith, c.levels_of-total.ensures.few, c.loop-writer.invariant.few);
+      count = count-more g c.args.program.now.statements k array c.loop-writer.total c.levels_of-total.result
+          (length (flat_map g (writers program array)))
+          (omega (arith, c.loop-writer-test.true, ap length c.statements-writer-end.ensures.statements))
+          (c.levels_of-total.ensures.count ∙ ap (λ (n : ℕ). if (statement_at program k).writes.array == array then n else 0) (sym (length-levels program s k)))
+          c.loop-writer.invariant.count;
+    }
