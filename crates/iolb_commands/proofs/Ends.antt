@@ -1,5 +1,5 @@
 -- That a request comes to one end over files that tell what they hold.
-use Rattle.std.proofs.Common.{◌≡◌, refl, sym, ◌∙◌, ap, subst, inr, ℕ, ◌<◌, ◌≤◌, List, [], ◌∷◌, length, arith}
+use Rattle.std.proofs.Common.{◌≡◌, refl, sym, ◌∙◌, ap, subst, inr, ℕ, ◌<◌, ◌≤◌, List, length, arith}
 use Rattle.std.specs.Prelude.{ℤ, Option, Some, None, Result, Ok, Err, IsSomeAnd}
 use Rattle.iolb_model.specs.Bound.{AreMet}
 use Rattle.iolb_model.specs.Form.{AffineForm}
@@ -16,8 +16,6 @@ use Rattle.affine_c.specs.Meaning.{HasFault}
 use Rattle.affine_c.proofs.OneProgram.{meant_without_fault}
 use Rattle.iolb_cert.specs.OneCertificate.{TextsHaveOneCertificate, TextsHaveOneAnswer}
 use Rattle.command_words.specs.Requests.{Request, Task, checks, evaluates, shares, levels, Work, judges, replays, climbs, bounds_traffic, bounds, file_at}
-use Rattle.claims.proofs.Laws.{accepted-stand, refused-one}
-use Rattle.domain_count.proofs.Claimed.{right-claims-give-one}
 use Rattle.iolb_check.specs.Claims.{CertificateClaim}
 use Rattle.iolb_check.specs.declared.bound.Value.{Value}
 use Rattle.iolb_check.specs.Exact.{RefusalsAreOne, ValidCertificatesGiveOne, ValidCertificatesHaveValues, ValidCertificatesStand}
@@ -32,8 +30,8 @@ use Rattle.iolb_commands.specs.Stop.{IsPlainFault}
 use Rattle.iolb_commands.specs.Works.{most_bytes, sizes_for}
 use Rattle.iolb_commands.proofs.Phases.{IsPlainEnd, One, phase_one, says_one, through}
 use Rattle.poly_tree.specs.Poly.{Quotient}
-use Rattle.store_bound.specs.Conditions.{AreCountsOf, stores_conditions}
-use Rattle.store_terms.specs.Claims.{OutputClaim, StoresClaim}
+use Rattle.store_bound.specs.Exact.{StoresRefusalsAreOne, ValidStoresGiveOne, ValidStoresStand}
+use Rattle.store_terms.specs.Claims.{StoresClaim}
 use Rattle.store_text.specs.OneReading.{TextsHaveOneStores}
 use Rattle.tile_sched.specs.OneSchedule.{TextsHaveOneSchedule}
 use Rattle.tile_sched.specs.ReplayLaws.{PlayedOrdersAreOne, PlayedOrRefused, UnplayedAreOne}
@@ -60,6 +58,9 @@ pub record AreExact : Type 0 where
   pub one_unfinished : FirstUnfinishedIsOne
   pub complete_or_not : CompleteOrUnfinished
   pub stores : TextsHaveOneStores
+  pub stores_stand : ValidStoresStand
+  pub one_counts : ValidStoresGiveOne
+  pub one_stores_refusal : StoresRefusalsAreOne
 
 -- ---- files and programs
 
@@ -93,16 +94,6 @@ same_fault source f g has again =
 -- two moves that aren't allowed are one
 same_pair : (here there : ℕ × TowerIllegal) → (here.0 ≡ there.0) × (here.1 ≡ there.1) → here ≡ there
 same_pair here there e = ap (λ (n : ℕ). let one : ℕ × TowerIllegal = (n, here.1) in one) e.0 ∙ ap (λ (illegal : TowerIllegal). let one : ℕ × TowerIllegal = (there.0, illegal) in one) e.1
-
--- outputs have one list of counts
-pub counts_one : (program : AffineProgram) (outputs : List OutputClaim) (one other : List Quotient) → AreCountsOf program outputs one → AreCountsOf program outputs other → one ≡ other
-counts_one program [] [] [] h g = refl
-counts_one program [] [] (q ∷ other) h g = absurd g
-counts_one program [] (p ∷ one) other h g = absurd h
-counts_one program (output ∷ outputs) [] other h g = absurd h
-counts_one program (output ∷ outputs) (p ∷ one) [] h g = absurd g
-counts_one program (output ∷ outputs) (p ∷ one) (q ∷ other) h g =
-    let first = right-claims-give-one program output.nest output.count p q h.0 g.0 in let rest = counts_one program outputs one other h.1 g.1 in cc
 
 -- ---- each phase has one end
 
@@ -146,16 +137,16 @@ module _ (Both : End → End → Type 0) where
       (λ fault stores faulty has _. exact.stores.either bytes stores fault has faulty)
       (λ a b has again. exact.stores.one_stores bytes a b has again) (λ stores _. on stores)
 
-  stores_conditions_one : (program : AffineProgram) (claim : CertificateClaim) (stores : StoresClaim) (Onward : List Quotient → End → Type 0) → ((counts : List Quotient) → One Both (Onward counts))
-      → One Both (StoresConditionsCome program claim stores Onward)
-  stores_conditions_one program claim stores Onward on = phase_one Both
-      (λ f g fails again _ _. refused-one (stores_conditions program claim stores) f g fails again)
-      (λ failed counts fails met _. accepted-stand (stores_conditions program claim stores) failed met.accepted fails)
-      (λ p q met again. counts_one program stores.outputs p q met.counted again.counted) (λ counts _. on counts)
+  stores_conditions_one : AreExact → (program : AffineProgram) (claim : CertificateClaim) (stores : StoresClaim) (Onward : List Quotient → End → Type 0)
+      → ((counts : List Quotient) → One Both (Onward counts)) → One Both (StoresConditionsCome program claim stores Onward)
+  stores_conditions_one exact program claim stores Onward on = phase_one Both
+      (λ f g fails again _ _. exact.one_stores_refusal program claim stores f g fails again)
+      (λ failed counts fails met _. exact.stores_stand program claim stores failed met.accepted fails)
+      (λ p q met again. exact.one_counts program claim stores p q met again) (λ counts _. on counts)
 
   traffic_one : AreExact → (s : ℕ) (program : AffineProgram) (sizes : List ℤ) (claim : CertificateClaim) (stores : StoresClaim) → One Both (TrafficComes s program sizes claim stores)
   traffic_one exact s program sizes claim stores =
-      conditions_one exact program claim _ (λ values. stores_conditions_one program claim stores _ (λ counts. sizes_one _ _ _ (narrow_one _ _ (says_one Both))))
+      conditions_one exact program claim _ (λ values. stores_conditions_one exact program claim stores _ (λ counts. sizes_one _ _ _ (narrow_one _ _ (says_one Both))))
 
   schedule_one : AreExact → (s : ℕ) (program : AffineProgram) (sizes : List ℤ) (bytes : List ℕ) → One Both (ScheduleComes s program sizes bytes)
   schedule_one exact s program sizes bytes = phase_one Both

@@ -24,9 +24,7 @@ use Rattle.iolb_commands.specs.Stop.{stop_line, stop_status}
 use Rattle.iolb_commands.specs.Works.{HasSizes, sizes_for}
 use Rattle.iolb_commands.specs.Use.{CallUse, Gains, Stays}
 use Rattle.iolb_check.specs.Conditions.{MeetsConditions}
-use Rattle.claims.proofs.Laws.{accepted-stand}
-use Rattle.store_bound.specs.Conditions.{stores_conditions}
-use Rattle.iolb_commands.proofs.Ends.{AreExact, AreMade, counts_one, request_one, through_file, through_narrow, through_sizes, to_work}
+use Rattle.iolb_commands.proofs.Ends.{AreExact, AreMade, request_one, through_file, through_narrow, through_sizes, to_work}
 use Rattle.iolb_commands.proofs.Notes.{nothing}
 use Rattle.iolb_commands.proofs.Phases.{IsPlainEnd, answered, found, through}
 use Rattle.iolb_commands.proofs.PlainStops.{plain}
@@ -263,8 +261,8 @@ stores_pass exact call request s named program claim stores values counts sizes 
     (λ end ok comes. let so = answered end ok
     (through_narrow end ok _ _ narrow
     (through_sizes end ok program.assumptions sizes _ met
-    (through counts (λ failed fails _. accepted-stand (stores_conditions program claim stores) failed counted.accepted fails)
-    (λ other again. counts_one program stores.outputs other counts again.counted counted.counted) end ok
+    (through counts (λ failed fails _. exact.stores_stand program claim stores failed counted.accepted fails)
+    (λ other again. exact.one_counts program claim stores other counts again counted) end ok
     (through values (λ failed fails _. exact.stand program claim failed valid.accepted fails) (λ other again. exact.one_values program claim other values again valid) end ok
     (through stores (λ fault faulty _. exact.stores.either stored.bytes stores fault stored.has faulty) (λ other again. exact.stores.one_stores stored.bytes other stores again stored.has) end ok
     (through_file exact reads.map end ok request.files work 2 _ stored.bytes stored.content

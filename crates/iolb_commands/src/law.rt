@@ -7,6 +7,7 @@ use iolb_cert::{texts_have_one_answer, texts_have_one_certificate};
 use iolb_check::law::answers_are_exact;
 use iolb_host::sure_files_never_fail;
 use memory_levels::law::{plays_have_one_answer, texts_of_moves_are_exact};
+use store_bound::law::stores_are_exact;
 use store_text::stores_are_one;
 use tile_sched::{replays_are_one, schedules_are_one};
 
@@ -39,6 +40,7 @@ pub fn outcomes_are_one()
     texts_of_moves_are_exact();
     plays_have_one_answer();
     stores_are_one();
+    stores_are_exact();
 }
 
 /// Laws of `run`'s outcomes, over files that tell what they hold, where no read and no write failed: what there is to say against
@@ -61,6 +63,7 @@ pub fn causes_are_answered()
     texts_of_moves_are_exact();
     plays_have_one_answer();
     stores_are_one();
+    stores_are_exact();
 }
 
 /// A call in which no read and no write failed doesn't end with 6 or 7, whatever files and sinks tell, and over files and sinks
