@@ -1,5 +1,5 @@
 -- What is read is within the limits of stores.
-use Rattle.std.proofs.Common.{length, map, sym, subst, List, arith}
+use Rattle.std.proofs.Common.{map, sym, subst, List, arith}
 use Rattle.std.proofs.lemmas.List.{length-map}
 use Rattle.iolb_model.specs.Polynomial.{Polynomial}
 use Rattle.certificate_fit.specs.Limits.{NameRows}

@@ -3,7 +3,7 @@ use Rattle.std.specs.Prelude.{◌≡◌, List, map}
 use Rattle.json_parts.specs.Related.{AreAll}
 use Rattle.poly_tree.specs.Poly.{Quotient}
 use Rattle.certificate_parts.specs.Polynomials.{ArePolynomials, written_polynomial}
-use Rattle.store_terms.specs.Claims.{OutputClaim, StoresClaim, claim_of_output}
+use Rattle.store_terms.specs.Claims.{OutputClaim, StoresClaim}
 use Rattle.store_terms.specs.declared.output.Output.{Output}
 use Rattle.store_text.specs.Outputs.{WrittenOutput}
 use Rattle.store_text.specs.Stores.{WrittenStores}

@@ -21,7 +21,10 @@ pub(crate) struct OfOutput {}
 
 type Shown = ListOf<OfMultipliers>;
 
-type Behind = (ListOf<OfForm>, (Shown, (Any16, (ListOf<OfPolynomial>, End))));
+type Behind = (
+    ListOf<OfForm>,
+    (Shown, (Any16, (ListOf<OfPolynomial>, End))),
+);
 
 type Members = (Shown, (OfInverse, (Shown, (OfNest, Behind))));
 

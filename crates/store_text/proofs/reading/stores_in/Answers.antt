@@ -1,14 +1,13 @@
-use Rattle.std.proofs.Common.{◌≡◌, ◌∙◌, ℕ, Ok, Vec, Global, refl, sym, subst, List}
+use Rattle.std.proofs.Common.{◌≡◌, ◌∙◌, ℕ, Vec, Global, refl, sym, subst}
 use Rattle.std.specs.Prelude.{Option, None, Some, option_map}
 use Rattle.std.proofs.lemmas.Result.{IfOk-at_ok}
 use Rattle.affine_form.specs.Multipliers.{FarkasMultipliers}
-use Rattle.serde_json.specs.Data.{Data}
 use Rattle.serde_json.specs.View.{view}
 use Rattle.json_parts.specs.Fields.{reads_object, object-kept}
 use Rattle.json_parts.specs.Related.{AreAll}
 use Rattle.json_parts.proofs.Failing.{made_fails}
 use Rattle.store_terms.specs.Claims.{claim_of_output, claim_of_stores}
-use Rattle.store_terms.specs.Limits.{IsWithinLimits, StoresParts}
+use Rattle.store_terms.specs.Limits.{StoresParts}
 use Rattle.store_terms.specs.declared.output.Output.{Output}
 use Rattle.store_text.specs.Read.{IsOutput, IsStores}
 use Rattle.store_text.specs.Stores.{StoresMembers, stores_fields, stores_made, stores_shape}
