@@ -152,6 +152,26 @@ fn back_fits(
     Ok(())
 }
 
+/// Whether what is said fits of an output at this place.
+fn parts_fit(
+    alloc: Global,
+    program: &Program,
+    place: &Place,
+    output: &Output,
+) -> Result<(), Refused>
+    ensures { Decides (output_fit (meaning program.now) place.now (claim_of_output output.now)) result }
+{
+    let params = program.params().len();
+    front_fits(alloc, program, place, output)?;
+    let bounds = output.nest.bounds();
+    all_bounds_fit(alloc, place, ObjectKey("nest"), params, bounds)?;
+    point_fits(alloc, program, place, output)?;
+    back_fits(alloc, program, place, output)?;
+    let sums = output.sums.sums();
+    all_sums_fit(alloc, place, ObjectKey("sums"), params + 1, sums)?;
+    Ok(())
+}
+
 /// Whether an output within the limits, which stands at this place, fits a program (condition 1), in the order of a walk through
 /// its text.
 ///
@@ -168,13 +188,6 @@ pub fn output_fits(
     ensures fit { Decides (output_fit (meaning program.now) place.now (claim_of_output output.now)) result }
     ensures fits { OnOk result (FitsOutput program.now output.now) }
 {
-    let params = program.params().len();
-    front_fits(alloc, program, place, output)?;
-    let bounds = output.nest.bounds();
-    all_bounds_fit(alloc, place, ObjectKey("nest"), params, bounds)?;
-    point_fits(alloc, program, place, output)?;
-    back_fits(alloc, program, place, output)?;
-    let sums = output.sums.sums();
-    all_sums_fit(alloc, place, ObjectKey("sums"), params + 1, sums)?;
+    parts_fit(alloc, program, place, output)?;
     Ok(())
 }

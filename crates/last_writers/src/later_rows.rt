@@ -89,6 +89,7 @@ fn cell_rows(
     ensures rows { IfOk result (λ rows. rows.items ≡ equality_rows (variables_with (meaning program.now) (claim_of_output output.now) writer)
         (written_forms (meaning program.now) (output_variables (meaning program.now) (claim_of_output output.now)) output.now.statement output.now.point.items)
         (written_forms (meaning program.now) (variables_with (meaning program.now) (claim_of_output output.now) writer) writer values.now)) }
+    ensures over { IfOk result (λ rows. AllOver (variables_with (meaning program.now) (claim_of_output output.now) writer) rows.items) }
 {
     let vars = variables_beside(program, output, writer);
     let first = variables(program, output);

@@ -1,14 +1,14 @@
 -- The values of stores at numbers for the parameters, and where they are beyond 128 bits.
-use Rattle.std.specs.Prelude.{◌≡◌, ⊤, ℕ, ◌+◌, ◌≤◌, ◌⊎◌, true, ℤ, List, [], ◌∷◌, map, sum, Result, Ok, Err}
+use Rattle.std.specs.Prelude.{◌≡◌, ⊤, ℕ, ◌+◌, ◌≤◌, ◌⊎◌, true, if◌then◌else◌, ℤ, List, [], ◌∷◌, map, sum, Result, Ok, Err}
 use Rattle.std.specs.List.{AllZip}
 use Rattle.affine_program.specs.Assumptions.{IsFirstUnmet}
-use Rattle.iolb_check.specs.Bounds.{HasWideBranch, IsWideAt, terms_of}
+use Rattle.iolb_check.specs.Bounds.{HasWideBranch, IsWideAt, term_of, terms_of}
 use Rattle.iolb_check.specs.Claims.{TermClaim}
 use Rattle.iolb_check.specs.declared.bound.Value.{Value}
 use Rattle.iolb_check.specs.declared.bound.Value.TheVariants.{Cold, Partition, Wavefront}
 use Rattle.iolb_check.specs.declared.value_fault.ValueFault.{ValueFault}
 use Rattle.iolb_check.specs.declared.value_fault.ValueFault.TheVariants.{OutsideAssumption, Wide}
-use Rattle.iolb_model.specs.Bound.{AreMet, branch_value, count_value}
+use Rattle.iolb_model.specs.Bound.{AreMet, branch_value, count_value, term_value}
 use Rattle.iolb_model.specs.Form.{AffineForm}
 use Rattle.iolb_model.specs.declared.limits.TheConstants.{MEASURE}
 use Rattle.poly_tree.specs.Poly.{Quotient}
@@ -42,6 +42,10 @@ abbrev pub IsWavefront : Value → Type 0
 IsWavefront (Cold count) = ⊥
 IsWavefront (Partition bound) = ⊥
 IsWavefront (Wavefront pairs outer) = ⊤
+
+-- the value of a term, if its words were computed, and else 0
+abbrev pub word_value : TermClaim → Value → List ℤ → ℕ → ℕ
+word_value term value sizes s = if is_computed term then term_value (term_of value) sizes s else 0
 
 -- each term whose words were computed has such a value
 abbrev pub HasWordValue : TermClaim → Value → Type 0

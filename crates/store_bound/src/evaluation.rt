@@ -3,12 +3,13 @@
 ghost use Rattle.std.specs.Prelude.{◌≡◌, ◌≤◌, ◌<◌, ◌^◌, ◌+◌, ◌↔◌, ◌⊎◌, length, map, min, IfOk, IsErr};
 ghost use Rattle.std.specs.List.{AllByRecursion};
 ghost use Rattle.affine_form.specs.Form.{IsSmall};
-ghost use Rattle.iolb_check.specs.Bounds.{HasWideTerm, IsCounting, IsTermValue, IsWideTerm, bound_of, term_of, terms_of};
+ghost use Rattle.iolb_check.specs.Bounds.{HasWideTerm, IsCounting, IsTermValue, IsWideAt, IsWideTerm, bound_of, term_of, terms_of};
 ghost use Rattle.iolb_check.specs.Claims.{claim_of_term};
-ghost use Rattle.iolb_model.specs.Bound.{AreMet, bound_value, branch_value, term_value};
+ghost use Rattle.iolb_model.specs.Bound.{AreMet, bound_value, branch_value, count_value, term_value};
 ghost use Rattle.iolb_model.specs.declared.limits.TheConstants.{MEASURE, VALUE_SIZE};
+ghost use Rattle.poly_tree.specs.Printed.{polynomial_of};
 ghost use Rattle.store_bound.specs.Counted.{computed_values, named_values};
-ghost use Rattle.store_bound.specs.Values.{EvaluatesBoth, HasWideCount, HaveWordValues, IsWavefront, IsWideTraffic, output_value, store_value};
+ghost use Rattle.store_bound.specs.Values.{EvaluatesBoth, HasWideCount, HasWordValue, HaveWordValues, IsWavefront, IsWideTraffic, output_value, store_value, word_value};
 
 use crate::counted::word_statement;
 use crate::fault::Traffic;
@@ -17,6 +18,18 @@ use iolb_check::evaluation::{count_at, red_at, widened};
 use iolb_check::{Bound, Term, Value, ValueFault};
 use iolb_model::limits;
 use poly_tree::{Poly, Wide};
+
+/// How many instances an output has at sizes that meet the assumptions, by its count, or 2^126 if that is less.
+fn output_at(count: &Poly, assumed: &System, point: &[i128]) -> Result<u128, Wide>
+    requires counting { IsCounting assumed.now count.now }
+    requires each { length point.now ≡ assumed.now.vars }
+    requires met { AreMet assumed.now.rows point.now }
+    ensures value { IfOk result (λ value. value ≡ min (count_value (polynomial_of count.now) point.now) MEASURE) }
+    ensures wide { IsErr result ↔ IsWideAt point.now count.now }
+{
+    let value = count_at(count, assumed, point)?;
+    Ok(value.min(limits::MEASURE))
+}
 
 /// How many instances outputs have at sizes that meet the assumptions, by their counts, or 2^126 if that is less. It is `Wide`
 /// exactly where the terms of a count reach 2^126 in sum.
@@ -30,8 +43,8 @@ fn outputs_at(counts: &[Poly], assumed: &System, point: &[i128]) -> Result<u128,
 {
     let mut total = 0;
     for count in counts {
-        let value = count_at(count, assumed, point)?;
-        total = (value.min(limits::MEASURE) + total).min(limits::MEASURE);
+        let value = output_at(count, assumed, point)?;
+        total = (value + total).min(limits::MEASURE);
     }
     Ok(total)
 }
@@ -54,7 +67,29 @@ fn words_of(value: &Value, assumed: &System, point: &[i128], s: u64) -> Result<u
     Ok(words.saturating_sub(red).min(limits::MEASURE))
 }
 
-/// The sum of these values for the terms whose words were computed, or 2^126 if that is less.
+/// The value of a term, if its words were computed, and else 0; or 2^126 if that is less.
+fn term_at(
+    term: &Term,
+    value: &Value,
+    assumed: &System,
+    point: &[i128],
+    s: u64,
+) -> Result<u128, Wide>
+    requires valued { HasWordValue (claim_of_term term.now) value.now }
+    requires counting { IsTermValue assumed.now value.now }
+    requires each { length point.now ≡ assumed.now.vars }
+    requires met { AreMet assumed.now.rows point.now }
+    ensures value { IfOk result (λ words. words ≡ min (word_value (claim_of_term term.now) value.now point.now s) MEASURE) }
+    ensures wide { IsErr result → IsWideTerm point.now s value.now }
+{
+    if word_statement(term).is_some() {
+        words_of(value, assumed, point, s)
+    } else {
+        Ok(0)
+    }
+}
+
+/// The sum of these values, or 2^126 if that is less.
 fn words_at(
     terms: &[Term],
     values: &[Value],
@@ -70,11 +105,9 @@ fn words_at(
     ensures wide { IsErr result → HasWideTerm point.now s values.now }
 {
     let mut total = 0;
-    for (i, term) in terms.iter().enumerate() {
-        if word_statement(term).is_some() {
-            let words = words_of(&values[i], assumed, point, s)?;
-            total = (words + total).min(limits::MEASURE);
-        }
+    for i in 0..terms.len().min(values.len()) {
+        let words = term_at(&terms[i], &values[i], assumed, point, s)?;
+        total = (words + total).min(limits::MEASURE);
     }
     Ok(total)
 }

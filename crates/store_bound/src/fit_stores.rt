@@ -1,10 +1,12 @@
 //! Whether stores fit a program and a certificate.
 #![tactic(auto, using(claims::proofs::Found::in_a_row))]
 
-ghost use Rattle.std.specs.Prelude.{◌≡◌, ◌+◌, [], length, map, IfOk, OnOk};
+ghost use Rattle.std.specs.Prelude.{◌≡◌, ◌∷◌, [], codes, length, map, IfOk, OnOk};
 ghost use Rattle.std.specs.List.{AllByRecursion};
 ghost use Rattle.affine_program.specs.Parts.{meaning};
+ghost use Rattle.certificate_fit.specs.PartFit.{shown_fit};
 ghost use Rattle.claims.specs.Claims.{Decides, numbered};
+ghost use Rattle.claims.specs.declared.place.Step.TheVariants.{Key};
 ghost use Rattle.iolb_check.specs.Claims.{claim_of_certificate};
 ghost use Rattle.iolb_model.specs.Program.{AffineProgram};
 ghost use Rattle.last_writers.specs.Fitting.{FitsOutput};
@@ -35,9 +37,29 @@ pub(crate) fn output_place(alloc: Global, index: usize) -> Result<Place, Memory>
 fn pairs(certificate: &Certificate, stores: &Stores) -> usize
     ensures { (program : AffineProgram) → result ≡ length (apart_systems program (claim_of_certificate certificate.now) (claim_of_stores stores.now)) }
 {
+    // Its reader says that its branches have few terms.
+    let _branches = certificate.branches();
     let outputs = stores.outputs();
     let terms = named_terms(certificate, stores.branch());
     output_pairs(outputs) + word_pairs(outputs, terms)
+}
+
+/// Whether there are multipliers for each of these pairs.
+fn apart_fits(
+    alloc: Global,
+    program: &Program,
+    certificate: &Certificate,
+    stores: &Stores,
+    place: &Place,
+) -> Result<(), Refused>
+    requires { place.now ≡ [] }
+    ensures { Decides (shown_fit (length (apart_systems (meaning program.now) (claim_of_certificate certificate.now) (claim_of_stores stores.now))) (Key (codes "apart") ∷ []) stores.now.apart ∷ []) result }
+{
+    let _program = program;
+    let called = pairs(certificate, stores);
+    let found = stores.apart().len();
+    let key = Step::Key(ObjectKey("apart"));
+    list_fits(alloc, place, key, found, called)
 }
 
 /// Whether the branch that is named is there.
@@ -82,9 +104,7 @@ pub(crate) fn stores_fit(
     ensures fits { OnOk result (AllByRecursion (FitsOutput program.now) stores.now.outputs) }
 {
     let root = Place::new(Vec::new(alloc));
-    let called = pairs(certificate, stores);
-    let key = Step::Key(ObjectKey("apart"));
-    list_fits(alloc, &root, key, stores.apart().len(), called)?;
+    apart_fits(alloc, program, certificate, stores, &root)?;
     branch_fits(alloc, certificate, stores.branch(), &root)?;
     all_outputs_fit(alloc, program, stores.outputs())?;
     Ok(())

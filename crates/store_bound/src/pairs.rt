@@ -1,13 +1,14 @@
 //! Whether nothing is counted twice.
 #![tactic(auto, using(claims::proofs::Found::in_a_row))]
 
-ghost use Rattle.std.specs.Prelude.{◌≡◌, ◌≤◌, ◌+◌, ◌++◌, ◌∷◌, [], codes, drop, length, map, IfOk};
+ghost use Rattle.std.specs.Prelude.{◌≡◌, ◌≤◌, ◌+◌, ◌^◌, ◌∷◌, [], codes, length, map, IfOk, OnOk};
 ghost use Rattle.std.specs.List.{AllByRecursion};
 ghost use Rattle.affine_program.specs.Parts.{meaning};
 ghost use Rattle.claims.specs.Claims.{Decides};
 ghost use Rattle.claims.specs.Shown.{pointless_claims};
 ghost use Rattle.claims.specs.declared.place.Step.TheVariants.{Key};
 ghost use Rattle.footprint_pieces.specs.DisjointClaims.{pairwise_systems, shared_systems};
+ghost use Rattle.footprint_pieces.specs.Pieces.{AreApartPieces, ArePairwiseApart};
 ghost use Rattle.iolb_check.specs.Claims.{claim_of_term};
 ghost use Rattle.last_writers.specs.Fitting.{FitsOutput};
 ghost use Rattle.store_bound.specs.Counted.{computed_fronts};
@@ -19,7 +20,7 @@ ghost use Rattle.store_terms.specs.declared.limits.TheConstants.{OUTPUTS};
 ghost use Rattle.wavefront.specs.FrontPieces.{front_piece};
 
 use crate::pair_counts::output_pairs;
-use crate::pieces::{output_pieces, single_pieces, word_pieces};
+use crate::pieces::{both_pieces, single_pieces};
 use affine_form::{Memory, Multipliers};
 use affine_program::Program;
 use claims::{ObjectKey, Place, Refused, Step, refusal};
@@ -55,14 +56,15 @@ fn outputs_apart(
 ) -> Result<(), Refused>
     requires outputs { AllByRecursion (FitsOutput program.now) outputs.now }
     requires enough { length (pairwise_systems (meaning program.now) (single_pieces (meaning program.now) (map claim_of_output outputs.now))) ≤ length shown.now }
-    ensures { Decides (pointless_claims 23 list.now 0 (pairwise_systems (meaning program.now) (single_pieces (meaning program.now) (map claim_of_output outputs.now))) shown.now) result }
+    ensures hold { Decides (pointless_claims 23 list.now 0 (pairwise_systems (meaning program.now) (single_pieces (meaning program.now) (map claim_of_output outputs.now))) shown.now) result }
+    ensures apart { OnOk result (ArePairwiseApart (meaning program.now) (single_pieces (meaning program.now) (map claim_of_output outputs.now))) }
 {
     let singles = single_pieces(alloc, program, outputs)?;
     lists_shown(alloc, program, singles.as_slice(), shown, 23, list)
 }
 
-/// Whether no output and no words of one statement are shown to have an instance in common, by the multipliers of the list at
-/// this place from the first on.
+/// Whether no output and no words of one statement are shown to have an instance in common, by multipliers that stand in the
+/// list at this place from the first on.
 fn words_apart(
     alloc: Global,
     program: &Program,
@@ -74,13 +76,13 @@ fn words_apart(
 ) -> Result<(), Refused>
     requires outputs { AllByRecursion (FitsOutput program.now) outputs.now }
     requires terms { AllByRecursion (HasWordPiece program.now) terms.now }
-    requires enough { first + length (shared_systems (meaning program.now) (output_pieces (meaning program.now) (map claim_of_output outputs.now)) (map (front_piece (meaning program.now)) (computed_fronts (map claim_of_term terms.now)))) ≤ length shown.now }
-    ensures { Decides (pointless_claims 23 list.now first (shared_systems (meaning program.now) (output_pieces (meaning program.now) (map claim_of_output outputs.now)) (map (front_piece (meaning program.now)) (computed_fronts (map claim_of_term terms.now)))) (drop first shown.now)) result }
+    requires enough { length (shared_systems (meaning program.now) (output_pieces (meaning program.now) (map claim_of_output outputs.now)) (map (front_piece (meaning program.now)) (computed_fronts (map claim_of_term terms.now)))) ≤ length shown.now }
+    requires room { first + length shown.now ≤ 2 ^ 64 }
+    ensures hold { Decides (pointless_claims 23 list.now first (shared_systems (meaning program.now) (output_pieces (meaning program.now) (map claim_of_output outputs.now)) (map (front_piece (meaning program.now)) (computed_fronts (map claim_of_term terms.now)))) shown.now) result }
+    ensures apart { OnOk result (AreApartPieces (meaning program.now) (output_pieces (meaning program.now) (map claim_of_output outputs.now)) (map (front_piece (meaning program.now)) (computed_fronts (map claim_of_term terms.now)))) }
 {
-    let mut lists = Vec::new(alloc);
-    lists.push(output_pieces(alloc, program, outputs)?)?;
-    lists.push(word_pieces(alloc, program, terms)?)?;
-    match lists_shown(alloc, program, lists.as_slice(), &shown[first..], 23, list) {
+    let lists = both_pieces(alloc, program, outputs, terms)?;
+    match lists_shown(alloc, program, lists.as_slice(), shown, 23, list) {
         Ok(()) => Ok(()),
         Err(refused) => Err(moved(alloc, list, first, refused)),
     }
@@ -106,11 +108,14 @@ pub(crate) fn check_apart(
     requires few { length outputs.now ≤ OUTPUTS }
     requires terms { AllByRecursion (HasWordPiece program.now) terms.now }
     requires enough { length (systems_of (meaning program.now) (map claim_of_output outputs.now) (computed_fronts (map claim_of_term terms.now))) ≤ length shown.now }
-    ensures { Decides (pointless_claims 23 (Key (codes "apart") ∷ []) 0 (systems_of (meaning program.now) (map claim_of_output outputs.now) (computed_fronts (map claim_of_term terms.now))) shown.now) result }
+    ensures hold { Decides (pointless_claims 23 (Key (codes "apart") ∷ []) 0 (systems_of (meaning program.now) (map claim_of_output outputs.now) (computed_fronts (map claim_of_term terms.now))) shown.now) result }
+    ensures outputs { OnOk result (ArePairwiseApart (meaning program.now) (single_pieces (meaning program.now) (map claim_of_output outputs.now))) }
+    ensures words { OnOk result (AreApartPieces (meaning program.now) (output_pieces (meaning program.now) (map claim_of_output outputs.now)) (map (front_piece (meaning program.now)) (computed_fronts (map claim_of_term terms.now)))) }
 {
     let list = apart_place(alloc)?;
     outputs_apart(alloc, program, outputs, shown, &list)?;
     let first = output_pairs(outputs);
-    words_apart(alloc, program, outputs, terms, shown, first, &list)?;
+    let (_outputs, words) = shown.split_at(first);
+    words_apart(alloc, program, outputs, terms, words, first, &list)?;
     Ok(())
 }

@@ -1,11 +1,12 @@
 //! The pieces of outputs and of words.
 
-ghost use Rattle.std.specs.Prelude.{◌≡◌, ◌++◌, map, IfOk, OnOk};
+ghost use Rattle.std.specs.Prelude.{◌≡◌, ◌∷◌, [], map, IfOk};
 ghost use Rattle.std.specs.List.{AllByRecursion};
 ghost use Rattle.affine_program.specs.Parts.{meaning};
-ghost use Rattle.footprint_pieces.specs.Pieces.{PieceFits, piece_of, pieces_of};
+ghost use Rattle.footprint_pieces.specs.Pieces.{PieceFits, pieces_of};
 ghost use Rattle.iolb_check.specs.Claims.{claim_of_term};
 ghost use Rattle.last_writers.specs.Fitting.{FitsOutput};
+ghost use Rattle.last_writers.specs.Outputs.{output_piece};
 ghost use Rattle.store_bound.specs.Counted.{computed_front, computed_fronts};
 ghost use Rattle.store_bound.specs.StoresFit.{output_pieces, single_pieces};
 ghost use Rattle.store_bound.specs.WordPieces.{HasWordPiece};
@@ -21,7 +22,18 @@ use std::alloc::Global;
 use store_terms::Output;
 use wavefront::front_pieces;
 
-/// The pieces of outputs, each a list of its own.
+/// The piece of an output, as a list of its own.
+fn single_piece(alloc: Global, program: &Program, output: &Output) -> Result<Vec<Piece>, Memory>
+    requires { FitsOutput program.now output.now }
+    ensures pieces { IfOk result (λ pieces. pieces_of pieces ≡ output_piece (meaning program.now) (claim_of_output output.now) ∷ []) }
+    ensures fit { IfOk result (λ pieces. AllByRecursion (PieceFits (meaning program.now)) (pieces_of pieces)) }
+{
+    let mut pieces = Vec::new(alloc);
+    pieces.push(output_piece(alloc, program, output)?)?;
+    Ok(pieces)
+}
+
+/// The pieces of outputs, each as a list of its own.
 pub(crate) fn single_pieces(
     alloc: Global,
     program: &Program,
@@ -33,9 +45,7 @@ pub(crate) fn single_pieces(
 {
     let mut lists = Vec::new(alloc);
     for output in outputs {
-        let mut single = Vec::new(alloc);
-        single.push(output_piece(alloc, program, output)?)?;
-        lists.push(single)?;
+        lists.push(single_piece(alloc, program, output)?)?;
     }
     Ok(lists)
 }
@@ -47,8 +57,8 @@ pub(crate) fn output_pieces(
     outputs: &[Output],
 ) -> Result<Vec<Piece>, Memory>
     requires { AllByRecursion (FitsOutput program.now) outputs.now }
-    ensures pieces { IfOk result (λ pieces. map piece_of pieces.items ≡ output_pieces (meaning program.now) (map claim_of_output outputs.now)) }
-    ensures fit { IfOk result (λ pieces. AllByRecursion (PieceFits (meaning program.now)) (map piece_of pieces.items)) }
+    ensures pieces { IfOk result (λ pieces. pieces_of pieces ≡ output_pieces (meaning program.now) (map claim_of_output outputs.now)) }
+    ensures fit { IfOk result (λ pieces. AllByRecursion (PieceFits (meaning program.now)) (pieces_of pieces)) }
 {
     let mut pieces = Vec::new(alloc);
     for output in outputs {
@@ -57,28 +67,19 @@ pub(crate) fn output_pieces(
     Ok(pieces)
 }
 
-/// The piece of a term's words, appended, if it is a wavefront term whose words were computed.
-fn push_word_piece(
-    alloc: Global,
-    program: &Program,
-    term: &Term,
-    pieces: &mut Vec<Piece>,
-) -> Result<(), Memory>
+/// The piece of a term's words, if it is a wavefront term whose words were computed, and else none.
+fn word_piece(alloc: Global, program: &Program, term: &Term) -> Result<Vec<Piece>, Memory>
     requires { HasWordPiece program.now term.now }
-    ensures pieces { OnOk result (map piece_of pieces.new.items ≡ map piece_of pieces.old.items ++ map (front_piece (meaning program.now)) (computed_front (claim_of_term term.now))) }
-    ensures fit { OnOk result (AllByRecursion (PieceFits (meaning program.now)) (map piece_of pieces.old.items) → AllByRecursion (PieceFits (meaning program.now)) (map piece_of pieces.new.items)) }
+    ensures pieces { IfOk result (λ pieces. pieces_of pieces ≡ map (front_piece (meaning program.now)) (computed_front (claim_of_term term.now))) }
+    ensures fit { IfOk result (λ pieces. AllByRecursion (PieceFits (meaning program.now)) (pieces_of pieces)) }
 {
     let Term::Wavefront(front) = term else {
-        return Ok(());
+        return Ok(Vec::new(alloc));
     };
     if front.source.is_none() {
-        return Ok(());
+        return Ok(Vec::new(alloc));
     }
-    let mut made = front_pieces(alloc, program, front)?;
-    if let Some(piece) = made.pop() {
-        pieces.push(piece)?;
-    }
-    Ok(())
+    front_pieces(alloc, program, front)
 }
 
 /// The pieces of the words of terms, of those whose words were computed.
@@ -88,12 +89,34 @@ pub(crate) fn word_pieces(
     terms: &[Term],
 ) -> Result<Vec<Piece>, Memory>
     requires { AllByRecursion (HasWordPiece program.now) terms.now }
-    ensures pieces { IfOk result (λ pieces. map piece_of pieces.items ≡ map (front_piece (meaning program.now)) (computed_fronts (map claim_of_term terms.now))) }
-    ensures fit { IfOk result (λ pieces. AllByRecursion (PieceFits (meaning program.now)) (map piece_of pieces.items)) }
+    ensures pieces { IfOk result (λ pieces. pieces_of pieces ≡ map (front_piece (meaning program.now)) (computed_fronts (map claim_of_term terms.now))) }
+    ensures fit { IfOk result (λ pieces. AllByRecursion (PieceFits (meaning program.now)) (pieces_of pieces)) }
 {
     let mut pieces = Vec::new(alloc);
     for term in terms {
-        push_word_piece(alloc, program, term, &mut pieces)?;
+        let mut more = word_piece(alloc, program, term)?;
+        pieces.append(&mut more)?;
     }
     Ok(pieces)
+}
+
+/// Two lists: the pieces of outputs, and those of the words of terms.
+pub(crate) fn both_pieces(
+    alloc: Global,
+    program: &Program,
+    outputs: &[Output],
+    terms: &[Term],
+) -> Result<Vec<Vec<Piece>>, Memory>
+    requires outputs { AllByRecursion (FitsOutput program.now) outputs.now }
+    requires terms { AllByRecursion (HasWordPiece program.now) terms.now }
+    ensures pieces { IfOk result (λ lists. map pieces_of lists.items ≡ output_pieces (meaning program.now) (map claim_of_output outputs.now)
+        ∷ map (front_piece (meaning program.now)) (computed_fronts (map claim_of_term terms.now)) ∷ []) }
+    ensures fit { IfOk result (λ lists. AllByRecursion (AllByRecursion (PieceFits (meaning program.now))) (map pieces_of lists.items)) }
+{
+    let first = output_pieces(alloc, program, outputs)?;
+    let second = word_pieces(alloc, program, terms)?;
+    let mut lists = Vec::new(alloc);
+    lists.push(first)?;
+    lists.push(second)?;
+    Ok(lists)
 }
