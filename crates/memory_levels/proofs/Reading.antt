@@ -18,13 +18,13 @@ use Rattle.memory_levels.specs.MovesText.{BeginsWithMove, CanBeWritten, MovesOrF
 -- ---- digits
 
 pub digit-range : {b : ℕ} (tested : Bool) → MatchBool tested (IsAsciiDigit b) (IsNotAsciiDigit b) → IsTrue tested → (48 ≤ b) × (b ≤ 57)
-digit-range true is yes = is
-digit-range false is yes = absurd cc
+digit-range true is told = is
+digit-range false is told = absurd cc
 
-pub no-digit : {b : ℕ} {A : Type 0} (tested : Bool) → MatchBool tested (IsAsciiDigit b) (IsNotAsciiDigit b) → IsTrue (not tested) → 48 ≤ b → b ≤ 57 → A
-no-digit true is no low high = absurd cc
-no-digit false (inl h) no low high = absurd (omega (arith, h, low))
-no-digit false (inr h) no low high = absurd (omega (arith, h, high))
+pub no-digit : {b : ℕ} {A : Type 0} (tested : Bool) → MatchBool tested (IsAsciiDigit b) (IsNotAsciiDigit b) → tested ≡ false → 48 ≤ b → b ≤ 57 → A
+no-digit true is told low high = absurd cc
+no-digit false (inl h) told low high = absurd (omega (arith, h, low))
+no-digit false (inr h) told low high = absurd (omega (arith, h, high))
 
 -- ---- numbers
 
