@@ -6,3 +6,4 @@ pub mod WordValues
 pub mod StoredWords
 pub mod ApartFootprints
 pub mod Exactness
+pub mod AcceptedStores

@@ -1,0 +1,14 @@
+use Rattle.std.proofs.Common.{◌≡◌, sym, ◌∙◌, ap, subst, ℕ, List, [], map, get_or, Vec, Global}
+use Rattle.std.specs.List.{AllByRecursion}
+use Rattle.iolb_check.specs.Bounds.{IsTermValue, lists}
+use Rattle.iolb_check.specs.declared.bound.Value.{Value}
+use Rattle.store_bound.proofs.NamedTerms.{named-at, named-counting}
+use Rattle.store_bound.proofs.evaluation.named_values.Goals as goal
+
+pub returns-in-Some-get-clause-counting : goal.returns-in-Some-get-clause-counting
+returns-in-Some-get-clause-counting c =
+    let rows : List (Vec Value Global) = c.branch_lists.result.now in
+    let all : AllByRecursion (λ (vs : List Value). AllByRecursion (IsTermValue c.args.bound.now.assumed) vs) (lists rows) =
+    subst (AllByRecursion (λ (vs : List Value). AllByRecursion (IsTermValue c.args.bound.now.assumed) vs)) (sym c.branch_lists.ensures.branches) c.branch_lists.ensures.legal in
+    let at : get_or (lists rows) c.from.result [] ≡ c.in-Some-get.values.now.items = named-at (λ (v : Vec Value Global). v.items) rows c.from.result c.in-Some-get.values.now ? in
+    subst (AllByRecursion (IsTermValue c.args.bound.now.assumed)) (at ∙ sym c.as_slice.ensures.value) (named-counting c.args.bound.now.assumed (lists rows) all c.from.result)
