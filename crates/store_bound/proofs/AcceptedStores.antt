@@ -1,5 +1,5 @@
 -- From what is tested of stores, part by part, to all conditions, and to what they say.
-use Rattle.std.proofs.Common.{◌≡◌, refl, sym, ◌∙◌, ap, subst, ℕ, List, [], ◌∷◌, ◌++◌, map}
+use Rattle.std.proofs.Common.{◌≡◌, refl, sym, ◌∙◌, ap, subst, ℕ, ◌≤◌, List, [], ◌∷◌, ◌++◌, length, map, arith}
 use Rattle.std.specs.Prelude.{codes, ℤ}
 use Rattle.std.specs.List.{AllByRecursion, AllZip}
 use Rattle.affine_form.specs.Multipliers.{FarkasMultipliers}
@@ -19,10 +19,10 @@ use Rattle.iolb_model.specs.Footprint.{ArePairwiseDisjoint, Footprint}
 use Rattle.iolb_model.specs.Program.{AffineProgram, IsWellFormed}
 use Rattle.last_writers.specs.Outputs.{IsSoundOutput}
 use Rattle.poly_tree.specs.Poly.{Quotient}
-use Rattle.store_bound.specs.Conditions.{apart_claims, output_claims_at, stores_conditions}
+use Rattle.store_bound.specs.Conditions.{AreCountsOf, MeetStores, apart_claims, output_claims_at, stores_conditions}
 use Rattle.store_bound.specs.Counted.{computed_fronts, named_terms, terms_named}
 use Rattle.store_bound.specs.Sound.{AreSoundStores, IsOutputCount, output_footprints, word_footprints}
-use Rattle.store_bound.specs.StoresFit.{output_pieces, single_pieces, stores_fit, systems_of}
+use Rattle.store_bound.specs.StoresFit.{apart_systems, output_pieces, single_pieces, stores_fit, systems_of}
 use Rattle.store_bound.proofs.ApartFootprints.{all-apart, fronts-apart, fronts-sound}
 use Rattle.store_bound.proofs.NamedTerms.{named-apart, named-claims, named-sound}
 use Rattle.store_terms.specs.Claims.{OutputClaim, claim_of_output, claim_of_stores}
@@ -94,3 +94,30 @@ module _ (program : ProgramParts) (certificate : CertificateParts) (stores : Sto
         (λ v here there. shared values v admitted here there)
         (fronts-apart program values (terms_named certificate stores.branch) (named-apart program certificate stores.branch branches values admitted)));
   }
+
+  module _ (outputs : List Output) (ts : List Term) (shown : List FarkasMultipliers) (e : outputs ≡ stores.outputs) (f : ts ≡ terms_named certificate stores.branch) (g : shown ≡ stores.apart) where
+    pub enough : AllHold fit → length (systems_of P (claims_of outputs) (computed_fronts (map claim_of_term ts))) ≤ length shown
+    enough h =
+        subst (λ (ms : List FarkasMultipliers). length (systems_of P (claims_of outputs) (computed_fronts (map claim_of_term ts))) ≤ length ms) (sym g)
+        (subst (λ (cs : List TermClaim). length (systems_of P (claims_of outputs) (computed_fronts cs)) ≤ length stores.apart) (sym (terms-same outputs ts shown e f g))
+        (subst (λ (os : List Output). length (systems_of P (claims_of os) (computed_fronts (named_terms C stores.branch))) ≤ length stores.apart) (sym e) here)) where
+          here : length (apart_systems P C (claim_of_stores stores)) ≤ length stores.apart
+          here = omega (arith, h.0)
+
+    pub all-sound : (counts : List Quotient) → IsWellFormed P → AllByRecursion (IsSoundBranch program) certificate.branches → AllByRecursion (IsSoundOutput P) (claims_of outputs)
+        → AllZip (IsOutputCount program) outputs counts → ArePairwiseApart P (single_pieces P (claims_of outputs))
+        → AreApartPieces P (output_pieces P (claims_of outputs)) (map (front_piece P) (computed_fronts (map claim_of_term ts)))
+        → AreSoundStores program certificate stores counts
+    all-sound counts formed branches sound counted singles shared =
+        sound-stores counts formed branches (subst (λ (os : List Output). AllByRecursion (IsSoundOutput P) (claims_of os)) e sound)
+        (subst (λ (os : List Output). AllZip (IsOutputCount program) os counts) e counted)
+        (subst (λ (os : List Output). ArePairwiseApart P (single_pieces P (claims_of os))) e singles)
+        (subst (λ (os : List Output). AreApartPieces P (output_pieces P (claims_of os)) (map (front_piece P) (computed_fronts (map claim_of_term (terms_named certificate stores.branch))))) e
+        (subst (λ (us : List Term). AreApartPieces P (output_pieces P (claims_of outputs)) (map (front_piece P) (computed_fronts (map claim_of_term us)))) f shared))
+
+    pub all-met : (counts : List Quotient) → AllHold fit → AllHold (outputs_at outputs) → AllHold (apart_at outputs (map claim_of_term ts) shown) → AreCountsOf P (claims_of outputs) counts
+        → MeetStores P C (claim_of_stores stores) counts
+    all-met counts h k l counted = record {
+      accepted = all-hold outputs ts shown e f g h k l;
+      counted = subst (λ (os : List Output). AreCountsOf P (claims_of os) counts) e counted;
+    }

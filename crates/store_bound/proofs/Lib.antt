@@ -7,3 +7,4 @@ pub mod StoredWords
 pub mod ApartFootprints
 pub mod Exactness
 pub mod AcceptedStores
+pub mod TrafficAnswers

@@ -25,7 +25,8 @@ one-more term value terms values sizes s = by (is_computed term) where
 
 -- none is left where one of both lists ends
 pub none-left : (terms : List Term) (values : List Value) (i : ℕ) → min (length terms) (length values) ≤ i → computed_values (map claim_of_term (drop i terms)) (drop i values) ≡ []
-none-left [] values i h = refl
+none-left [] values zero h = refl
+none-left [] values (suc i) h = refl
 none-left (t ∷ terms) [] zero h = refl
 none-left (t ∷ terms) [] (suc i) h = no-values (drop i terms) where
   no-values : (ts : List Term) → computed_values (map claim_of_term ts) [] ≡ []

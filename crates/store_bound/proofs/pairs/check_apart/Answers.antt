@@ -1,14 +1,15 @@
 use Rattle.std.proofs.Common.{◌≡◌, sym, ◌∙◌, ap, subst, ℕ, ◌+◌, ◌-◌, ◌≤◌, ◌++◌, List, [], ◌∷◌, length, drop, map, arith}
-use Rattle.std.specs.Prelude.{Ok, codes}
+use Rattle.std.specs.Prelude.{Err, Ok, Result, codes}
 use Rattle.std.proofs.lemmas.List.{length-append, length-map}
 use Rattle.std.proofs.lemmas.Simd.{map-map}
 use Rattle.affine_form.specs.Multipliers.{FarkasMultipliers}
 use Rattle.affine_form.specs.System.{AffineSystem}
 use Rattle.affine_program.specs.Parts.{meaning}
-use Rattle.claims.specs.Claims.{AllHold, IsRefusal}
+use Rattle.claims.specs.Claims.{AllHold, Decides, IsRefusal}
 use Rattle.claims.specs.Shown.{pointless_claims}
 use Rattle.claims.specs.declared.place.Step.{Step}
 use Rattle.claims.specs.declared.place.Step.TheVariants.{Key}
+use Rattle.claims.specs.declared.refused.Refused.{Refused}
 use Rattle.claims.proofs.Found.{handed-on}
 use Rattle.claims.proofs.Pointless.{chunk-go, chunk-stop, claims_from}
 use Rattle.footprint_pieces.specs.DisjointClaims.{pairwise_systems, shared_systems}
@@ -62,8 +63,34 @@ words_apart-requires-clause-enough c =
     let fronts : List WavefrontTerm = computed_fronts (map claim_of_term c.args.terms.now) in
     omega (arith, c.output_pairs-first.ensures.pairs, first-many program c.args.outputs.now, c.requires.enough, all-many program c.args.outputs.now fronts, c.split_at.ensures.back_len)
 
+-- the second systems are tested with what stands behind the first's multipliers
+module _ (program : AffineProgram) (outputs : List Output) (fronts : List WavefrontTerm) (shown back : List FarkasMultipliers) (first : ℕ) where
+  both-parts : (list : List Step) (found : Result (Unit {0}) Refused) → list ≡ Key (codes "apart") ∷ [] → length (systems_of program (map claim_of_output outputs) fronts) ≤ length shown
+      → first ≡ length (output_pairs (statements_of outputs)) → back ≡ drop first shown → AllHold (pointless_claims 23 list 0 (firsts program outputs fronts) shown)
+      → Decides (pointless_claims 23 list first (seconds program outputs fronts) back) found
+      → Decides (pointless_claims 23 (Key (codes "apart") ∷ []) 0 (systems_of program (map claim_of_output outputs) fronts) shown) found
+  both-parts list found at enough many behind held decided =
+      let place : List Step = Key (codes "apart") ∷ [] in
+      chunk-go 23 place 0 first (firsts program outputs fronts) (seconds program outputs fronts) shown found (omega (arith, enough, all-many program outputs fronts)) here
+      (subst (λ (p : List Step). AllHold (pointless_claims 23 p 0 (firsts program outputs fronts) shown)) at held)
+      (subst (λ (p : List Step). Decides (pointless_claims 23 p first (seconds program outputs fronts) (drop first shown)) found) at
+      (subst (λ (ms : List FarkasMultipliers). Decides (pointless_claims 23 list first (seconds program outputs fronts) ms) found) behind decided)) where
+        here : first ≡ 0 + length (firsts program outputs fronts)
+        here = omega (arith, many, first-many program outputs)
+
 pub returns-in_err-words_apart-clause-hold : goal.returns-in_err-words_apart-clause-hold
-returns-in_err-words_apart-clause-hold c = ?
+returns-in_err-words_apart-clause-hold c =
+    let program = meaning c.args.program.now in
+    let outputs : List Output = c.args.outputs.now in
+    let fronts : List WavefrontTerm = computed_fronts (map claim_of_term c.args.terms.now) in
+    let r = c.in_err-words_apart.field-0.0 in
+    handed-on (pointless_claims 23 (Key (codes "apart") ∷ []) 0 (systems_of program (map claim_of_output outputs) fronts) c.args.shown.now) r c.from_residual-in_err-words_apart.result c.from_residual-in_err-words_apart.ensures
+    (both-parts program outputs fronts c.args.shown.now c.split_at.result.1.now c.output_pairs-first.result c.in_ok-list.list (Err r) c.in_ok-list.ensures c.requires.enough c.output_pairs-first.ensures.pairs c.split_at.ensures.back
+    c.in_ok-outputs_apart.ensures.hold c.in_err-words_apart.ensures.hold)
 
 pub returns-clause-hold : goal.returns-clause-hold
-returns-clause-hold c = ?
+returns-clause-hold c =
+    let program = meaning c.args.program.now in
+    let fronts : List WavefrontTerm = computed_fronts (map claim_of_term c.args.terms.now) in
+    both-parts program c.args.outputs.now fronts c.args.shown.now c.split_at.result.1.now c.output_pairs-first.result c.in_ok-list.list (Ok tt) c.in_ok-list.ensures c.requires.enough c.output_pairs-first.ensures.pairs c.split_at.ensures.back
+    c.in_ok-outputs_apart.ensures.hold c.in_ok-words_apart.ensures.hold
