@@ -6,3 +6,5 @@ pub mod WordValues
 pub mod StoredWords
 pub mod ApartFootprints
 pub mod Exactness
+pub mod AcceptedStores
+pub mod TrafficAnswers

@@ -1,6 +1,8 @@
 -- The terms of the branch that is named, in the code and in what it claims, and what holds of them.
-use Rattle.std.proofs.Common.{◌≡◌, refl, sym, ◌∙◌, ap, subst, ℕ, zero, suc, ◌≤◌, List, [], ◌∷◌, ◌++◌, length, map, get_or, arith}
-use Rattle.std.specs.Prelude.{Option, Some, None, slice_get}
+use Rattle.std.proofs.Common.{◌≡◌, refl, sym, ◌∙◌, ap, subst, inl, inr, ℕ, zero, suc, ◌≤◌, List, [], ◌∷◌, ◌++◌, length, map, get_or, arith}
+use Rattle.std.specs.Prelude.{ℤ, Option, Some, None, slice_get}
+use Rattle.affine_form.specs.System.{AffineSystem}
+use Rattle.iolb_check.specs.Bounds.{HasWideBranch, HasWideTerm, IsTermValue}
 use Rattle.std.specs.List.{AllByRecursion, AllZip}
 use Rattle.affine_program.specs.Parts.{ProgramParts, IsProgram, meaning}
 use Rattle.claims.specs.Claims.{AllHold, numbered}
@@ -136,3 +138,20 @@ named-few certificate branch limits = of-named certificate (λ (ts : List Term).
   each : (branches : List Branch) → AllByRecursion IsSmallBranch branches → AllByRecursion (λ (it : Branch). length it.terms.items ≤ TERMS) branches
   each [] h = tt
   each (b ∷ branches) h = (h.0.few, each branches h.1)
+
+-- ---- their values count, and a wide one makes a wide branch
+
+pub named-counting : (assumed : AffineSystem) (values : List (List Value)) → AllByRecursion (λ (vs : List Value). AllByRecursion (IsTermValue assumed) vs) values → (n : ℕ)
+    → AllByRecursion (IsTermValue assumed) (get_or values n [])
+named-counting assumed [] h n = tt
+named-counting assumed (vs ∷ values) h zero = h.0
+named-counting assumed (vs ∷ values) h (suc n) = named-counting assumed values h.1 n
+
+wide-at : (sizes : List ℤ) (s : ℕ) (values : List (List Value)) (n : ℕ) → HasWideTerm sizes s (get_or values n []) → HasWideBranch sizes s values
+wide-at sizes s [] n h = absurd h
+wide-at sizes s (vs ∷ values) zero h = inl (inl h)
+wide-at sizes s (vs ∷ values) (suc n) h = inr (wide-at sizes s values n h)
+
+pub named-wide : (sizes : List ℤ) (s : ℕ) (values : List (List Value)) (branch : Option ℕ) → HasWideTerm sizes s (named_values values branch) → HasWideBranch sizes s values
+named-wide sizes s values None h = absurd h
+named-wide sizes s values (Some n) h = wide-at sizes s values n h

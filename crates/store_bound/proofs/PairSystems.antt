@@ -19,7 +19,7 @@ use Rattle.store_bound.specs.Counted.{computed_front, computed_fronts, word_stat
 use Rattle.store_bound.specs.StoresFit.{output_pairs, output_pieces, single_pieces, systems_of, word_pairs, word_statements}
 use Rattle.store_terms.specs.Claims.{OutputClaim}
 
-abbrev statements : List OutputClaim → List ℕ
+abbrev pub statements : List OutputClaim → List ℕ
 statements outputs = map (λ (o : OutputClaim). o.statement) outputs
 
 module _ (program : AffineProgram) where

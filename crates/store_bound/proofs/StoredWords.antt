@@ -196,7 +196,7 @@ sound-made value program certificate stored branches counts sizes s moves accept
     let vs : List Value = named_values branches stored.branch in
     let same : map claim_of_term ts ≡ named_terms (claim_of_certificate certificate) stored.branch = named-claims certificate stored.branch in
     subst (λ (cs : List TermClaim). store_value counts (computed_values cs vs) sizes s ≤ stores moves) same
-    (made program value sizes s moves admitted game stored.outputs counts ts vs sound.outputs sound.counts
+    (made program value sizes s moves admitted game stored.outputs counts ts vs sound.outputs sound.counted
     (named-sound program certificate stored.branch accepted.sound) (named-counted program certificate branches stored.branch accepted.counts)
     (named-valued (meaning program) certificate branches stored.branch accepted.meets.valued)
     (subst (λ (cs : List TermClaim). ArePairwiseDisjoint (map (λ (f : Footprint). f sizes) (output_footprints (meaning program) (map claim_of_output stored.outputs) ++ word_footprints (meaning program) (computed_fronts cs)))) (sym same)

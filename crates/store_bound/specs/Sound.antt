@@ -48,7 +48,7 @@ pub record IsOutputCount (program : ProgramParts) (output : Output) (count : Quo
 -- two of these terms.
 pub record AreSoundStores (program : ProgramParts) (certificate : CertificateParts) (stores : StoresParts) (counts : List Quotient) : Type 0 where
   pub outputs : AllByRecursion (IsSoundOutput (meaning program)) (map claim_of_output stores.outputs)
-  pub counts : AllZip (IsOutputCount program) stores.outputs counts
+  pub counted : AllZip (IsOutputCount program) stores.outputs counts
   pub apart : AreApartFootprints (meaning program) (stored_footprints program certificate stores)
 
 -- what a check says of a certificate that it accepts, with these values of its terms

@@ -150,6 +150,32 @@ fn stores_at(
     Ok((outputs + words).min(limits::MEASURE))
 }
 
+/// The value of stores at sizes that meet the assumptions, or 2^126 if that is less: of the outputs by their counts, and of the
+/// terms of the branch of this number whose words were computed.
+fn stored_at(
+    bound: &Bound,
+    counts: &[Poly],
+    terms: &[Term],
+    branch: Option<u8>,
+    sizes: &[i64],
+    s: u64,
+) -> Result<u128, Wide>
+    requires counting { AllByRecursion (IsCounting bound.now.assumed) counts.now }
+    requires valued { HaveWordValues (map claim_of_term terms.now) (named_values bound.now.branches branch) }
+    requires each { length sizes.now ≡ bound.now.assumed.vars }
+    requires met { AreMet bound.now.assumed.rows sizes.now }
+    ensures value { IfOk result (λ total. total ≡ min (store_value counts.now (computed_values (map claim_of_term terms.now) (named_values bound.now.branches branch)) sizes.now s) MEASURE) }
+    ensures narrow { IfOk result (λ total. ¬ HasWideCount sizes.now counts.now) }
+    ensures wide { IsErr result → HasWideCount sizes.now counts.now ⊎ HasWideTerm sizes.now s (named_values bound.now.branches branch) }
+{
+    let assumed = bound.assumed();
+    let variables = assumed.vars();
+    let wide = widened(sizes);
+    let point = &wide[..variables];
+    let values = named_values(bound, branch);
+    stores_at(counts, terms, values, assumed, point, s)
+}
+
 /// The value of a bound at sizes, and that of stores: of the outputs by their counts, and of the terms of the branch of this
 /// number whose words were computed.
 ///
@@ -176,12 +202,7 @@ pub(crate) fn both_at(
         + store_value counts.now (computed_values (map claim_of_term terms.now) (named_values bound.now.branches branch)) sizes.now s)) result }
 {
     let loads = bound.value(sizes, s)?;
-    let assumed = bound.assumed();
-    let variables = assumed.vars();
-    let wide = widened(sizes);
-    let point = &wide[..variables];
-    let values = named_values(bound, branch);
-    let Ok(stores) = stores_at(counts, terms, values, assumed, point, s) else {
+    let Ok(stores) = stored_at(bound, counts, terms, branch, sizes, s) else {
         return Err(ValueFault::Wide);
     };
     if loads.saturating_add(stores) < limits::MEASURE {

@@ -48,9 +48,12 @@ pub fn check_stores(
     ensures refused { IfErr result (IsRefusal (stores_conditions (meaning program.now) (claim_of_certificate certificate.now) (claim_of_stores stores.now))) }
 {
     let _params = program.params();
-    stores_fit(alloc, program, certificate, stores)?;
-    let counts = check_outputs(alloc, program, stores.outputs())?;
+    // Its reader says that it is within its limits.
+    let _branches = certificate.branches();
+    let (outputs, shown) = (stores.outputs(), stores.apart());
     let terms = named_terms(certificate, stores.branch());
-    check_apart(alloc, program, stores.outputs(), terms, stores.apart())?;
+    stores_fit(alloc, program, certificate, stores)?;
+    let counts = check_outputs(alloc, program, outputs)?;
+    check_apart(alloc, program, outputs, terms, shown)?;
     Ok(counts)
 }

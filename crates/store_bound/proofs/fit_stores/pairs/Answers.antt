@@ -13,7 +13,7 @@ use Rattle.store_terms.specs.declared.output.Output.{Output}
 
 pub word_pairs-requires-clause-terms : goal.word_pairs-requires-clause-terms
 word_pairs-requires-clause-terms c =
-    subst (λ (ts : List Term). length ts ≤ TERMS) (sym c.named_terms-terms.ensures) (named-few c.args.certificate.now c.branch.result c.branches-branches.ensures.limits)
+    subst (λ (ts : List Term). length ts ≤ TERMS) (sym c.named_terms-terms.ensures) (named-few c.args.certificate.now c.branch-stores.result c.branches-branches.ensures.limits)
 
 pub returns : goal.returns
 returns c =
@@ -25,7 +25,7 @@ returns c =
     let first : statements claims ≡ statements_of outputs =
     map-map (λ (o : OutputClaim). o.statement) claim_of_output c.args.stores.now.outputs ∙ ap statements_of (sym c.outputs-outputs.ensures.outputs) in
     let second : named ≡ terms =
-    ap (named_terms (claim_of_certificate c.args.certificate.now)) (sym c.branch.ensures.branch) ∙ sym (named-claims c.args.certificate.now c.branch.result) ∙ ap (map claim_of_term) (sym c.named_terms-terms.ensures) in
+    ap (named_terms (claim_of_certificate c.args.certificate.now)) (sym c.branch-stores.ensures.branch) ∙ sym (named-claims c.args.certificate.now c.branch-stores.result) ∙ ap (map claim_of_term) (sym c.named_terms-terms.ensures) in
     omega (
       arith,
       c.output_pairs.ensures.pairs,
