@@ -6,7 +6,7 @@ use Rattle.command_words.specs.declared.command.Command.{Command}
 use Rattle.command_words.specs.declared.command.Job.{Job}
 use Rattle.command_words.specs.declared.command.Job.TheVariants.{Check, Eval, Parallel, Levels}
 use Rattle.command_words.specs.declared.command.Work.{Work as WorkInCode}
-use Rattle.command_words.specs.declared.command.Work.TheVariants.{Judge, Replay, Climb, Bound}
+use Rattle.command_words.specs.declared.command.Work.TheVariants.{Judge, Replay, Climb, Traffic, Bound}
 use Rattle.command_words.specs.Numbers.{processors_in}
 use Rattle.command_words.specs.Settings.{IsSmallLevels, IsSmallSetting, NamedLevels, NamedSetting, levels_in, levels_of, setting_in, setting_of}
 use Rattle.command_words.specs.Sizes.{NamedSize}
@@ -21,11 +21,14 @@ pub data Task : Type 0 where
   levels : List ℕ → List NamedSize → Task
 
 -- What is to be done with a program: a task for the certificate in a second file; or to play the schedule in it with so many
--- red pebbles, or the moves in it over fast levels of these capacities, at these sizes; or to make a certificate.
+-- red pebbles, or the moves in it over fast levels of these capacities, at these sizes; or, with the certificate in the second file
+-- and the stores in a third, to bound the traffic, loads and stores together, with so many red pebbles at these sizes; or to make a
+-- certificate.
 pub data Work : Type 0 where
   judges : Task → Work
   replays : ℕ → List NamedSize → Work
   climbs : List ℕ → List NamedSize → Work
+  bounds_traffic : ℕ → List NamedSize → Work
   bounds : Work
 
 -- Work on files, by their names in the order of the words. The first is the program's.
@@ -79,12 +82,20 @@ sized_request command files words =
     else (if bytes_eq command (codes "levels") then option_map (levelling files) (levels_in words)
     else (if bytes_eq command (codes "climb") then option_map (climbing files) (levels_in words) else None))))
 
--- these, `check PROGRAM CERTIFICATE`, and `bound PROGRAM`
+abbrev pub traffic : List (List ℕ) → NamedSetting → Request
+traffic files setting = record { files = files; work = bounds_traffic setting.s setting.named }
+
+-- what words PROGRAM CERTIFICATE STORES S NAME=NUMBER... ask for
+abbrev pub traffic_in : List (List ℕ) → Option Request
+traffic_in words = option_map (traffic (take 3 words)) (setting_in (drop 3 words))
+
+-- these, `check PROGRAM CERTIFICATE`, `bound PROGRAM`, and `traffic PROGRAM CERTIFICATE STORES S NAME=NUMBER...`
 abbrev pub request_in : List (List ℕ) → Option Request
 request_in [] = None
 request_in (command ∷ words) =
     if bytes_eq command (codes "check") then work_on 2 (judges checks) words
-    else (if bytes_eq command (codes "bound") then work_on 1 bounds words else sized_request command (take 2 words) (drop 2 words))
+    else (if bytes_eq command (codes "bound") then work_on 1 bounds words
+    else (if bytes_eq command (codes "traffic") then traffic_in words else sized_request command (take 2 words) (drop 2 words)))
 
 -- What words ask for; nothing where one begins with `-`.
 abbrev pub request_of : List (List ℕ) → Option Request
@@ -107,6 +118,7 @@ abbrev pub work_of : WorkInCode → Work
 work_of (Judge job) = judges (task_of job)
 work_of (Replay setting) = replays (setting_of setting).s (setting_of setting).named
 work_of (Climb setting) = climbs (levels_of setting).capacities (levels_of setting).named
+work_of (Traffic setting) = bounds_traffic (setting_of setting).s (setting_of setting).named
 work_of Bound = bounds
 
 abbrev pub asked : Command → Request
@@ -123,4 +135,5 @@ abbrev pub IsSmallWork : WorkInCode → Type 0
 IsSmallWork (Judge job) = IsSmallJob job
 IsSmallWork (Replay setting) = IsSmallSetting setting
 IsSmallWork (Climb setting) = IsSmallLevels setting
+IsSmallWork (Traffic setting) = IsSmallSetting setting
 IsSmallWork Bound = ⊤

@@ -2,7 +2,7 @@
 
 ghost use Rattle.std.specs.Prelude.{◌≡◌, map, option_map, string_bytes, IfOk, IfSome};
 ghost use Rattle.std.specs.List.{list_any};
-ghost use Rattle.command_words.specs.Requests.{asked, begins_with_dash, bytes_of, climbing, evaluation, file_at as name_at, levelling, replay, request_of, sharing_in, sized_request, work_of, work_on as work_on_words, IsSmallWork};
+ghost use Rattle.command_words.specs.Requests.{asked, begins_with_dash, bytes_of, climbing, evaluation, file_at as name_at, levelling, replay, request_of, sharing_in, sized_request, traffic_in as traffic_in_words, work_of, work_on as work_on_words, IsSmallWork};
 ghost use Rattle.command_words.specs.Settings.{levels_in, setting_in as setting_in_words};
 
 use crate::number::processors_of;
@@ -32,6 +32,8 @@ pub enum Work {
     Replay(Setting),
     /// The second file holds moves: play them over these levels.
     Climb(LevelSetting),
+    /// The second file holds a certificate and the third stores: check both, and value the traffic at this setting.
+    Traffic(Setting),
     /// There is no second file: make a certificate.
     Bound,
 }
@@ -78,10 +80,11 @@ fn has_option(words: &[String]) -> bool
 
 /// What the words behind the program's name ask for: `check PROGRAM CERTIFICATE`, `bound PROGRAM`,
 /// `eval PROGRAM CERTIFICATE S NAME=NUMBER...`, `replay PROGRAM SCHEDULE S NAME=NUMBER...`,
-/// `parallel PROGRAM CERTIFICATE P S NAME=NUMBER...`, `levels PROGRAM CERTIFICATE S,S... NAME=NUMBER...`, or
-/// `climb PROGRAM MOVES S,S... NAME=NUMBER...`, where S is 1 to 19 digits, from 1 to 2^63 - 1 (one to four joined by commas no
-/// more than that together), P 1 to 7 digits, from 1 to 2^20, a NUMBER an optional `-` and 1 to 13 digits, of size below 2^40,
-/// and a NAME the bytes before the first `=`. `None` where they ask for nothing of this, or a word begins with `-`.
+/// `parallel PROGRAM CERTIFICATE P S NAME=NUMBER...`, `traffic PROGRAM CERTIFICATE STORES S NAME=NUMBER...`,
+/// `levels PROGRAM CERTIFICATE S,S... NAME=NUMBER...`, or `climb PROGRAM MOVES S,S... NAME=NUMBER...`, where S is 1 to 19 digits,
+/// from 1 to 2^63 - 1 (one to four joined by commas no more than that together), P 1 to 7 digits, from 1 to 2^20, a NUMBER an
+/// optional `-` and 1 to 13 digits, of size below 2^40, and a NAME the bytes before the first `=`. `None` where they ask for
+/// nothing of this, or a word begins with `-`.
 pub fn command_of(alloc: Global, words: &[String]) -> Result<Option<Command<'_>>, Memory>
     ensures command { IfOk result (λ command. option_map asked command ≡ request_of (map (λ word. string_bytes word) words.now)) }
     ensures small { IfOk result (λ found. IfSome found (λ command. IsSmallWork command.work)) }
@@ -98,6 +101,9 @@ pub fn command_of(alloc: Global, words: &[String]) -> Result<Option<Command<'_>>
     }
     if command == "bound" {
         return Ok(work_on(1, Work::Bound, arguments));
+    }
+    if command == "traffic" {
+        return traffic_command(alloc, arguments);
     }
     if arguments.len() < 2 {
         return Ok(None);
@@ -240,6 +246,23 @@ fn climb_command<'a>(
         Some(setting) => Ok(Some(Command {
             files,
             work: Work::Climb(setting),
+        })),
+        None => Ok(None),
+    }
+}
+
+/// The traffic that words PROGRAM CERTIFICATE STORES S NAME=NUMBER... ask for.
+fn traffic_command(alloc: Global, words: &[String]) -> Result<Option<Command<'_>>, Memory>
+    ensures command { IfOk result (λ found. option_map asked found ≡ traffic_in_words (bytes_of words.now)) }
+    ensures small { IfOk result (λ found. IfSome found (λ command. IsSmallWork command.work)) }
+{
+    if words.len() < 3 {
+        return Ok(None);
+    }
+    match setting_in(alloc, &words[3..])? {
+        Some(setting) => Ok(Some(Command {
+            files: &words[..3],
+            work: Work::Traffic(setting),
         })),
         None => Ok(None),
     }

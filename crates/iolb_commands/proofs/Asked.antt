@@ -4,7 +4,7 @@ use Rattle.std.specs.Prelude.{⊤, Option, None, Some, IfSome, option_map, optio
 use Rattle.std.specs.List.{AllByRecursion, list_any, slice_split}
 use Rattle.std.proofs.lemmas.Bool.{eqb-true}
 use Rattle.command_words.specs.Numbers.{capacities_in, if_levels, if_within, memories_in, memory_in, natural_in, processors_in}
-use Rattle.command_words.specs.Requests.{Request, Work, checks, evaluates, shares, levels, judges, replays, climbs, bounds, begins_with_dash, climbing, evaluation, levelling, replay, request_in, request_of, sharing, sharing_in, sized_request, work_on}
+use Rattle.command_words.specs.Requests.{Request, Work, checks, evaluates, shares, levels, judges, replays, climbs, bounds_traffic, bounds, begins_with_dash, climbing, evaluation, levelling, replay, request_in, request_of, sharing, sharing_in, sized_request, traffic, traffic_in, work_on}
 use Rattle.command_words.specs.Settings.{NamedLevels, NamedSetting, levels_in, setting_in}
 use Rattle.command_words.specs.Sizes.{NamedSize, sizes_in}
 use Rattle.iolb_model.specs.declared.limits.TheConstants.{LEVELS, PROCESSORS}
@@ -16,6 +16,7 @@ IsFormed request (judges (shares processors s named)) = (1 ≤ processors) × (1
 IsFormed request (judges (levels capacities named)) = AllByRecursion (λ capacity. 1 ≤ capacity) capacities
 IsFormed request (replays s named) = 1 ≤ s
 IsFormed request (climbs capacities named) = ⊤
+IsFormed request (bounds_traffic s named) = ⊤
 IsFormed request bounds = length request.files ≡ 1
 
 -- a request that is, if there is one
@@ -120,10 +121,13 @@ request : (words : List (List ℕ)) → AreFormed (request_in words)
 request [] = tt
 request (command ∷ words) =
     let IsSo : Request → Type 0 = λ r. IsFormed r r.work in
-    let others = sized_request command (take 2 words) (drop 2 words) in
+    let sizes = sized_request command (take 2 words) (drop 2 words) in
+    let others = if bytes_eq command (codes "traffic") then traffic_in words else sizes in
     chosen (bytes_eq command (codes "check")) IsSo (work_on 2 (judges checks) words) (if bytes_eq command (codes "bound") then work_on 1 bounds words else others)
     (named 2 (judges checks) words (λ _. tt))
-    (chosen (bytes_eq command (codes "bound")) IsSo (work_on 1 bounds words) others (named 1 bounds words (λ one. one)) (sized command (take 2 words) (drop 2 words)))
+    (chosen (bytes_eq command (codes "bound")) IsSo (work_on 1 bounds words) others (named 1 bounds words (λ one. one))
+    (chosen (bytes_eq command (codes "traffic")) IsSo (traffic_in words) sizes
+    (asking (traffic (take 3 words)) (λ _. ⊤) (setting_in (drop 3 words)) (every ⊤ (setting_in (drop 3 words)) tt) (λ _ _. tt)) (sized command (take 2 words) (drop 2 words))))
 
 pub formed : (words : List (List ℕ)) (r : Request) → request_of words ≡ Some r → IsFormed r r.work
 formed words r asks = subst AreFormed asks (chosen (list_any begins_with_dash words) (λ (q : Request). IsFormed q q.work) None (request_in words) tt (request words))

@@ -2,7 +2,7 @@
 use Rattle.std.proofs.Common.{◌≡◌, ◌≢◌, refl, sym, ◌∙◌, ap, subst, inl, inr, ℕ, List, length, arith}
 use Rattle.std.specs.Prelude.{◌⊎◌, ℤ, Option, Some}
 use Rattle.iolb_model.specs.Program.{AffineProgram}
-use Rattle.command_words.specs.Requests.{Request, Work, judges, replays, climbs, bounds, file_at, request_of}
+use Rattle.command_words.specs.Requests.{Request, Work, judges, replays, climbs, bounds_traffic, bounds, file_at, request_of}
 use Rattle.iolb_host.specs.Files.{FileMap, content_of}
 use Rattle.iolb_host.specs.declared.files.FileFault.{FileFault}
 use Rattle.iolb_host.specs.declared.files.FileFault.TheVariants.{Missing, TooLong, Failed, Memory as NoMemoryForFile}
@@ -76,6 +76,7 @@ second_unread : (map : FileMap) (names : List (List ℕ)) (work : Work) (program
 second_unread map names (judges task) program sizes fault second cause = stopping fault cause refl
 second_unread map names (replays s named) program sizes fault second cause = stopping fault cause refl
 second_unread map names (climbs capacities named) program sizes fault second cause = stopping fault cause refl
+second_unread map names (bounds_traffic s named) program sizes fault second cause = stopping fault cause refl
 second_unread map names bounds program sizes fault second cause = absurd (second refl)
 
 pub absent_seconds : CausesAreAnswered → AbsentSecondFilesAreNamed

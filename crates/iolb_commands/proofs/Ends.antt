@@ -15,7 +15,8 @@ use Rattle.c_grammar.specs.Program.{Means}
 use Rattle.affine_c.specs.Meaning.{HasFault}
 use Rattle.affine_c.proofs.OneProgram.{meant_without_fault}
 use Rattle.iolb_cert.specs.OneCertificate.{TextsHaveOneCertificate, TextsHaveOneAnswer}
-use Rattle.command_words.specs.Requests.{Request, Task, checks, evaluates, shares, levels, Work, judges, replays, climbs, bounds, file_at}
+use Rattle.command_words.specs.Requests.{Request, Task, checks, evaluates, shares, levels, Work, judges, replays, climbs, bounds_traffic, bounds, file_at}
+use Rattle.iolb_check.specs.Claims.{CertificateClaim}
 use Rattle.iolb_check.specs.declared.bound.Value.{Value}
 use Rattle.iolb_check.specs.Exact.{RefusalsAreOne, ValidCertificatesGiveOne, ValidCertificatesHaveValues, ValidCertificatesStand}
 use Rattle.iolb_host.specs.declared.files.FileFault.{FileFault}
@@ -23,11 +24,15 @@ use Rattle.iolb_host.specs.declared.files.FileFault.TheVariants.{Missing, TooLon
 use Rattle.iolb_host.specs.Files.{FileMap, Answers, content_of}
 use Rattle.iolb_commands.specs.Bounded.{IsBounded}
 use Rattle.iolb_commands.specs.Held.{HoldsProgram}
-use Rattle.iolb_commands.specs.Phases.{End, answers, unsaid, saying, AtSizes, Narrow, ClimbComes, FileComes, TaskComes, CertificateComes, MovesCome, ScheduleComes, WorkComes, RequestComes}
+use Rattle.iolb_commands.specs.Phases.{End, answers, unsaid, saying, AtSizes, Narrow, CertificateTextComes, ConditionsCome, StoresTextComes, StoresConditionsCome, ClimbComes, FileComes, TaskComes, CertificateComes, MovesCome, ScheduleComes, TrafficComes, WorkComes, RequestComes}
 use Rattle.iolb_commands.specs.Reading.{IsContent}
 use Rattle.iolb_commands.specs.Stop.{IsPlainFault}
 use Rattle.iolb_commands.specs.Works.{most_bytes, sizes_for}
 use Rattle.iolb_commands.proofs.Phases.{IsPlainEnd, One, phase_one, says_one, through}
+use Rattle.poly_tree.specs.Poly.{Quotient}
+use Rattle.store_bound.specs.Exact.{StoresRefusalsAreOne, ValidStoresGiveOne, ValidStoresStand}
+use Rattle.store_terms.specs.Claims.{StoresClaim}
+use Rattle.store_text.specs.OneReading.{TextsHaveOneStores}
 use Rattle.tile_sched.specs.OneSchedule.{TextsHaveOneSchedule}
 use Rattle.tile_sched.specs.ReplayLaws.{PlayedOrdersAreOne, PlayedOrRefused, UnplayedAreOne}
 use Rattle.tile_sched.proofs.Refusals.{first_one, met_first, none_some, same_some}
@@ -52,6 +57,10 @@ pub record AreExact : Type 0 where
   pub legal_or_not : LegalOrIllegal
   pub one_unfinished : FirstUnfinishedIsOne
   pub complete_or_not : CompleteOrUnfinished
+  pub stores : TextsHaveOneStores
+  pub stores_stand : ValidStoresStand
+  pub one_counts : ValidStoresGiveOne
+  pub one_stores_refusal : StoresRefusalsAreOne
 
 -- ---- files and programs
 
@@ -106,16 +115,38 @@ module _ (Both : End → End → Type 0) where
   task_one (shares processors s named) program sizes values = sizes_one _ _ _ (narrow_one _ _ (says_one Both))
   task_one (levels capacities named) program sizes values = sizes_one _ _ _ (narrow_one _ _ (says_one Both))
 
-  certificate_one : AreExact → (task : Task) (program : AffineProgram) (sizes : List ℤ) (bytes : List ℕ) → One Both (CertificateComes task program sizes bytes)
-  certificate_one exact task program sizes bytes = phase_one Both
+  text_one : AreExact → (bytes : List ℕ) (Onward : CertificateClaim → End → Type 0) → ((claim : CertificateClaim) → One Both (Onward claim)) → One Both (CertificateTextComes bytes Onward)
+  text_one exact bytes Onward on = phase_one Both
       (λ f g has again _ _. exact.one_answer.one_fault bytes f g has again)
       (λ fault claim faulty has _. exact.one_answer.either bytes claim fault has faulty)
-      (λ a b has again. exact.one_certificate bytes a b has again)
-      (λ claim _. phase_one Both
+      (λ a b has again. exact.one_certificate bytes a b has again) (λ claim _. on claim)
+
+  conditions_one : AreExact → (program : AffineProgram) (claim : CertificateClaim) (Onward : List (List Value) → End → Type 0) → ((values : List (List Value)) → One Both (Onward values))
+      → One Both (ConditionsCome program claim Onward)
+  conditions_one exact program claim Onward on = phase_one Both
       (λ f g fails again _ _. exact.one_refusal program claim f g fails again)
       (λ failed values fails valid _. exact.stand program claim failed valid.accepted fails)
-      (λ v w valid again. exact.one_values program claim v w valid again)
-      (λ values _. task_one task program sizes values))
+      (λ v w valid again. exact.one_values program claim v w valid again) (λ values _. on values)
+
+  certificate_one : AreExact → (task : Task) (program : AffineProgram) (sizes : List ℤ) (bytes : List ℕ) → One Both (CertificateComes task program sizes bytes)
+  certificate_one exact task program sizes bytes = text_one exact bytes _ (λ claim. conditions_one exact program claim _ (λ values. task_one task program sizes values))
+
+  stores_text_one : AreExact → (bytes : List ℕ) (Onward : StoresClaim → End → Type 0) → ((stores : StoresClaim) → One Both (Onward stores)) → One Both (StoresTextComes bytes Onward)
+  stores_text_one exact bytes Onward on = phase_one Both
+      (λ f g has again _ _. exact.stores.one_fault bytes f g has again)
+      (λ fault stores faulty has _. exact.stores.either bytes stores fault has faulty)
+      (λ a b has again. exact.stores.one_stores bytes a b has again) (λ stores _. on stores)
+
+  stores_conditions_one : AreExact → (program : AffineProgram) (claim : CertificateClaim) (stores : StoresClaim) (Onward : List Quotient → End → Type 0)
+      → ((counts : List Quotient) → One Both (Onward counts)) → One Both (StoresConditionsCome program claim stores Onward)
+  stores_conditions_one exact program claim stores Onward on = phase_one Both
+      (λ f g fails again _ _. exact.one_stores_refusal program claim stores f g fails again)
+      (λ failed counts fails met _. exact.stores_stand program claim stores failed met.accepted fails)
+      (λ p q met again. exact.one_counts program claim stores p q met again) (λ counts _. on counts)
+
+  traffic_one : AreExact → (s : ℕ) (program : AffineProgram) (sizes : List ℤ) (claim : CertificateClaim) (stores : StoresClaim) → One Both (TrafficComes s program sizes claim stores)
+  traffic_one exact s program sizes claim stores =
+      conditions_one exact program claim _ (λ values. stores_conditions_one exact program claim stores _ (λ counts. sizes_one _ _ _ (narrow_one _ _ (says_one Both))))
 
   schedule_one : AreExact → (s : ℕ) (program : AffineProgram) (sizes : List ℤ) (bytes : List ℕ) → One Both (ScheduleComes s program sizes bytes)
   schedule_one exact s program sizes bytes = phase_one Both
@@ -161,6 +192,9 @@ module _ (Both : End → End → Type 0) where
       file_one map names (replays s named) 1 _ (λ bytes _. schedule_one exact s program sizes bytes) one other ok fine here there
   work_one exact map names (climbs capacities named) program sizes both one other ok fine here there =
       file_one map names (climbs capacities named) 1 _ (λ bytes _. moves_one exact capacities program sizes bytes) one other ok fine here there
+  work_one exact map names (bounds_traffic s named) program sizes both one other ok fine here there =
+      file_one map names (bounds_traffic s named) 1 _ (λ bytes _. text_one exact bytes _ (λ claim. file_one map names (bounds_traffic s named) 2 _
+      (λ others _. stores_text_one exact others _ (λ stores. traffic_one exact s program sizes claim stores)))) one other ok fine here there
   work_one exact map names bounds program sizes both one other ok fine (unsaid is) there = absurd (subst IsPlainEnd is ok)
   work_one exact map names bounds program sizes both one other ok fine here (unsaid is) = absurd (subst IsPlainEnd is fine)
   work_one exact map names bounds program sizes both one other ok fine (saying text note so is) (saying another beside too does) =

@@ -7,7 +7,7 @@ use Rattle.iolb_model.specs.Bound.{IsAdmitted}
 use Rattle.iolb_model.specs.Graph.{computation_graph}
 use Rattle.iolb_model.specs.Headline.{BoundHolds}
 use Rattle.iolb_model.specs.Program.{AffineProgram}
-use Rattle.command_words.specs.Requests.{Request, Task, checks, evaluates, shares, levels, Work, judges, replays, climbs, bounds, file_at}
+use Rattle.command_words.specs.Requests.{Request, Task, checks, evaluates, shares, levels, Work, judges, replays, climbs, bounds_traffic, bounds, file_at}
 use Rattle.command_words.specs.Sizes.{NamedSize, times, value_for, values_for}
 use Rattle.pebble_replay.specs.Played.{played}
 use Rattle.tile_sched.proofs.Refusals.{same_some}
@@ -21,6 +21,7 @@ use Rattle.iolb_commands.specs.Task.{HoldsFor, IsAnswer, LoadsAtLeast, bound_wit
 use Rattle.iolb_commands.specs.Works.{sizes_for}
 use Rattle.iolb_commands.specs.Outcome.{Call, Outcome}
 use Rattle.iolb_commands.specs.Headline.{IsDoneAsAsked, IsPrinted}
+use Rattle.iolb_commands.specs.Traffic.{traffic_loads, traffic_stores}
 use Rattle.iolb_commands.specs.Use.{CallUse, Gains}
 use Rattle.iolb_commands.proofs.Asked.{IsFormed, formed}
 use Rattle.iolb_commands.proofs.Notes.{nothing_more}
@@ -165,6 +166,38 @@ printed complete call left request program sizes text note (climbs capacities na
       given = given;
       admitted = record { each = sizes_many program.parameters named sizes given; met = met.1 };
       complete = played_out.1;
+      printed = subst (λ (t : List ℕ). Gains left.output t) says.1 gains;
+      error_stays = nothing_more left.error (subst (λ (n : List ℕ). Gains left.error n) says.2 noted);
+    }
+printed complete call left request program sizes text note (bounds_traffic s named) some there given comes gains noted =
+    let file = found text note comes in
+    let read = found text note file.2 in
+    let other = found text note read.2 in
+    let stored = found text note other.2 in
+    let checked = found text note stored.2 in
+    let counted = found text note checked.2 in
+    let met = found text note counted.2 in
+    let narrow = found text note met.2 in
+    let says = said text note narrow.2 in record {
+      program = program;
+      holds_program = there;
+      certificate = read.0;
+      holds_certificate = record { bytes = file.0; content = file.1; has = read.1 };
+      stores = stored.0;
+      holds_stores = record { bytes = other.0; content = other.1; has = stored.1 };
+      values = checked.0;
+      valid = checked.1;
+      counts = counted.0;
+      met = counted.1;
+      sizes = sizes;
+      given = given;
+      admitted = record { each = sizes_many program.parameters named sizes given; met = met.1 };
+      least_loads = traffic_loads program checked.0 sizes s;
+      loads_are = refl;
+      least_stores = traffic_stores read.0 stored.0 checked.0 counted.0 sizes s;
+      stores_are = refl;
+      narrow = narrow.1;
+      at_least = says.0;
       printed = subst (λ (t : List ℕ). Gains left.output t) says.1 gains;
       error_stays = nothing_more left.error (subst (λ (n : List ℕ). Gains left.error n) says.2 noted);
     }

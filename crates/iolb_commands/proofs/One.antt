@@ -7,19 +7,19 @@ use Rattle.iolb_model.specs.Program.{AffineProgram}
 use Rattle.memory_levels.specs.Values.{IsWideAtLevels}
 use Rattle.parallel_bound.specs.Widths.{HasWideParallelBranch}
 use Rattle.c_grammar.specs.Program.{Means}
-use Rattle.command_words.specs.Requests.{Request, Task, checks, evaluates, shares, levels, Work, judges, replays, climbs, bounds, file_at, request_of}
+use Rattle.command_words.specs.Requests.{Request, Task, checks, evaluates, shares, levels, Work, judges, replays, climbs, bounds_traffic, bounds, file_at, request_of}
 use Rattle.iolb_check.specs.declared.bound.Value.{Value}
 use Rattle.iolb_check.specs.Bounds.{HasWideBranch}
 use Rattle.iolb_host.specs.Files.{FileMap}
 use Rattle.iolb_commands.specs.declared.status.Status.{Status}
 use Rattle.iolb_commands.specs.declared.status.Status.TheVariants.{Done, Refused, Words as WordsRefused, ProgramText as ProgramRefused, OtherText, FileAbsent, ReadFault, WriteFault, Wide as WideValue, NoMemory}
 use Rattle.iolb_commands.specs.declared.stop.Stop.{Stop}
-use Rattle.iolb_commands.specs.Laws.{GainSame, IsUndisturbed, OutcomesAreOne, HasAnswer, ValidCertificatesPass, OthersNeverPass, PlayableSchedulesPass, CompletePlaysPass, ReadableProgramsHaveCertificates, WriteAlike}
+use Rattle.iolb_commands.specs.Laws.{GainSame, IsUndisturbed, OutcomesAreOne, HasAnswer, ValidCertificatesPass, OthersNeverPass, PlayableSchedulesPass, CompletePlaysPass, ReadableProgramsHaveCertificates, ValidStoresPass, WriteAlike}
 use Rattle.iolb_commands.specs.Lines.{usage}
 use Rattle.iolb_commands.specs.Outcome.{Call, IsStopped, Outcome, Stops}
 use Rattle.iolb_commands.specs.Phases.{End, stops, answers, RequestComes, TaskComes, WorkComes}
 use Rattle.tile_sched.proofs.Refusals.{none_some, same_some}
-use Rattle.iolb_commands.specs.Held.{HoldsCertificate, HoldsMoves, HoldsProgram, HoldsSchedule}
+use Rattle.iolb_commands.specs.Held.{HoldsCertificate, HoldsMoves, HoldsProgram, HoldsSchedule, HoldsStores}
 use Rattle.iolb_commands.specs.Stop.{stop_line, stop_status}
 use Rattle.iolb_commands.specs.Works.{HasSizes, sizes_for}
 use Rattle.iolb_commands.specs.Use.{CallUse, Gains, Stays}
@@ -251,6 +251,23 @@ climbs_pass exact call request capacities named program moves sizes left status 
     (through_sizes end ok program.assumptions sizes _ met
     (through moves (λ place bad _. exact.moves_or_line held.bytes moves place held.has bad) (λ other has. exact.one_list held.bytes other moves has held.has) end ok
     (through_file exact reads.map end ok request.files (climbs capacities named) 1 _ held.bytes held.content comes)))))) in (so.0, so.1, so.3)) outcome calm
+
+pub stores_pass : AreExact → ValidStoresPass
+stores_pass exact call request s named program claim stores values counts sizes left status reads valid counted given met narrow outcome calm =
+    let held = subst (λ (files : Option FileMap). HoldsCertificate files (file_at request.files 1) claim) reads.told reads.holds_certificate in
+    let stored = subst (λ (files : Option FileMap). HoldsStores files (file_at request.files 2) stores) reads.told reads.holds_stores in
+    let work = bounds_traffic s named in
+    passes exact call reads.map request work program left status reads.told reads.asked reads.bounds_it reads.holds_program sizes given
+    (λ end ok comes. let so = answered end ok
+    (through_narrow end ok _ _ narrow
+    (through_sizes end ok program.assumptions sizes _ met
+    (through counts (λ failed fails _. exact.stores_stand program claim stores failed counted.accepted fails)
+    (λ other again. exact.one_counts program claim stores other counts again counted) end ok
+    (through values (λ failed fails _. exact.stand program claim failed valid.accepted fails) (λ other again. exact.one_values program claim other values again valid) end ok
+    (through stores (λ fault faulty _. exact.stores.either stored.bytes stores fault stored.has faulty) (λ other again. exact.stores.one_stores stored.bytes other stores again stored.has) end ok
+    (through_file exact reads.map end ok request.files work 2 _ stored.bytes stored.content
+    (through claim (λ fault faulty _. exact.one_answer.either held.bytes claim fault held.has faulty) (λ other again. exact.one_certificate held.bytes other claim again held.has) end ok
+    (through_file exact reads.map end ok request.files work 1 _ held.bytes held.content comes)))))))) in (so.0, so.1, so.3)) outcome calm
 
 pub readable_pass : AreExact → ReadableProgramsHaveCertificates
 readable_pass exact call map request program left status tells asked works holds outcome calm =

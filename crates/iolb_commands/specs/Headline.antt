@@ -1,5 +1,5 @@
 -- What status 0 says, in the words of programs, certificates, schedules, pebblings and bounds.
-use Rattle.std.specs.Prelude.{◌≡◌, ℕ, ℤ, List, Some}
+use Rattle.std.specs.Prelude.{◌≡◌, ℕ, ◌+◌, ℤ, List, Some}
 use Rattle.iolb_model.specs.declared.game.Move.{Move}
 use Rattle.iolb_model.specs.Bound.{IsAdmitted}
 use Rattle.iolb_model.specs.Game.{IsCompletePebbling}
@@ -11,7 +11,7 @@ use Rattle.iolb_model.specs.Tower.{IsCompleteTower}
 use Rattle.iolb_model.specs.declared.tower.TowerMove.{TowerMove}
 use Rattle.iolb_cert.specs.OneCertificate.{HasCertificate}
 use Rattle.iolb_check.specs.Claims.{CertificateClaim}
-use Rattle.command_words.specs.Requests.{Request, Task, Work, judges, replays, climbs, bounds, file_at, request_of}
+use Rattle.command_words.specs.Requests.{Request, Task, Work, judges, replays, climbs, bounds_traffic, bounds, file_at, request_of}
 use Rattle.command_words.specs.Sizes.{NamedSize, values_for}
 use Rattle.pebble_replay.specs.Played.{played}
 use Rattle.tile_sched.specs.declared.schedule.Key.{Key}
@@ -19,12 +19,18 @@ use Rattle.tile_sched.specs.Order.{IsOrder, said}
 use Rattle.tile_sched.specs.Lines.{play_text}
 use Rattle.iolb_check.specs.declared.bound.Value.{Value}
 use Rattle.iolb_commands.specs.Bounded.{IsOfMaker}
-use Rattle.iolb_commands.specs.Held.{HoldsCertificate, HoldsMoves, HoldsProgram, HoldsSchedule}
+use Rattle.iolb_commands.specs.Held.{HoldsCertificate, HoldsMoves, HoldsProgram, HoldsSchedule, HoldsStores}
 use Rattle.iolb_commands.specs.Outcome.{Call}
 use Rattle.iolb_commands.specs.Task.{IsAnswer, LoadsAtLeast, bound_with}
+use Rattle.iolb_commands.specs.Traffic.{traffic_loads, traffic_stores}
 use Rattle.iolb_commands.specs.Use.{CallUse, FilesStay, Gains, Stays}
 use Rattle.iolb_check.specs.Conditions.{MeetsConditions}
-use Rattle.iolb_commands.specs.Values.{climb_text}
+use Rattle.iolb_commands.specs.Values.{climb_text, traffic_text}
+use Rattle.poly_tree.specs.Poly.{Quotient}
+use Rattle.store_bound.specs.Conditions.{MeetStores}
+use Rattle.store_bound.specs.Faults.{MakesTraffic}
+use Rattle.store_bound.specs.Values.{IsWideTraffic}
+use Rattle.store_terms.specs.Claims.{StoresClaim}
 
 -- A request with a task for a certificate. Its first file holds a text that means a program, and the second that of a
 -- certificate, which meets the conditions for the program. (Where the files don't tell what they hold, this says that there
@@ -87,6 +93,34 @@ pub record IsClimbPrinted (call : Call) (left : CallUse) (request : Request) (ca
   pub printed : Gains left.output (climb_text capacities moves)
   pub error_stays : Stays left.error
 
+-- A request to bound loads and stores together. Its first file holds a text that means a program, the second that of a certificate,
+-- which meets the conditions for the program, and the third that of stores, which meet their conditions beside both. The sizes of the
+-- words meet the assumptions, and nothing is beyond 128 bits. The output has gained exactly the value L of the certificate's bound, the
+-- value V of the stores, and their sum: every complete pebbling of the program's computation graph at these sizes with the S red
+-- pebbles of the words makes at least L loads and at least V stores, so at least L + V of both together.
+pub record IsTrafficPrinted (call : Call) (left : CallUse) (request : Request) (s : ℕ) (named : List NamedSize) : Type 0 where
+  pub program : AffineProgram
+  pub holds_program : HoldsProgram call.files (file_at request.files 0) program
+  pub certificate : CertificateClaim
+  pub holds_certificate : HoldsCertificate call.files (file_at request.files 1) certificate
+  pub stores : StoresClaim
+  pub holds_stores : HoldsStores call.files (file_at request.files 2) stores
+  pub values : List (List Value)
+  pub valid : MeetsConditions program certificate values
+  pub counts : List Quotient
+  pub met : MeetStores program certificate stores counts
+  pub sizes : List ℤ
+  pub given : values_for program.parameters named ≡ Some sizes
+  pub admitted : IsAdmitted program sizes
+  pub least_loads : ℕ
+  pub loads_are : least_loads ≡ traffic_loads program values sizes s
+  pub least_stores : ℕ
+  pub stores_are : least_stores ≡ traffic_stores certificate stores values counts sizes s
+  pub narrow : ¬ IsWideTraffic sizes s values counts (least_loads + least_stores)
+  pub at_least : MakesTraffic program sizes s least_loads least_stores
+  pub printed : Gains left.output (traffic_text least_loads least_stores)
+  pub error_stays : Stays left.error
+
 -- A request for a certificate. Its file holds a text that means a program. The output has gained exactly the text of a
 -- certificate, which meets the conditions for the program, and the standard error exactly the text of its bound, which has the
 -- program's assumptions and for each term the value that the conditions give. The bound holds. For a projective
@@ -111,6 +145,7 @@ abbrev pub IsPrinted : Call → CallUse → Request → Work → Type 0
 IsPrinted call left request (judges task) = IsLowerBoundPrinted call left request task
 IsPrinted call left request (replays s named) = IsPlayPrinted call left request s named
 IsPrinted call left request (climbs capacities named) = IsClimbPrinted call left request capacities named
+IsPrinted call left request (bounds_traffic s named) = IsTrafficPrinted call left request s named
 IsPrinted call left request bounds = IsCertificatePrinted call left request
 
 -- The words make a request, and what it asks for was printed, with nothing else. No read and no write had a fault.

@@ -7,6 +7,8 @@ use Rattle.iolb_cert.specs.OneCertificate.{HasCertificate}
 use Rattle.iolb_host.specs.Files.{FileMap}
 use Rattle.iolb_model.specs.declared.tower.TowerMove.{TowerMove}
 use Rattle.memory_levels.specs.MovesText.{IsMovesText}
+use Rattle.store_terms.specs.Claims.{StoresClaim}
+use Rattle.store_text.specs.Texts.{HasStores}
 use Rattle.tile_sched.specs.declared.schedule.Key.{Key}
 use Rattle.tile_sched.specs.Texts.{IsTextOf}
 use Rattle.iolb_commands.specs.Reading.{IsContent}
@@ -35,3 +37,9 @@ pub record HoldsMoves (files : Option FileMap) (name : List ℕ) (moves : List T
   pub bytes : List ℕ
   pub content : IsContent files name MOVES_BYTES bytes
   pub has : IsMovesText bytes moves
+
+-- the text of these stores
+pub record HoldsStores (files : Option FileMap) (name : List ℕ) (stores : StoresClaim) : Type 0 where
+  pub bytes : List ℕ
+  pub content : IsContent files name CERTIFICATE_BYTES bytes
+  pub has : HasStores bytes stores

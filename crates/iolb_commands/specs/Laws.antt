@@ -1,5 +1,5 @@
 -- A call has one outcome.
-use Rattle.std.specs.Prelude.{◌≡◌, ◌≢◌, ◌⊎◌, ⊤, ℕ, ◌≤◌, ◌<◌, ℤ, List, length, Some, None}
+use Rattle.std.specs.Prelude.{◌≡◌, ◌≢◌, ◌⊎◌, ⊤, ℕ, ◌+◌, ◌≤◌, ◌<◌, ℤ, List, length, Some, None}
 use Rattle.iolb_model.specs.declared.game.Move.{Move}
 use Rattle.iolb_model.specs.Bound.{AreMet, Bound, IsAdmitted, bound_value}
 use Rattle.iolb_model.specs.Game.{loads}
@@ -11,7 +11,7 @@ use Rattle.loop_graph.specs.Builds.{IsWithinReach}
 use Rattle.memory_levels.specs.Values.{IsWideAtLevels}
 use Rattle.parallel_bound.specs.Widths.{HasWideParallelBranch}
 use Rattle.iolb_check.specs.Claims.{CertificateClaim}
-use Rattle.command_words.specs.Requests.{Request, Task, checks, evaluates, shares, levels, judges, replays, climbs, bounds, file_at, request_of}
+use Rattle.command_words.specs.Requests.{Request, Task, checks, evaluates, shares, levels, judges, replays, climbs, bounds_traffic, bounds, file_at, request_of}
 use Rattle.command_words.specs.Sizes.{NamedSize, values_for}
 use Rattle.iolb_check.specs.declared.bound.Value.{Value}
 use Rattle.iolb_check.specs.Bounds.{HasWideBranch}
@@ -23,16 +23,21 @@ use Rattle.iolb_host.specs.MemSink.{SureBytes}
 use Rattle.iolb_commands.specs.declared.status.Status.{Status}
 use Rattle.iolb_commands.specs.declared.status.Status.TheVariants.{Done, Refused, Words as WordsRefused, FileAbsent, ReadFault, WriteFault, NoMemory}
 use Rattle.iolb_commands.specs.declared.stop.Stop.{Stop}
+use Rattle.poly_tree.specs.Poly.{Quotient}
+use Rattle.store_bound.specs.Conditions.{MeetStores}
+use Rattle.store_bound.specs.Values.{IsWideTraffic}
+use Rattle.store_terms.specs.Claims.{StoresClaim}
 use Rattle.tile_sched.specs.declared.schedule.Key.{Key}
 use Rattle.tile_sched.specs.Lines.{play_text}
 use Rattle.tile_sched.specs.Plays.{CanBePlayed}
 use Rattle.iolb_commands.specs.Bounded.{IsBounded}
-use Rattle.iolb_commands.specs.Held.{HoldsCertificate, HoldsMoves, HoldsProgram, HoldsSchedule}
+use Rattle.iolb_commands.specs.Held.{HoldsCertificate, HoldsMoves, HoldsProgram, HoldsSchedule, HoldsStores}
 use Rattle.iolb_commands.specs.Outcome.{Call, Outcome}
 use Rattle.iolb_commands.specs.Phases.{RequestStop}
 use Rattle.iolb_commands.specs.Lines.{condition_line, file_line, usage}
 use Rattle.iolb_commands.specs.Reading.{IsAbsent}
 use Rattle.iolb_commands.specs.Stop.{IsPlain, stop_line, stop_status}
+use Rattle.iolb_commands.specs.Traffic.{traffic_loads, traffic_stores}
 use Rattle.iolb_commands.specs.Use.{CallUse, SinkUse, Fails, Gains, Stays, files_use, sink_use}
 use Rattle.iolb_commands.specs.Works.{HasSizes, most_bytes}
 use Rattle.iolb_commands.specs.Values.{values_text}
@@ -156,6 +161,29 @@ CompletePlaysPass = (call : Call) (request : Request) (capacities : List ℕ) (n
     (left : CallUse) (status : Status)
     → ReadsMoves call request capacities named program moves → values_for program.parameters named ≡ Some sizes → AreMet program.assumptions sizes → IsWithinReach program sizes
     → IsCompleteTower (computation_graph program sizes) capacities moves
+    → Outcome status call left → IsUndisturbed left → (status ≡ Done) ⊎ (status ≡ NoMemory)
+
+-- ---- stores
+
+-- The words make this request, to bound loads and stores together, and its three files hold this program, this certificate and these
+-- stores.
+pub record ReadsStores (call : Call) (request : Request) (s : ℕ) (named : List NamedSize) (program : AffineProgram) (certificate : CertificateClaim) (stores : StoresClaim) : Type 0 where
+  pub map : FileMap
+  pub told : call.files ≡ Some map
+  pub asked : request_of call.words ≡ Some request
+  pub bounds_it : request.work ≡ bounds_traffic s named
+  pub holds_program : HoldsProgram call.files (file_at request.files 0) program
+  pub holds_certificate : HoldsCertificate call.files (file_at request.files 1) certificate
+  pub holds_stores : HoldsStores call.files (file_at request.files 2) stores
+
+-- A call about a certificate and stores that meet their conditions, at sizes that meet the assumptions and at which nothing is beyond
+-- 128 bits, ends with 0 or for want of memory, where it wasn't disturbed.
+abbrev pub ValidStoresPass : Type 0
+ValidStoresPass = (call : Call) (request : Request) (s : ℕ) (named : List NamedSize) (program : AffineProgram) (certificate : CertificateClaim) (stores : StoresClaim)
+    (values : List (List Value)) (counts : List Quotient) (sizes : List ℤ) (left : CallUse) (status : Status)
+    → ReadsStores call request s named program certificate stores → MeetsConditions program certificate values → MeetStores program certificate stores counts
+    → values_for program.parameters named ≡ Some sizes → AreMet program.assumptions sizes
+    → (¬ IsWideTraffic sizes s values counts (traffic_loads program values sizes s + traffic_stores certificate stores values counts sizes s))
     → Outcome status call left → IsUndisturbed left → (status ≡ Done) ⊎ (status ≡ NoMemory)
 
 -- ---- readable programs

@@ -5,6 +5,7 @@ pub mod PointerText
 pub mod Lines
 pub mod Values
 pub mod Task
+pub mod Traffic
 pub mod Works
 pub mod Held
 pub mod Bounded

@@ -7,16 +7,16 @@ use Rattle.claims.specs.declared.place.Step.{Step}
 use Rattle.tile_sched.specs.declared.unplayed.Unplayed.{Unplayed as NoPlay}
 use Rattle.tile_sched.specs.declared.unplayed.Unplayed.TheVariants.{Assumption, TooMany, OutOfOrder, TooSmall}
 use Rattle.iolb_commands.specs.declared.stop.OtherFault.{OtherFault}
-use Rattle.iolb_commands.specs.declared.stop.OtherFault.TheVariants.{Certificate, Schedule, Moves}
+use Rattle.iolb_commands.specs.declared.stop.OtherFault.TheVariants.{Certificate, Schedule, Moves, Stores}
 use Rattle.iolb_commands.specs.declared.stop.Refusal.{Refusal}
-use Rattle.iolb_commands.specs.declared.stop.Refusal.TheVariants.{Assumption as OutsideAssumption, Condition, Unplayed as NotPlayed, TooMany as OutOfReach, Illegal, NotComplete}
+use Rattle.iolb_commands.specs.declared.stop.Refusal.TheVariants.{Assumption as OutsideAssumption, Condition, StoresCondition, Unplayed as NotPlayed, TooMany as OutOfReach, Illegal, NotComplete}
 use Rattle.iolb_commands.specs.PointerText.{pointer_text}
 use Rattle.memory_levels.specs.declared.illegal.TowerIllegal.{TowerIllegal}
 use Rattle.memory_levels.specs.Towers.{illegal_number}
 
 -- the usage text
 abbrev pub usage : List ℕ
-usage = codes "usage: iolb check PROGRAM CERTIFICATE\n       iolb bound PROGRAM\n       iolb eval PROGRAM CERTIFICATE S NAME=NUMBER...\n       iolb replay PROGRAM SCHEDULE S NAME=NUMBER...\n       iolb sample N\n       iolb parallel PROGRAM CERTIFICATE P S NAME=NUMBER...\n       iolb levels PROGRAM CERTIFICATE CAPS NAME=NUMBER...\n       iolb climb PROGRAM MOVES CAPS NAME=NUMBER...\n"
+usage = codes "usage: iolb check PROGRAM CERTIFICATE\n       iolb bound PROGRAM\n       iolb eval PROGRAM CERTIFICATE S NAME=NUMBER...\n       iolb replay PROGRAM SCHEDULE S NAME=NUMBER...\n       iolb sample N\n       iolb parallel PROGRAM CERTIFICATE P S NAME=NUMBER...\n       iolb traffic PROGRAM CERTIFICATE STORES S NAME=NUMBER...\n       iolb levels PROGRAM CERTIFICATE CAPS NAME=NUMBER...\n       iolb climb PROGRAM MOVES CAPS NAME=NUMBER...\n"
 
 abbrev pub out_of_memory : List ℕ
 out_of_memory = codes "out of memory\n"
@@ -48,9 +48,17 @@ abbrev pub other_line : OtherFault → List ℕ
 other_line (Certificate fault) = text_line (codes "certificate text refused: fault ") fault.number fault.place
 other_line (Schedule fault) = text_line (codes "schedule text refused: fault ") fault.number fault.place
 other_line (Moves place) = moves_line place
+other_line (Stores fault) = text_line (codes "store text refused: fault ") fault.number fault.place
+
+-- the condition of this number that fails at this place, behind words
+abbrev pub refused_line : List ℕ → ℕ → List Step → List ℕ
+refused_line words condition place = words ++ decimal condition ++ codes " at " ++ pointer_text place ++ codes "\n"
 
 abbrev pub condition_line : ℕ → List Step → List ℕ
-condition_line condition place = codes "certificate refused: condition " ++ decimal condition ++ codes " at " ++ pointer_text place ++ codes "\n"
+condition_line = refused_line (codes "certificate refused: condition ")
+
+abbrev pub stores_condition_line : ℕ → List Step → List ℕ
+stores_condition_line = refused_line (codes "stores refused: condition ")
 
 -- the assumption of this number is false at the sizes
 abbrev pub assumption_line : ℕ → List ℕ
@@ -82,6 +90,7 @@ unplayed_line (TooSmall vertex need) = codes "too small: " ++ decimal vertex ++ 
 -- why what was read isn't answered
 abbrev pub refusal_line : Refusal → List ℕ
 refusal_line (Condition failed) = condition_line failed.condition failed.place
+refusal_line (StoresCondition failed) = stores_condition_line failed.condition failed.place
 refusal_line (OutsideAssumption number) = assumption_line number
 refusal_line (NotPlayed unplayed) = unplayed_line unplayed
 refusal_line OutOfReach = too_many_line

@@ -1,5 +1,5 @@
 -- What a request comes to, phase by phase. Each phase stops the work for a cause, or finds something and hands it on.
-use Rattle.std.specs.Prelude.{◌≡◌, ⊤, ℕ, ℤ, List, [], length, Option, Some, None}
+use Rattle.std.specs.Prelude.{◌≡◌, ⊤, ◌⊎◌, ℕ, ◌+◌, ℤ, List, [], length, Option, Some, None}
 use Rattle.iolb_model.specs.Bound.{AreMet}
 use Rattle.iolb_model.specs.Form.{AffineForm}
 use Rattle.iolb_model.specs.Graph.{ComputationGraph, computation_graph}
@@ -12,9 +12,10 @@ use Rattle.affine_c.specs.Meaning.{HasFault}
 use Rattle.affine_program.specs.Assumptions.{IsFirstUnmet}
 use Rattle.c_grammar.specs.Program.{Means}
 use Rattle.claims.specs.Claims.{FirstFails}
-use Rattle.command_words.specs.Requests.{Request, Task, checks, evaluates, shares, levels, Work, judges, replays, climbs, bounds, file_at}
+use Rattle.command_words.specs.Requests.{Request, Task, checks, evaluates, shares, levels, Work, judges, replays, climbs, bounds_traffic, bounds, file_at}
 use Rattle.iolb_cert.specs.OneCertificate.{HasCertificate}
 use Rattle.iolb_cert.specs.Texts.{IsTextFault}
+use Rattle.iolb_check.specs.Claims.{CertificateClaim}
 use Rattle.iolb_check.specs.declared.bound.Value.{Value}
 use Rattle.iolb_check.specs.Bounds.{HasWideBranch}
 use Rattle.iolb_check.specs.Conditions.{MeetsConditions, conditions}
@@ -27,19 +28,26 @@ use Rattle.memory_levels.specs.MovesText.{IsFirstBadLine, IsMovesText}
 use Rattle.memory_levels.specs.Towers.{IsFirstUnfinished}
 use Rattle.memory_levels.specs.Values.{IsWideAtLevels}
 use Rattle.parallel_bound.specs.Widths.{HasWideParallelBranch}
+use Rattle.poly_tree.specs.Poly.{Quotient}
 use Rattle.pebble_replay.specs.Played.{played}
+use Rattle.store_bound.specs.Conditions.{MeetStores, stores_conditions}
+use Rattle.store_bound.specs.Faults.{MakesTraffic}
+use Rattle.store_bound.specs.Values.{IsWideTraffic}
+use Rattle.store_terms.specs.Claims.{StoresClaim}
+use Rattle.store_text.specs.Texts.{HasStores, IsTextFault as IsStoresFault}
 use Rattle.tile_sched.specs.Lines.{play_text}
 use Rattle.tile_sched.specs.OneSchedule.{IsTextFault as IsScheduleFault}
 use Rattle.tile_sched.specs.Plays.{CanBePlayed, IsUnplayed}
 use Rattle.tile_sched.specs.Texts.{IsTextOf}
-use Rattle.iolb_commands.specs.declared.stop.OtherFault.TheVariants.{Certificate, Schedule, Moves}
-use Rattle.iolb_commands.specs.declared.stop.Refusal.TheVariants.{Assumption, Condition, Unplayed, TooMany, Illegal, NotComplete}
+use Rattle.iolb_commands.specs.declared.stop.OtherFault.TheVariants.{Certificate, Schedule, Moves, Stores}
+use Rattle.iolb_commands.specs.declared.stop.Refusal.TheVariants.{Assumption, Condition, StoresCondition, Unplayed, TooMany, Illegal, NotComplete}
 use Rattle.iolb_commands.specs.declared.stop.Stop.{Stop}
 use Rattle.iolb_commands.specs.declared.stop.Stop.TheVariants.{Words, File, ProgramText, OtherText, Refused, Wide, Memory}
 use Rattle.iolb_commands.specs.Bounded.{IsBounded}
 use Rattle.iolb_commands.specs.Reading.{FaultCause, IsContent}
 use Rattle.iolb_commands.specs.Task.{HoldsFor, bound_with}
-use Rattle.iolb_commands.specs.Values.{climb_text, levels_text, parallel_text, values_text}
+use Rattle.iolb_commands.specs.Traffic.{traffic_loads, traffic_stores}
+use Rattle.iolb_commands.specs.Values.{climb_text, levels_text, parallel_text, traffic_text, values_text}
 use Rattle.iolb_commands.specs.Works.{most_bytes, sizes_for}
 
 -- How work ends: it stops, or a text answers it, with a note for the standard error.
@@ -77,10 +85,23 @@ Narrow IsWide Onward = Phase (λ (wide : ⊤). IsWide) (λ _. Wide) (λ (narrow 
 abbrev pub IsUnread : Option FileMap → List (List ℕ) → Work → ℕ → Stop → Type 0
 IsUnread files names work place stop = (fault : FileFault) × (stop ≡ File place fault) × FaultCause files (file_at names place) (most_bytes work place) fault
 
+-- why a phase stops: for one of its causes, or for want of memory
+abbrev pub StopsFor : {X : Type 0} → (X → Type 0) → (X → Stop) → Stop → Type 0
+StopsFor {X = X} Cause stop it = (it ≡ Memory) ⊎ ((x : X) × Cause x × (it ≡ stop x))
+
 -- the file at a place of the words
 abbrev pub FileComes : Option FileMap → List (List ℕ) → Work → ℕ → (List ℕ → End → Type 0) → End → Type 0
 FileComes files names work place =
     Phase (FaultCause files (file_at names place) (most_bytes work place)) (File place) (IsContent files (file_at names place) (most_bytes work place))
+
+-- why what a file says isn't read: the file isn't, or its text has a fault
+abbrev pub IsUnsaid : {X : Type 0} → Option FileMap → List (List ℕ) → Work → ℕ → (List ℕ → X → Type 0) → (X → Stop) → Stop → Type 0
+IsUnsaid files names work place HasFault stop it = IsUnread files names work place it
+    ⊎ ((bytes : List ℕ) × IsContent files (file_at names place) (most_bytes work place) bytes × StopsFor (HasFault bytes) stop it)
+
+-- what a file says
+abbrev pub IsSaid : {X : Type 0} → Option FileMap → List (List ℕ) → Work → ℕ → (List ℕ → X → Type 0) → X → Type 0
+IsSaid files names work place Has x = (bytes : List ℕ) × IsContent files (file_at names place) (most_bytes work place) bytes × Has bytes x
 
 -- ---- a request, the last phase first
 
@@ -98,11 +119,39 @@ TaskComes (levels capacities named) program sizes values =
     AtSizes program.assumptions sizes (Narrow (IsWideAtLevels sizes capacities values)
     (Says (HoldsFor (levels capacities named) program (bound_with program values)) (levels_text (bound_with program values) sizes capacities)))
 
+-- the text of a certificate
+abbrev pub CertificateTextComes : List ℕ → (CertificateClaim → End → Type 0) → End → Type 0
+CertificateTextComes bytes = Phase (IsTextFault bytes) (λ fault. OtherText (Certificate fault)) (HasCertificate bytes)
+
+-- its conditions, which give the values of its terms
+abbrev pub ConditionsCome : AffineProgram → CertificateClaim → (List (List Value) → End → Type 0) → End → Type 0
+ConditionsCome program certificate = Phase (FirstFails (conditions program certificate)) (λ failed. Refused (Condition failed)) (MeetsConditions program certificate)
+
 -- a certificate: its text, the conditions, the task
 abbrev pub CertificateComes : Task → AffineProgram → List ℤ → List ℕ → End → Type 0
-CertificateComes task program sizes bytes = Phase (IsTextFault bytes) (λ fault. OtherText (Certificate fault)) (HasCertificate bytes)
-    (λ certificate. Phase (FirstFails (conditions program certificate)) (λ failed. Refused (Condition failed))
-    (MeetsConditions program certificate) (TaskComes task program sizes))
+CertificateComes task program sizes bytes = CertificateTextComes bytes (λ certificate. ConditionsCome program certificate (TaskComes task program sizes))
+
+-- the text of stores
+abbrev pub StoresTextComes : List ℕ → (StoresClaim → End → Type 0) → End → Type 0
+StoresTextComes bytes = Phase (IsStoresFault bytes) (λ fault. OtherText (Stores fault)) (HasStores bytes)
+
+-- their conditions, which give the counts of the outputs
+abbrev pub StoresConditionsCome : AffineProgram → CertificateClaim → StoresClaim → (List Quotient → End → Type 0) → End → Type 0
+StoresConditionsCome program certificate stores =
+    Phase (FirstFails (stores_conditions program certificate stores)) (λ failed. Refused (StoresCondition failed)) (MeetStores program certificate stores)
+
+-- loads and stores together: the assumptions, and the values
+abbrev pub TransfersCome : ℕ → AffineProgram → List ℤ → ℕ → ℕ → Type 0 → End → Type 0
+TransfersCome s program sizes loads stores IsWide =
+    AtSizes program.assumptions sizes (Narrow IsWide (Says (MakesTraffic program sizes s loads stores) (traffic_text loads stores)))
+
+-- a certificate and stores that were read: the conditions of both, and the values
+abbrev pub TrafficComes : ℕ → AffineProgram → List ℤ → CertificateClaim → StoresClaim → End → Type 0
+TrafficComes s program sizes certificate stores =
+    ConditionsCome program certificate (λ values. StoresConditionsCome program certificate stores (λ counts.
+    let loads = traffic_loads program values sizes s in
+    let stored = traffic_stores certificate stores values counts sizes s in
+    TransfersCome s program sizes loads stored (IsWideTraffic sizes s values counts (loads + stored))))
 
 -- a schedule: its text, and what keeps it from being played
 abbrev pub ScheduleComes : ℕ → AffineProgram → List ℤ → List ℕ → End → Type 0
@@ -128,6 +177,8 @@ abbrev pub WorkComes : Option FileMap → List (List ℕ) → Work → AffinePro
 WorkComes files names (judges task) program sizes = FileComes files names (judges task) 1 (CertificateComes task program sizes)
 WorkComes files names (replays s named) program sizes = FileComes files names (replays s named) 1 (ScheduleComes s program sizes)
 WorkComes files names (climbs capacities named) program sizes = FileComes files names (climbs capacities named) 1 (MovesCome capacities program sizes)
+WorkComes files names (bounds_traffic s named) program sizes = FileComes files names (bounds_traffic s named) 1 (λ bytes. CertificateTextComes bytes
+    (λ certificate. FileComes files names (bounds_traffic s named) 2 (λ others. StoresTextComes others (TrafficComes s program sizes certificate))))
 WorkComes files names bounds program sizes = Answered (IsBounded program)
 
 -- the names of the program's parameters, and the work

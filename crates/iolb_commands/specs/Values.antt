@@ -25,6 +25,10 @@ processor_lines processors value = codes "processors " ++ decimal processors ++ 
 abbrev pub parallel_text : ℕ → Bound → List ℤ → ℕ → List ℕ
 parallel_text processors bound sizes s = processor_lines processors (parallel_value bound sizes processors s)
 
+-- so many loads, so many stores, and both together
+abbrev pub traffic_text : ℕ → ℕ → List ℕ
+traffic_text loads stores = codes "loads " ++ decimal loads ++ codes "\nstores " ++ decimal stores ++ codes "\ntraffic " ++ decimal (loads + stores) ++ codes "\n"
+
 -- a boundary's value
 abbrev pub boundary_line : ℕ → ℕ → List ℕ
 boundary_line boundary value = codes "boundary " ++ decimal boundary ++ codes " " ++ decimal value ++ codes "\n"

@@ -1,6 +1,6 @@
 -- What work asks for: sizes, the length of its files, and how its answer is written.
 use Rattle.std.specs.Prelude.{◌≡◌, ◌==◌, if◌then◌else◌, ℕ, ℤ, List, [], Option, Some}
-use Rattle.command_words.specs.Requests.{checks, evaluates, shares, levels, Work, judges, replays, climbs, bounds}
+use Rattle.command_words.specs.Requests.{checks, evaluates, shares, levels, Work, judges, replays, climbs, bounds_traffic, bounds}
 use Rattle.command_words.specs.Sizes.{values_for}
 use Rattle.iolb_model.specs.declared.limits.TheConstants.{CERTIFICATE_BYTES, MOVES_BYTES, PROGRAM_BYTES, SCHEDULE_BYTES}
 
@@ -13,21 +13,23 @@ sizes_for (judges (shares processors s named)) names = values_for names named
 sizes_for (judges (levels capacities named)) names = values_for names named
 sizes_for (replays s named) names = values_for names named
 sizes_for (climbs capacities named) names = values_for names named
+sizes_for (bounds_traffic s named) names = values_for names named
 sizes_for bounds names = Some []
 
 abbrev pub HasSizes : Work → List (List ℕ) → Type 0
 HasSizes work names = (sizes : List ℤ) × (sizes_for work names ≡ Some sizes)
 
--- how many bytes the file behind the program's may have
-abbrev pub second_bytes : Work → ℕ
-second_bytes (judges task) = CERTIFICATE_BYTES
-second_bytes (replays s named) = SCHEDULE_BYTES
-second_bytes (climbs capacities named) = MOVES_BYTES
-second_bytes bounds = 0
+-- how many bytes a file behind the program's may have: stores as many as a certificate
+abbrev pub other_bytes : Work → ℕ
+other_bytes (judges task) = CERTIFICATE_BYTES
+other_bytes (replays s named) = SCHEDULE_BYTES
+other_bytes (climbs capacities named) = MOVES_BYTES
+other_bytes (bounds_traffic s named) = CERTIFICATE_BYTES
+other_bytes bounds = 0
 
 -- how many bytes the file at a place of the words may have
 abbrev pub most_bytes : Work → ℕ → ℕ
-most_bytes work place = if place == 0 then PROGRAM_BYTES else second_bytes work
+most_bytes work place = if place == 0 then PROGRAM_BYTES else other_bytes work
 
 -- How an answer is written: by one write, line by line, or with a note for the standard error behind it.
 pub data Form : Type 0 where
@@ -39,4 +41,5 @@ abbrev pub form_of : Work → Form
 form_of (judges task) = whole
 form_of (replays s named) = by_lines
 form_of (climbs capacities named) = whole
+form_of (bounds_traffic s named) = whole
 form_of bounds = with_note

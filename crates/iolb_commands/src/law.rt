@@ -1,12 +1,14 @@
 //! That a call has one outcome, that causes are answered, and that bounds are below plays.
 
-ghost use Rattle.iolb_commands.specs.Laws.{AbsentProgramsAreNamed, AbsentSecondFilesAreNamed, BoundsAreBelowPlays, CausesAreAnswered, CompletePlaysPass, FailingCertificatesAreRefused, OtherWordsAreRefused, OthersNeverPass, OutcomesAreOne, PlayableSchedulesPass, ReadableProgramsHaveCertificates, SureCallsAreUndisturbed, UndisturbedCallsHaveNoFault, ValidCertificatesPass};
+ghost use Rattle.iolb_commands.specs.Laws.{AbsentProgramsAreNamed, AbsentSecondFilesAreNamed, BoundsAreBelowPlays, CausesAreAnswered, CompletePlaysPass, FailingCertificatesAreRefused, OtherWordsAreRefused, OthersNeverPass, OutcomesAreOne, PlayableSchedulesPass, ReadableProgramsHaveCertificates, SureCallsAreUndisturbed, UndisturbedCallsHaveNoFault, ValidCertificatesPass, ValidStoresPass};
 
 use affine_c::texts_mean_one_program;
 use iolb_cert::{texts_have_one_answer, texts_have_one_certificate};
 use iolb_check::law::answers_are_exact;
 use iolb_host::sure_files_never_fail;
 use memory_levels::law::{plays_have_one_answer, texts_of_moves_are_exact};
+use store_bound::law::stores_are_exact;
+use store_text::stores_are_one;
 use tile_sched::{replays_are_one, schedules_are_one};
 
 /// A law of `run`'s outcomes, over files that tell what they hold. Two outcomes of one call in which no read and no write
@@ -15,8 +17,9 @@ use tile_sched::{replays_are_one, schedules_are_one};
 /// bound. So where the program and the certificate are readable, and the certificate meets the conditions, `check`
 /// gives 0 or 9, and with sizes that meet the assumptions and no wide value `eval`, `parallel` and `levels` give 0 or 9; where
 /// it doesn't meet them, none of them gives 0. Where the program and the schedule are readable and the schedule can be played
-/// at the sizes, `replay` gives 0 or 9, and so does `climb` where the moves are a complete play at the sizes. Where the program
-/// is readable `bound` gives 0 or 9. And where an `eval` and a `replay` about one program, at the same sizes and with as many
+/// at the sizes, `replay` gives 0 or 9, and so does `climb` where the moves are a complete play at the sizes, and `traffic` where the
+/// stores are readable too and meet their conditions, and nothing is wide at the sizes. Where the program is readable `bound`
+/// gives 0 or 9. And where an `eval` and a `replay` about one program, at the same sizes and with as many
 /// red pebbles, both give 0, the value of the first is at most the loads of the second.
 pub fn outcomes_are_one()
     ensures one { OutcomesAreOne }
@@ -24,6 +27,7 @@ pub fn outcomes_are_one()
     ensures others { OthersNeverPass }
     ensures playable { PlayableSchedulesPass }
     ensures climbed { CompletePlaysPass }
+    ensures stored { ValidStoresPass }
     ensures bounded { ReadableProgramsHaveCertificates }
     ensures below { BoundsAreBelowPlays }
 {
@@ -35,6 +39,8 @@ pub fn outcomes_are_one()
     replays_are_one();
     texts_of_moves_are_exact();
     plays_have_one_answer();
+    stores_are_one();
+    stores_are_exact();
 }
 
 /// Laws of `run`'s outcomes, over files that tell what they hold, where no read and no write failed: what there is to say against
@@ -56,6 +62,8 @@ pub fn causes_are_answered()
     replays_are_one();
     texts_of_moves_are_exact();
     plays_have_one_answer();
+    stores_are_one();
+    stores_are_exact();
 }
 
 /// A call in which no read and no write failed doesn't end with 6 or 7, whatever files and sinks tell, and over files and sinks

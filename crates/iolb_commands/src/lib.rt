@@ -19,6 +19,7 @@ mod sharing;
 mod status;
 mod stop;
 mod system;
+mod traffic;
 mod writing;
 
 pub use call::run;

@@ -1,7 +1,7 @@
 //! The lines that are written to the standard error.
 
 ghost use Rattle.std.specs.Prelude.{◌≡◌, ◌++◌, ℕ, codes, decimal, IfOk};
-ghost use Rattle.iolb_commands.specs.Lines.{usage, out_of_memory, file_line as line_of_file, program_line as line_of_program, place_part as part_of_place, text_line as line_of_text, other_line as line_of_other, refusal_line as line_of_refusal, condition_line as line_of_condition, assumption_line as line_of_assumption, unplayed_line as line_of_unplayed, moves_line as line_of_moves, illegal_line as line_of_illegal, not_complete_line as line_of_not_complete};
+ghost use Rattle.iolb_commands.specs.Lines.{usage, out_of_memory, file_line as line_of_file, program_line as line_of_program, place_part as part_of_place, text_line as line_of_text, other_line as line_of_other, refusal_line as line_of_refusal, refused_line as line_of_refused, assumption_line as line_of_assumption, unplayed_line as line_of_unplayed, moves_line as line_of_moves, illegal_line as line_of_illegal, not_complete_line as line_of_not_complete};
 ghost use Rattle.command_words.specs.Requests.{bytes_of};
 ghost use Rattle.iolb_commands.specs.Stop.{stop_line as line_of_stop};
 
@@ -18,7 +18,7 @@ use std::alloc::Global;
 use tile_sched::{SchedFault, Unplayed};
 
 const USAGE: &[u8] =
-    b"usage: iolb check PROGRAM CERTIFICATE\n       iolb bound PROGRAM\n       iolb eval PROGRAM CERTIFICATE S NAME=NUMBER...\n       iolb replay PROGRAM SCHEDULE S NAME=NUMBER...\n       iolb sample N\n       iolb parallel PROGRAM CERTIFICATE P S NAME=NUMBER...\n       iolb levels PROGRAM CERTIFICATE CAPS NAME=NUMBER...\n       iolb climb PROGRAM MOVES CAPS NAME=NUMBER...\n";
+    b"usage: iolb check PROGRAM CERTIFICATE\n       iolb bound PROGRAM\n       iolb eval PROGRAM CERTIFICATE S NAME=NUMBER...\n       iolb replay PROGRAM SCHEDULE S NAME=NUMBER...\n       iolb sample N\n       iolb parallel PROGRAM CERTIFICATE P S NAME=NUMBER...\n       iolb traffic PROGRAM CERTIFICATE STORES S NAME=NUMBER...\n       iolb levels PROGRAM CERTIFICATE CAPS NAME=NUMBER...\n       iolb climb PROGRAM MOVES CAPS NAME=NUMBER...\n";
 
 /// The line for a value beyond 128 bits.
 const WIDE: &[u8] = b"value beyond 128 bits\n";
@@ -98,16 +98,23 @@ fn other_line(alloc: Global, fault: &OtherFault) -> Result<Vec<u8>, Memory>
             text_line(alloc, b"schedule text refused: fault ", *number, place)
         }
         OtherFault::Moves(place) => moves_line(alloc, *place),
+        OtherFault::Stores(CertFault { number, place }) => {
+            text_line(alloc, b"store text refused: fault ", *number, place)
+        }
     }
 }
 
-/// The condition that fails.
-fn condition_line(alloc: Global, failed: &FailedCondition) -> Result<Vec<u8>, Memory>
-    ensures { IfOk result (λ line. line.items ≡ line_of_condition failed.now.condition failed.now.place) }
+/// The condition that fails, behind words.
+fn condition_line(
+    alloc: Global,
+    words: &[u8],
+    failed: &FailedCondition,
+) -> Result<Vec<u8>, Memory>
+    ensures { IfOk result (λ line. line.items ≡ line_of_refused words.now failed.now.condition failed.now.place) }
 {
     let condition = failed.condition;
-    let words = format!(in alloc; "certificate refused: condition {condition} at ")?;
-    let mut line = Vec::from_slice(alloc, words.as_bytes())?;
+    let mut line = Vec::from_slice(alloc, words)?;
+    line.extend_from_slice(format!(in alloc; "{condition} at ")?.as_bytes())?;
     line.extend_from_slice(pointer_text(alloc, &failed.place)?.as_slice())?;
     line.push(b'\n')?;
     Ok(line)
@@ -171,7 +178,12 @@ fn refusal_line(alloc: Global, refusal: &Refusal) -> Result<Vec<u8>, Memory>
     ensures { IfOk result (λ line. line.items ≡ line_of_refusal refusal.now) }
 {
     match refusal {
-        Refusal::Condition(failed) => condition_line(alloc, failed),
+        Refusal::Condition(failed) => {
+            condition_line(alloc, b"certificate refused: condition ", failed)
+        }
+        Refusal::StoresCondition(failed) => {
+            condition_line(alloc, b"stores refused: condition ", failed)
+        }
         Refusal::Assumption(number) => assumption_line(alloc, *number),
         Refusal::Unplayed(unplayed) => unplayed_line(alloc, *unplayed),
         Refusal::TooMany => Ok(Vec::from_slice(alloc, TOO_MANY)?),

@@ -18,6 +18,7 @@ pub enum OtherFault {
     Schedule(SchedFault),
     /// The first line that is none of a move begins at this byte.
     Moves(u64),
+    Stores(CertFault),
 }
 
 /// Why what was read isn't answered.
@@ -25,6 +26,8 @@ pub enum OtherFault {
 pub enum Refusal {
     /// The certificate fails a condition.
     Condition(FailedCondition),
+    /// The stores fail a condition.
+    StoresCondition(FailedCondition),
     /// The assumption of this number is false at the sizes.
     Assumption(u16),
     /// The schedule can't be played.

@@ -2,7 +2,7 @@ use Rattle.iolb_commands.proofs.Causes.{absent_programs, absent_seconds, causes_
 use Rattle.iolb_commands.proofs.Ends.{AreExact}
 use Rattle.iolb_commands.proofs.law.causes_are_answered.Goals as goal
 
-exact : goal.After-plays_have_one_answer → AreExact
+exact : goal.After-stores_are_exact → AreExact
 exact c = record {
   one_program = c.texts_mean_one_program.ensures;
   one_certificate = c.texts_have_one_certificate.ensures;
@@ -22,6 +22,10 @@ exact c = record {
   legal_or_not = c.plays_have_one_answer.ensures.legal;
   one_unfinished = c.plays_have_one_answer.ensures.unfinished;
   complete_or_not = c.plays_have_one_answer.ensures.complete;
+  stores = c.stores_are_one.ensures;
+  stores_stand = c.stores_are_exact.ensures.stand;
+  one_counts = c.stores_are_exact.ensures.one;
+  one_stores_refusal = c.stores_are_exact.ensures.refused;
 }
 
 pub returns-clause-words : goal.returns-clause-words

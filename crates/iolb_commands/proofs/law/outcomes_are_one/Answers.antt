@@ -1,9 +1,9 @@
 use Rattle.iolb_commands.proofs.Beside.{bounds_below}
-use Rattle.iolb_commands.proofs.One.{outcomes_one, valid_pass, others_never, playable_pass, climbs_pass, readable_pass}
+use Rattle.iolb_commands.proofs.One.{outcomes_one, valid_pass, others_never, playable_pass, climbs_pass, readable_pass, stores_pass}
 use Rattle.iolb_commands.proofs.Ends.{AreExact}
 use Rattle.iolb_commands.proofs.law.outcomes_are_one.Goals as goal
 
-exact : goal.After-plays_have_one_answer → AreExact
+exact : goal.After-stores_are_exact → AreExact
 exact c = record {
   one_program = c.texts_mean_one_program.ensures;
   one_certificate = c.texts_have_one_certificate.ensures;
@@ -23,6 +23,10 @@ exact c = record {
   legal_or_not = c.plays_have_one_answer.ensures.legal;
   one_unfinished = c.plays_have_one_answer.ensures.unfinished;
   complete_or_not = c.plays_have_one_answer.ensures.complete;
+  stores = c.stores_are_one.ensures;
+  stores_stand = c.stores_are_exact.ensures.stand;
+  one_counts = c.stores_are_exact.ensures.one;
+  one_stores_refusal = c.stores_are_exact.ensures.refused;
 }
 
 pub returns-clause-one : goal.returns-clause-one
@@ -45,3 +49,6 @@ returns-clause-below c = bounds_below c.replays_are_one.ensures.complete (exact 
 
 pub returns-clause-climbed : goal.returns-clause-climbed
 returns-clause-climbed c = climbs_pass (exact c)
+
+pub returns-clause-stored : goal.returns-clause-stored
+returns-clause-stored c = stores_pass (exact c)

@@ -1,8 +1,11 @@
-use Rattle.std.proofs.Common.{sym, ap, subst}
+use Rattle.std.proofs.Common.{◌≡◌, sym, ap, subst, map}
+use Rattle.std.specs.Prelude.{Some}
 use Rattle.std.proofs.lemmas.Result.{err_from_is_err_and}
 use Rattle.affine_program.specs.Parts.{meaning}
 use Rattle.command_words.specs.Requests.{Work, bytes_of, work_of}
+use Rattle.command_words.specs.Sizes.{named_of}
 use Rattle.iolb_commands.specs.Phases.{WorkComes, stops}
+use Rattle.iolb_commands.specs.Works.{sizes_for}
 use Rattle.iolb_commands.specs.Written.{end_of}
 use Rattle.iolb_commands.proofs.RequestLaws.{file_read, file_unread}
 use Rattle.iolb_commands.proofs.requests.work_at.Goals as goal
@@ -39,3 +42,11 @@ pub returns-in-Bound-clause-comes : goal.returns-in-Bound-clause-comes
 returns-in-Bound-clause-comes g c =
     subst (λ (work : Work). WorkComes (g.F.Files.told c.args.files.now) (bytes_of c.args.command.now.files.now) work (meaning c.args.program.now) c.args.sizes.now (end_of c.bounded.result))
     (sym (ap work_of c.in-Bound.is)) c.bounded.ensures.comes
+
+pub traffic_at-requires-clause-given : goal.traffic_at-requires-clause-given
+traffic_at-requires-clause-given g c =
+    let is = ap work_of c.in-Traffic.is in (
+      map named_of c.in-Traffic.setting.sizes.items,
+      subst (λ (work : Work). sizes_for work c.args.program.now.params ≡ Some c.args.sizes.now) is c.requires.given,
+      is,
+    )

@@ -1,0 +1,4 @@
+pub mod LaterWrites
+pub mod OutputSound
+pub mod OutputPieces
+pub mod FittingOutputs

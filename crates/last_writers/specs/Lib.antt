@@ -1,0 +1,4 @@
+pub mod OutputClaims
+pub mod OutputFit
+pub mod Fitting
+pub mod Outputs

@@ -1,0 +1,9 @@
+pub mod Counted
+pub mod StoresFit
+pub mod Conditions
+pub mod Moved
+pub mod WordPieces
+pub mod Values
+pub mod Sound
+pub mod Exact
+pub mod Faults

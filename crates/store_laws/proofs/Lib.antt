@@ -1,0 +1,2 @@
+pub mod MovesTaken
+pub mod StoredVertices
