@@ -1,12 +1,11 @@
 -- Where what is asked of an output holds, it fits a program; and how many later writes there are.
-use Rattle.std.proofs.Common.{◌≡◌, refl, sym, ◌∙◌, ap, subst, ℕ, suc, ◌+◌, List, [], ◌∷◌, ◌++◌, length, map, Bool, arith}
-use Rattle.std.specs.Prelude.{codes, flat_map, if◌then◌else◌, nat_lt}
+use Rattle.std.proofs.Common.{◌≡◌, refl, sym, ◌∙◌, ap, subst, ℕ, suc, List, [], ◌∷◌, ◌++◌, length, map, Bool, arith}
+use Rattle.std.specs.Prelude.{codes, flat_map, if◌then◌else◌}
 use Rattle.std.proofs.Math.Nat.{add-zero}
 use Rattle.std.proofs.lemmas.Bool.{lt-ltb}
 use Rattle.std.proofs.lemmas.List.{length-append, length-map}
 use Rattle.iolb_model.specs.Program.{AffineProgram, statement_at}
 use Rattle.affine_form.specs.Rows.{BoundsFit}
-use Rattle.affine_form.specs.System.{AffineSystem}
 use Rattle.affine_program.specs.Domain.{depth_of}
 use Rattle.affine_program.specs.Parts.{ProgramParts, meaning}
 use Rattle.certificate_fit.specs.PartFit.{bounds_fit, sums_fit}

@@ -11,7 +11,7 @@ use Rattle.affine_form.specs.Form.{IsSmallForm}
 use Rattle.affine_form.specs.Rows.{step_of, widened}
 use Rattle.affine_form.specs.System.{AllOver}
 use Rattle.domain_count.specs.Points.{points}
-use Rattle.footprint_pieces.specs.Pieces.{IsVertexOf, PieceFits}
+use Rattle.footprint_pieces.specs.Pieces.{PieceFits}
 use Rattle.footprint_pieces.proofs.PieceVertices.{wide-values}
 use Rattle.iolb_model.specs.declared.limits.TheConstants.{PUT_SIZE}
 use Rattle.reuse_paths.specs.Places.{place_of}

@@ -1,12 +1,11 @@
 -- An output whose claims hold is sound, and a sound output is stored.
-use Rattle.std.proofs.Common.{◌≡◌, refl, sym, ◌∙◌, ap, subst, inl, inr, ℕ, zero, suc, ◌+◌, ◌<◌, ◌≤◌, Bool, true, false, List, [], ◌∷◌, ◌++◌, length, map, get_or, drop, arith}
-use Rattle.std.specs.Prelude.{◌⊎◌, not, Some, codes, nat_eq, slice_get, ◌||◌}
-use Rattle.std.specs.List.{AllByRecursion, enumerate_from, list_any}
+use Rattle.std.proofs.Common.{◌≡◌, refl, sym, ◌∙◌, ap, subst, ℕ, zero, suc, ◌+◌, ◌<◌, ◌≤◌, Bool, true, false, List, [], ◌∷◌, ◌++◌, length, map, get_or, drop, arith}
+use Rattle.std.specs.Prelude.{not, Some, codes, slice_get, ◌||◌}
+use Rattle.std.specs.List.{AllByRecursion, list_any}
 use Rattle.std.proofs.Math.IntN.{ℤ}
 use Rattle.std.proofs.lemmas.List.{get_or-map, length-map}
 use Rattle.std.proofs.lemmas.List.FromFn.{get_or-enumerate_from, length-enumerate_from}
 use Rattle.base_laws.proofs.Lists.{All-map, All-weaken}
-use Rattle.iolb_model.specs.Form.{AffineForm}
 use Rattle.iolb_model.specs.Path.{PathStep, row_path}
 use Rattle.iolb_model.specs.Program.{AffineProgram, IsWellFormed}
 use Rattle.iolb_model.specs.Bound.{IsAdmitted}
@@ -22,7 +21,6 @@ use Rattle.execution_laws.proofs.Ordered.{All-from, All-member}
 use Rattle.execution_laws.proofs.Ways.{holds-there}
 use Rattle.affine_form.specs.Rows.{step_of}
 use Rattle.affine_form.specs.Shown.{HasNoPoint}
-use Rattle.affine_form.specs.Substitution.{values_at}
 use Rattle.affine_form.specs.System.{AffineSystem, IsMet}
 use Rattle.affine_form.proofs.Meaning.{values-front, within_rows-says}
 use Rattle.affine_program.specs.Domain.{path_of}

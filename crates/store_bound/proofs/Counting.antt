@@ -1,7 +1,6 @@
 -- The counts of outputs count something, and the terms whose words were computed have the values of wavefront terms.
-use Rattle.std.proofs.Common.{◌≡◌, sym, subst, ℕ, true, List, [], ◌∷◌, length}
+use Rattle.std.proofs.Common.{◌≡◌, sym, subst, ℕ, List, [], ◌∷◌, length}
 use Rattle.std.specs.List.{AllByRecursion, AllZip}
-use Rattle.std.specs.Prelude.{ℤ}
 use Rattle.affine_program.specs.Parts.{ProgramParts, meaning}
 use Rattle.domain_count.specs.Count.{CountsPoints}
 use Rattle.domain_count.specs.Points.{count}

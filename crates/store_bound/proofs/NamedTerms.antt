@@ -1,5 +1,5 @@
 -- The terms of the branch that is named, in the code and in what it claims, and what holds of them.
-use Rattle.std.proofs.Common.{◌≡◌, refl, sym, ◌∙◌, ap, subst, inl, inr, ℕ, zero, suc, ◌≤◌, List, [], ◌∷◌, ◌++◌, length, map, get_or, arith}
+use Rattle.std.proofs.Common.{◌≡◌, refl, ap, inl, inr, ℕ, zero, suc, ◌≤◌, List, [], ◌∷◌, ◌++◌, length, map, get_or, arith}
 use Rattle.std.specs.Prelude.{ℤ, Option, Some, None, slice_get}
 use Rattle.affine_form.specs.System.{AffineSystem}
 use Rattle.iolb_check.specs.Bounds.{HasWideBranch, HasWideTerm, IsTermValue}
@@ -8,11 +8,11 @@ use Rattle.affine_program.specs.Parts.{ProgramParts, IsProgram, meaning}
 use Rattle.claims.specs.Claims.{AllHold, numbered}
 use Rattle.claims.proofs.Laws.{AllHold-left}
 use Rattle.dep_quast.specs.Trees.{rows_claims}
-use Rattle.iolb_check.specs.Claims.{BranchClaim, TermClaim, claim_of_branch, claim_of_certificate, claim_of_term}
+use Rattle.iolb_check.specs.Claims.{BranchClaim, claim_of_branch, claim_of_certificate, claim_of_term}
 use Rattle.iolb_check.specs.Conditions.{AreBranchValues, AreValuesOf, branch_claims, conditions}
-use Rattle.iolb_check.specs.Fit.{BranchFits, BranchesFit, TermFits}
+use Rattle.iolb_check.specs.Fit.{BranchesFit, TermFits}
 use Rattle.iolb_check.specs.Limits.{CertificateParts, IsSmallBranch, IsWithinLimits}
-use Rattle.iolb_check.specs.Sound.{AreApartTerms, AreCounted, IsCounted, IsSound, IsSoundBranch, term_vertices}
+use Rattle.iolb_check.specs.Sound.{AreCounted, IsCounted, IsSound, IsSoundBranch, term_vertices}
 use Rattle.iolb_check.specs.TermFit.{certificate_fit}
 use Rattle.iolb_check.specs.declared.bound.Value.{Value}
 use Rattle.iolb_check.specs.declared.term.Branch.{Branch}

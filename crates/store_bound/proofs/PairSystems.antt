@@ -1,21 +1,18 @@
 -- There are as many systems of pieces of outputs and words as pairs of their statements.
-use Rattle.std.proofs.Common.{◌≡◌, refl, sym, ◌∙◌, ap, subst, ℕ, suc, ◌+◌, Bool, true, false, cond, List, [], ◌∷◌, ◌++◌, length, map, arith}
-use Rattle.std.specs.Prelude.{◌==◌, if◌then◌else◌, is_some, Option, Some, None, filter, filter_map, flat_map, option_map}
+use Rattle.std.proofs.Common.{◌≡◌, refl, ◌∙◌, ap, ℕ, ◌+◌, Bool, true, false, cond, List, [], ◌∷◌, ◌++◌, length, map, arith}
+use Rattle.std.specs.Prelude.{◌==◌, if◌then◌else◌, is_some, Option, Some, None, filter, option_map}
 use Rattle.std.specs.List.{cons_option}
-use Rattle.std.proofs.lemmas.List.{append-nil, length-append, length-map}
+use Rattle.std.proofs.lemmas.List.{length-append}
 use Rattle.iolb_model.specs.Program.{AffineProgram}
-use Rattle.affine_form.specs.System.{AffineSystem}
 use Rattle.footprint_pieces.specs.declared.piece.Target.{Target}
 use Rattle.footprint_pieces.specs.declared.piece.Target.TheVariants.{Instance}
 use Rattle.footprint_pieces.specs.DisjointClaims.{pairwise_systems, same_target, shared_system, shared_systems, systems_with, systems_with_lists, with_target}
 use Rattle.footprint_pieces.specs.Pieces.{FootprintPiece}
-use Rattle.iolb_check.specs.Claims.{FrontClaim, TermClaim, cold, front, front_term, partition}
-use Rattle.poly_tree.specs.Poly.{Quotient}
+use Rattle.iolb_check.specs.Claims.{TermClaim, cold, front, front_term, partition}
 use Rattle.reuse_paths.specs.Walks.{SpotForms}
 use Rattle.wavefront.specs.FrontPieces.{front_piece, front_target}
-use Rattle.wavefront.specs.FrontTerm.{WavefrontTerm}
 use Rattle.last_writers.specs.Outputs.{output_piece}
-use Rattle.store_bound.specs.Counted.{computed_front, computed_fronts, word_statement}
+use Rattle.store_bound.specs.Counted.{computed_fronts}
 use Rattle.store_bound.specs.StoresFit.{output_pairs, output_pieces, single_pieces, systems_of, word_pairs, word_statements}
 use Rattle.store_terms.specs.Claims.{OutputClaim}
 

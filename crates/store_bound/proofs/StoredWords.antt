@@ -1,7 +1,7 @@
 -- Sound stores are made: what outputs and words cost adds up.
-use Rattle.std.proofs.Common.{◌≡◌, refl, sym, ◌∙◌, ap, subst, ℕ, suc, ◌+◌, ◌-◌, ◌*◌, ◌<◌, ◌≤◌, List, [], ◌∷◌, ◌++◌, length, map, sum_by, arith}
-use Rattle.std.specs.Prelude.{ℤ, nat_eq, Option, Some, None, if◌then◌else◌, is_some, option_map, sum}
-use Rattle.std.specs.List.{AllByRecursion, AllZip, IsDistinct}
+use Rattle.std.proofs.Common.{◌≡◌, refl, sym, ◌∙◌, ap, subst, ℕ, ◌+◌, ◌-◌, ◌*◌, ◌<◌, ◌≤◌, List, [], ◌∷◌, ◌++◌, length, map, sum_by, arith}
+use Rattle.std.specs.Prelude.{ℤ, Option, Some, None, if◌then◌else◌, is_some, option_map, sum}
+use Rattle.std.specs.List.{AllByRecursion, AllZip}
 use Rattle.std.proofs.Math.Nat.{one-dvd}
 use Rattle.std.proofs.lemmas.Nat.Gcd.{dvd_antisymm}
 use Rattle.std.proofs.lemmas.List.Sums.{sum-map, sum_by-append, sum_by-cons}
@@ -14,7 +14,6 @@ use Rattle.iolb_model.specs.Footprint.{ArePairwiseDisjoint, Footprint}
 use Rattle.iolb_model.specs.Form.{AffineForm}
 use Rattle.iolb_model.specs.Game.{IsCompletePebbling, is_store, stores}
 use Rattle.iolb_model.specs.Graph.{ComputationGraph, computation_graph, input_cells, vertex_of}
-use Rattle.iolb_model.specs.Program.{AffineProgram}
 use Rattle.iolb_model.specs.Source.{Source}
 use Rattle.affine_program.specs.Parts.{ProgramParts, meaning}
 use Rattle.domain_count.specs.Count.{CountsPoints, IsSumFrom}
@@ -31,12 +30,10 @@ use Rattle.reuse_paths.specs.Walks.{SpotForms}
 use Rattle.wavefront.specs.FrontTerm.{WavefrontTerm, outer_nest}
 use Rattle.wavefront.specs.Fronts.{IsSoundAt, IsSoundFront, IsThereAt, front_footprint, word_vertex}
 use Rattle.wavefront.specs.View.{front_of}
-use Rattle.wavefront.specs.declared.front.Wavefront.{Wavefront}
 use Rattle.wavefront.proofs.FrontLoads.{front-words-loaded}
 use Rattle.iolb_check.specs.Bounds.{term_of, terms_of}
 use Rattle.iolb_check.specs.Claims.{TermClaim, claim_of_certificate, claim_of_term}
 use Rattle.iolb_check.specs.Conditions.{AreValuesOf}
-use Rattle.iolb_check.specs.Limits.{CertificateParts}
 use Rattle.iolb_check.specs.Sound.{IsCounted, IsSound}
 use Rattle.iolb_check.specs.declared.bound.Value.{Value}
 use Rattle.iolb_check.specs.declared.bound.Value.TheVariants as values
@@ -47,12 +44,11 @@ use Rattle.store_laws.proofs.MovesTaken.{disjoint_add_up}
 use Rattle.store_laws.proofs.StoredVertices.{loaded_stores}
 use Rattle.last_writers.specs.Outputs.{IsSoundOutput, output_footprint}
 use Rattle.last_writers.proofs.OutputSound.{outputs-stored}
-use Rattle.store_bound.specs.Counted.{computed_fronts, computed_values, counted_fronts, counted_values, named_terms, named_values, terms_named}
-use Rattle.store_bound.specs.Sound.{AreSoundStores, IsAccepted, IsOutputCount, SoundStoresAreMade, output_footprints, word_footprints}
-use Rattle.store_bound.specs.Values.{output_value, store_value}
+use Rattle.store_bound.specs.Counted.{computed_fronts, computed_values, named_terms, named_values, terms_named}
+use Rattle.store_bound.specs.Sound.{IsOutputCount, SoundStoresAreMade, output_footprints, word_footprints}
+use Rattle.store_bound.specs.Values.{store_value}
 use Rattle.store_bound.proofs.NamedTerms.{named-claims, named-counted, named-sound, named-valued}
 use Rattle.store_terms.specs.Claims.{claim_of_output}
-use Rattle.store_terms.specs.Limits.{StoresParts}
 use Rattle.store_terms.specs.declared.output.Output.{Output}
 
 -- ---- the polynomials of a term's value are in lowest terms

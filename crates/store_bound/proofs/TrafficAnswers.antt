@@ -1,7 +1,7 @@
 -- From what an evaluation answers of a bound and of stores to what is answered of a program, a certificate and stores.
 use Rattle.std.proofs.Common.{◌≡◌, sym, ◌∙◌, ap, subst, ℕ, ◌+◌, ◌≤◌, List, length, map, arith}
 use Rattle.std.specs.Prelude.{Err, Ok, Option, ℤ}
-use Rattle.std.specs.List.{AllByRecursion, AllZip}
+use Rattle.std.specs.List.{AllByRecursion}
 use Rattle.affine_form.specs.System.{AffineSystem}
 use Rattle.affine_program.specs.Parts.{ProgramParts, meaning}
 use Rattle.iolb_check.specs.Bounds.{BoundParts, IsCounting, bound_of}

@@ -1,6 +1,6 @@
 -- The values of terms whose words were computed, one term more.
-use Rattle.std.proofs.Common.{◌≡◌, refl, sym, ◌∙◌, ap, subst, ℕ, zero, suc, ◌+◌, ◌≤◌, Bool, true, false, min, List, [], ◌∷◌, length, drop, map, sum_by, arith}
-use Rattle.std.specs.Prelude.{ℤ, if◌then◌else◌, sum}
+use Rattle.std.proofs.Common.{◌≡◌, refl, sym, ◌∙◌, ap, ℕ, zero, suc, ◌+◌, ◌≤◌, Bool, true, false, min, List, [], ◌∷◌, length, drop, map, arith}
+use Rattle.std.specs.Prelude.{ℤ, if◌then◌else◌}
 use Rattle.std.proofs.lemmas.List.Sums.{sum-map, sum_by-cons}
 use Rattle.iolb_check.specs.Bounds.{term_of, terms_of}
 use Rattle.iolb_check.specs.Claims.{TermClaim, claim_of_term}

@@ -3,7 +3,6 @@ use Rattle.std.specs.Prelude.{◌≡◌, ⊤, ℕ, ◌+◌, ◌≤◌, ℤ, List
 use Rattle.affine_program.specs.Assumptions.{IsFirstUnmet}
 use Rattle.affine_program.specs.Parts.{ProgramParts, meaning}
 use Rattle.claims.specs.Claims.{FirstFails}
-use Rattle.claims.specs.declared.refused.FailedCondition.{FailedCondition}
 use Rattle.iolb_check.specs.Bounds.{BoundParts, bound_of}
 use Rattle.iolb_check.specs.Claims.{claim_of_certificate}
 use Rattle.iolb_check.specs.Conditions.{MeetsConditions, conditions}

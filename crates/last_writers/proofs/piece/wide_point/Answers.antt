@@ -2,12 +2,12 @@ use Rattle.std.proofs.Common.{◌≡◌, ◌≤◌, sym, ◌∙◌, ap, subst, m
 use Rattle.std.specs.List.{AllByRecursion}
 use Rattle.base_laws.proofs.Lists.{All-weaken}
 use Rattle.iolb_model.specs.Form.{AffineForm}
-use Rattle.affine_form.specs.Form.{IsSmall, IsSmallForm, variables}
+use Rattle.affine_form.specs.Form.{IsSmallForm, variables}
 use Rattle.affine_form.specs.Rows.{IsSmallOver, widened}
 use Rattle.affine_form.specs.System.{AllOver}
 use Rattle.affine_program.specs.Parts.{meaning}
 use Rattle.claims.proofs.Found.{IfOk-then}
-use Rattle.iolb_model.specs.declared.limits.TheConstants.{NUMBER_SIZE, PUT_SIZE}
+use Rattle.iolb_model.specs.declared.limits.TheConstants.{PUT_SIZE}
 use Rattle.store_terms.specs.Claims.{claim_of_output}
 use Rattle.wavefront.proofs.PiecesCover.{wide-over, wide-small}
 use Rattle.last_writers.specs.OutputClaims.{output_variables}

@@ -1,5 +1,5 @@
-use Rattle.std.proofs.Common.{◌≡◌, refl, inl, inr, ℕ, List}
-use Rattle.std.specs.Prelude.{◌⊎◌, ℤ}
+use Rattle.std.proofs.Common.{refl, inl, inr, ℕ}
+use Rattle.std.specs.Prelude.{◌⊎◌}
 use Rattle.iolb_check.specs.Bounds.{HasWideTerm}
 use Rattle.store_bound.specs.Counted.{named_values}
 use Rattle.store_bound.specs.Values.{HasWideCount, IsWideTraffic}

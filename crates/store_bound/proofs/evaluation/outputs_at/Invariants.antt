@@ -1,6 +1,4 @@
 use Rattle.std.proofs.Common.{◌≡◌, ◌≤◌, ◌+◌, min, drop}
-use Rattle.std.specs.List.{AllByRecursion}
-use Rattle.iolb_check.specs.Bounds.{IsCounting}
 use Rattle.iolb_model.specs.declared.limits.TheConstants.{MEASURE}
 use Rattle.store_bound.specs.Values.{HasWideCount, output_value}
 use Rattle.store_bound.proofs.evaluation.outputs_at.Given as goal

@@ -1,5 +1,4 @@
-use Rattle.std.proofs.Common.{◌≡◌, refl, sym, ◌∙◌, ap, subst, ℕ, ◌+◌, ◌≤◌, min, List, [], ◌∷◌, length, drop, map, arith}
-use Rattle.std.proofs.lemmas.List.{drop_all}
+use Rattle.std.proofs.Common.{◌≡◌, subst, ◌+◌, min, List, [], drop, map, arith}
 use Rattle.iolb_check.specs.Bounds.{terms_of}
 use Rattle.iolb_check.specs.Claims.{claim_of_term}
 use Rattle.iolb_check.specs.declared.bound.Value.{Value}

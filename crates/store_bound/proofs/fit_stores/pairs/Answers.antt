@@ -1,10 +1,10 @@
-use Rattle.std.proofs.Common.{◌≡◌, refl, sym, ◌∙◌, ap, subst, ℕ, ◌+◌, ◌≤◌, List, length, map, arith}
+use Rattle.std.proofs.Common.{◌≡◌, sym, ◌∙◌, ap, subst, ℕ, ◌≤◌, List, length, map, arith}
 use Rattle.std.proofs.lemmas.Simd.{map-map}
 use Rattle.iolb_check.specs.Claims.{TermClaim, claim_of_certificate, claim_of_term}
 use Rattle.iolb_check.specs.declared.term.Term.{Term}
 use Rattle.iolb_model.specs.declared.limits.TheConstants.{TERMS}
-use Rattle.store_bound.specs.Counted.{computed_fronts, named_terms, terms_named}
-use Rattle.store_bound.specs.StoresFit.{output_pairs, statements_of, systems_of, word_pairs, word_statements}
+use Rattle.store_bound.specs.Counted.{named_terms}
+use Rattle.store_bound.specs.StoresFit.{output_pairs, statements_of, word_pairs, word_statements}
 use Rattle.store_bound.proofs.NamedTerms.{named-claims, named-few}
 use Rattle.store_bound.proofs.PairSystems.{statements, systems-many}
 use Rattle.store_bound.proofs.fit_stores.pairs.Goals as goal

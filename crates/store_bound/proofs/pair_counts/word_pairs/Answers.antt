@@ -1,4 +1,4 @@
-use Rattle.std.proofs.Common.{◌≡◌, ◌∙◌, ap, ℕ, ◌+◌, ◌*◌, ◌≤◌, List, ◌∷◌, length, drop, map, arith}
+use Rattle.std.proofs.Common.{ap, ℕ, ◌+◌, List, length, drop, map, arith}
 use Rattle.std.specs.Prelude.{◌==◌, filter}
 use Rattle.std.proofs.lemmas.List.{length-append}
 use Rattle.base_laws.proofs.Lists.{rest_at}

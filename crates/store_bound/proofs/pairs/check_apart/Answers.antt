@@ -1,6 +1,6 @@
-use Rattle.std.proofs.Common.{◌≡◌, sym, ◌∙◌, ap, subst, ℕ, ◌+◌, ◌-◌, ◌≤◌, ◌++◌, List, [], ◌∷◌, length, drop, map, arith}
+use Rattle.std.proofs.Common.{◌≡◌, sym, ◌∙◌, ap, subst, ℕ, ◌+◌, ◌≤◌, List, [], ◌∷◌, length, drop, map, arith}
 use Rattle.std.specs.Prelude.{Err, Ok, Result, codes}
-use Rattle.std.proofs.lemmas.List.{length-append, length-map}
+use Rattle.std.proofs.lemmas.List.{length-append}
 use Rattle.std.proofs.lemmas.Simd.{map-map}
 use Rattle.affine_form.specs.Multipliers.{FarkasMultipliers}
 use Rattle.affine_form.specs.System.{AffineSystem}
@@ -11,7 +11,7 @@ use Rattle.claims.specs.declared.place.Step.{Step}
 use Rattle.claims.specs.declared.place.Step.TheVariants.{Key}
 use Rattle.claims.specs.declared.refused.Refused.{Refused}
 use Rattle.claims.proofs.Found.{handed-on}
-use Rattle.claims.proofs.Pointless.{chunk-go, chunk-stop, claims_from}
+use Rattle.claims.proofs.Pointless.{chunk-go, chunk-stop}
 use Rattle.footprint_pieces.specs.DisjointClaims.{pairwise_systems, shared_systems}
 use Rattle.iolb_check.specs.Claims.{claim_of_term}
 use Rattle.iolb_model.specs.Program.{AffineProgram}

@@ -1,5 +1,4 @@
-use Rattle.std.proofs.Common.{◌≡◌, sym, ◌∙◌, ap, subst, ◌≤◌, List, length, map, arith, Vec, Global}
-use Rattle.std.specs.Prelude.{Result}
+use Rattle.std.proofs.Common.{sym, ◌∙◌, ap, subst, ◌≤◌, List, length, map, Vec, Global}
 use Rattle.std.specs.List.{AllByRecursion}
 use Rattle.affine_program.specs.Parts.{meaning}
 use Rattle.claims.specs.Claims.{Decides}

@@ -1,4 +1,4 @@
-use Rattle.std.proofs.Common.{◌≡◌, refl, sym, ◌∙◌, ap, subst, ◌≤◌, ◌++◌, List, [], ◌∷◌, length, map, append-nil, arith, Vec, Global}
+use Rattle.std.proofs.Common.{◌≡◌, sym, ◌∙◌, ap, subst, ◌++◌, List, [], ◌∷◌, length, map, append-nil, arith, Vec, Global}
 use Rattle.std.specs.List.{AllByRecursion}
 use Rattle.affine_form.specs.System.{AffineSystem}
 use Rattle.affine_program.specs.Parts.{meaning}

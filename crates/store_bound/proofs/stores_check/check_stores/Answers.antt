@@ -1,24 +1,15 @@
-use Rattle.std.proofs.Common.{rules, ◌≡◌, sym, ◌∙◌, ap, subst, ℕ, ◌≤◌, ◌++◌, List, length, map, arith}
-use Rattle.std.specs.List.{AllByRecursion, AllZip}
-use Rattle.affine_form.specs.Multipliers.{FarkasMultipliers}
+use Rattle.std.proofs.Common.{sym, ◌∙◌, ap, subst}
+use Rattle.std.specs.List.{AllByRecursion}
 use Rattle.affine_program.specs.Parts.{meaning}
-use Rattle.claims.specs.Claims.{AllHold, IsRefusal}
 use Rattle.claims.proofs.Found.{handed-refusal}
-use Rattle.footprint_pieces.specs.Pieces.{AreApartPieces, ArePairwiseApart}
-use Rattle.iolb_check.specs.Claims.{TermClaim, claim_of_certificate, claim_of_term}
-use Rattle.iolb_check.specs.declared.term.Term.{Term}
-use Rattle.last_writers.specs.Outputs.{IsSoundOutput}
-use Rattle.store_bound.specs.Conditions.{AreCountsOf, stores_conditions}
-use Rattle.store_bound.specs.Counted.{computed_fronts, terms_named}
-use Rattle.store_bound.specs.Sound.{IsOutputCount}
-use Rattle.store_bound.specs.StoresFit.{output_pieces, single_pieces, systems_of}
+use Rattle.iolb_check.specs.Claims.{claim_of_certificate}
+use Rattle.store_bound.specs.Conditions.{stores_conditions}
+use Rattle.store_bound.specs.Counted.{terms_named}
 use Rattle.store_bound.specs.WordPieces.{HasWordPiece}
 use Rattle.store_bound.proofs.AcceptedStores.{all-met, all-sound, enough, refused-apart}
-use Rattle.store_bound.proofs.NamedTerms.{named-claims, named-pieces}
+use Rattle.store_bound.proofs.NamedTerms.{named-pieces}
 use Rattle.store_bound.proofs.stores_check.check_stores.Goals as goal
-use Rattle.store_terms.specs.Claims.{claim_of_output, claim_of_stores}
-use Rattle.store_terms.specs.declared.output.Output.{Output}
-use Rattle.wavefront.specs.FrontPieces.{front_piece}
+use Rattle.store_terms.specs.Claims.{claim_of_stores}
 
 pub check_apart-requires-clause-terms : goal.check_apart-requires-clause-terms
 check_apart-requires-clause-terms c =
