@@ -105,11 +105,7 @@ fn other_line(alloc: Global, fault: &OtherFault) -> Result<Vec<u8>, Memory>
 }
 
 /// The condition that fails, behind words.
-fn condition_line(
-    alloc: Global,
-    words: &[u8],
-    failed: &FailedCondition,
-) -> Result<Vec<u8>, Memory>
+fn condition_line(alloc: Global, words: &[u8], failed: &FailedCondition) -> Result<Vec<u8>, Memory>
     ensures { IfOk result (λ line. line.items ≡ line_of_refused words.now failed.now.condition failed.now.place) }
 {
     let condition = failed.condition;

@@ -33,7 +33,7 @@ returns-in-Err-TooMany-clause-comes c =
 
 pub returns-clause-comes : goal.returns-clause-comes
 returns-clause-comes c =
-    let built = c.in-Ok-graph.ensures in
+    let built = c.in-Ok-build.ensures in
     onward c.in-Ok.moves.items c.in-Ok.ensures (onward tt built.0 (onward tt built.1
     (subst (λ (graph : ComputationGraph). ClimbComes c.args.capacities.now graph c.in-Ok.moves.items (end_of c.play_answer.result)) built.2
-    (subst (λ (moves : List TowerMove). ClimbComes c.args.capacities.now c.in-Ok-graph.graph moves (end_of c.play_answer.result)) c.as_slice.ensures.value c.play_answer.ensures.comes))))
+    (subst (λ (moves : List TowerMove). ClimbComes c.args.capacities.now c.in-Ok-build.graph moves (end_of c.play_answer.result)) c.as_slice.ensures.value c.play_answer.ensures.comes))))

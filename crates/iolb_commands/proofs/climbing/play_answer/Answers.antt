@@ -13,7 +13,7 @@ pub returns-in-Err-Illegal-clause-comes : goal.returns-in-Err-Illegal-clause-com
 returns-in-Err-Illegal-clause-comes c =
     stopping (c.in-Err-Illegal.line, c.in-Err-Illegal.illegal)
     (subst (λ (fault : ClimbFault). Climbs c.args.graph.now c.args.capacities.now c.args.moves.now (Err fault)) c.in-Err-Illegal.field-0-is c.in-Err-Illegal.ensures)
-    (ap (λ (line : ℕ). stops (Refused (Illegal line _))) c.in-Err-Illegal.line-is ∙ ap (λ (illegal : TowerIllegal). stops (Refused (Illegal c.in-Err-Illegal.line illegal))) c.in-Err-Illegal.illegal-is)
+    (rw (c.in-Err-Illegal.line-is, c.in-Err-Illegal.illegal-is) refl)
 
 pub returns-in-Err-NotComplete-clause-comes : goal.returns-in-Err-NotComplete-clause-comes
 returns-in-Err-NotComplete-clause-comes c =

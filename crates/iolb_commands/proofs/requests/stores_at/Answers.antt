@@ -1,4 +1,4 @@
-use Rattle.std.proofs.Common.{inl, inr, refl, ap, subst}
+use Rattle.std.proofs.Common.{inl, inr, ap, subst}
 use Rattle.std.proofs.lemmas.Result.{err_from_is_err_and}
 use Rattle.std.specs.Prelude.{Err}
 use Rattle.command_words.specs.Requests.{bytes_of, work_of}
@@ -6,7 +6,7 @@ use Rattle.json_parts.specs.declared.error.CertError.{CertError}
 use Rattle.store_terms.specs.Claims.{claim_of_stores}
 use Rattle.store_text.specs.Texts.{HasStores, IsTextFault, ReadsText}
 use Rattle.iolb_commands.specs.declared.stop.OtherFault.TheVariants.{Stores}
-use Rattle.iolb_commands.specs.declared.stop.Stop.TheVariants.{Memory, OtherText}
+use Rattle.iolb_commands.specs.declared.stop.Stop.TheVariants.{OtherText}
 use Rattle.iolb_commands.proofs.RequestLaws.{is_said, is_unsaid}
 use Rattle.iolb_commands.proofs.requests.stores_at.Goals as goal
 
@@ -27,8 +27,3 @@ returns-in-Err-Fault-clause-cause g c =
       subst (λ (error : CertError). ReadsText c.as_slice.result.now (Err error)) c.in-Err-Fault.field-0-is c.in-Err-Fault.ensures,
       ap (λ fault. OtherText (Stores fault)) c.in-Err-Fault.fault-is,
     ))
-
-pub returns-in-Err-Memory-clause-cause : goal.returns-in-Err-Memory-clause-cause
-returns-in-Err-Memory-clause-cause g c =
-    is_unsaid (g.F.Files.told c.args.files.now) (bytes_of c.args.command.now.files.now) 2 (work_of c.args.command.now.work) c.in_ok-bytes.bytes.items c.as_slice.result.now c.as_slice.ensures.value
-    c.in_ok-bytes.ensures.content IsTextFault (λ fault. OtherText (Stores fault)) Memory (inl refl)

@@ -39,7 +39,7 @@ returns-in_err-stores-clause-comes g c =
     let behind = λ (files : Option FileMap). FileComes files names known 2 (λ others. StoresTextComes others (TrafficComes c.args.s (meaning c.args.program.now) c.args.sizes.now claim)) (stops stop) in
     rw (p.1, p.2) (subst (λ (work : Work). WorkComes told names work (meaning c.args.program.now) c.args.sizes.now (stops stop)) (sym given.2)
     (said_comes told names 1 (work_of c.args.command.now.work) known given.2 IsTextFault (λ fault. OtherText (Certificate fault)) HasCertificate _ claim (stops stop) c.in_ok-certificate.ensures.said
-    (subst behind c.certificate_at-certificate.ensures.told_stays
+    (subst behind c.certificate_at.ensures.told_stays
     (unsaid_stops _ names 2 (work_of c.args.command.now.work) known given.2 IsStoresFault (λ fault. OtherText (Stores fault)) HasStores _ stop c.in_err-stores.ensures.cause))))
 
 pub returns-clause-comes : goal.returns-clause-comes
@@ -53,6 +53,6 @@ returns-clause-comes g c =
     let behind = λ (files : Option FileMap). FileComes files names known 2 (λ others. StoresTextComes others (TrafficComes c.args.s (meaning c.args.program.now) c.args.sizes.now claim)) end in
     subst (λ (work : Work). WorkComes told names work (meaning c.args.program.now) c.args.sizes.now end) (sym given.2)
     (said_comes told names 1 (work_of c.args.command.now.work) known given.2 IsTextFault (λ fault. OtherText (Certificate fault)) HasCertificate _ claim end c.in_ok-certificate.ensures.said
-    (subst behind c.certificate_at-certificate.ensures.told_stays
+    (subst behind c.certificate_at.ensures.told_stays
     (said_comes _ names 2 (work_of c.args.command.now.work) known given.2 IsStoresFault (λ fault. OtherText (Stores fault)) HasStores _ (claim_of_stores c.in_ok-stores.stores) end c.in_ok-stores.ensures.said
     c.traffic_answer.ensures.comes)))
