@@ -6,7 +6,7 @@ parts := $(shell awk -F: '/^[a-z]/ { below[$$1] = $$2 } \
 	for (i = 1; i <= n; i++) visit(names[i]); print it } END { visit("iolb_cli") }' crates.txt)
 sources := crates.txt HANDLES $(shell find $(parts:%=crates/%) \( -name '*.rt' -o -name '*.antt' \) -not -path '*/out/*')
 
-.PHONY: all test install clean
+.PHONY: all test docs install uninstall clean
 
 all: bin/iolb
 
@@ -25,9 +25,25 @@ bin/iolb: $(sources)
 test:
 	rt ci
 
+# The pages' commands print what the pages say, and the schemas of the package hold of the shipped texts.
+docs: bin/iolb
+	bench/pages bin/iolb
+	bench/schemas bin/iolb
+
+share := $(DESTDIR)$(PREFIX)/share
+installed := $(DESTDIR)$(PREFIX)/bin/iolb $(share)/man/man1/iolb.1 $(share)/bash-completion/completions/iolb $(share)/zsh/site-functions/_iolb
+
 install: bin/iolb
-	install -d $(DESTDIR)$(PREFIX)/bin
-	install -m 755 bin/iolb $(DESTDIR)$(PREFIX)/bin/iolb
+	install -D -m 755 bin/iolb $(DESTDIR)$(PREFIX)/bin/iolb
+	install -D -m 644 package/iolb.1 $(share)/man/man1/iolb.1
+	install -D -m 644 package/iolb.bash $(share)/bash-completion/completions/iolb
+	install -D -m 644 package/_iolb $(share)/zsh/site-functions/_iolb
+	install -d $(share)/iolb/schemas
+	install -m 644 package/schemas/*.json $(share)/iolb/schemas
+
+uninstall:
+	rm -f $(installed)
+	rm -rf $(share)/iolb
 
 clean:
 	rm -rf bin crates/*/out
