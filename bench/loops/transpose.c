@@ -1,0 +1,5 @@
+#pragma scop
+for (i = 0; i < N; i++)
+  for (j = 0; j < M; j++)
+    B[j][i] = A[i][j];
+#pragma endscop
