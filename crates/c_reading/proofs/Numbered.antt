@@ -1,8 +1,10 @@
 -- A list of names with one more, and their numbers by their bytes.
 use Rattle.std.proofs.Common.{◌≡◌, ℕ, Bool, true, false, not, cond, List, [], ◌∷◌, ◌++◌, length, position, bytes_eq, Option, Some, None, is_some, Result, Ok, Err, is_err, OnOk, Bor, refl, sym, ap, ◌∙◌, true≢false, arith}
-use Rattle.std.specs.Map.{lookup}
-use Rattle.indexmap.specs.IndexMap.{IndexMap, get_by, insert_entry}
-use Rattle.indexmap.proofs.CallerLemmas.{insert_entry-new}
+use Rattle.std.specs.BTreeMap.{BTreeMap, UpdatesBy, get_by}
+use Rattle.std.specs.Cmp.Lexicographic.{slice_cmp}
+use Rattle.std.specs.Ordering.{nat_cmp}
+use Rattle.std.proofs.lemmas.Cmp.{nat_list_eq_equiv}
+use Rattle.std.proofs.lemmas.Map.Text.{btree_map_updates_str}
 use Rattle.std.proofs.lemmas.List.{length-append}
 use Rattle.std.proofs.lemmas.List.Folds.{position_or_len_push}
 use Rattle.std.proofs.lemmas.List.Sums.{prefix_len-le-length}
@@ -17,14 +19,6 @@ module _ {X : Type 0} (p : X → Bool) (xs : List X) (y : X) where
   pub position-push : position p (xs ++ y ∷ []) ≡ either (position p xs) (cond (p y) (Some (length xs)) None)
   position-push = grind (arith, position_or_len_push p xs y, length-append xs (y ∷ []), prefix_len-le-length (λ x. not (p x)) xs)
 
-pub lookup-push : {K X : Type 0} (t : K → Bool) (es : List (K × X)) (k : K) (v : X) → lookup t (es ++ (k, v) ∷ []) ≡ either (lookup t es) (cond (t k) (Some v) None)
-lookup-push t [] k v = refl
-lookup-push t (e ∷ es) k v = by (t e.0) (lookup-push t es k v)
-  where
-    by : (b : Bool) → lookup t (es ++ (k, v) ∷ []) ≡ either (lookup t es) (cond (t k) (Some v) None) → cond b (Some e.1) (lookup t (es ++ (k, v) ∷ [])) ≡ either (cond b (Some e.1) (lookup t es)) (cond (t k) (Some v) None)
-    by true rest = refl
-    by false rest = rest
-
 -- a name that was there already changes no number
 pub numbers_same : (xs : List (List ℕ)) (new : List ℕ) → is_some (position (bytes_eq new) xs) ≡ true → (name : List ℕ) → position (bytes_eq name) (xs ++ new ∷ []) ≡ position (bytes_eq name) xs
 numbers_same xs new there name = position-push (bytes_eq name) xs new ∙ by (position (bytes_eq name) xs) refl (bytes_eq name new) refl
@@ -35,16 +29,28 @@ numbers_same xs new there name = position-push (bytes_eq name) xs new ∙ by (po
     by None h true e = absurd (true≢false (sym there ∙ ap (λ n. is_some (position (bytes_eq n) xs)) (sym ((bytes_eq-Decides name new).0 e)) ∙ ap is_some h))
 
 -- the map gives the number of each name of the list
-abbrev pub Numbers : {S : Type 0} → IndexMap (Bor (List ℕ)) ℕ S → List (List ℕ) → Type 0
-Numbers m xs = (name : List ℕ) → get_by (λ key. bytes_eq name key.now) m ≡ position (bytes_eq name) xs
+abbrev pub Numbers : BTreeMap (Bor (List ℕ)) ℕ → List (List ℕ) → Type 0
+Numbers m xs = (name : List ℕ) → get_by (λ key. slice_cmp nat_cmp name key.now) m ≡ position (bytes_eq name) xs
 
 -- a name that wasn't there has the next number
-pub numbers_insert : {S : Type 0} (m n : IndexMap (Bor (List ℕ)) ℕ S) (xs : List (List ℕ)) (k : Bor (List ℕ)) → Numbers m xs → position (bytes_eq k.now) xs ≡ None
-    → n.entries ≡ insert_entry (λ a b. bytes_eq a.now b.now) m.entries k (length xs) → Numbers n (xs ++ k.now ∷ [])
-numbers_insert m n xs k same none is name =
-    let new = is ∙ insert_entry-new (λ a b. bytes_eq a.now b.now) m k (length xs) (same k.now ∙ none) in
-    ap (lookup (λ key. bytes_eq name key.now)) new ∙ lookup-push (λ key. bytes_eq name key.now) m.entries k (length xs)
-    ∙ ap (λ r. either r (cond (bytes_eq name k.now) (Some (length xs)) None)) (same name) ∙ sym (position-push (bytes_eq name) xs k.now)
+pub numbers_insert : (m n : BTreeMap (Bor (List ℕ)) ℕ) (xs : List (List ℕ)) (new : List ℕ) → Numbers m xs → position (bytes_eq new) xs ≡ None
+    → UpdatesBy (λ x y. slice_cmp nat_cmp x.now y.now) (λ key. slice_cmp nat_cmp new key.now) m n (Some (length xs)) → Numbers n (xs ++ new ∷ [])
+numbers_insert m n xs new same none is name =
+    btree_map_updates_str new m n (Some (length xs)) is name ∙ by (bytes_eq new name) (nat_list_eq_equiv.symm name new) ∙ sym (position-push (bytes_eq name) xs new)
+  where
+    whole : (r : Option ℕ) → r ≡ either r None
+    whole None = refl
+    whole (Some i) = refl
+
+    f : List ℕ → Option ℕ
+    f ds = get_by (λ key. slice_cmp nat_cmp ds key.now) m
+
+    absent : bytes_eq name new ≡ true → position (bytes_eq name) xs ≡ None
+    absent e = ap (λ ds. position (bytes_eq ds) xs) ((bytes_eq-Decides name new).0 e) ∙ none
+
+    by : (b : Bool) → bytes_eq name new ≡ b → cond b (Some (length xs)) (f name) ≡ either (position (bytes_eq name) xs) (cond (bytes_eq name new) (Some (length xs)) None)
+    by true e = rw (e, absent e)
+    by false e = rw e (same name ∙ whole (position (bytes_eq name) xs))
 
 -- what holds on `Ok`, where there was no error
 pub from_ok : {X E P : Type 0} (r : Result X E) → is_err r ≡ false → OnOk r P → P

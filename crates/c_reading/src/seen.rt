@@ -5,27 +5,30 @@ ghost use Rattle.iolb_model.specs.declared.limits.TheConstants.{NAME_BYTES};
 
 use crate::error::ReadError;
 use affine_form::Name;
-use indexmap::IndexMap;
 use std::alloc::Global;
+use std::collections::BTreeMap;
 use std::marker::Model;
 
-/// Names, and the number of each by its bytes.
+/// Names, and the number of each by its bytes. The map is ordered: no choice of names makes it slow, as names against a known
+/// hash would.
 #[derive(Drop)]
 pub(crate) struct Names<'a> {
     alloc: Global,
     list: Vec<Name>,
-    numbers: IndexMap<&'a [u8], usize>,
+    numbers: BTreeMap<&'a [u8], usize>,
 }
 
 impl<'a> Model for Names<'a> {
     ghost use Rattle.std.specs.Prelude.{◌≡◌, ℕ, List, position, bytes_eq};
-    ghost use Rattle.indexmap.specs.IndexMap.{get_by};
+    ghost use Rattle.std.specs.Ordering.{nat_cmp};
+    ghost use Rattle.std.specs.Cmp.Lexicographic.{slice_cmp};
+    ghost use Rattle.std.specs.BTreeMap.{get_by};
 
     ghost Value = { List (List ℕ) };
 
     ghost view = { λ n. n.list.items };
 
-    ghost invariant = { λ n. (name : List ℕ) → get_by (λ key. bytes_eq name key.now) n.numbers ≡ position (bytes_eq name) n.list.items };
+    ghost invariant = { λ n. (name : List ℕ) → get_by (λ key. slice_cmp nat_cmp name key.now) n.numbers ≡ position (bytes_eq name) n.list.items };
 }
 
 impl<'a> Names<'a> {
@@ -36,7 +39,7 @@ impl<'a> Names<'a> {
         Names {
             alloc,
             list: Vec::new(alloc),
-            numbers: IndexMap::new(alloc),
+            numbers: BTreeMap::new(alloc),
         }
     }
 

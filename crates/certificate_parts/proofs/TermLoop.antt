@@ -11,32 +11,32 @@ use Rattle.iolb_model.specs.Polynomial.{Term}
 use Rattle.claims.specs.declared.place.Step.TheVariants.{Index}
 use Rattle.poly_tree.specs.Terms.{AreApart}
 use Rattle.serde_json.specs.Data.{Data}
-use Rattle.serde_json.specs.View.{view}
-use Rattle.serde_json.specs.declared.value.Value.{Value}
+use Rattle.json_values.specs.View.{json_data}
+use Rattle.json_values.specs.declared.value.Json.{Json}
 use Rattle.json_parts.specs.declared.error.CertError.{CertError}
 use Rattle.json_parts.specs.declared.error.CertError.TheVariants.{Fault, Memory}
 use Rattle.json_parts.specs.Outcome.{Outcome, behind, Fails, IsUnder}
 use Rattle.certificate_parts.specs.Polynomials.{reads_term_behind, terms_from, stands_apart}
 use Rattle.json_parts.proofs.Loop.{with_front, regroup, next}
 
-abbrev pub left : List Term → List Value → ℕ → Outcome (List Term)
-left front values i = with_front front (terms_from i front (map view (drop i values)))
+abbrev pub left : List Term → List Json → ℕ → Outcome (List Term)
+left front values i = with_front front (terms_from i front (map json_data (drop i values)))
 
 -- the loop goes on behind a term that was read
-pub goes_on : (front : List Term) (values : List Value) (i : ℕ) (value : Value) (term : Term) (total : Outcome (List Term))
-    → i < length values → value ≡ get_or values i value → reads_term_behind front (view value) ≡ Ok term
+pub goes_on : (front : List Term) (values : List Json) (i : ℕ) (value : Json) (term : Term) (total : Outcome (List Term))
+    → i < length values → value ≡ get_or values i value → reads_term_behind front (json_data value) ≡ Ok term
     → left front values i ≡ total → left (front ++ term ∷ []) values (i + 1) ≡ total
 unfolding terms_from
 goes_on front values i value term total lt is read so_far =
     let one : i + 1 ≡ suc i = omega arith in
     let step : left front values i ≡ left (front ++ term ∷ []) values (i + 1) =
     ap (λ (ds : List Data). with_front front (terms_from i front ds)) (next values i value lt is)
-    ∙ rw (read, ← one) (regroup front term (terms_from (i + 1) (front ++ term ∷ []) (map view (drop (i + 1) values)))) in
+    ∙ rw (read, ← one) (regroup front term (terms_from (i + 1) (front ++ term ∷ []) (map json_data (drop (i + 1) values)))) in
     sym step ∙ so_far
 
 -- it ends at a term that isn't read
-pub ends : (front : List Term) (values : List Value) (i : ℕ) (value : Value) (e e' : CertError) (total : Outcome (List Term))
-    → i < length values → value ≡ get_or values i value → Fails e (reads_term_behind front (view value)) → IsUnder (Index i) e e'
+pub ends : (front : List Term) (values : List Json) (i : ℕ) (value : Json) (e e' : CertError) (total : Outcome (List Term))
+    → i < length values → value ≡ get_or values i value → Fails e (reads_term_behind front (json_data value)) → IsUnder (Index i) e e'
     → left front values i ≡ total → Fails e' total
 unfolding terms_from
 ends front values i value e Memory total lt is read seen so_far = tt
@@ -47,11 +47,11 @@ ends front values i value (Fault f) (Fault g) total lt is read seen so_far =
     sym so_far ∙ step ∙ ap Err (sym seen)
 
 -- it is done behind the last one
-pub is_done : (front : List Term) (values : List Value) (i : ℕ) (total : Outcome (List Term)) → length values ≤ i → left front values i ≡ total → total ≡ Ok front
+pub is_done : (front : List Term) (values : List Json) (i : ℕ) (total : Outcome (List Term)) → length values ≤ i → left front values i ≡ total → total ≡ Ok front
 unfolding terms_from
 is_done front values i total le so_far =
     let step : left front values i ≡ Ok front =
-    ap (λ (vs : List Value). with_front front (terms_from i front (map view vs))) (drop_of_length-le values le) ∙ ap Ok (append-nil front) in
+    ap (λ (vs : List Json). with_front front (terms_from i front (map json_data vs))) (drop_of_length-le values le) ∙ ap Ok (append-nil front) in
     sym so_far ∙ step
 
 -- ---- terms that stand apart

@@ -14,6 +14,7 @@ use domain_count::Sums;
 use json_parts::{
     Any16, CertError, End, ListOf, Part, put_list, put_part, read_object, write_object,
 };
+use json_values::Json;
 use reuse_paths::Credit;
 use serde_json::Value;
 use std::alloc::Global;
@@ -38,7 +39,7 @@ impl Part for OfCredit {
     ghost Fits = { λ credit. IsSmallNest credit.nest × NameRows credit.sums.shown × AllByRecursion IsSmallPolynomial credit.sums.sums };
 
     #[tactic(auto, unfolding(crate::specs::Credits::credit_shape))]
-    fn read(alloc: Global, value: &Value) -> Result<Credit, CertError> {
+    fn read(alloc: Global, value: &Json) -> Result<Credit, CertError> {
         let names = ["nest", "shown", "statement", "sums"];
         let (nest, (shown, (statement, (sums, ())))) = read_object::<Members>(
             alloc, value, &names,

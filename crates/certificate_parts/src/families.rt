@@ -22,6 +22,7 @@ use json_parts::{
     Any8, CertError, End, Few, ListOf, Number8, Number32, OrNull, Part, Puts, fault, put_list,
     put_part, read_object, write_list, write_object,
 };
+use json_values::Json;
 use reuse_paths::{Family, FamilyNode, Walk};
 use serde_json::{Map, Value, put};
 use std::alloc::Global;
@@ -43,7 +44,7 @@ impl Part for OfNode {
     ghost Fits = { λ node. IsSmallForms (node_of node) };
 
     #[tactic(auto, unfolding(crate::specs::Families::node_shape))]
-    fn read(alloc: Global, value: &Value) -> Result<FamilyNode, CertError> {
+    fn read(alloc: Global, value: &Json) -> Result<FamilyNode, CertError> {
         let (label, (region, ())) = read_object::<(Label, (OrNull<OfRegion>, End))>(
             alloc,
             value,
@@ -76,7 +77,7 @@ impl Part for OfStart {
     ghost Fits = { λ start. AreSmall start.0.items × IsSmallWalk (tree_of_walk start.1) };
 
     #[tactic(auto, unfolding(crate::specs::Families::start_shape))]
-    fn read(alloc: Global, value: &Value) -> Result<(Vec<Form>, Walk), CertError> {
+    fn read(alloc: Global, value: &Json) -> Result<(Vec<Form>, Walk), CertError> {
         let (label, (tree, ())) = read_object::<(Label, (OfWalk, End))>(
             alloc,
             value,
@@ -162,7 +163,7 @@ impl Part for OfFamily {
     ghost Fits = { λ family. IsSmallFamily (family_of family) };
 
     #[tactic(auto, unfolding(crate::specs::Families::family_shape))]
-    fn read(alloc: Global, value: &Value) -> Result<Family, CertError> {
+    fn read(alloc: Global, value: &Json) -> Result<Family, CertError> {
         let names = ["inputs", "nodes", "scale", "set", "start", "weight"];
         let (inputs, (nodes, (scale, (set, (start, (weight, ())))))) = read_object::<Members>(
             alloc, value, &names,
@@ -222,7 +223,7 @@ impl Part for OfFamilies {
     ghost Fits = { λ families. AreSmallFamilies (map family_of families.items) };
 
     #[tactic(auto, unfolding(crate::specs::Families::families_shape))]
-    fn read(alloc: Global, value: &Value) -> Result<Vec<Family>, CertError> {
+    fn read(alloc: Global, value: &Json) -> Result<Vec<Family>, CertError> {
         let families = <Few<OfFamily, 6> as Part>::read(alloc, value)?;
         if !families.is_empty() && weight_of(families.as_slice()) <= limits::WEIGHTS {
             Ok(families)

@@ -5,7 +5,7 @@ ghost use Rattle.std.specs.List.{AllByRecursion};
 ghost use Rattle.iolb_model.specs.Form.{AffineForm};
 ghost use Rattle.iolb_model.specs.declared.limits.TheConstants.{NUMBER_SIZE};
 ghost use Rattle.affine_form.specs.Form.{IsSmall, IsSmallForm};
-ghost use Rattle.serde_json.specs.View.{view};
+ghost use Rattle.json_values.specs.View.{json_data};
 ghost use Rattle.json_parts.specs.Json.{each, reads_integer};
 ghost use Rattle.json_parts.specs.Outcome.{Gives};
 ghost use Rattle.json_parts.specs.Related.{same_link};
@@ -16,12 +16,13 @@ use affine_form::{Form, Memory};
 use claims::Step;
 use iolb_model::limits;
 use json_parts::{CertError, Part, fault, integer, short_list, under};
+use json_values::Json;
 use serde_json::Value;
 use std::alloc::Global;
 
 /// The numbers of a form.
-fn numbers(alloc: Global, values: &[Value]) -> Result<Vec<i128>, CertError>
-    ensures read { Gives (λ numbers. numbers.items) result (each (reads_integer NUMBER_SIZE) 0 (map view values.now)) }
+fn numbers(alloc: Global, values: &[Json]) -> Result<Vec<i128>, CertError>
+    ensures read { Gives (λ numbers. numbers.items) result (each (reads_integer NUMBER_SIZE) 0 (map json_data values.now)) }
     ensures small { IfOk result (λ numbers. AllByRecursion (IsSmall NUMBER_SIZE) numbers.items) }
     ensures all { IfOk result (λ numbers. length numbers.items ≡ length values.now) }
 {
@@ -65,7 +66,7 @@ impl Part for OfForm {
     ghost Fits = { IsSmallForm NUMBER_SIZE };
 
     #[tactic(auto, unfolding(crate::specs::Forms::reads_form))]
-    fn read(alloc: Global, value: &Value) -> Result<Form, CertError> {
+    fn read(alloc: Global, value: &Json) -> Result<Form, CertError> {
         let values = short_list(alloc, value, 25)?;
         let mut numbers = numbers(alloc, values)?;
         match numbers.pop() {

@@ -10,6 +10,7 @@ use affine_form::Memory;
 use json_parts::{
     Any8, CertError, End, ListOf, Part, has_keys, put_part, read_object, write_object,
 };
+use json_values::Json;
 use reuse_paths::Leaf;
 use serde_json::Value;
 use std::alloc::Global;
@@ -31,7 +32,7 @@ impl Part for OfLeaf {
     ghost Fits = { λ leaf. IsSmallEntry (claim_of leaf) };
 
     #[tactic(auto, unfolding(crate::specs::Leaves::reads_leaf))]
-    fn read(alloc: Global, value: &Value) -> Result<Leaf, CertError> {
+    fn read(alloc: Global, value: &Json) -> Result<Leaf, CertError> {
         if has_keys(value, &["empty"]) {
             let (shown, ()) = read_object::<(OfMultipliers, End)>(alloc, value, &["empty"])?;
             return Ok(Leaf::Empty(shown));

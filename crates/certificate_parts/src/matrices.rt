@@ -5,6 +5,7 @@ ghost use Rattle.std.specs.List.{AllByRecursion};
 ghost use Rattle.iolb_model.specs.declared.limits.TheConstants.{NUMBER_SIZE};
 ghost use Rattle.affine_form.specs.Form.{IsSmall};
 ghost use Rattle.affine_form.specs.Matrix.{IntegerMatrix};
+ghost use Rattle.json_values.specs.View.{json_data};
 ghost use Rattle.serde_json.specs.View.{view};
 ghost use Rattle.json_parts.specs.Json.{each, reads_integer};
 ghost use Rattle.json_parts.specs.Outcome.{Gives};
@@ -16,12 +17,13 @@ use affine_form::{Matrix, Memory};
 use claims::Step;
 use iolb_model::limits;
 use json_parts::{CertError, Part, elements, fault, integer, short_list, under};
+use json_values::Json;
 use serde_json::Value;
 use std::alloc::Global;
 
 /// The entries of a row.
-fn entries(alloc: Global, values: &[Value]) -> Result<Vec<i32>, CertError>
-    ensures read { Gives (λ entries. entries.items) result (each (reads_integer NUMBER_SIZE) 0 (map view values.now)) }
+fn entries(alloc: Global, values: &[Json]) -> Result<Vec<i32>, CertError>
+    ensures read { Gives (λ entries. entries.items) result (each (reads_integer NUMBER_SIZE) 0 (map json_data values.now)) }
     ensures small { IfOk result (λ entries. AllByRecursion (IsSmall NUMBER_SIZE) entries.items) }
     ensures all { IfOk result (λ entries. length entries.items ≡ length values.now) }
 {
@@ -37,8 +39,8 @@ fn entries(alloc: Global, values: &[Value]) -> Result<Vec<i32>, CertError>
 
 /// A row of so many columns.
 #[tactic(auto, unfolding(crate::specs::Matrices::reads_row))]
-fn row(alloc: Global, value: &Value, columns: usize) -> Result<Vec<i32>, CertError>
-    ensures read { Gives row_items result (reads_row columns (view value.now)) }
+fn row(alloc: Global, value: &Json, columns: usize) -> Result<Vec<i32>, CertError>
+    ensures read { Gives row_items result (reads_row columns (json_data value.now)) }
     ensures shape { IfOk result (IsRow columns) }
 {
     let values = short_list(alloc, value, 6)?;
@@ -51,8 +53,8 @@ fn row(alloc: Global, value: &Value, columns: usize) -> Result<Vec<i32>, CertErr
 }
 
 /// The rows of a matrix of so many columns.
-fn rows(alloc: Global, values: &[Value], columns: usize) -> Result<Vec<Vec<i32>>, CertError>
-    ensures read { Gives (λ rows. map row_items rows.items) result (each (reads_row columns) 0 (map view values.now)) }
+fn rows(alloc: Global, values: &[Json], columns: usize) -> Result<Vec<Vec<i32>>, CertError>
+    ensures read { Gives (λ rows. map row_items rows.items) result (each (reads_row columns) 0 (map json_data values.now)) }
     ensures shape { IfOk result (λ rows. AllByRecursion (IsRow columns) rows.items) }
 {
     let mut rows = Vec::new(alloc);
@@ -77,8 +79,8 @@ fn joined(alloc: Global, rows: &[Vec<i32>]) -> Result<Vec<i32>, Memory>
 }
 
 /// How many members the first array has.
-fn columns_of(values: &[Value]) -> usize
-    ensures { result ≡ first_count (map view values.now) }
+fn columns_of(values: &[Json]) -> usize
+    ensures { result ≡ first_count (map json_data values.now) }
 {
     if values.is_empty() {
         return 0;
@@ -130,7 +132,7 @@ impl Part for OfMatrix {
     ghost Fits = { λ _. Unit {0} };
 
     #[tactic(auto, unfolding(crate::specs::Matrices::reads_matrix))]
-    fn read(alloc: Global, value: &Value) -> Result<Matrix, CertError> {
+    fn read(alloc: Global, value: &Json) -> Result<Matrix, CertError> {
         let values = short_list(alloc, value, 6)?;
         let columns = columns_of(values);
         let rows = rows(alloc, values, columns)?;

@@ -5,6 +5,7 @@ ghost use Rattle.std.specs.List.{AllByRecursion};
 ghost use Rattle.affine_form.specs.Multipliers.{FarkasMultipliers, IsWeight, RowsRise};
 ghost use Rattle.claims.specs.declared.place.Step.TheVariants.{Index};
 ghost use Rattle.certificate_fit.specs.Limits.{NamesRows};
+ghost use Rattle.json_values.specs.View.{json_data};
 ghost use Rattle.serde_json.specs.View.{view};
 ghost use Rattle.json_parts.specs.Json.{reads_natural};
 ghost use Rattle.json_parts.specs.Outcome.{Gives, under as seen_under};
@@ -15,12 +16,13 @@ use affine_form::{Memory, Multipliers};
 use claims::Step;
 use iolb_model::limits;
 use json_parts::{CertError, Part, fault, list, natural, under};
+use json_values::Json;
 use serde_json::Value;
 use std::alloc::Global;
 
 /// A whole number in a range, the member of an array at this index.
-fn member(alloc: Global, value: &Value, index: u64, least: u64, most: u64) -> Result<u64, CertError>
-    ensures read { Gives (λ n. n) result (seen_under (Index index) (reads_natural least most (view value.now))) }
+fn member(alloc: Global, value: &Json, index: u64, least: u64, most: u64) -> Result<u64, CertError>
+    ensures read { Gives (λ n. n) result (seen_under (Index index) (reads_natural least most (json_data value.now))) }
     ensures least { IfOk result (λ n. least ≤ n) }
     ensures most { IfOk result (λ n. n ≤ most) }
 {
@@ -31,9 +33,9 @@ fn member(alloc: Global, value: &Value, index: u64, least: u64, most: u64) -> Re
 }
 
 /// The rows that are named, each with its multiplier.
-fn weights(alloc: Global, values: &[Value]) -> Result<Vec<(u8, u64)>, CertError>
+fn weights(alloc: Global, values: &[Json]) -> Result<Vec<(u8, u64)>, CertError>
     requires { length values.now % 2 ≡ 0 }
-    ensures read { Gives (λ weights. weights.items) result (reads_weights 2 (map view values.now)) }
+    ensures read { Gives (λ weights. weights.items) result (reads_weights 2 (map json_data values.now)) }
     ensures small { IfOk result (λ weights. AllByRecursion IsWeight weights.items) }
 {
     let mut weights = Vec::new(alloc);
@@ -67,12 +69,12 @@ fn rows_rise(weights: &[(u8, u64)]) -> bool
 #[tactic(auto, unfolding(crate::specs::Multipliers::multipliers_of))]
 fn multipliers_of(
     alloc: Global,
-    scale: &Value,
-    rest: &Value,
-    values: &[Value],
+    scale: &Json,
+    rest: &Json,
+    values: &[Json],
 ) -> Result<Multipliers, CertError>
     requires { length values.now % 2 ≡ 0 }
-    ensures { Gives (λ shown. shown) result (multipliers_from (view scale.now) (view rest.now) (map view values.now)) }
+    ensures { Gives (λ shown. shown) result (multipliers_from (json_data scale.now) (json_data rest.now) (map json_data values.now)) }
 {
     let most = limits::MULTIPLIER_SIZE - 1;
     let scale = member(alloc, scale, 0, 1, most)?;
@@ -111,7 +113,7 @@ impl Part for OfMultipliers {
     ghost Fits = { NamesRows };
 
     #[tactic(auto, unfolding(crate::specs::Multipliers::reads_multipliers, crate::specs::Multipliers::multipliers_in))]
-    fn read(alloc: Global, value: &Value) -> Result<Multipliers, CertError> {
+    fn read(alloc: Global, value: &Json) -> Result<Multipliers, CertError> {
         let values = list(alloc, value)?;
         if values.len() < 2 || values.len() % 2 != 0 {
             return Err(fault(alloc, 2));

@@ -4,6 +4,7 @@ ghost use Rattle.std.specs.Prelude.{◌≡◌, codes, IfOk};
 ghost use Rattle.iolb_model.specs.declared.limits.TheConstants.{NUMBER_SIZE};
 ghost use Rattle.affine_form.specs.Form.{IsSmallForm};
 ghost use Rattle.serde_json.specs.Data.{member, no_members, object};
+ghost use Rattle.json_values.specs.View.{json_data};
 ghost use Rattle.serde_json.specs.View.{view};
 ghost use Rattle.json_parts.specs.Outcome.{Gives};
 ghost use Rattle.json_parts.specs.Shape.{IsReadBack};
@@ -14,6 +15,7 @@ use crate::forms::OfForm;
 use affine_form::{Form, Memory};
 use claims::{ObjectKey, Step};
 use json_parts::{CertError, Part, fault, has_keys, said_member, under};
+use json_values::Json;
 use serde_json::{Value, json};
 use std::alloc::{AllocError, Global};
 
@@ -27,8 +29,8 @@ pub trait Branches: Drop {
     ghost tree: { Self → Tree };
 
     /// The tree without tests that a value says.
-    fn read_end(alloc: Global, value: &Value) -> Result<Self, CertError>
-        ensures { Gives tree result (branching.reads_end (view value.now)) };
+    fn read_end(alloc: Global, value: &Json) -> Result<Self, CertError>
+        ensures { Gives tree result (branching.reads_end (json_data value.now)) };
 
     /// A test of a form, over the tree where it is at least 0, and that where it is below.
     fn test(alloc: Global, form: Form, yes: Self, no: Self) -> Result<Self, Memory>
@@ -36,8 +38,8 @@ pub trait Branches: Drop {
 }
 
 /// A tree in which so many tests may be nested.
-pub(crate) fn nested<T: Branches>(alloc: Global, value: &Value, left: u8) -> Result<T, CertError>
-    ensures { Gives T.tree result (reads_nested T.branching left (view value.now)) }
+pub(crate) fn nested<T: Branches>(alloc: Global, value: &Json, left: u8) -> Result<T, CertError>
+    ensures { Gives T.tree result (reads_nested T.branching left (json_data value.now)) }
 {
     if !has_keys(value, &["form", "no", "yes"]) {
         return T::read_end(alloc, value);

@@ -10,6 +10,7 @@ use affine_form::{Form, Memory};
 use claims::Step;
 use domain_count::Nest;
 use json_parts::{CertError, Few, Part, fault, list, under, write_list};
+use json_values::Json;
 use serde_json::Value;
 use std::alloc::Global;
 
@@ -28,7 +29,7 @@ impl Part for OfPair {
     ghost Fits = { IsSmallPair };
 
     #[tactic(auto, unfolding(crate::specs::Nests::reads_pair))]
-    fn read(alloc: Global, value: &Value) -> Result<(Form, Form), CertError> {
+    fn read(alloc: Global, value: &Json) -> Result<(Form, Form), CertError> {
         let values = list(alloc, value)?;
         if values.len() != 2 {
             return Err(fault(alloc, 2));
@@ -66,7 +67,7 @@ impl Part for OfNest {
 
     ghost Fits = { IsSmallNest };
 
-    fn read(alloc: Global, value: &Value) -> Result<Nest, CertError> {
+    fn read(alloc: Global, value: &Json) -> Result<Nest, CertError> {
         let bounds = <Few<OfPair, 6> as Part>::read(alloc, value)?;
         Ok(Nest::new(bounds))
     }

@@ -8,6 +8,7 @@ ghost use Rattle.affine_form.specs.Form.{IsSmall};
 ghost use Rattle.poly_tree.specs.Terms.{term_of, terms_of, HasExponents, AreApart};
 ghost use Rattle.certificate_fit.specs.Limits.{IsSmallPolynomial};
 ghost use Rattle.serde_json.specs.Data.{member, no_members, object};
+ghost use Rattle.json_values.specs.View.{json_data};
 ghost use Rattle.serde_json.specs.View.{view};
 ghost use Rattle.json_parts.specs.Json.{each, reads_natural};
 ghost use Rattle.json_parts.specs.Outcome.{Gives};
@@ -21,6 +22,7 @@ use affine_form::Memory;
 use claims::{ObjectKey, Step};
 use iolb_model::limits;
 use json_parts::{CertError, Part, fault, has_keys, integer, list, natural, short_list, under};
+use json_values::Json;
 use poly_tree::{Poly, PolyFault};
 use serde_json::{Value, json};
 use std::alloc::{AllocError, Global};
@@ -28,8 +30,8 @@ use std::collections::BTreeSet;
 
 /// A coefficient.
 #[tactic(auto, unfolding(crate::specs::Polynomials::reads_coefficient))]
-fn coefficient(alloc: Global, value: &Value) -> Result<i128, CertError>
-    ensures { Gives (λ z. z) result (reads_coefficient (view value.now)) }
+fn coefficient(alloc: Global, value: &Json) -> Result<i128, CertError>
+    ensures { Gives (λ z. z) result (reads_coefficient (json_data value.now)) }
 {
     match integer(alloc, value, limits::COEFFICIENT_SIZE) {
         Ok(0) => Err(fault(alloc, 2)),
@@ -39,8 +41,8 @@ fn coefficient(alloc: Global, value: &Value) -> Result<i128, CertError>
 }
 
 /// The exponents behind a coefficient.
-fn exponents(alloc: Global, values: &[Value]) -> Result<Vec<u8>, CertError>
-    ensures read { Gives (λ exponents. exponents.items) result (each (reads_natural 0 8) 1 (map view values.now)) }
+fn exponents(alloc: Global, values: &[Json]) -> Result<Vec<u8>, CertError>
+    ensures read { Gives (λ exponents. exponents.items) result (each (reads_natural 0 8) 1 (map json_data values.now)) }
     ensures low { IfOk result (λ exponents. AllByRecursion (λ e. e ≤ EXPONENT) exponents.items) }
     ensures all { IfOk result (λ exponents. length exponents.items ≡ length values.now) }
 {
@@ -56,8 +58,8 @@ fn exponents(alloc: Global, values: &[Value]) -> Result<Vec<u8>, CertError>
 
 /// A term: its coefficient, then its exponents.
 #[tactic(auto, unfolding(crate::specs::Polynomials::reads_term, crate::specs::Polynomials::term_in))]
-fn term(alloc: Global, value: &Value) -> Result<(i128, Vec<u8>), CertError>
-    ensures read { Gives term_of result (reads_term (view value.now)) }
+fn term(alloc: Global, value: &Json) -> Result<(i128, Vec<u8>), CertError>
+    ensures read { Gives term_of result (reads_term (json_data value.now)) }
     ensures fit { IfOk result (λ term. HasExponents (term_of term)) }
 {
     let values = short_list(alloc, value, 25)?;
@@ -78,11 +80,11 @@ fn term_behind(
     alloc: Global,
     earlier: &[(i128, Vec<u8>)],
     lists: &mut BTreeSet<Vec<u8>>,
-    value: &Value,
+    value: &Json,
 ) -> Result<(i128, Vec<u8>), CertError>
     requires apart { AreApart (terms_of earlier.now) }
     requires lists { HasLists lists.old (exponent_lists (terms_of earlier.now)) }
-    ensures read { Gives term_of result (reads_term_behind (terms_of earlier.now) (view value.now)) }
+    ensures read { Gives term_of result (reads_term_behind (terms_of earlier.now) (json_data value.now)) }
     ensures fit { IfOk result (λ term. HasExponents (term_of term)) }
     ensures apart { IfOk result (λ term. do_stand_apart (terms_of earlier.now) term.1.items ≡ true) }
     ensures lists { IfOk result (λ term. HasLists lists.new (exponent_lists (terms_of earlier.now) ++ term.1.items ∷ [])) }
@@ -97,8 +99,8 @@ fn term_behind(
 
 /// The terms of a polynomial.
 #[tactic(auto, unfolding(crate::specs::Polynomials::reads_terms))]
-fn terms(alloc: Global, value: &Value) -> Result<Vec<(i128, Vec<u8>)>, CertError>
-    ensures read { Gives (λ terms. terms_of terms.items) result (reads_terms (view value.now)) }
+fn terms(alloc: Global, value: &Json) -> Result<Vec<(i128, Vec<u8>)>, CertError>
+    ensures read { Gives (λ terms. terms_of terms.items) result (reads_terms (json_data value.now)) }
     ensures fit { IfOk result (λ terms. AllByRecursion HasExponents (terms_of terms.items)) }
     ensures apart { IfOk result (λ terms. AreApart (terms_of terms.items)) }
 {
@@ -116,8 +118,8 @@ fn terms(alloc: Global, value: &Value) -> Result<Vec<(i128, Vec<u8>)>, CertError
 
 /// The denominator of a polynomial, and its terms.
 #[tactic(auto, unfolding(crate::specs::Polynomials::reads_quotient, json_parts::specs::Json::with_keys))]
-fn quotient(alloc: Global, value: &Value) -> Result<(u64, Vec<(i128, Vec<u8>)>), CertError>
-    ensures read { Gives (λ quotient. record { terms = terms_of quotient.1.items; denominator = quotient.0 }) result (reads_quotient (view value.now)) }
+fn quotient(alloc: Global, value: &Json) -> Result<(u64, Vec<(i128, Vec<u8>)>), CertError>
+    ensures read { Gives (λ quotient. record { terms = terms_of quotient.1.items; denominator = quotient.0 }) result (reads_quotient (json_data value.now)) }
     ensures fit { IfOk result (λ quotient. AllByRecursion HasExponents (terms_of quotient.1.items)) }
     ensures apart { IfOk result (λ quotient. AreApart (terms_of quotient.1.items)) }
     ensures some { IfOk result (λ quotient. 1 ≤ quotient.0) }
@@ -190,7 +192,7 @@ impl Part for OfPolynomial {
     ghost Fits = { IsSmallPolynomial };
 
     #[tactic(auto, unfolding(crate::specs::Polynomials::reads_polynomial))]
-    fn read(alloc: Global, value: &Value) -> Result<Poly, CertError> {
+    fn read(alloc: Global, value: &Json) -> Result<Poly, CertError> {
         let (den, terms) = quotient(alloc, value)?;
         match Poly::from_terms(alloc, terms.as_slice(), i128::from(den)) {
             Ok(poly) => Ok(poly),

@@ -12,6 +12,7 @@ use affine_form::Memory;
 use json_parts::{
     Any16, CertError, End, Few, ListOf, OrNull, Part, has_keys, put_part, read_object, write_object,
 };
+use json_values::Json;
 use reuse_paths::{Reach, Region, Spot};
 use serde_json::Value;
 use std::alloc::Global;
@@ -33,7 +34,7 @@ impl Part for OfRegion {
     ghost Fits = { λ region. IsSmallRegion (region_of region) };
 
     #[tactic(auto, unfolding(crate::specs::Reaches::region_shape))]
-    fn read(alloc: Global, value: &Value) -> Result<Region, CertError> {
+    fn read(alloc: Global, value: &Json) -> Result<Region, CertError> {
         let (rows, (tree, ())) = read_object::<(Rows, (OfWalk, End))>(
             alloc,
             value,
@@ -66,7 +67,7 @@ impl Part for OfSpot {
     ghost Fits = { λ spot. AreSmall spot.point.items };
 
     #[tactic(auto, unfolding(crate::specs::Reaches::spot_shape))]
-    fn read(alloc: Global, value: &Value) -> Result<Spot, CertError> {
+    fn read(alloc: Global, value: &Json) -> Result<Spot, CertError> {
         let names = ["point", "statement"];
         let (point, (statement, ())) = read_object::<(ListOf<OfForm>, (Any16, End))>(
             alloc, value, &names,
@@ -103,7 +104,7 @@ impl Part for OfReach {
     ghost Fits = { λ reach. IsSmallReach (reach_of reach) };
 
     #[tactic(auto, unfolding(crate::specs::Reaches::reads_reach))]
-    fn read(alloc: Global, value: &Value) -> Result<Reach, CertError> {
+    fn read(alloc: Global, value: &Json) -> Result<Reach, CertError> {
         if has_keys(value, &["same"]) {
             let (equal, ()) = read_object::<(Shown, End)>(alloc, value, &["same"])?;
             return Ok(Reach::Same(equal));

@@ -3,6 +3,7 @@
 ghost use Rattle.std.specs.Prelude.{◌≡◌, Ok, IfOk};
 ghost use Rattle.certificate_fit.specs.Limits.{IsSmallSource, IsNestedTree, IsSmallTree};
 ghost use Rattle.dep_quast.specs.Tree.{SelectionTree, tree_of};
+ghost use Rattle.json_values.specs.View.{json_data};
 ghost use Rattle.serde_json.specs.View.{view};
 ghost use Rattle.json_parts.specs.Fields.{object_shape, reads_made};
 ghost use Rattle.json_parts.specs.Outcome.{Gives};
@@ -20,6 +21,7 @@ use iolb_model::limits;
 use json_parts::{
     Any8, Any16, CertError, End, ListOf, Part, fault, has_keys, put_part, read_object, write_object,
 };
+use json_values::Json;
 use serde_json::Value;
 use std::alloc::Global;
 
@@ -38,7 +40,7 @@ impl Part for OfTrue {
     ghost Fits = { λ _. Unit {0} };
 
     #[tactic(auto, unfolding(crate::specs::Trees::reads_true))]
-    fn read(alloc: Global, value: &Value) -> Result<(), CertError> {
+    fn read(alloc: Global, value: &Json) -> Result<(), CertError> {
         match value.as_bool() {
             Some(true) => Ok(()),
             _ => Err(fault(alloc, 2)),
@@ -62,8 +64,8 @@ type SourceMembers = (
 );
 
 /// A leaf that names a source.
-fn read_source(alloc: Global, value: &Value) -> Result<Quast, CertError>
-    ensures { Gives tree_of result (reads_made source_fields source_made (view value.now)) }
+fn read_source(alloc: Global, value: &Json) -> Result<Quast, CertError>
+    ensures { Gives tree_of result (reads_made source_fields source_made (json_data value.now)) }
 {
     let names = [
         "before",
@@ -131,7 +133,7 @@ impl Branches for Quast {
     ghost tree = { tree_of };
 
     #[tactic(auto, unfolding(crate::specs::Trees::reads_tree_leaf))]
-    fn read_end(alloc: Global, value: &Value) -> Result<Quast, CertError> {
+    fn read_end(alloc: Global, value: &Json) -> Result<Quast, CertError> {
         let names = [
             "before",
             "between",
@@ -226,7 +228,7 @@ impl Part for OfTree {
     ghost Fits = { λ quast. IsSmallTree (tree_of quast) };
 
     #[tactic(auto, unfolding(crate::specs::Trees::reads_tree))]
-    fn read(alloc: Global, value: &Value) -> Result<Quast, CertError> {
+    fn read(alloc: Global, value: &Json) -> Result<Quast, CertError> {
         let tree = nested::<Quast>(alloc, value, limits::TREE_TESTS)?;
         if leaf_count(&tree) <= limits::TREE_LEAVES {
             Ok(tree)

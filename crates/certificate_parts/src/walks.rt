@@ -13,6 +13,7 @@ use crate::nested::{Branches, nested, write_test};
 use affine_form::{Form, Memory};
 use iolb_model::limits;
 use json_parts::{Any16, CertError, End, ListOf, Part, fault, put_part, read_object, write_object};
+use json_values::Json;
 use reuse_paths::{Walk, entry_count};
 use serde_json::Value;
 use std::alloc::Global;
@@ -27,7 +28,7 @@ impl Branches for Walk {
     ghost tree = { tree_of_walk };
 
     #[tactic(auto, unfolding(crate::specs::Walks::reads_take))]
-    fn read_end(alloc: Global, value: &Value) -> Result<Walk, CertError> {
+    fn read_end(alloc: Global, value: &Json) -> Result<Walk, CertError> {
         let (leaves, (read, ())) = read_object::<(Leaves, (Any16, End))>(
             alloc,
             value,
@@ -82,7 +83,7 @@ impl Part for OfWalk {
     ghost Fits = { λ walk. IsSmallWalk (tree_of_walk walk) };
 
     #[tactic(auto, unfolding(crate::specs::Walks::reads_walk))]
-    fn read(alloc: Global, value: &Value) -> Result<Walk, CertError> {
+    fn read(alloc: Global, value: &Json) -> Result<Walk, CertError> {
         let walk = nested::<Walk>(alloc, value, limits::TREE_TESTS)?;
         if entry_count(&walk) <= usize::from(limits::TREE_LEAVES) {
             Ok(walk)

@@ -2,7 +2,7 @@
 use Rattle.std.specs.Prelude.{ℕ, ◌+◌, ◌-◌, ◌*◌, ◌^◌, ◌==◌, ◌&&◌, nat_le, sum, if◌then◌else◌, ℤ, pos, ◌-ℤ◌, List, [], ◌∷◌, length, Option, None, Some, option_map, option_and_then}
 use Rattle.std.specs.Char.{is_ascii_digit}
 use Rattle.std.specs.List.{list_all, slice_split}
-use Rattle.iolb_model.specs.declared.limits.TheConstants.{LEVELS, PROCESSORS, VALUE_SIZE}
+use Rattle.iolb_model.specs.declared.limits.TheConstants.{LEVELS, PROCESSORS, STATEMENTS, VALUE_SIZE}
 
 -- a number with these digits behind it
 abbrev pub with_digits : ℕ → List ℕ → ℕ
@@ -24,6 +24,10 @@ memory_in word = option_and_then (if_within 1 (2 ^ 63 - 1)) (natural_in 19 word)
 -- how many processors a word says: 1 to 7 digits, from 1 to 2^20
 abbrev pub processors_in : List ℕ → Option ℕ
 processors_in word = option_and_then (if_within 1 PROCESSORS) (natural_in 7 word)
+
+-- how many matrix products a word says: digits, as many as there are, from 1 to 32, as many as a program has statements
+abbrev pub products_in : List ℕ → Option ℕ
+products_in word = option_and_then (if_within 1 STATEMENTS) (natural_in (length word) word)
 
 -- the numbers of red pebbles that words say
 abbrev pub memories_in : List (List ℕ) → Option (List ℕ)

@@ -6,11 +6,11 @@ use Rattle.command_words.specs.declared.command.Command.{Command}
 use Rattle.command_words.specs.declared.command.Job.{Job}
 use Rattle.command_words.specs.declared.command.Job.TheVariants.{Check, Eval, Parallel, Levels}
 use Rattle.command_words.specs.declared.command.Work.{Work as WorkInCode}
-use Rattle.command_words.specs.declared.command.Work.TheVariants.{Judge, Replay, Climb, Traffic, Bound}
-use Rattle.command_words.specs.Numbers.{processors_in}
+use Rattle.command_words.specs.declared.command.Work.TheVariants.{Judge, Replay, Climb, Traffic, Bound, Sample}
+use Rattle.command_words.specs.Numbers.{processors_in, products_in}
 use Rattle.command_words.specs.Settings.{IsSmallLevels, IsSmallSetting, NamedLevels, NamedSetting, levels_in, levels_of, setting_in, setting_of}
 use Rattle.command_words.specs.Sizes.{NamedSize}
-use Rattle.iolb_model.specs.declared.limits.TheConstants.{PROCESSORS}
+use Rattle.iolb_model.specs.declared.limits.TheConstants.{PROCESSORS, STATEMENTS}
 
 -- What is asked of a certificate: to check it, or to value its bound at these sizes, with so many red pebbles; with so many
 -- processors that have so many red pebbles each; or with fast levels of these capacities.
@@ -23,15 +23,16 @@ pub data Task : Type 0 where
 -- What is to be done with a program: a task for the certificate in a second file; or to play the schedule in it with so many
 -- red pebbles, or the moves in it over fast levels of these capacities, at these sizes; or, with the certificate in the second file
 -- and the stores in a third, to bound the traffic, loads and stores together, with so many red pebbles at these sizes; or to make a
--- certificate.
+-- certificate. Or, of no file's program, to bound so many matrix products.
 pub data Work : Type 0 where
   judges : Task → Work
   replays : ℕ → List NamedSize → Work
   climbs : List ℕ → List NamedSize → Work
   bounds_traffic : ℕ → List NamedSize → Work
   bounds : Work
+  samples : ℕ → Work
 
--- Work on files, by their names in the order of the words. The first is the program's.
+-- Work on files, by their names in the order of the words. The first is the program's, where there is one.
 pub record Request : Type 0 where
   pub files : List (List ℕ)
   pub work : Work
@@ -89,13 +90,28 @@ traffic files setting = record { files = files; work = bounds_traffic setting.s 
 abbrev pub traffic_in : List (List ℕ) → Option Request
 traffic_in words = option_map (traffic (take 3 words)) (setting_in (drop 3 words))
 
--- these, `check PROGRAM CERTIFICATE`, `bound PROGRAM`, and `traffic PROGRAM CERTIFICATE STORES S NAME=NUMBER...`
+abbrev pub sampling : ℕ → Request
+sampling products = record { files = []; work = samples products }
+
+-- what words N ask for
+abbrev pub sample_in : List (List ℕ) → Option Request
+sample_in [] = None
+sample_in (products ∷ []) = option_map sampling (products_in products)
+sample_in (products ∷ word ∷ words) = None
+
+-- what a command that names no certificate asks for, or one with a third file: `sample N`, and
+-- `traffic PROGRAM CERTIFICATE STORES S NAME=NUMBER...`; and else one on two files
+abbrev pub other_request : List ℕ → List (List ℕ) → Option Request
+other_request command words =
+    if bytes_eq command (codes "traffic") then traffic_in words
+    else (if bytes_eq command (codes "sample") then sample_in words else sized_request command (take 2 words) (drop 2 words))
+
+-- these, `check PROGRAM CERTIFICATE`, and `bound PROGRAM`
 abbrev pub request_in : List (List ℕ) → Option Request
 request_in [] = None
 request_in (command ∷ words) =
     if bytes_eq command (codes "check") then work_on 2 (judges checks) words
-    else (if bytes_eq command (codes "bound") then work_on 1 bounds words
-    else (if bytes_eq command (codes "traffic") then traffic_in words else sized_request command (take 2 words) (drop 2 words)))
+    else (if bytes_eq command (codes "bound") then work_on 1 bounds words else other_request command words)
 
 -- What words ask for; nothing where one begins with `-`.
 abbrev pub request_of : List (List ℕ) → Option Request
@@ -120,6 +136,7 @@ work_of (Replay setting) = replays (setting_of setting).s (setting_of setting).n
 work_of (Climb setting) = climbs (levels_of setting).capacities (levels_of setting).named
 work_of (Traffic setting) = bounds_traffic (setting_of setting).s (setting_of setting).named
 work_of Bound = bounds
+work_of (Sample products) = samples products
 
 abbrev pub asked : Command → Request
 asked command = record { files = bytes_of command.files.now; work = work_of command.work }
@@ -137,3 +154,4 @@ IsSmallWork (Replay setting) = IsSmallSetting setting
 IsSmallWork (Climb setting) = IsSmallLevels setting
 IsSmallWork (Traffic setting) = IsSmallSetting setting
 IsSmallWork Bound = ⊤
+IsSmallWork (Sample products) = (1 ≤ products) × (products ≤ STATEMENTS)

@@ -2,10 +2,10 @@
 
 ghost use Rattle.std.specs.Prelude.{◌≡◌, map, option_map, string_bytes, IfOk, IfSome};
 ghost use Rattle.std.specs.List.{list_any};
-ghost use Rattle.command_words.specs.Requests.{asked, begins_with_dash, bytes_of, climbing, evaluation, file_at as name_at, levelling, replay, request_of, sharing_in, sized_request, traffic_in as traffic_in_words, work_of, work_on as work_on_words, IsSmallWork};
+ghost use Rattle.command_words.specs.Requests.{asked, begins_with_dash, bytes_of, climbing, evaluation, file_at as name_at, levelling, other_request, replay, request_of, sample_in, sharing_in, sized_request, traffic_in as traffic_in_words, work_of, work_on as work_on_words, IsSmallWork};
 ghost use Rattle.command_words.specs.Settings.{levels_in, setting_in as setting_in_words};
 
-use crate::number::processors_of;
+use crate::number::{processors_of, products_of};
 use crate::setting::{LevelSetting, Setting, level_setting_in, setting_in};
 use affine_form::Memory;
 use std::alloc::Global;
@@ -36,9 +36,11 @@ pub enum Work {
     Traffic(Setting),
     /// There is no second file: make a certificate.
     Bound,
+    /// There is no file: make a certificate of so many matrix products, 1 to 32, and value its bound.
+    Sample(u8),
 }
 
-/// Work on files, by their names in the order of the words. The first is the program's.
+/// Work on files, by their names in the order of the words. The first is the program's, where there is one.
 #[derive(Debug, Drop)]
 pub struct Command<'a> {
     pub files: &'a [String],
@@ -81,10 +83,10 @@ fn has_option(words: &[String]) -> bool
 /// What the words behind the program's name ask for: `check PROGRAM CERTIFICATE`, `bound PROGRAM`,
 /// `eval PROGRAM CERTIFICATE S NAME=NUMBER...`, `replay PROGRAM SCHEDULE S NAME=NUMBER...`,
 /// `parallel PROGRAM CERTIFICATE P S NAME=NUMBER...`, `traffic PROGRAM CERTIFICATE STORES S NAME=NUMBER...`,
-/// `levels PROGRAM CERTIFICATE S,S... NAME=NUMBER...`, or `climb PROGRAM MOVES S,S... NAME=NUMBER...`, where S is 1 to 19 digits,
-/// from 1 to 2^63 - 1 (one to four joined by commas no more than that together), P 1 to 7 digits, from 1 to 2^20, a NUMBER an
-/// optional `-` and 1 to 13 digits, of size below 2^40, and a NAME the bytes before the first `=`. `None` where they ask for
-/// nothing of this, or a word begins with `-`.
+/// `levels PROGRAM CERTIFICATE S,S... NAME=NUMBER...`, `climb PROGRAM MOVES S,S... NAME=NUMBER...`, or `sample N`, where S is 1 to 19
+/// digits, from 1 to 2^63 - 1 (one to four joined by commas no more than that together), P 1 to 7 digits, from 1 to 2^20, N digits,
+/// from 1 to 32, a NUMBER an optional `-` and 1 to 13 digits, of size below 2^40, and a NAME the bytes before the first `=`. `None`
+/// where they ask for nothing of this, or a word begins with `-`.
 pub fn command_of(alloc: Global, words: &[String]) -> Result<Option<Command<'_>>, Memory>
     ensures command { IfOk result (λ command. option_map asked command ≡ request_of (map (λ word. string_bytes word) words.now)) }
     ensures small { IfOk result (λ found. IfSome found (λ command. IsSmallWork command.work)) }
@@ -102,13 +104,43 @@ pub fn command_of(alloc: Global, words: &[String]) -> Result<Option<Command<'_>>
     if command == "bound" {
         return Ok(work_on(1, Work::Bound, arguments));
     }
+    other_command(alloc, command, arguments)
+}
+
+/// What another command than `check` and `bound` asks for.
+fn other_command<'a>(
+    alloc: Global,
+    command: &str,
+    words: &'a [String],
+) -> Result<Option<Command<'a>>, Memory>
+    ensures command { IfOk result (λ found. option_map asked found ≡ other_request command.now (bytes_of words.now)) }
+    ensures small { IfOk result (λ found. IfSome found (λ made. IsSmallWork made.work)) }
+{
     if command == "traffic" {
-        return traffic_command(alloc, arguments);
+        return traffic_command(alloc, words);
     }
-    if arguments.len() < 2 {
+    if command == "sample" {
+        return Ok(sample_command(words));
+    }
+    if words.len() < 2 {
         return Ok(None);
     }
-    sized_command(alloc, command, &arguments[..2], &arguments[2..])
+    sized_command(alloc, command, &words[..2], &words[2..])
+}
+
+/// The matrix products that words N ask for.
+fn sample_command(words: &[String]) -> Option<Command<'_>>
+    ensures command { option_map asked result ≡ sample_in (bytes_of words.now) }
+    ensures small { IfSome result (λ command. IsSmallWork command.work) }
+{
+    let [products] = words else {
+        return None;
+    };
+    let products = products_of(products.as_bytes())?;
+    Some(Command {
+        files: &[],
+        work: Work::Sample(products),
+    })
 }
 
 /// This work on so many files, which all words name.

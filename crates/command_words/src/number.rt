@@ -1,10 +1,10 @@
 //! Numbers on the command line.
 
-ghost use Rattle.std.specs.Prelude.{◌≡◌, ◌≤◌, ◌<◌, ◌^◌, [], ◌∷◌, min, pos, option_map, unsigned_abs, IfSome};
+ghost use Rattle.std.specs.Prelude.{◌≡◌, ◌≤◌, ◌<◌, ◌^◌, [], ◌∷◌, length, min, pos, option_map, unsigned_abs, IfSome};
 ghost use Rattle.std.specs.Char.{is_ascii_digit};
 ghost use Rattle.std.specs.List.{list_all};
-ghost use Rattle.command_words.specs.Numbers.{memory_in, processors_in, small_in, natural_in, whole_in as whole_in_word, with_digits};
-ghost use Rattle.iolb_model.specs.declared.limits.TheConstants.{PROCESSORS, VALUE_SIZE};
+ghost use Rattle.command_words.specs.Numbers.{memory_in, processors_in, products_in, small_in, natural_in, whole_in as whole_in_word, with_digits};
+ghost use Rattle.iolb_model.specs.declared.limits.TheConstants.{PROCESSORS, STATEMENTS, VALUE_SIZE};
 
 use iolb_model::limits;
 
@@ -76,6 +76,20 @@ pub(crate) fn processors_of(word: &[u8]) -> Option<u32>
     let number = natural_of(word, 7)?;
     if 1 <= number && number <= u128::from(limits::PROCESSORS) {
         Some(number as u32)
+    } else {
+        None
+    }
+}
+
+/// How many matrix products a word says: digits, as many as there are, from 1 to 32.
+pub(crate) fn products_of(word: &[u8]) -> Option<u8>
+    ensures products { result ≡ products_in word.now }
+    ensures some { IfSome result (λ n. 1 ≤ n) }
+    ensures few { IfSome result (λ n. n ≤ STATEMENTS) }
+{
+    let number = natural_of(word, word.len())?;
+    if 1 <= number && number <= limits::STATEMENTS as u128 {
+        Some(number as u8)
     } else {
         None
     }

@@ -18,6 +18,7 @@ use iolb_check::Certificate;
 use json_parts::{
     CertError, End, Exactly, Few, ListOf, Part, Put, PutFew, read_object, write_list, write_object,
 };
+use json_values::Json;
 use reuse_paths::Quasts;
 use serde_json::Value;
 use std::alloc::Global;
@@ -37,7 +38,7 @@ impl Part for OfTrees {
 
     ghost Fits = { λ quasts. AllByRecursion (λ row. AllByRecursion (λ quast. IsSmallTree (tree_of quast)) row.items) quasts.rows.items };
 
-    fn read(alloc: Global, value: &Value) -> Result<Quasts, CertError> {
+    fn read(alloc: Global, value: &Json) -> Result<Quasts, CertError> {
         let rows = ListOf::<ListOf<OfTree>>::read(alloc, value)?;
         Ok(Quasts::new(rows))
     }
@@ -67,7 +68,7 @@ impl Part for OfCertificate {
     ghost Fits = { λ _. Unit {0} };
 
     #[tactic(auto, unfolding(crate::specs::Certificates::certificate_shape))]
-    fn read(alloc: Global, value: &Value) -> Result<Certificate, CertError> {
+    fn read(alloc: Global, value: &Json) -> Result<Certificate, CertError> {
         let names = ["branches", "quasts", "version"];
         let (branches, (quasts, ((), ()))) = read_object::<Members>(alloc, value, &names)?;
         // Each limit was looked at where the text was read.

@@ -16,6 +16,7 @@ use domain_count::Sums;
 use json_parts::{
     Any16, CertError, End, ListOf, Number32, Part, Put, PutList, read_object, write_object,
 };
+use json_values::Json;
 use serde_json::Value;
 use std::alloc::Global;
 use std::marker::PhantomData;
@@ -38,7 +39,7 @@ impl Part for OfInverse {
     ghost Fits = { λ inverse. (1 ≤ inverse.scale) × (inverse.scale ≤ SCALE) };
 
     #[tactic(auto, unfolding(crate::specs::Shapes::inverse_shape))]
-    fn read(alloc: Global, value: &Value) -> Result<Inverse, CertError> {
+    fn read(alloc: Global, value: &Json) -> Result<Inverse, CertError> {
         let (matrix, (scale, ())) = read_object::<(OfMatrix, (Scale, End))>(
             alloc,
             value,
@@ -102,7 +103,7 @@ impl Part for OfCold {
     ghost Fits = { IsSmallCold };
 
     #[tactic(auto, unfolding(crate::specs::ColdTexts::cold_shape))]
-    fn read(alloc: Global, value: &Value) -> Result<Cold, CertError> {
+    fn read(alloc: Global, value: &Json) -> Result<Cold, CertError> {
         let (inside, (inverse, (leaves, (nest, (point, rest))))) = read_object::<Members>(
             alloc, value, &NAMES,
         )?;

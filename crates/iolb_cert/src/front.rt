@@ -12,6 +12,7 @@ use domain_count::Sums;
 use json_parts::{
     Any8, Any16, CertError, End, ListOf, OrNull, Part, Put, PutList, read_object, write_object,
 };
+use json_values::Json;
 use serde_json::Value;
 use std::alloc::Global;
 use std::marker::PhantomData;
@@ -69,7 +70,7 @@ impl Part for OfFront {
     ghost Fits = { IsSmallFront };
 
     #[tactic(auto, unfolding(crate::specs::FrontTexts::front_shape))]
-    fn read(alloc: Global, value: &Value) -> Result<Wavefront, CertError> {
+    fn read(alloc: Global, value: &Json) -> Result<Wavefront, CertError> {
         let (back, (edge, (inside, (inverse, (nest, (outer, rest)))))) = read_object::<Members>(
             alloc, value, &NAMES,
         )?;

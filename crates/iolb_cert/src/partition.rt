@@ -15,6 +15,7 @@ use json_parts::{
     Any16, CertError, End, Few, ListOf, Number8, Number32, Part, Put, PutList, fault, read_object,
     under, write_object,
 };
+use json_values::Json;
 use k_partition::{Partition, Shape};
 use serde_json::Value;
 use std::alloc::Global;
@@ -35,7 +36,7 @@ impl Part for OfShape {
     ghost Fits = { λ _. Unit {0} };
 
     #[tactic(auto, unfolding(crate::specs::PartitionTexts::reads_shape))]
-    fn read(alloc: Global, value: &Value) -> Result<Shape, CertError> {
+    fn read(alloc: Global, value: &Json) -> Result<Shape, CertError> {
         let Some(name) = value.as_str() else {
             return Err(fault(alloc, 2));
         };
@@ -114,7 +115,7 @@ impl Part for OfMembers {
     ghost Fits = { IsSmallPartition };
 
     #[tactic(auto, unfolding(crate::specs::PartitionTexts::members_shape))]
-    fn read(alloc: Global, value: &Value) -> Result<Partition, CertError> {
+    fn read(alloc: Global, value: &Json) -> Result<Partition, CertError> {
         let (a, (apart, (b, (credits, (families, (inside, rest)))))) = read_object::<Members>(
             alloc, value, &NAMES,
         )?;
@@ -173,7 +174,7 @@ impl Part for OfPartition {
     ghost Fits = { IsSmallPartition };
 
     #[tactic(auto, unfolding(crate::specs::PartitionTexts::partition_shape))]
-    fn read(alloc: Global, value: &Value) -> Result<Partition, CertError> {
+    fn read(alloc: Global, value: &Json) -> Result<Partition, CertError> {
         let found = OfMembers::read(alloc, value)?;
         if u64::from(found.a) + u64::from(found.b) >= 1 {
             Ok(found)

@@ -7,7 +7,7 @@ ghost use Rattle.iolb_cert.specs.Read.{IsCertificate};
 use crate::certificates::OfCertificate;
 use iolb_check::Certificate;
 use json_parts::{CertError, Part, fault};
-use serde_json::{Category, Value};
+use json_values::{Json, JsonError};
 use std::alloc::Global;
 
 /// Reads the text of a certificate.
@@ -20,10 +20,10 @@ use std::alloc::Global;
 pub fn read_certificate(alloc: Global, bytes: &[u8]) -> Result<Certificate, CertError>
     ensures { ReadsText (λ said certificate. IsCertificate said (claim_of_certificate certificate)) bytes.now result }
 {
-    let value = match Value::from_slice(alloc, bytes) {
+    let value = match Json::from_slice(alloc, bytes) {
         Ok(value) => value,
-        Err(error) if error.classify() == Category::Memory => return Err(CertError::Memory),
-        Err(_) => return Err(fault(alloc, 1)),
+        Err(JsonError::Memory) => return Err(CertError::Memory),
+        Err(JsonError::NoJson) => return Err(fault(alloc, 1)),
     };
     OfCertificate::read(alloc, &value)
 }

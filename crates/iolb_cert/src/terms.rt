@@ -14,6 +14,7 @@ use iolb_check::{Branch, Term};
 use json_parts::{
     CertError, End, Few, ListOf, Part, Put, fault, has_keys, read_object, write_object,
 };
+use json_values::Json;
 use serde_json::Value;
 use std::alloc::Global;
 use std::marker::PhantomData;
@@ -33,7 +34,7 @@ impl Part for OfTerm {
     ghost Fits = { IsSmallTerm };
 
     #[tactic(auto, unfolding(crate::specs::Terms::reads_term))]
-    fn read(alloc: Global, value: &Value) -> Result<Term, CertError> {
+    fn read(alloc: Global, value: &Json) -> Result<Term, CertError> {
         if has_keys(value, &["cold"]) {
             let (cold, ()) = read_object::<(OfCold, End)>(alloc, value, &["cold"])?;
             return Ok(Term::Cold(cold));
@@ -90,7 +91,7 @@ impl Part for OfBranch {
     ghost Fits = { IsSmallBranch };
 
     #[tactic(auto, unfolding(crate::specs::Terms::branch_shape))]
-    fn read(alloc: Global, value: &Value) -> Result<Branch, CertError> {
+    fn read(alloc: Global, value: &Json) -> Result<Branch, CertError> {
         let (disjoint, (terms, ())) = read_object::<(Shown, (Terms, End))>(
             alloc,
             value,

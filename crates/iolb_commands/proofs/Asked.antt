@@ -1,10 +1,11 @@
--- Words that ask for work at a setting name at least one red pebble, and words that ask for a certificate one file.
+-- Words that ask for work at a setting name at least one red pebble, words that ask for a certificate one file, and words that ask for
+-- matrix products none.
 use Rattle.std.proofs.Common.{◌≡◌, subst, refl, ℕ, zero, suc, ◌-◌, ◌^◌, ◌≤◌, Bool, true, false, List, [], ◌∷◌, length, take, drop, arith}
 use Rattle.std.specs.Prelude.{⊤, Option, None, Some, IfSome, option_map, option_and_then, if◌then◌else◌, ◌&&◌, ◌==◌, nat_le, sum, codes, bytes_eq}
 use Rattle.std.specs.List.{AllByRecursion, list_any, slice_split}
 use Rattle.std.proofs.lemmas.Bool.{eqb-true}
-use Rattle.command_words.specs.Numbers.{capacities_in, if_levels, if_within, memories_in, memory_in, natural_in, processors_in}
-use Rattle.command_words.specs.Requests.{Request, Work, checks, evaluates, shares, levels, judges, replays, climbs, bounds_traffic, bounds, begins_with_dash, climbing, evaluation, levelling, replay, request_in, request_of, sharing, sharing_in, sized_request, traffic, traffic_in, work_on}
+use Rattle.command_words.specs.Numbers.{capacities_in, if_levels, if_within, memories_in, memory_in, natural_in, processors_in, products_in}
+use Rattle.command_words.specs.Requests.{Request, Work, checks, evaluates, shares, levels, judges, replays, climbs, bounds_traffic, bounds, samples, begins_with_dash, climbing, evaluation, levelling, other_request, replay, request_in, request_of, sample_in, sampling, sharing, sharing_in, sized_request, traffic, traffic_in, work_on}
 use Rattle.command_words.specs.Settings.{NamedLevels, NamedSetting, levels_in, setting_in}
 use Rattle.command_words.specs.Sizes.{NamedSize, sizes_in}
 use Rattle.iolb_model.specs.declared.limits.TheConstants.{LEVELS, PROCESSORS}
@@ -18,6 +19,7 @@ IsFormed request (replays s named) = 1 ≤ s
 IsFormed request (climbs capacities named) = ⊤
 IsFormed request (bounds_traffic s named) = ⊤
 IsFormed request bounds = length request.files ≡ 1
+IsFormed request (samples products) = length request.files ≡ 0
 
 -- a request that is, if there is one
 abbrev pub AreFormed : Option Request → Type 0
@@ -111,6 +113,19 @@ sized command files words =
     (chosen (bytes_eq command (codes "climb")) IsSo (option_map (climbing files) (levels_in words)) None
     (asking (climbing files) (λ (said : NamedLevels). AreSome said.capacities) (levels_in words) (level_setting words) (λ _ _. tt)) tt))))
 
+sample : (words : List (List ℕ)) → AreFormed (sample_in words)
+sample [] = tt
+sample (products ∷ []) = asking sampling (λ _. ⊤) (products_in products) (every ⊤ (products_in products) tt) (λ _ _. refl)
+sample (products ∷ word ∷ words) = tt
+
+other : (command : List ℕ) (words : List (List ℕ)) → AreFormed (other_request command words)
+other command words =
+    let IsSo : Request → Type 0 = λ r. IsFormed r r.work in
+    let sizes = sized_request command (take 2 words) (drop 2 words) in
+    chosen (bytes_eq command (codes "traffic")) IsSo (traffic_in words) (if bytes_eq command (codes "sample") then sample_in words else sizes)
+    (asking (traffic (take 3 words)) (λ _. ⊤) (setting_in (drop 3 words)) (every ⊤ (setting_in (drop 3 words)) tt) (λ _ _. tt))
+    (chosen (bytes_eq command (codes "sample")) IsSo (sample_in words) sizes (sample words) (sized command (take 2 words) (drop 2 words)))
+
 named : (count : ℕ) (work : Work) (words : List (List ℕ)) → (length words ≡ count → IsFormed (record { files = words; work = work }) work) → AreFormed (work_on count work words)
 named count work words formed = by (length words == count) refl where
   by : (b : Bool) → (length words == count) ≡ b → AreFormed (if b then Some (record { files = words; work = work }) else None)
@@ -121,13 +136,10 @@ request : (words : List (List ℕ)) → AreFormed (request_in words)
 request [] = tt
 request (command ∷ words) =
     let IsSo : Request → Type 0 = λ r. IsFormed r r.work in
-    let sizes = sized_request command (take 2 words) (drop 2 words) in
-    let others = if bytes_eq command (codes "traffic") then traffic_in words else sizes in
+    let others = other_request command words in
     chosen (bytes_eq command (codes "check")) IsSo (work_on 2 (judges checks) words) (if bytes_eq command (codes "bound") then work_on 1 bounds words else others)
     (named 2 (judges checks) words (λ _. tt))
-    (chosen (bytes_eq command (codes "bound")) IsSo (work_on 1 bounds words) others (named 1 bounds words (λ one. one))
-    (chosen (bytes_eq command (codes "traffic")) IsSo (traffic_in words) sizes
-    (asking (traffic (take 3 words)) (λ _. ⊤) (setting_in (drop 3 words)) (every ⊤ (setting_in (drop 3 words)) tt) (λ _ _. tt)) (sized command (take 2 words) (drop 2 words))))
+    (chosen (bytes_eq command (codes "bound")) IsSo (work_on 1 bounds words) others (named 1 bounds words (λ one. one)) (other command words))
 
 pub formed : (words : List (List ℕ)) (r : Request) → request_of words ≡ Some r → IsFormed r r.work
 formed words r asks = subst AreFormed asks (chosen (list_any begins_with_dash words) (λ (q : Request). IsFormed q q.work) None (request_in words) tt (request words))

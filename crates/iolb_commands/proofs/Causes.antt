@@ -1,8 +1,9 @@
 -- That a cause to stop is answered.
-use Rattle.std.proofs.Common.{◌≡◌, ◌≢◌, refl, sym, ◌∙◌, ap, subst, inl, inr, ℕ, List, length, arith}
-use Rattle.std.specs.Prelude.{◌⊎◌, ℤ, Option, Some}
+use Rattle.std.proofs.Common.{◌≡◌, ◌≢◌, ◌≤◌, ◌<◌, refl, sym, ◌∙◌, ap, subst, inl, inr, ℕ, List, length, arith}
+use Rattle.std.specs.Prelude.{◌⊎◌, ⊤, ℤ, Option, None, Some}
 use Rattle.iolb_model.specs.Program.{AffineProgram}
-use Rattle.command_words.specs.Requests.{Request, Work, judges, replays, climbs, bounds_traffic, bounds, file_at, request_of}
+use Rattle.iolb_model.specs.declared.limits.TheConstants.{PROGRAM_BYTES}
+use Rattle.command_words.specs.Requests.{Request, Work, judges, replays, climbs, bounds_traffic, bounds, samples, file_at, request_of}
 use Rattle.iolb_host.specs.Files.{FileMap, content_of}
 use Rattle.iolb_host.specs.declared.files.FileFault.{FileFault}
 use Rattle.iolb_host.specs.declared.files.FileFault.TheVariants.{Missing, TooLong, Failed, Memory as NoMemoryForFile}
@@ -21,8 +22,9 @@ use Rattle.iolb_commands.specs.Stop.{IsPlainFault, file_status, stop_line, stop_
 use Rattle.iolb_commands.specs.Use.{CallUse, Gains, Stays}
 use Rattle.iolb_commands.specs.Works.{HasSizes, most_bytes}
 use Rattle.iolb_commands.proofs.Asked.{IsFormed, formed}
-use Rattle.iolb_commands.proofs.Ends.{AreExact, AreMade, request_one}
+use Rattle.iolb_commands.proofs.Ends.{AreExact, AreFree, request_one}
 use Rattle.iolb_commands.proofs.Notes.{nothing_more}
+use Rattle.iolb_commands.proofs.Phases.{IsOnProgram, begins}
 use Rattle.iolb_commands.proofs.One.{Ends, Leaves, end_status, ends_so, memory_or}
 use Rattle.tile_sched.proofs.Refusals.{none_some, same_some}
 
@@ -40,12 +42,13 @@ words_refused exact call map left status tells none outcome calm =
 pub causes_answered : AreExact → CausesAreAnswered
 causes_answered exact call map request stop left status tells asks cause plain outcome calm =
     ends_with status (stop_status stop) left (stop_line request.files stop) (λ differs. by (ends_so call map status left tells outcome calm differs)) where
-      leaves_so : (end : End) → end_status end ≡ status → Leaves request end left → (end ≡ stops stop) ⊎ AreMade map request end (stops stop)
+      leaves_so : (end : End) → end_status end ≡ status → Leaves request end left → (end ≡ stops stop) ⊎ AreFree map request end (stops stop)
           → (status ≡ stop_status stop) × Stays left.output × Gains left.error (stop_line request.files stop)
       leaves_so end status_is leaves (inl is) =
           let left_so : Leaves request (stops stop) left = subst (λ (e : End). Leaves request e left) is leaves in
           (sym status_is ∙ ap end_status is, nothing_more left.output left_so.0, left_so.1)
-      leaves_so end status_is leaves (inr (works, program, holds, made, (text, note, bounded, is))) = absurd cc
+      leaves_so end status_is leaves (inr (inl (works, program, holds, made, (text, note, bounded, is)))) = absurd cc
+      leaves_so end status_is leaves (inr (inr (products, works, valued, (text, note, sampled, is)))) = absurd cc
 
       by : Ends map call.words status left → (status ≡ stop_status stop) × Stays left.output × Gains left.error (stop_line request.files stop)
       by (inl refused) = absurd (none_some (request_of call.words) request refused.asked asks)
@@ -56,33 +59,71 @@ causes_answered exact call map request stop left status tells asks cause plain o
 
 -- ---- single causes
 
+-- a request with a file is about its program
+filed : (request : Request) (work : Work) → IsFormed request work → 1 ≤ length request.files → IsOnProgram work
+filed request (judges task) formed some = tt
+filed request (replays s named) formed some = tt
+filed request (climbs capacities named) formed some = tt
+filed request (bounds_traffic s named) formed some = tt
+filed request bounds formed some = tt
+filed request (samples products) formed some = omega (arith, formed, some)
+
 pub absent_programs : CausesAreAnswered → AbsentProgramsAreNamed
-absent_programs causes call map request Missing left status tells asks absent outcome calm =
-    causes call map request (File 0 Missing) left status tells asks (stopping Missing absent refl) tt outcome calm
-absent_programs causes call map request TooLong left status tells asks absent outcome calm =
-    causes call map request (File 0 TooLong) left status tells asks (stopping TooLong absent refl) tt outcome calm
-absent_programs causes call map request Failed left status tells asks absent outcome calm = absurd absent
-absent_programs causes call map request NoMemoryForFile left status tells asks absent outcome calm = absurd absent
+absent_programs causes call map request fault left status tells asks some absent outcome calm = by fault absent where
+  stops_so : (fault : FileFault) → FaultCause (Some map) (file_at request.files 0) (most_bytes request.work 0) fault → RequestStop (Some map) request (File 0 fault)
+  stops_so fault cause =
+      begins (Some map) request.files request.work (stops (File 0 fault)) (filed request request.work (formed call.words request asks) some) (stopping fault cause refl)
+
+  by : (fault : FileFault) → IsAbsent (content_of map (file_at request.files 0)) PROGRAM_BYTES fault → EndsWith status left FileAbsent (file_line (file_at request.files 0) fault)
+  by Missing absent = causes call map request (File 0 Missing) left status tells asks (stops_so Missing absent) tt outcome calm
+  by TooLong absent = causes call map request (File 0 TooLong) left status tells asks (stops_so TooLong absent) tt outcome calm
+  by Failed absent = absurd absent
+  by NoMemoryForFile absent = absurd absent
+
+-- work with sizes is about a file's program
+sized : (work : Work) (names : List (List ℕ)) → HasSizes work names → IsOnProgram work
+sized (judges task) names has = tt
+sized (replays s named) names has = tt
+sized (climbs capacities named) names has = tt
+sized (bounds_traffic s named) names has = tt
+sized bounds names has = tt
+sized (samples products) names has = absurd (none_some None has.0 refl has.1)
 
 -- a request whose work stops
 work_stops : (call : Call) (map : FileMap) (request : Request) (program : AffineProgram) (stop : Stop) → call.files ≡ Some map → HoldsProgram call.files (file_at request.files 0) program
     → (has : HasSizes request.work program.parameters) → WorkComes (Some map) request.files request.work program has.0 (stops stop) → RequestStop (Some map) request stop
 work_stops call map request program stop tells holds has comes =
     let there = subst (λ (files : Option FileMap). HoldsProgram files (file_at request.files 0) program) tells holds in
-    onward there.source there.content (onward program there.means (onward has.0 has.1 comes))
+    begins (Some map) request.files request.work (stops stop) (sized request.work program.parameters has)
+    (onward there.source there.content (onward program there.means (onward has.0 has.1 comes)))
 
-second_unread : (map : FileMap) (names : List (List ℕ)) (work : Work) (program : AffineProgram) (sizes : List ℤ) (fault : FileFault) → ¬ (work ≡ bounds)
+-- work with a second file
+abbrev HasSecond : Work → Type 0
+HasSecond bounds = ⊥
+HasSecond (samples products) = ⊥
+HasSecond work = ⊤
+
+seconded : (request : Request) (work : Work) → IsFormed request work → 1 < length request.files → HasSecond work
+seconded request (judges task) formed several = tt
+seconded request (replays s named) formed several = tt
+seconded request (climbs capacities named) formed several = tt
+seconded request (bounds_traffic s named) formed several = tt
+seconded request bounds formed several = omega (arith, formed, several)
+seconded request (samples products) formed several = omega (arith, formed, several)
+
+second_unread : (map : FileMap) (names : List (List ℕ)) (work : Work) (program : AffineProgram) (sizes : List ℤ) (fault : FileFault) → HasSecond work
     → FaultCause (Some map) (file_at names 1) (most_bytes work 1) fault → WorkComes (Some map) names work program sizes (stops (File 1 fault))
 second_unread map names (judges task) program sizes fault second cause = stopping fault cause refl
 second_unread map names (replays s named) program sizes fault second cause = stopping fault cause refl
 second_unread map names (climbs capacities named) program sizes fault second cause = stopping fault cause refl
 second_unread map names (bounds_traffic s named) program sizes fault second cause = stopping fault cause refl
-second_unread map names bounds program sizes fault second cause = absurd (second refl)
+second_unread map names bounds program sizes fault second cause = absurd second
+second_unread map names (samples products) program sizes fault second cause = absurd second
 
 pub absent_seconds : CausesAreAnswered → AbsentSecondFilesAreNamed
 absent_seconds causes call map request program fault left status tells asks holds several sizes absent outcome calm = by fault absent where
-  second : ¬ (request.work ≡ bounds)
-  second is = let one : length request.files ≡ 1 = subst (IsFormed request) is (formed call.words request asks) in omega (arith, one, several)
+  second : HasSecond request.work
+  second = seconded request request.work (formed call.words request asks) several
 
   named : (fault : FileFault) → FaultCause (Some map) (file_at request.files 1) (most_bytes request.work 1) fault → IsPlainFault fault
       → EndsWith status left (file_status fault) (file_line (file_at request.files 1) fault)

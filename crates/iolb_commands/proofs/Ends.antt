@@ -1,5 +1,5 @@
 -- That a request comes to one end over files that tell what they hold.
-use Rattle.std.proofs.Common.{◌≡◌, refl, sym, ◌∙◌, ap, subst, inr, ℕ, ◌<◌, ◌≤◌, List, length, arith}
+use Rattle.std.proofs.Common.{◌≡◌, ◌⊎◌, refl, sym, ◌∙◌, ap, subst, inl, inr, ℕ, ◌<◌, ◌≤◌, List, length, arith}
 use Rattle.std.specs.Prelude.{ℤ, Option, Some, None, Result, Ok, Err, IsSomeAnd}
 use Rattle.iolb_model.specs.Bound.{AreMet}
 use Rattle.iolb_model.specs.Form.{AffineForm}
@@ -15,7 +15,7 @@ use Rattle.c_grammar.specs.Program.{Means}
 use Rattle.affine_c.specs.Meaning.{HasFault}
 use Rattle.affine_c.proofs.OneProgram.{meant_without_fault}
 use Rattle.iolb_cert.specs.OneCertificate.{TextsHaveOneCertificate, TextsHaveOneAnswer}
-use Rattle.command_words.specs.Requests.{Request, Task, checks, evaluates, shares, levels, Work, judges, replays, climbs, bounds_traffic, bounds, file_at}
+use Rattle.command_words.specs.Requests.{Request, Task, checks, evaluates, shares, levels, Work, judges, replays, climbs, bounds_traffic, bounds, samples, file_at}
 use Rattle.iolb_check.specs.Claims.{CertificateClaim}
 use Rattle.iolb_check.specs.declared.bound.Value.{Value}
 use Rattle.iolb_check.specs.Exact.{RefusalsAreOne, ValidCertificatesGiveOne, ValidCertificatesHaveValues, ValidCertificatesStand}
@@ -24,8 +24,9 @@ use Rattle.iolb_host.specs.declared.files.FileFault.TheVariants.{Missing, TooLon
 use Rattle.iolb_host.specs.Files.{FileMap, Answers, content_of}
 use Rattle.iolb_commands.specs.Bounded.{IsBounded}
 use Rattle.iolb_commands.specs.Held.{HoldsProgram}
-use Rattle.iolb_commands.specs.Phases.{End, answers, unsaid, saying, AtSizes, Narrow, CertificateTextComes, ConditionsCome, StoresTextComes, StoresConditionsCome, ClimbComes, FileComes, TaskComes, CertificateComes, MovesCome, ScheduleComes, TrafficComes, WorkComes, RequestComes}
+use Rattle.iolb_commands.specs.Phases.{End, Answered, answers, unsaid, saying, AtSizes, Narrow, CertificateTextComes, ConditionsCome, StoresTextComes, StoresConditionsCome, ClimbComes, FileComes, TaskComes, CertificateComes, MovesCome, ProgramComes, ScheduleComes, TrafficComes, WorkBegins, WorkComes, RequestComes}
 use Rattle.iolb_commands.specs.Reading.{IsContent}
+use Rattle.iolb_commands.specs.Sampled.{IsSampled}
 use Rattle.iolb_commands.specs.Stop.{IsPlainFault}
 use Rattle.iolb_commands.specs.Works.{most_bytes, sizes_for}
 use Rattle.iolb_commands.proofs.Phases.{IsPlainEnd, One, phase_one, says_one, through}
@@ -100,6 +101,10 @@ same_pair here there e = ap (λ (n : ℕ). let one : ℕ × TowerIllegal = (n, h
 -- it made a certificate for this program
 abbrev pub IsMade : AffineProgram → End → Type 0
 IsMade program end = (text note : List ℕ) × IsBounded program text note × (end ≡ answers text note)
+
+-- it valued one of so many matrix products
+abbrev pub IsValued : ℕ → End → Type 0
+IsValued products end = (text note : List ℕ) × IsSampled products text note × (end ≡ answers text note)
 
 module _ (Both : End → End → Type 0) where
   sizes_one : (assumptions : List AffineForm) (sizes : List ℤ) (Onward : End → Type 0) → One Both Onward → One Both (AtSizes assumptions sizes Onward)
@@ -199,24 +204,52 @@ module _ (Both : End → End → Type 0) where
   work_one exact map names bounds program sizes both one other ok fine here (unsaid is) = absurd (subst IsPlainEnd is fine)
   work_one exact map names bounds program sizes both one other ok fine (saying text note so is) (saying another beside too does) =
       inr (both refl one other (text, note, so, is) (another, beside, too, does))
+  work_one exact map names (samples products) program sizes both one other ok fine here there = absurd here
+
+  program_one : AreExact → (map : FileMap) (names : List (List ℕ)) (work : Work)
+      → ((program : AffineProgram) → HoldsProgram (Some map) (file_at names 0) program → work ≡ bounds → (one other : End) → IsMade program one → IsMade program other → Both one other)
+      → One Both (ProgramComes (Some map) names work)
+  program_one exact map names work both = file_one map names work 0 _ (λ source content. phase_one Both
+      (λ f g has again _ _. same_fault source f g has again)
+      (λ fault program has means _. meant_without_fault source fault program has means)
+      (λ p q means again. exact.one_program source p q means again)
+      (λ program means. phase_one Both (λ _ _ _ _ _ _. refl)
+      (λ _ sizes lacking has _. none_some (sizes_for work program.parameters) sizes lacking has)
+      (λ a b has again. same_some a b (sym has ∙ again))
+      (λ sizes _. work_one exact map names work program sizes (both program (record { source = source; content = content; means = means })))))
+
+  valued_one : (products : ℕ) → ((one other : End) → IsValued products one → IsValued products other → Both one other) → One Both (Answered (IsSampled products))
+  valued_one products valued one other ok fine (unsaid is) there = absurd (subst IsPlainEnd is ok)
+  valued_one products valued one other ok fine here (unsaid is) = absurd (subst IsPlainEnd is fine)
+  valued_one products valued one other ok fine (saying text note so is) (saying another beside too does) =
+      inr (valued one other (text, note, so, is) (another, beside, too, does))
+
+  begin_one : AreExact → (map : FileMap) (names : List (List ℕ)) (work : Work)
+      → ((program : AffineProgram) → HoldsProgram (Some map) (file_at names 0) program → work ≡ bounds → (one other : End) → IsMade program one → IsMade program other → Both one other)
+      → ((products : ℕ) → work ≡ samples products → (one other : End) → IsValued products one → IsValued products other → Both one other) → One Both (WorkBegins (Some map) names work)
+  begin_one exact map names (judges task) both valued = program_one exact map names (judges task) both
+  begin_one exact map names (replays s named) both valued = program_one exact map names (replays s named) both
+  begin_one exact map names (climbs capacities named) both valued = program_one exact map names (climbs capacities named) both
+  begin_one exact map names (bounds_traffic s named) both valued = program_one exact map names (bounds_traffic s named) both
+  begin_one exact map names bounds both valued = program_one exact map names bounds both
+  begin_one exact map names (samples products) both valued = valued_one products (valued products refl)
 
 -- both made a certificate of the program of a request for one
 abbrev pub AreMade : FileMap → Request → End → End → Type 0
 AreMade map request one other = (request.work ≡ bounds) × (program : AffineProgram) × HoldsProgram (Some map) (file_at request.files 0) program
     × IsMade program one × IsMade program other
 
-pub request_one : AreExact → (map : FileMap) (request : Request) → One (AreMade map request) (RequestComes (Some map) request)
+-- both valued one of the matrix products of a request for such
+abbrev pub AreValued : Request → End → End → Type 0
+AreValued request one other = (products : ℕ) × (request.work ≡ samples products) × IsValued products one × IsValued products other
+
+abbrev pub AreFree : FileMap → Request → End → End → Type 0
+AreFree map request one other = AreMade map request one other ⊎ AreValued request one other
+
+pub request_one : AreExact → (map : FileMap) (request : Request) → One (AreFree map request) (RequestComes (Some map) request)
 request_one exact map request =
-    let Both = AreMade map request in
-    file_one Both map request.files request.work 0 _ (λ source content. phase_one Both
-    (λ f g has again _ _. same_fault source f g has again)
-    (λ fault program has means _. meant_without_fault source fault program has means)
-    (λ p q means again. exact.one_program source p q means again)
-    (λ program means. phase_one Both (λ _ _ _ _ _ _. refl)
-    (λ _ sizes lacking has _. none_some (sizes_for request.work program.parameters) sizes lacking has)
-    (λ a b has again. same_some a b (sym has ∙ again))
-    (λ sizes _. work_one Both exact map request.files request.work program sizes
-    (λ works one other here there. (works, program, record { source = source; content = content; means = means }, here, there)))))
+    begin_one (AreFree map request) exact map request.files request.work
+    (λ program holds works one other here there. inl (works, program, holds, here, there)) (λ products works one other here there. inr (products, works, here, there))
 
 -- ---- what files hold goes on
 
@@ -235,6 +268,15 @@ module _ (exact : AreExact) (map : FileMap) (end : End) (ok : IsPlainEnd end) wh
       (λ fault absent plain. absent_there (content_of map (file_at names place)) (most_bytes work place) fault bytes absent content.told content.few plain)
       (λ other found. same_some other bytes (sym found.told ∙ content.told)) end ok
 
+  begun : (names : List (List ℕ)) (work : Work) (program : AffineProgram) (sizes : List ℤ) → sizes_for work program.parameters ≡ Some sizes
+      → WorkBegins (Some map) names work end → ProgramComes (Some map) names work end
+  begun names (judges task) program sizes given comes = comes
+  begun names (replays s named) program sizes given comes = comes
+  begun names (climbs capacities named) program sizes given comes = comes
+  begun names (bounds_traffic s named) program sizes given comes = comes
+  begun names bounds program sizes given comes = comes
+  begun names (samples products) program sizes given comes = absurd (none_some None sizes refl given)
+
   pub to_work : (request : Request) (program : AffineProgram) (sizes : List ℤ) → HoldsProgram (Some map) (file_at request.files 0) program
       → sizes_for request.work program.parameters ≡ Some sizes → RequestComes (Some map) request end → WorkComes (Some map) request.files request.work program sizes end
   to_work request program sizes holds given comes =
@@ -242,4 +284,4 @@ module _ (exact : AreExact) (map : FileMap) (end : End) (ok : IsPlainEnd end) wh
       (λ other has. same_some other sizes (sym has ∙ given)) end ok
       (through program (λ fault has _. meant_without_fault holds.source fault program has holds.means)
       (λ other means. exact.one_program holds.source other program means holds.means) end ok
-      (through_file request.files request.work 0 _ holds.source holds.content comes))
+      (through_file request.files request.work 0 _ holds.source holds.content (begun request.files request.work program sizes given comes)))

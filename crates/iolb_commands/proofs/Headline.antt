@@ -7,16 +7,16 @@ use Rattle.iolb_model.specs.Bound.{IsAdmitted}
 use Rattle.iolb_model.specs.Graph.{computation_graph}
 use Rattle.iolb_model.specs.Headline.{BoundHolds}
 use Rattle.iolb_model.specs.Program.{AffineProgram}
-use Rattle.command_words.specs.Requests.{Request, Task, checks, evaluates, shares, levels, Work, judges, replays, climbs, bounds_traffic, bounds, file_at}
+use Rattle.command_words.specs.Requests.{Request, Task, checks, evaluates, shares, levels, Work, judges, replays, climbs, bounds_traffic, bounds, samples, file_at}
 use Rattle.command_words.specs.Sizes.{NamedSize, times, value_for, values_for}
 use Rattle.pebble_replay.specs.Played.{played}
-use Rattle.tile_sched.proofs.Refusals.{same_some}
+use Rattle.tile_sched.proofs.Refusals.{none_some, same_some}
 use Rattle.tile_sched.specs.ReplayLaws.{PlaysAreComplete}
 use Rattle.iolb_check.specs.declared.bound.Value.{Value}
 use Rattle.iolb_commands.specs.declared.status.Status.{Status}
 use Rattle.iolb_commands.specs.declared.status.Status.TheVariants.{Done}
 use Rattle.iolb_commands.specs.Held.{HoldsProgram}
-use Rattle.iolb_commands.specs.Phases.{TaskComes, WorkComes, answers}
+use Rattle.iolb_commands.specs.Phases.{ProgramComes, TaskComes, WorkBegins, WorkComes, answers}
 use Rattle.iolb_commands.specs.Task.{HoldsFor, IsAnswer, LoadsAtLeast, bound_with}
 use Rattle.iolb_commands.specs.Works.{sizes_for}
 use Rattle.iolb_commands.specs.Outcome.{Call, Outcome}
@@ -26,6 +26,7 @@ use Rattle.iolb_commands.specs.Use.{CallUse, Gains}
 use Rattle.iolb_commands.proofs.Asked.{IsFormed, formed}
 use Rattle.iolb_commands.proofs.Notes.{nothing_more}
 use Rattle.iolb_commands.proofs.Phases.{answered, found, said}
+use Rattle.iolb_commands.proofs.Sampled.{sample-least}
 
 -- ---- status 0
 
@@ -218,19 +219,51 @@ printed complete call left request program sizes text note bounds some there giv
       noted = subst (λ (n : List ℕ). Gains left.error n) (notes ∙ bound.noted) noted;
       made = bound.made;
     }
+printed complete call left request program sizes text note (samples products) some there given comes gains noted = absurd (none_some None sizes refl given)
+
+-- work on a file's program
+on_program : PlaysAreComplete → (call : Call) (left : CallUse) (request : Request) (text note : List ℕ) (work : Work) → IsFormed request work
+    → ProgramComes call.files request.files work (answers text note) → Gains left.output text → Gains left.error note → IsPrinted call left request work
+on_program complete call left request text note work some comes gains noted =
+    let file = found text note comes in
+    let read = found text note file.2 in
+    let named = found text note read.2 in
+    printed complete call left request read.0 named.0 text note work some (record { source = file.0; content = file.1; means = read.1 }) named.1 named.2 gains noted
+
+-- or on that of matrix products
+begun : PlaysAreComplete → (call : Call) (left : CallUse) (request : Request) (text note : List ℕ) (work : Work) → IsFormed request work
+    → WorkBegins call.files request.files work (answers text note) → Gains left.output text → Gains left.error note → IsPrinted call left request work
+begun complete call left request text note (judges task) some comes gains noted = on_program complete call left request text note (judges task) some comes gains noted
+begun complete call left request text note (replays s named) some comes gains noted = on_program complete call left request text note (replays s named) some comes gains noted
+begun complete call left request text note (climbs capacities named) some comes gains noted = on_program complete call left request text note (climbs capacities named) some comes gains noted
+begun complete call left request text note (bounds_traffic s named) some comes gains noted = on_program complete call left request text note (bounds_traffic s named) some comes gains noted
+begun complete call left request text note bounds some comes gains noted = on_program complete call left request text note bounds some comes gains noted
+begun complete call left request text note (samples products) some comes gains noted =
+    let made = answered (answers text note) tt comes in
+    let sampled = made.2 in
+    let texts : text ≡ made.0 = cc in
+    let notes : note ≡ made.1 = cc in record {
+      certificate = sampled.certificate;
+      values = sampled.values;
+      valid = sampled.valid;
+      made = sampled.made;
+      value = sampled.value;
+      greatest = sampled.greatest;
+      at_least = λ moves game. sample-least products sampled.values sampled.value moves sampled.greatest sampled.holds game;
+      one = sampled.one;
+      several = sampled.several;
+      printed = subst (λ (t : List ℕ). Gains left.output t) (texts ∙ sampled.says) gains;
+      error_stays = nothing_more left.error (subst (λ (n : List ℕ). Gains left.error n) (notes ∙ sampled.unnoted) noted);
+    }
 
 -- what status 0 says
 pub headline : PlaysAreComplete → (call : Call) (left : CallUse) (status : Status) → Outcome status call left → status ≡ Done → IsDoneAsAsked call left
 headline complete call left status outcome e = by (subst (λ (s : Status). Outcome s call left) e outcome) where
   by : Outcome Done call left → IsDoneAsAsked call left
   by (text, note, done, gains, noted) =
-      let request : Request = done.request in
-      let file = found text note done.answered in
-      let read = found text note file.2 in
-      let named = found text note read.2 in record {
-        request = request;
+      record {
+        request = done.request;
         asked = done.asked;
-        printed = printed complete call left request read.0 named.0 text note request.work (formed call.words request done.asked)
-            (record { source = file.0; content = file.1; means = read.1 }) named.1 named.2 gains noted;
+        printed = begun complete call left done.request text note done.request.work (formed call.words done.request done.asked) done.answered gains noted;
         read = done.read;
       }

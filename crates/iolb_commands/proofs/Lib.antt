@@ -4,6 +4,7 @@ pub mod Made
 pub mod Tasks
 pub mod RequestLaws
 pub mod Outcomes
+pub mod Sampled
 pub mod Headline
 pub mod Values
 pub mod Asked

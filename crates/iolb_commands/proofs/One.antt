@@ -7,24 +7,24 @@ use Rattle.iolb_model.specs.Program.{AffineProgram}
 use Rattle.memory_levels.specs.Values.{IsWideAtLevels}
 use Rattle.parallel_bound.specs.Widths.{HasWideParallelBranch}
 use Rattle.c_grammar.specs.Program.{Means}
-use Rattle.command_words.specs.Requests.{Request, Task, checks, evaluates, shares, levels, Work, judges, replays, climbs, bounds_traffic, bounds, file_at, request_of}
+use Rattle.command_words.specs.Requests.{Request, Task, checks, evaluates, shares, levels, Work, judges, replays, climbs, bounds_traffic, bounds, samples, file_at, request_of}
 use Rattle.iolb_check.specs.declared.bound.Value.{Value}
 use Rattle.iolb_check.specs.Bounds.{HasWideBranch}
 use Rattle.iolb_host.specs.Files.{FileMap}
 use Rattle.iolb_commands.specs.declared.status.Status.{Status}
 use Rattle.iolb_commands.specs.declared.status.Status.TheVariants.{Done, Refused, Words as WordsRefused, ProgramText as ProgramRefused, OtherText, FileAbsent, ReadFault, WriteFault, Wide as WideValue, NoMemory}
 use Rattle.iolb_commands.specs.declared.stop.Stop.{Stop}
-use Rattle.iolb_commands.specs.Laws.{GainSame, IsUndisturbed, OutcomesAreOne, HasAnswer, ValidCertificatesPass, OthersNeverPass, PlayableSchedulesPass, CompletePlaysPass, ReadableProgramsHaveCertificates, ValidStoresPass, WriteAlike}
+use Rattle.iolb_commands.specs.Laws.{GainSame, IsUndisturbed, OutcomesAreOne, HasAnswer, ValidCertificatesPass, OthersNeverPass, PlayableSchedulesPass, CompletePlaysPass, ReadableProgramsHaveCertificates, SamplesAreAnswered, ValidStoresPass, WriteAlike}
 use Rattle.iolb_commands.specs.Lines.{usage}
 use Rattle.iolb_commands.specs.Outcome.{Call, IsStopped, Outcome, Stops}
-use Rattle.iolb_commands.specs.Phases.{End, stops, answers, RequestComes, TaskComes, WorkComes}
+use Rattle.iolb_commands.specs.Phases.{End, stops, answers, RequestComes, TaskComes, WorkBegins, WorkComes}
 use Rattle.tile_sched.proofs.Refusals.{none_some, same_some}
 use Rattle.iolb_commands.specs.Held.{HoldsCertificate, HoldsMoves, HoldsProgram, HoldsSchedule, HoldsStores}
 use Rattle.iolb_commands.specs.Stop.{stop_line, stop_status}
 use Rattle.iolb_commands.specs.Works.{HasSizes, sizes_for}
 use Rattle.iolb_commands.specs.Use.{CallUse, Gains, Stays}
 use Rattle.iolb_check.specs.Conditions.{MeetsConditions}
-use Rattle.iolb_commands.proofs.Ends.{AreExact, AreMade, request_one, through_file, through_narrow, through_sizes, to_work}
+use Rattle.iolb_commands.proofs.Ends.{AreExact, AreFree, request_one, through_file, through_narrow, through_sizes, to_work}
 use Rattle.iolb_commands.proofs.Notes.{nothing}
 use Rattle.iolb_commands.proofs.Phases.{IsPlainEnd, answered, found, through}
 use Rattle.iolb_commands.proofs.PlainStops.{plain}
@@ -125,17 +125,17 @@ outcomes_one exact call map one other status another tells outcome also calm qui
     by (ends_so call map status one tells outcome calm differs) (ends_so call map another other tells also quiet apart) where
       -- two ends of one request
       same : (first : EndsSo map call.words status one) (end : End) → RequestComes (Some map) first.request end → IsPlainEnd end → end_status end ≡ another → Leaves first.request end other
-          → (first.end ≡ end) ⊎ AreMade map first.request first.end end → (status ≡ another) × WriteAlike call status one other
+          → (first.end ≡ end) ⊎ AreFree map first.request first.end end → (status ≡ another) × WriteAlike call status one other
       same first end comes ok is leaves (inl e) =
           (sym first.status_is ∙ ap end_status e ∙ is, inl (alike first.request end one other (subst (λ (z : End). Leaves first.request z one) e first.leaves) leaves))
-      same first end comes ok is leaves (inr (works, program, holds, (text, note, bounded, here), (other_text, other_note, also_bounded, there))) =
+      same first end comes ok is leaves (inr (inl (works, program, holds, (text, note, bounded, here), (other_text, other_note, also_bounded, there)))) =
           let mine = subst (λ (z : End). Leaves first.request z one) here first.leaves in
           let others = subst (λ (z : End). Leaves first.request z other) there leaves in
           let done : status ≡ Done = sym first.status_is ∙ ap end_status here in (
             done ∙ sym (ap end_status there) ∙ is,
             inr (
               done,
-              record {
+              inl (record {
                 request = first.request;
                 asked = first.asked;
                 bounds_it = works;
@@ -143,7 +143,24 @@ outcomes_one exact call map one other status another tells outcome also calm qui
                 holds_program = subst (λ (files : Option FileMap). HoldsProgram files (file_at first.request.files 0) program) (sym tells) holds;
                 first = record { text = text; note = note; bounded = bounded; output = mine.0; error = mine.1 };
                 second = record { text = other_text; note = other_note; bounded = also_bounded; output = others.0; error = others.1 };
-              },
+              }),
+            ),
+          )
+      same first end comes ok is leaves (inr (inr (products, works, (text, note, sampled, here), (other_text, other_note, also_sampled, there)))) =
+          let mine = subst (λ (z : End). Leaves first.request z one) here first.leaves in
+          let others = subst (λ (z : End). Leaves first.request z other) there leaves in
+          let done : status ≡ Done = sym first.status_is ∙ ap end_status here in (
+            done ∙ sym (ap end_status there) ∙ is,
+            inr (
+              done,
+              inr (record {
+                request = first.request;
+                asked = first.asked;
+                products = products;
+                samples_it = works;
+                first = record { text = text; note = note; sampled = sampled; output = mine.0; error = mine.1 };
+                second = record { text = other_text; note = other_note; sampled = also_sampled; output = others.0; error = others.1 };
+              }),
             ),
           )
 
@@ -273,6 +290,16 @@ pub readable_pass : AreExact → ReadableProgramsHaveCertificates
 readable_pass exact call map request program left status tells asked works holds outcome calm =
     passes exact call map request bounds program left status tells asked works holds [] refl (λ end ok comes. let so = answered end ok comes in (so.0, so.1, so.3)) outcome calm
 
+pub samples_pass : SamplesAreAnswered
+samples_pass call map request products left status tells asked works outcome calm =
+    elim (memory_or status) [ inl is ↦ inr is | inr differs ↦ inl (by (ends_so call map status left tells outcome calm differs)) ] where
+      by : Ends map call.words status left → status ≡ Done
+      by (inl refused) = absurd (none_some (request_of call.words) request refused.asked asked)
+      by (inr so) =
+          let comes = subst (λ (r : Request). RequestComes (Some map) r so.end) (same_some so.request request (sym so.asked ∙ asked)) so.comes in
+          let is = answered so.end so.ok (subst (λ (w : Work). WorkBegins (Some map) request.files w so.end) works comes) in
+          sym so.status_is ∙ ap end_status is.3
+
 pub same_program : AreExact → (map : FileMap) (name : List ℕ) (p q : AffineProgram) → HoldsProgram (Some map) name p → HoldsProgram (Some map) name q → p ≡ q
 same_program exact map name p q holds again =
     exact.one_program again.source p q (subst (λ (bytes : List ℕ). Means bytes p) (same_some holds.source again.source (sym holds.content.told ∙ again.content.told)) holds.means) again.means
@@ -290,12 +317,11 @@ others_never exact call request task program claim left status reads never outco
       fails (text, note, done, gains, noted) =
           let end : End = answers text note in
           let comes = subst (λ (r : Request). RequestComes (Some reads.map) r end) (same_some done.request request (sym done.asked ∙ reads.asked)) done.answered in
-          let file = found text note comes in
+          let file = found text note (subst (λ (w : Work). WorkBegins (Some reads.map) request.files w end) reads.judges_it comes) in
           let read = found text note file.2 in
           let given = found text note read.2 in
           let same = same_program exact reads.map (file_at request.files 0) read.0 program (record { source = file.0; content = file.1; means = read.1 }) holds in
-          let work = subst (λ (w : Work). WorkComes (Some reads.map) request.files w read.0 given.0 end) reads.judges_it given.2 in
           let valid = found text note
           (through claim (λ fault faulty _. exact.one_answer.either held.bytes claim fault held.has faulty) (λ other again. exact.one_certificate held.bytes other claim again held.has) end tt
-          (through_file exact reads.map end tt request.files (judges task) 1 _ held.bytes held.content work)) in
+          (through_file exact reads.map end tt request.files (judges task) 1 _ held.bytes held.content given.2)) in
           never valid.0 (subst (λ (q : AffineProgram). MeetsConditions q claim valid.0) same valid.1)

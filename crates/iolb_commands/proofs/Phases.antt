@@ -1,9 +1,13 @@
--- Work in phases: what each hands on, and that its end is one.
-use Rattle.std.proofs.Common.{◌≡◌, ◌⊎◌, inl, sym, ◌∙◌, ap, subst, List, [], ℕ}
-use Rattle.std.specs.Prelude.{⊤}
+-- Work in phases: how it begins, what each hands on, and that its end is one.
+use Rattle.std.proofs.Common.{◌≡◌, ◌⊎◌, refl, inl, sym, ◌∙◌, ap, subst, List, [], ℕ}
+use Rattle.std.specs.Prelude.{⊤, Option}
+use Rattle.command_words.specs.declared.command.Work.{Work as WorkInCode}
+use Rattle.command_words.specs.declared.command.Work.TheVariants.{Judge, Replay, Climb, Traffic, Bound, Sample}
+use Rattle.command_words.specs.Requests.{Work, judges, replays, climbs, bounds_traffic, bounds, samples, work_of}
+use Rattle.iolb_host.specs.Files.{FileMap}
 use Rattle.iolb_commands.specs.declared.stop.Stop.{Stop}
 use Rattle.iolb_commands.specs.declared.stop.Stop.TheVariants.{Memory}
-use Rattle.iolb_commands.specs.Phases.{End, stops, answers, Phase, wanting, stopping, onward, Answered, unsaid, saying, Says}
+use Rattle.iolb_commands.specs.Phases.{End, stops, answers, Phase, wanting, stopping, onward, Answered, unsaid, saying, ProgramComes, Says, WorkBegins}
 use Rattle.iolb_commands.specs.Stop.{IsPlain}
 
 -- an end that is no failure of a read and no want of memory
@@ -13,6 +17,31 @@ IsPlainEnd (answers text note) = ⊤
 
 no_memory : (end : End) → IsPlainEnd end → end ≡ stops Memory → ⊥
 no_memory end ok is = subst IsPlainEnd is ok
+
+-- ---- how work begins
+
+-- work on the program of the first file
+abbrev pub IsOnProgram : Work → Type 0
+IsOnProgram (samples products) = ⊥
+IsOnProgram work = ⊤
+
+pub begins : (files : Option FileMap) (names : List (List ℕ)) (work : Work) (end : End) → IsOnProgram work → ProgramComes files names work end → WorkBegins files names work end
+begins files names (judges task) end on comes = comes
+begins files names (replays s named) end on comes = comes
+begins files names (climbs capacities named) end on comes = comes
+begins files names (bounds_traffic s named) end on comes = comes
+begins files names bounds end on comes = comes
+begins files names (samples products) end on comes = absurd on
+
+-- what the code holds, which isn't about matrix products
+pub other_begins : (files : Option FileMap) (names : List (List ℕ)) (work : WorkInCode) (end : End) → ((products : ℕ) → ¬ (work ≡ Sample products)) → ProgramComes files names (work_of work) end
+    → WorkBegins files names (work_of work) end
+other_begins files names (Judge job) end never comes = comes
+other_begins files names (Replay setting) end never comes = comes
+other_begins files names (Climb setting) end never comes = comes
+other_begins files names (Traffic setting) end never comes = comes
+other_begins files names Bound end never comes = comes
+other_begins files names (Sample products) end never comes = absurd (never products refl)
 
 -- ---- what a phase hands on, where none of its causes is there
 

@@ -11,7 +11,7 @@ use Rattle.iolb_commands.specs.Values.{branch_value_lines}
 use Rattle.iolb_cert.proofs.Branches.{drop_get, terms-at}
 
 -- a branch that is there isn't wide where none is
-wide-at : (branches : List (List Value)) (i : ℕ) (terms : List Value) (sizes : List ℤ) (s : ℕ) → slice_get branches i ≡ Some terms → IsWideBranch sizes s terms → HasWideBranch sizes s branches
+pub wide-at : (branches : List (List Value)) (i : ℕ) (terms : List Value) (sizes : List ℤ) (s : ℕ) → slice_get branches i ≡ Some terms → IsWideBranch sizes s terms → HasWideBranch sizes s branches
 wide-at [] i terms sizes s e wide = absurd cc
 wide-at (b ∷ branches) zero terms sizes s e wide = inl (subst (λ (t : List Value). IsWideBranch sizes s t) (sym (same b terms e)) wide) where
   same : (a b : List Value) → Some a ≡ Some b → a ≡ b

@@ -1,17 +1,20 @@
 -- What status 0 says, in the words of programs, certificates, schedules, pebblings and bounds.
-use Rattle.std.specs.Prelude.{◌≡◌, ℕ, ◌+◌, ℤ, List, Some}
+use Rattle.std.specs.Prelude.{◌≡◌, ℕ, ◌+◌, ◌≤◌, ℤ, List, Some}
 use Rattle.iolb_model.specs.declared.game.Move.{Move}
 use Rattle.iolb_model.specs.Bound.{IsAdmitted}
-use Rattle.iolb_model.specs.Game.{IsCompletePebbling}
+use Rattle.iolb_model.specs.Game.{IsCompletePebbling, loads}
 use Rattle.iolb_model.specs.Graph.{computation_graph}
 use Rattle.iolb_model.specs.Headline.{BoundHolds}
 use Rattle.iolb_model.specs.Printed.{bound_text}
 use Rattle.iolb_model.specs.Program.{AffineProgram}
 use Rattle.iolb_model.specs.Tower.{IsCompleteTower}
 use Rattle.iolb_model.specs.declared.tower.TowerMove.{TowerMove}
+use Rattle.affine_c.specs.Products.{product_program}
+use Rattle.find_terms.specs.Made.{IsMadeFor}
 use Rattle.iolb_cert.specs.OneCertificate.{HasCertificate}
-use Rattle.iolb_check.specs.Claims.{CertificateClaim}
-use Rattle.command_words.specs.Requests.{Request, Task, Work, judges, replays, climbs, bounds_traffic, bounds, file_at, request_of}
+use Rattle.iolb_check.specs.Claims.{CertificateClaim, claim_of_certificate}
+use Rattle.iolb_check.specs.Limits.{CertificateParts}
+use Rattle.command_words.specs.Requests.{Request, Task, Work, judges, replays, climbs, bounds_traffic, bounds, samples, file_at, request_of}
 use Rattle.command_words.specs.Sizes.{NamedSize, values_for}
 use Rattle.pebble_replay.specs.Played.{played}
 use Rattle.tile_sched.specs.declared.schedule.Key.{Key}
@@ -21,6 +24,7 @@ use Rattle.iolb_check.specs.declared.bound.Value.{Value}
 use Rattle.iolb_commands.specs.Bounded.{IsOfMaker}
 use Rattle.iolb_commands.specs.Held.{HoldsCertificate, HoldsMoves, HoldsProgram, HoldsSchedule, HoldsStores}
 use Rattle.iolb_commands.specs.Outcome.{Call}
+use Rattle.iolb_commands.specs.Sampled.{IsGreatestNarrow, IsOfOne, IsOfSeveral, sample_memory, sample_sizes, sample_text}
 use Rattle.iolb_commands.specs.Task.{IsAnswer, LoadsAtLeast, bound_with}
 use Rattle.iolb_commands.specs.Traffic.{traffic_loads, traffic_stores}
 use Rattle.iolb_commands.specs.Use.{CallUse, FilesStay, Gains, Stays}
@@ -140,6 +144,24 @@ pub record IsCertificatePrinted (call : Call) (left : CallUse) (request : Reques
   pub noted : Gains left.error (bound_text program.parameters (bound_with program values))
   pub made : IsOfMaker program certificate text
 
+-- A request for so many matrix products. There is a certificate of their program, made as for a request for one, which meets the
+-- conditions. The output has gained exactly the number of products and a value V: the greatest of the certificate's branches that
+-- aren't beyond 128 bits, with 64 red pebbles for matrices of 64 by 64 numbers, so every complete pebbling makes at least V loads
+-- there. Of one product the certificate is that of a projective program, no branch is beyond 128 bits, and V is the value of its bound; of
+-- two or more V is at least 4096, the numbers of a matrix, times the lesser of 16 and twice the number of products.
+pub record IsSamplePrinted (left : CallUse) (products : ℕ) : Type 0 where
+  pub certificate : CertificateParts
+  pub values : List (List Value)
+  pub valid : MeetsConditions (product_program products) (claim_of_certificate certificate) values
+  pub made : IsMadeFor (product_program products) certificate
+  pub value : ℕ
+  pub greatest : IsGreatestNarrow values sample_sizes sample_memory value
+  pub at_least : (moves : List Move) → IsCompletePebbling (computation_graph (product_program products) sample_sizes) sample_memory moves → value ≤ loads moves
+  pub one : IsOfOne products certificate values value
+  pub several : IsOfSeveral products value
+  pub printed : Gains left.output (sample_text products value)
+  pub error_stays : Stays left.error
+
 -- what was asked for
 abbrev pub IsPrinted : Call → CallUse → Request → Work → Type 0
 IsPrinted call left request (judges task) = IsLowerBoundPrinted call left request task
@@ -147,6 +169,7 @@ IsPrinted call left request (replays s named) = IsPlayPrinted call left request 
 IsPrinted call left request (climbs capacities named) = IsClimbPrinted call left request capacities named
 IsPrinted call left request (bounds_traffic s named) = IsTrafficPrinted call left request s named
 IsPrinted call left request bounds = IsCertificatePrinted call left request
+IsPrinted call left request (samples products) = IsSamplePrinted left products
 
 -- The words make a request, and what it asks for was printed, with nothing else. No read and no write had a fault.
 pub record IsDoneAsAsked (call : Call) (left : CallUse) : Type 0 where

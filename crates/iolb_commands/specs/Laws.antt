@@ -11,7 +11,7 @@ use Rattle.loop_graph.specs.Builds.{IsWithinReach}
 use Rattle.memory_levels.specs.Values.{IsWideAtLevels}
 use Rattle.parallel_bound.specs.Widths.{HasWideParallelBranch}
 use Rattle.iolb_check.specs.Claims.{CertificateClaim}
-use Rattle.command_words.specs.Requests.{Request, Task, checks, evaluates, shares, levels, judges, replays, climbs, bounds_traffic, bounds, file_at, request_of}
+use Rattle.command_words.specs.Requests.{Request, Task, checks, evaluates, shares, levels, judges, replays, climbs, bounds_traffic, bounds, samples, file_at, request_of}
 use Rattle.command_words.specs.Sizes.{NamedSize, values_for}
 use Rattle.iolb_check.specs.declared.bound.Value.{Value}
 use Rattle.iolb_check.specs.Bounds.{HasWideBranch}
@@ -36,6 +36,7 @@ use Rattle.iolb_commands.specs.Outcome.{Call, Outcome}
 use Rattle.iolb_commands.specs.Phases.{RequestStop}
 use Rattle.iolb_commands.specs.Lines.{condition_line, file_line, usage}
 use Rattle.iolb_commands.specs.Reading.{IsAbsent}
+use Rattle.iolb_commands.specs.Sampled.{IsSampled}
 use Rattle.iolb_commands.specs.Stop.{IsPlain, stop_line, stop_status}
 use Rattle.iolb_commands.specs.Traffic.{traffic_loads, traffic_stores}
 use Rattle.iolb_commands.specs.Use.{CallUse, SinkUse, Fails, Gains, Stays, files_use, sink_use}
@@ -75,14 +76,33 @@ pub record BothPrintBounds (call : Call) (one other : CallUse) : Type 0 where
   pub first : PrintsBound program one
   pub second : PrintsBound program other
 
--- Two calls have written the same bytes, or both are done and have printed certificates of the program of the words.
+-- The value of a certificate of so many matrix products was printed, which meets the conditions.
+pub record PrintsSample (products : ℕ) (left : CallUse) : Type 0 where
+  pub text : List ℕ
+  pub note : List ℕ
+  pub sampled : IsSampled products text note
+  pub output : Gains left.output text
+  pub error : Gains left.error note
+
+-- The words ask for so many matrix products, and both times the value of a certificate of theirs was printed. (Of which isn't said.)
+pub record BothPrintSamples (call : Call) (one other : CallUse) : Type 0 where
+  pub request : Request
+  pub asked : request_of call.words ≡ Some request
+  pub products : ℕ
+  pub samples_it : request.work ≡ samples products
+  pub first : PrintsSample products one
+  pub second : PrintsSample products other
+
+-- Two calls have written the same bytes, or both are done and have printed certificates of the program of the words, or values of
+-- certificates of so many matrix products.
 abbrev pub WriteAlike : Call → Status → CallUse → CallUse → Type 0
-WriteAlike call status one other =
-    (GainSame one.output other.output × GainSame one.error other.error) ⊎ ((status ≡ Done) × BothPrintBounds call one other)
+WriteAlike call status one other = (GainSame one.output other.output × GainSame one.error other.error)
+    ⊎ ((status ≡ Done) × (BothPrintBounds call one other ⊎ BothPrintSamples call one other))
 
 -- Of a call over files that tell what they hold: two outcomes of which none was disturbed, and none is want of memory, have
 -- the same status, and the output and the standard error have gained the same bytes. Only where a certificate was to be made,
--- and was, the bytes may differ: both times they are those of a certificate that meets the conditions, and of its bound.
+-- and was, the bytes may differ: both times they are those of a certificate that meets the conditions, and of its bound; or, of matrix
+-- products, the value of such a one.
 abbrev pub OutcomesAreOne : Type 0
 OutcomesAreOne = (call : Call) (map : FileMap) (one other : CallUse) (status another : Status) → call.files ≡ Some map
     → Outcome status call one → Outcome another call other → IsUndisturbed one → IsUndisturbed other
@@ -194,6 +214,14 @@ ReadableProgramsHaveCertificates = (call : Call) (map : FileMap) (request : Requ
     → call.files ≡ Some map → request_of call.words ≡ Some request → request.work ≡ bounds → HoldsProgram call.files (file_at request.files 0) program
     → Outcome status call left → IsUndisturbed left → (status ≡ Done) ⊎ (status ≡ NoMemory)
 
+-- ---- matrix products
+
+-- A call for matrix products ends with 0 or for want of memory, where it wasn't disturbed.
+abbrev pub SamplesAreAnswered : Type 0
+SamplesAreAnswered = (call : Call) (map : FileMap) (request : Request) (products : ℕ) (left : CallUse) (status : Status)
+    → call.files ≡ Some map → request_of call.words ≡ Some request → request.work ≡ samples products
+    → Outcome status call left → IsUndisturbed left → (status ≡ Done) ⊎ (status ≡ NoMemory)
+
 -- ---- causes
 
 -- A call ends with this status, has written this line to the standard error, and nothing to the output; or it ends for want of
@@ -215,10 +243,10 @@ CausesAreAnswered = (call : Call) (map : FileMap) (request : Request) (stop : St
     → Outcome status call left → IsUndisturbed left → EndsWith status left (stop_status stop) (stop_line request.files stop)
 
 -- Where the program's file isn't there, or is longer than a program's may be, the call ends with 5 and its name, or for want of
--- memory, where it wasn't disturbed.
+-- memory, where it wasn't disturbed. (Matrix products have no file.)
 abbrev pub AbsentProgramsAreNamed : Type 0
 AbsentProgramsAreNamed = (call : Call) (map : FileMap) (request : Request) (fault : FileFault) (left : CallUse) (status : Status)
-    → call.files ≡ Some map → request_of call.words ≡ Some request → IsAbsent (content_of map (file_at request.files 0)) PROGRAM_BYTES fault
+    → call.files ≡ Some map → request_of call.words ≡ Some request → 1 ≤ length request.files → IsAbsent (content_of map (file_at request.files 0)) PROGRAM_BYTES fault
     → Outcome status call left → IsUndisturbed left → EndsWith status left FileAbsent (file_line (file_at request.files 0) fault)
 
 -- The same of the second file, where there is one, the program is readable, and its parameters are named.

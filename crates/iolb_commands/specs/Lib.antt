@@ -9,6 +9,7 @@ pub mod Traffic
 pub mod Works
 pub mod Held
 pub mod Bounded
+pub mod Sampled
 pub mod Stop
 pub mod Phases
 pub mod Outcome

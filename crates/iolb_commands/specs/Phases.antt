@@ -12,7 +12,7 @@ use Rattle.affine_c.specs.Meaning.{HasFault}
 use Rattle.affine_program.specs.Assumptions.{IsFirstUnmet}
 use Rattle.c_grammar.specs.Program.{Means}
 use Rattle.claims.specs.Claims.{FirstFails}
-use Rattle.command_words.specs.Requests.{Request, Task, checks, evaluates, shares, levels, Work, judges, replays, climbs, bounds_traffic, bounds, file_at}
+use Rattle.command_words.specs.Requests.{Request, Task, checks, evaluates, shares, levels, Work, judges, replays, climbs, bounds_traffic, bounds, samples, file_at}
 use Rattle.iolb_cert.specs.OneCertificate.{HasCertificate}
 use Rattle.iolb_cert.specs.Texts.{IsTextFault}
 use Rattle.iolb_check.specs.Claims.{CertificateClaim}
@@ -45,6 +45,7 @@ use Rattle.iolb_commands.specs.declared.stop.Stop.{Stop}
 use Rattle.iolb_commands.specs.declared.stop.Stop.TheVariants.{Words, File, ProgramText, OtherText, Refused, Wide, Memory}
 use Rattle.iolb_commands.specs.Bounded.{IsBounded}
 use Rattle.iolb_commands.specs.Reading.{FaultCause, IsContent}
+use Rattle.iolb_commands.specs.Sampled.{IsSampled}
 use Rattle.iolb_commands.specs.Task.{HoldsFor, bound_with}
 use Rattle.iolb_commands.specs.Traffic.{traffic_loads, traffic_stores}
 use Rattle.iolb_commands.specs.Values.{climb_text, levels_text, parallel_text, traffic_text, values_text}
@@ -172,7 +173,7 @@ MovesCome capacities program sizes bytes = Phase (IsFirstBadLine bytes) (λ plac
     (λ moves. AtSizes program.assumptions sizes (Phase (λ (many : ⊤). ¬ IsWithinReach program sizes) (λ _. Refused TooMany)
     (λ (few : ⊤). IsWithinReach program sizes) (λ _. ClimbComes capacities (computation_graph program sizes) moves)))
 
--- the work on a program, at the sizes that the words give
+-- the work on a file's program, at the sizes that the words give
 abbrev pub WorkComes : Option FileMap → List (List ℕ) → Work → AffineProgram → List ℤ → End → Type 0
 WorkComes files names (judges task) program sizes = FileComes files names (judges task) 1 (CertificateComes task program sizes)
 WorkComes files names (replays s named) program sizes = FileComes files names (replays s named) 1 (ScheduleComes s program sizes)
@@ -180,6 +181,7 @@ WorkComes files names (climbs capacities named) program sizes = FileComes files 
 WorkComes files names (bounds_traffic s named) program sizes = FileComes files names (bounds_traffic s named) 1 (λ bytes. CertificateTextComes bytes
     (λ certificate. FileComes files names (bounds_traffic s named) 2 (λ others. StoresTextComes others (TrafficComes s program sizes certificate))))
 WorkComes files names bounds program sizes = Answered (IsBounded program)
+WorkComes files names (samples products) program sizes = λ _. ⊥
 
 -- the names of the program's parameters, and the work
 abbrev pub NamesCome : Option FileMap → List (List ℕ) → Work → AffineProgram → End → Type 0
@@ -187,9 +189,20 @@ NamesCome files names work program = Phase (λ (nameless : ⊤). sizes_for work 
     (λ sizes. sizes_for work program.parameters ≡ Some sizes) (WorkComes files names work program)
 
 -- the program's file, its text, and what is to be done with it
+abbrev pub ProgramComes : Option FileMap → List (List ℕ) → Work → End → Type 0
+ProgramComes files names work = FileComes files names work 0 (λ source. Phase (HasFault source) ProgramText (Means source) (NamesCome files names work))
+
+-- work on no file's program, or on that of the first file
+abbrev pub WorkBegins : Option FileMap → List (List ℕ) → Work → End → Type 0
+WorkBegins files names (samples products) = Answered (IsSampled products)
+WorkBegins files names (judges task) = ProgramComes files names (judges task)
+WorkBegins files names (replays s named) = ProgramComes files names (replays s named)
+WorkBegins files names (climbs capacities named) = ProgramComes files names (climbs capacities named)
+WorkBegins files names (bounds_traffic s named) = ProgramComes files names (bounds_traffic s named)
+WorkBegins files names bounds = ProgramComes files names bounds
+
 abbrev pub RequestComes : Option FileMap → Request → End → Type 0
-RequestComes files request = FileComes files request.files request.work 0
-    (λ source. Phase (HasFault source) ProgramText (Means source) (NamesCome files request.files request.work))
+RequestComes files request = WorkBegins files request.files request.work
 
 -- why a request stops
 abbrev pub RequestStop : Option FileMap → Request → Stop → Type 0

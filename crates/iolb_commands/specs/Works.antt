@@ -1,11 +1,11 @@
 -- What work asks for: sizes, the length of its files, and how its answer is written.
-use Rattle.std.specs.Prelude.{◌≡◌, ◌==◌, if◌then◌else◌, ℕ, ℤ, List, [], Option, Some}
-use Rattle.command_words.specs.Requests.{checks, evaluates, shares, levels, Work, judges, replays, climbs, bounds_traffic, bounds}
+use Rattle.std.specs.Prelude.{◌≡◌, ◌==◌, if◌then◌else◌, ℕ, ℤ, List, [], Option, Some, None}
+use Rattle.command_words.specs.Requests.{checks, evaluates, shares, levels, Work, judges, replays, climbs, bounds_traffic, bounds, samples}
 use Rattle.command_words.specs.Sizes.{values_for}
 use Rattle.iolb_model.specs.declared.limits.TheConstants.{CERTIFICATE_BYTES, MOVES_BYTES, PROGRAM_BYTES, SCHEDULE_BYTES}
 
 -- The sizes that it gives to parameters with these names, where it names each exactly once and nothing else: to none where no
--- sizes are asked for.
+-- sizes are asked for. Matrix products have no file, so no names of its parameters.
 abbrev pub sizes_for : Work → List (List ℕ) → Option (List ℤ)
 sizes_for (judges checks) names = Some []
 sizes_for (judges (evaluates s named)) names = values_for names named
@@ -15,6 +15,7 @@ sizes_for (replays s named) names = values_for names named
 sizes_for (climbs capacities named) names = values_for names named
 sizes_for (bounds_traffic s named) names = values_for names named
 sizes_for bounds names = Some []
+sizes_for (samples products) names = None
 
 abbrev pub HasSizes : Work → List (List ℕ) → Type 0
 HasSizes work names = (sizes : List ℤ) × (sizes_for work names ≡ Some sizes)
@@ -26,6 +27,7 @@ other_bytes (replays s named) = SCHEDULE_BYTES
 other_bytes (climbs capacities named) = MOVES_BYTES
 other_bytes (bounds_traffic s named) = CERTIFICATE_BYTES
 other_bytes bounds = 0
+other_bytes (samples products) = 0
 
 -- how many bytes the file at a place of the words may have
 abbrev pub most_bytes : Work → ℕ → ℕ
@@ -43,3 +45,4 @@ form_of (replays s named) = by_lines
 form_of (climbs capacities named) = whole
 form_of (bounds_traffic s named) = whole
 form_of bounds = with_note
+form_of (samples products) = whole

@@ -1,6 +1,6 @@
 //! That a call has one outcome, that causes are answered, and that bounds are below plays.
 
-ghost use Rattle.iolb_commands.specs.Laws.{AbsentProgramsAreNamed, AbsentSecondFilesAreNamed, BoundsAreBelowPlays, CausesAreAnswered, CompletePlaysPass, FailingCertificatesAreRefused, OtherWordsAreRefused, OthersNeverPass, OutcomesAreOne, PlayableSchedulesPass, ReadableProgramsHaveCertificates, SureCallsAreUndisturbed, UndisturbedCallsHaveNoFault, ValidCertificatesPass, ValidStoresPass};
+ghost use Rattle.iolb_commands.specs.Laws.{AbsentProgramsAreNamed, AbsentSecondFilesAreNamed, BoundsAreBelowPlays, CausesAreAnswered, CompletePlaysPass, FailingCertificatesAreRefused, OtherWordsAreRefused, OthersNeverPass, OutcomesAreOne, PlayableSchedulesPass, ReadableProgramsHaveCertificates, SamplesAreAnswered, SureCallsAreUndisturbed, UndisturbedCallsHaveNoFault, ValidCertificatesPass, ValidStoresPass};
 
 use affine_c::texts_mean_one_program;
 use iolb_cert::{texts_have_one_answer, texts_have_one_certificate};
@@ -14,7 +14,7 @@ use tile_sched::{replays_are_one, schedules_are_one};
 /// A law of `run`'s outcomes, over files that tell what they hold. Two outcomes of one call in which no read and no write
 /// failed, and that aren't want of memory, have the same status, and the output and the standard error have gained the
 /// same bytes; only where `bound` gives 0 the bytes may be those of another certificate that meets the conditions, and of its
-/// bound. So where the program and the certificate are readable, and the certificate meets the conditions, `check`
+/// bound, and where `sample` does the value of one. `sample` gives 0 or 9. Where the program and the certificate are readable, and the certificate meets the conditions, `check`
 /// gives 0 or 9, and with sizes that meet the assumptions and no wide value `eval`, `parallel` and `levels` give 0 or 9; where
 /// it doesn't meet them, none of them gives 0. Where the program and the schedule are readable and the schedule can be played
 /// at the sizes, `replay` gives 0 or 9, and so does `climb` where the moves are a complete play at the sizes, and `traffic` where the
@@ -29,6 +29,7 @@ pub fn outcomes_are_one()
     ensures climbed { CompletePlaysPass }
     ensures stored { ValidStoresPass }
     ensures bounded { ReadableProgramsHaveCertificates }
+    ensures sampled { SamplesAreAnswered }
     ensures below { BoundsAreBelowPlays }
 {
     texts_mean_one_program();

@@ -15,6 +15,7 @@ mod lines;
 mod playing;
 mod pointer_text;
 mod requests;
+mod sampling;
 mod sharing;
 mod status;
 mod stop;

@@ -9,7 +9,7 @@ ghost use Rattle.command_words.specs.Sizes.{NamedSize, values_for as values_name
 ghost use Rattle.iolb_cert.specs.OneCertificate.{HasCertificate};
 ghost use Rattle.iolb_cert.specs.Texts.{IsTextFault};
 ghost use Rattle.iolb_check.specs.Claims.{claim_of_certificate};
-ghost use Rattle.iolb_commands.specs.Phases.{IsSaid, IsUnread, IsUnsaid, NamesCome, RequestComes, WorkComes};
+ghost use Rattle.iolb_commands.specs.Phases.{IsSaid, IsUnread, IsUnsaid, NamesCome, ProgramComes, RequestComes, WorkComes};
 ghost use Rattle.iolb_commands.specs.Reading.{IsContent};
 ghost use Rattle.iolb_commands.specs.Stop.{faults_at};
 ghost use Rattle.iolb_commands.specs.Works.{most_bytes as most_at, sizes_for as sizes_of_work, whole};
@@ -23,6 +23,7 @@ use crate::bounding::bounded;
 use crate::checking::judged;
 use crate::climbing::climb_answer;
 use crate::playing::readied;
+use crate::sampling::sampled;
 use crate::stop::{OtherFault, Stop};
 use crate::traffic::traffic_answer;
 use affine_c::{ProgramError, read_program};
@@ -48,7 +49,7 @@ fn most_bytes(work: &Work, place: usize) -> u64
         Work::Judge(_) | Work::Traffic(_) => limits::CERTIFICATE_BYTES as u64,
         Work::Replay(_) => limits::SCHEDULE_BYTES as u64,
         Work::Climb(_) => limits::MOVES_BYTES as u64,
-        Work::Bound => 0,
+        Work::Bound | Work::Sample(_) => 0,
     }
 }
 
@@ -144,6 +145,7 @@ fn sizes_for(alloc: Global, names: &[Name], work: &Work) -> Result<Option<Vec<i6
             values_for(alloc, names, setting.sizes.as_slice())
         }
         Work::Judge(Job::Check) | Work::Bound => Ok(Some(Vec::new(alloc))),
+        Work::Sample(_) => Ok(None),
     }
 }
 
@@ -187,6 +189,7 @@ fn work_at<F: Files>(
             traffic_at(alloc, program, command, setting.memory, sizes, files)
         }
         Work::Bound => bounded(alloc, program),
+        Work::Sample(_) => unreachable!(),
     }
 }
 
@@ -211,6 +214,23 @@ fn work_on<F: Files>(
     }
 }
 
+/// Does what a command asks for on the program in its first file.
+fn on_program<F: Files>(alloc: Global, command: &Command<'_>, files: &mut F) -> Result<Answer, Stop>
+    requires work { IsSmallWork command.now.work }
+    ensures told_stays { F.told files.new ≡ F.told files.old }
+    ensures read { OnOk result (F.faults files.new ≡ F.faults files.old) }
+    ensures noted { IfErr result (λ stop. F.faults files.new ≡ faults_at (bytes_of command.now.files.now) stop (F.faults files.old)) }
+    ensures comes { ProgramComes (F.told files.old) (bytes_of command.now.files.now) (work_of command.now.work) (end_of result) }
+    ensures kind { IfOk result (IsOfWork (work_of command.now.work)) }
+{
+    let bytes = read_at(command, 0, files)?;
+    match read_program(alloc, bytes.as_slice()) {
+        Ok(program) => work_on(alloc, &program, command, files),
+        Err(ProgramError::Fault(fault)) => Err(Stop::ProgramText(fault)),
+        Err(ProgramError::Memory) => Err(Stop::Memory),
+    }
+}
+
 /// Does what a command asks for: what answers it, or why not.
 pub(crate) fn run_command<F: Files>(
     alloc: Global,
@@ -224,10 +244,8 @@ pub(crate) fn run_command<F: Files>(
     ensures comes { RequestComes (F.told files.old) (asked command.now) (end_of result) }
     ensures kind { IfOk result (IsOfWork (work_of command.now.work)) }
 {
-    let bytes = read_at(command, 0, files)?;
-    match read_program(alloc, bytes.as_slice()) {
-        Ok(program) => work_on(alloc, &program, command, files),
-        Err(ProgramError::Fault(fault)) => Err(Stop::ProgramText(fault)),
-        Err(ProgramError::Memory) => Err(Stop::Memory),
+    match &command.work {
+        Work::Sample(count) => sampled(alloc, *count),
+        _ => on_program(alloc, command, files),
     }
 }

@@ -35,9 +35,9 @@ fails_then Memory read f fails = tt
 fails_then (Fault g) read f fails = ap (λ r. r >>= f) fails
 
 -- an error that is handed on
-pub hands_on : {A X : Type 0} (view : X → A) (r : Result X CertError) (e : CertError) (read : Outcome A) → IsErr r × IsErrAnd r (λ e'. e' ≡ e) → Fails e read → Gives view r read
-hands_on view (Ok x) e read handed fails = absurd handed.1
-hands_on view (Err e') e read handed fails = subst (λ (f : CertError). Fails f read) (sym handed.1) fails
+pub hands_on : {A X : Type 0} (json_data : X → A) (r : Result X CertError) (e : CertError) (read : Outcome A) → IsErr r × IsErrAnd r (λ e'. e' ≡ e) → Fails e read → Gives json_data r read
+hands_on json_data (Ok x) e read handed fails = absurd handed.1
+hands_on json_data (Err e') e read handed fails = subst (λ (f : CertError). Fails f read) (sym handed.1) fails
 
 pub hands_on_by : {A X : Type 0} (Holds : A → X → Type 0) (r : Result X CertError) (e : CertError) (read : Outcome A) → IsErr r × IsErrAnd r (λ e'. e' ≡ e) → Fails e read → GivesBy Holds r read
 hands_on_by Holds (Ok x) e read handed fails = absurd handed.1

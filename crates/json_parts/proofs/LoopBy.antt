@@ -2,8 +2,8 @@
 use Rattle.std.proofs.Common.{◌≡◌, ℕ, ◌+◌, ◌<◌, ◌≤◌, List, [], ◌∷◌, ◌++◌, length, drop, map, get_or, Ok, Some, Bool, true, false, refl, sym, ap, ◌∙◌}
 use Rattle.claims.specs.declared.place.Step.TheVariants.{Index}
 use Rattle.serde_json.specs.Data.{Data}
-use Rattle.serde_json.specs.View.{view}
-use Rattle.serde_json.specs.declared.value.Value.{Value}
+use Rattle.json_values.specs.View.{json_data}
+use Rattle.json_values.specs.declared.value.Json.{Json}
 use Rattle.json_parts.specs.declared.error.CertError.{CertError}
 use Rattle.json_parts.specs.Outcome.{Outcome, Fails, IsUnder}
 use Rattle.json_parts.specs.Json.{each}
@@ -11,9 +11,9 @@ use Rattle.json_parts.specs.Related.{AreAll, AreSaid, IsSaidOption, Link}
 use Rattle.json_parts.proofs.Loop.{with_front, goes_on, ends, is_done}
 
 -- this was found so far, and this is what the text says of it
-pub record SoFar {A X : Type 0} (R : A → X → Type 0) (reader : Data → Outcome A) (values : List Value) (i : ℕ) (found : List X) (total : Outcome (List A)) : Type 0 where
+pub record SoFar {A X : Type 0} (R : A → X → Type 0) (reader : Data → Outcome A) (values : List Json) (i : ℕ) (found : List X) (total : Outcome (List A)) : Type 0 where
   pub front : List A
-  pub left : with_front front (each reader i (map view (drop i values))) ≡ total
+  pub left : with_front front (each reader i (map json_data (drop i values))) ≡ total
   pub holds : AreAll R front found
 
 AreAll-push : {A X : Type 0} (R : A → X → Type 0) (front : List A) (found : List X) (a : A) (x : X) → AreAll R front found → R a x → AreAll R (front ++ a ∷ []) (found ++ x ∷ [])
@@ -22,8 +22,8 @@ AreAll-push R [] (y ∷ found) a x all here = absurd all
 AreAll-push R (b ∷ front) [] a x all here = absurd all
 AreAll-push R (b ∷ front) (y ∷ found) a x all here = (all.0, AreAll-push R front found a x all.1 here)
 
-pub goes_on_by : {A X : Type 0} (R : A → X → Type 0) (reader : Data → Outcome A) (values : List Value) (i : ℕ) (found : List X) (total : Outcome (List A)) (value : Value) (x : X)
-    → i < length values → value ≡ get_or values i value → ((a : A) × (reader (view value) ≡ Ok a) × R a x)
+pub goes_on_by : {A X : Type 0} (R : A → X → Type 0) (reader : Data → Outcome A) (values : List Json) (i : ℕ) (found : List X) (total : Outcome (List A)) (value : Json) (x : X)
+    → i < length values → value ≡ get_or values i value → ((a : A) × (reader (json_data value) ≡ Ok a) × R a x)
     → SoFar R reader values i found total → SoFar R reader values (i + 1) (found ++ x ∷ []) total
 goes_on_by R reader values i found total value x lt is read so_far = record {
   front = so_far.front ++ read.0 ∷ [];
@@ -31,12 +31,12 @@ goes_on_by R reader values i found total value x lt is read so_far = record {
   holds = AreAll-push R so_far.front found read.0 x so_far.holds read.2;
 }
 
-pub ends_by : {A X : Type 0} (R : A → X → Type 0) (reader : Data → Outcome A) (values : List Value) (i : ℕ) (found : List X) (total : Outcome (List A)) (value : Value) (e e' : CertError)
-    → i < length values → value ≡ get_or values i value → Fails e (reader (view value)) → IsUnder (Index i) e e'
+pub ends_by : {A X : Type 0} (R : A → X → Type 0) (reader : Data → Outcome A) (values : List Json) (i : ℕ) (found : List X) (total : Outcome (List A)) (value : Json) (e e' : CertError)
+    → i < length values → value ≡ get_or values i value → Fails e (reader (json_data value)) → IsUnder (Index i) e e'
     → SoFar R reader values i found total → Fails e' total
 ends_by R reader values i found total value e e' lt is read seen so_far = ends reader so_far.front values i i value e e' total lt is read seen so_far.left
 
-pub is_done_by : {A X : Type 0} (R : A → X → Type 0) (reader : Data → Outcome A) (values : List Value) (i : ℕ) (found : List X) (total : Outcome (List A))
+pub is_done_by : {A X : Type 0} (R : A → X → Type 0) (reader : Data → Outcome A) (values : List Json) (i : ℕ) (found : List X) (total : Outcome (List A))
     → length values ≤ i → SoFar R reader values i found total → (front : List A) × (total ≡ Ok front) × AreAll R front found
 is_done_by R reader values i found total le so_far = (so_far.front, is_done reader so_far.front values i i total le so_far.left, so_far.holds)
 

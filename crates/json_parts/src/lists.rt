@@ -2,6 +2,7 @@
 
 ghost use Rattle.std.specs.Prelude.{◌≡◌, ◌≤◌, List, length, map, IfOk};
 ghost use Rattle.std.specs.List.{AllByRecursion};
+ghost use Rattle.json_values.specs.View.{json_data};
 ghost use Rattle.serde_json.specs.View.{view};
 ghost use Rattle.json_parts.specs.Json.{each};
 ghost use Rattle.json_parts.specs.Outcome.{GivesBy};
@@ -14,13 +15,14 @@ use crate::json::{list, short_list};
 use crate::part::Part;
 use affine_form::Memory;
 use claims::Step;
+use json_values::Json;
 use serde_json::Value;
 use std::alloc::Global;
 use std::marker::PhantomData;
 
 /// What each member of an array says.
-fn read_all<S: Part>(alloc: Global, values: &[Value]) -> Result<Vec<S::Value>, CertError>
-    ensures { GivesBy (λ said all. AreSaid S.link.is_plain S.link.all_said S.link.Is said all.items) result (each S.shape.reads 0 (map view values.now)) }
+fn read_all<S: Part>(alloc: Global, values: &[Json]) -> Result<Vec<S::Value>, CertError>
+    ensures { GivesBy (λ said all. AreSaid S.link.is_plain S.link.all_said S.link.Is said all.items) result (each S.shape.reads 0 (map json_data values.now)) }
 {
     let mut all = Vec::new(alloc);
     for (i, value) in values.iter().enumerate() {
@@ -63,7 +65,7 @@ impl<S: Part> Part for ListOf<S> {
     ghost Fits = { λ all. AllByRecursion S.Fits all.items };
 
     #[tactic(auto, unfolding(crate::specs::Json::reads_all))]
-    fn read(alloc: Global, value: &Value) -> Result<Vec<S::Value>, CertError> {
+    fn read(alloc: Global, value: &Json) -> Result<Vec<S::Value>, CertError> {
         let values = list(alloc, value)?;
         read_all::<S>(alloc, values)
     }
@@ -91,7 +93,7 @@ impl<S: Part, const MOST: usize> Part for Few<S, MOST> {
     ghost Fits = { λ all. AllByRecursion S.Fits all.items × (length all.items ≤ MOST) };
 
     #[tactic(auto, unfolding(crate::specs::Json::reads_few))]
-    fn read(alloc: Global, value: &Value) -> Result<Vec<S::Value>, CertError> {
+    fn read(alloc: Global, value: &Json) -> Result<Vec<S::Value>, CertError> {
         let values = short_list(alloc, value, MOST)?;
         read_all::<S>(alloc, values)
     }

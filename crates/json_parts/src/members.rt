@@ -1,7 +1,7 @@
 //! The members of objects, by a type: a member, and those behind it.
 
 ghost use Rattle.std.specs.Prelude.{◌≡◌, ℕ, suc, List, [], length, true};
-ghost use Rattle.serde_json.specs.View.{view};
+ghost use Rattle.json_values.specs.View.{json_data};
 ghost use Rattle.json_parts.specs.Outcome.{Gives, GivesBy};
 ghost use Rattle.json_parts.specs.Json.{part};
 ghost use Rattle.json_parts.specs.Fields.{Fields, no_fields, field, reads_object};
@@ -11,7 +11,7 @@ use crate::error::{CertError, fault, under};
 use crate::json::has_keys;
 use crate::part::Part;
 use claims::{ObjectKey, Step};
-use serde_json::Value;
+use json_values::Json;
 use std::alloc::Global;
 
 /// The members of an object, by the byte order of their keys.
@@ -28,9 +28,9 @@ pub trait Members {
     ghost Are: { Said → Self.Values → Type 0 };
 
     /// What the members with these keys say.
-    fn read(alloc: Global, value: &Value, names: &[&'static str]) -> Result<Self::Values, CertError>
+    fn read(alloc: Global, value: &Json, names: &[&'static str]) -> Result<Self::Values, CertError>
         requires names { length names.now ≡ COUNT }
-        ensures { GivesBy Are result ((fields (names_of names.now)).reads (view value.now)) };
+        ensures { GivesBy Are result ((fields (names_of names.now)).reads (json_data value.now)) };
 
     ghost names_are: { (names : List (List ℕ)) → length names ≡ COUNT → (fields names).names ≡ names };
 }
@@ -50,7 +50,7 @@ impl Members for End {
 
     ghost Are = { λ _ _. Unit {0} };
 
-    fn read(_alloc: Global, _value: &Value, _names: &[&'static str]) -> Result<(), CertError> {
+    fn read(_alloc: Global, _value: &Json, _names: &[&'static str]) -> Result<(), CertError> {
         Ok(())
     }
 
@@ -60,10 +60,10 @@ impl Members for End {
 /// The member with this name.
 pub fn member<S: Part>(
     alloc: Global,
-    value: &Value,
+    value: &Json,
     name: &'static str,
 ) -> Result<S::Value, CertError>
-    ensures { GivesBy S.link.Is result (part name.now S.shape.reads (view value.now)) }
+    ensures { GivesBy S.link.Is result (part name.now S.shape.reads (json_data value.now)) }
 {
     match value.get(name) {
         Some(member) => match S::read(alloc, member) {
@@ -87,7 +87,7 @@ impl<S: Part, R: Members> Members for (S, R) {
 
     fn read(
         alloc: Global,
-        value: &Value,
+        value: &Json,
         names: &[&'static str],
     ) -> Result<(S::Value, R::Values), CertError> {
         let first = member::<S>(alloc, value, names[0])?;
@@ -102,11 +102,11 @@ impl<S: Part, R: Members> Members for (S, R) {
 #[tactic(auto, unfolding(crate::specs::Fields::reads_object))]
 pub fn read_object<M: Members>(
     alloc: Global,
-    value: &Value,
+    value: &Json,
     names: &[&'static str],
 ) -> Result<M::Values, CertError>
     requires names { length names.now ≡ M.COUNT }
-    ensures { GivesBy M.Are result (reads_object (M.fields (names_of names.now)) (view value.now)) }
+    ensures { GivesBy M.Are result (reads_object (M.fields (names_of names.now)) (json_data value.now)) }
 {
     if has_keys(value, names) {
         M::read(alloc, value, names)
@@ -118,11 +118,11 @@ pub fn read_object<M: Members>(
 /// The member with this name, where the value says just what is said.
 pub fn said_member<S: Part>(
     alloc: Global,
-    value: &Value,
+    value: &Json,
     name: &'static str,
 ) -> Result<S::Value, CertError>
     requires { S.link.is_plain ≡ true }
-    ensures { Gives S.link.said result (part name.now S.shape.reads (view value.now)) }
+    ensures { Gives S.link.said result (part name.now S.shape.reads (json_data value.now)) }
 {
     member::<S>(alloc, value, name)
 }

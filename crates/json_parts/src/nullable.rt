@@ -7,6 +7,7 @@ ghost use Rattle.json_parts.specs.Shape.{or_null_shape};
 use crate::error::CertError;
 use crate::part::Part;
 use affine_form::Memory;
+use json_values::Json;
 use serde_json::Value;
 use std::alloc::Global;
 use std::marker::PhantomData;
@@ -28,7 +29,7 @@ impl<S: Part> Part for OrNull<S> {
     ghost Fits = { λ one. IfSome one (λ x. S.Fits x × (S.shape.is_present ≡ true)) };
 
     #[tactic(auto, unfolding(crate::specs::Json::reads_or_null))]
-    fn read(alloc: Global, value: &Value) -> Result<Option<S::Value>, CertError> {
+    fn read(alloc: Global, value: &Json) -> Result<Option<S::Value>, CertError> {
         if value.is_null() {
             return Ok(None);
         }

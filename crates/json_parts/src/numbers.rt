@@ -8,6 +8,7 @@ use crate::error::{CertError, fault};
 use crate::json::natural;
 use crate::part::Part;
 use affine_form::Memory;
+use json_values::Json;
 use serde_json::Value;
 use std::alloc::Global;
 
@@ -25,7 +26,7 @@ impl<const LEAST: u64, const MOST: u64> Part for Number8<LEAST, MOST> {
 
     ghost Fits = { λ n. (LEAST ≤ n) × (n ≤ MOST) };
 
-    fn read(alloc: Global, value: &Value) -> Result<u8, CertError> {
+    fn read(alloc: Global, value: &Json) -> Result<u8, CertError> {
         Ok(natural(alloc, value, LEAST, MOST.min(255))? as u8)
     }
 
@@ -49,7 +50,7 @@ impl Part for Any8 {
 
     ghost Fits = { λ _. Unit {0} };
 
-    fn read(alloc: Global, value: &Value) -> Result<u8, CertError> {
+    fn read(alloc: Global, value: &Json) -> Result<u8, CertError> {
         Ok(natural(alloc, value, 0, 255)? as u8)
     }
 
@@ -73,7 +74,7 @@ impl Part for Any16 {
 
     ghost Fits = { λ _. Unit {0} };
 
-    fn read(alloc: Global, value: &Value) -> Result<u16, CertError> {
+    fn read(alloc: Global, value: &Json) -> Result<u16, CertError> {
         Ok(natural(alloc, value, 0, 65535)? as u16)
     }
 
@@ -97,7 +98,7 @@ impl<const LEAST: u64, const MOST: u64> Part for Number32<LEAST, MOST> {
 
     ghost Fits = { λ n. (LEAST ≤ n) × (n ≤ MOST) };
 
-    fn read(alloc: Global, value: &Value) -> Result<u32, CertError> {
+    fn read(alloc: Global, value: &Json) -> Result<u32, CertError> {
         Ok(natural(alloc, value, LEAST, MOST.min(4294967295))? as u32)
     }
 
@@ -122,7 +123,7 @@ impl<const N: u64> Part for Exactly<N> {
     ghost Fits = { λ _. Unit {0} };
 
     #[tactic(auto, unfolding(crate::specs::Json::reads_exactly))]
-    fn read(alloc: Global, value: &Value) -> Result<(), CertError> {
+    fn read(alloc: Global, value: &Json) -> Result<(), CertError> {
         match value.as_u64() {
             Some(found) if found == N => Ok(()),
             _ => Err(fault(alloc, 2)),

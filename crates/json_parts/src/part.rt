@@ -1,6 +1,7 @@
 //! What a part of a JSON value says.
 
 ghost use Rattle.std.specs.Prelude.{◌≡◌, IfOk};
+ghost use Rattle.json_values.specs.View.{json_data};
 ghost use Rattle.serde_json.specs.View.{view};
 ghost use Rattle.json_parts.specs.Outcome.{GivesBy};
 ghost use Rattle.json_parts.specs.Related.{Link};
@@ -8,6 +9,7 @@ ghost use Rattle.json_parts.specs.Shape.{Shape, IsReadBack};
 
 use crate::error::CertError;
 use affine_form::Memory;
+use json_values::Json;
 use serde_json::Value;
 use std::alloc::Global;
 
@@ -27,8 +29,8 @@ pub trait Part {
     ghost Fits: { Self.Value → Type 0 };
 
     /// What a JSON value says, or its first fault.
-    fn read(alloc: Global, value: &Value) -> Result<Self::Value, CertError>
-        ensures { GivesBy link.Is result (shape.reads (view value.now)) };
+    fn read(alloc: Global, value: &Json) -> Result<Self::Value, CertError>
+        ensures { GivesBy link.Is result (shape.reads (json_data value.now)) };
 
     /// The JSON value that says this.
     fn write(alloc: Global, part: &Self::Value) -> Result<Value, Memory>

@@ -1,43 +1,16 @@
 -- Plays move by move.
-use Rattle.std.proofs.Common.{◌≡◌, refl, sym, ◌∙◌, ap, subst, inl, inr, ℕ, zero, suc, ◌+◌, ◌<◌, List, [], ◌∷◌, ◌++◌, length, map, get_or, take, drop, Option, Some, arith}
+use Rattle.std.proofs.Common.{◌≡◌, refl, sym, ◌∙◌, ap, subst, inl, inr, ℕ, zero, suc, ◌+◌, ◌<◌, List, [], ◌∷◌, ◌++◌, length, get_or, take, drop, Option, Some, arith}
 use Rattle.std.specs.Prelude.{◌⊎◌}
-use Rattle.std.specs.List.{range_with_len}
 use Rattle.std.proofs.lemmas.Bool.{cases_eq, cases_lt}
 use Rattle.std.proofs.lemmas.List.{take_more, length-take-le}
 use Rattle.std.proofs.lemmas.List.Sums.{fold-append}
 use Rattle.iolb_model.specs.Graph.{ComputationGraph}
-use Rattle.iolb_model.specs.Tower.{AreTowerAllowed, IsTowerAllowed, TowerBoard, brings, final_tower_board, first_tower_board, sends, tower_board_after, tower_left}
+use Rattle.iolb_model.specs.Tower.{AreTowerAllowed, IsTowerAllowed, TowerBoard, final_tower_board, first_tower_board, tower_board_after, tower_left}
 use Rattle.iolb_model.specs.declared.tower.TowerMove.{TowerMove}
-use Rattle.memory_levels.specs.Climbs.{AreLegal, CompleteOrUnfinished, FirstIllegalIsOne, FirstUnfinishedIsOne, IsFirstIllegal, LegalOrIllegal, crossing, crossings}
+use Rattle.memory_levels.specs.Climbs.{AreLegal, CompleteOrUnfinished, FirstIllegalIsOne, FirstUnfinishedIsOne, IsFirstIllegal, LegalOrIllegal}
 use Rattle.memory_levels.specs.Towers.{IsTowerOf, tower_refusal}
-use Rattle.memory_levels.specs.declared.climbs.Crossed.{Crossed}
 use Rattle.memory_levels.specs.declared.illegal.TowerIllegal.{TowerIllegal}
 use Rattle.memory_levels.proofs.Towers.{first-fits, moved-fits, refusal-forbidden}
-
--- ---- counts
-
-pub range-more : (a n : ℕ) → range_with_len a (n + 1) ≡ range_with_len a n ++ (a + n) ∷ []
-range-more a zero = ap (λ (m : ℕ). m ∷ []) (none a) where
-  none : (m : ℕ) → m ≡ m + 0
-  none m = omega arith
-range-more a (suc n) =
-    ap (range_with_len a) (next n) ∙ ap (λ (l : List ℕ). a ∷ l) (range-more (a + 1) n ∙ ap (λ (m : ℕ). range_with_len (a + 1) n ++ m ∷ []) (shift a n)) where
-      next : (m : ℕ) → suc m + 1 ≡ suc (m + 1)
-      next m = omega arith
-
-      shift : (b m : ℕ) → b + 1 + m ≡ b + suc m
-      shift b m = omega arith
-
-map-append : (steps : List TowerMove) (xs ys : List ℕ) → map (crossing steps) (xs ++ ys) ≡ map (crossing steps) xs ++ map (crossing steps) ys
-map-append steps [] ys = refl
-map-append steps (x ∷ xs) ys = ap (λ (l : List Crossed). crossing steps x ∷ l) (map-append steps xs ys)
-
--- one boundary more
-pub more-crossings : (steps : List TowerMove) (n : ℕ) → crossings (n + 1) steps ≡ crossings n steps ++ crossing steps (n + 1) ∷ []
-more-crossings steps n =
-    ap (map (crossing steps)) (range-more 1 n) ∙ map-append steps (range_with_len 1 n) ((1 + n) ∷ []) ∙ ap (λ (m : ℕ). crossings n steps ++ crossing steps m ∷ []) (swap n) where
-      swap : (m : ℕ) → 1 + m ≡ m + 1
-      swap m = omega arith
 
 -- ---- moves one after the other
 
@@ -145,11 +118,3 @@ first-illegal graph capacities board moves i step d illegal left legal below e r
   legal = legal;
   refused = ap (λ (b : TowerBoard). tower_refusal graph capacities b step) (sym left) ∙ refused;
 }
-
-pub pushed-crossing : (steps : List TowerMove) (n b s : ℕ) (so_far next : List Crossed) → b ≡ brings (n + 1) steps → s ≡ sends (n + 1) steps
-    → so_far ≡ crossings n steps → next ≡ so_far ++ record { brings = b; sends = s } ∷ [] → next ≡ crossings (n + 1) steps
-pushed-crossing steps n b s so_far next p q e f =
-    f ∙ ap (λ (l : List Crossed). l ++ record { brings = b; sends = s } ∷ []) e
-    ∙ ap (λ (x : ℕ). crossings n steps ++ record { brings = x; sends = s } ∷ []) p
-    ∙ ap (λ (x : ℕ). crossings n steps ++ record { brings = brings (n + 1) steps; sends = x } ∷ []) q
-    ∙ sym (more-crossings steps n)

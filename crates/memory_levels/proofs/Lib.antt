@@ -4,4 +4,5 @@ pub mod Sight
 pub mod Towers
 pub mod Reading
 pub mod Climbing
+pub mod Crossings
 pub mod LevelValues

@@ -5,7 +5,7 @@ use Rattle.std.specs.List.{AllByRecursion, position_or_len}
 use Rattle.std.specs.Char.{IsAsciiDigit, IsNotAsciiDigit, digit_value}
 use Rattle.std.specs.Str.Parse.{AllDigits, digits_value, digits_value_after}
 use Rattle.std.proofs.lemmas.Bool.{eqb-true, ne_eqb, eq-eqb, ltb-false}
-use Rattle.std.proofs.lemmas.List.{append_assoc, append_cancel_left, length-append, length-take, take_all}
+use Rattle.std.proofs.lemmas.List.{append_assoc, append_cancel_left, length-append, take_all}
 use Rattle.std.proofs.lemmas.List.Sums.{prefix_len_passes}
 use Rattle.std.proofs.lemmas.List.Quantifiers.{position-Some}
 use Rattle.std.proofs.lemmas.Fmt.{decimal_is_IsNumeral, decimal_digit, decimal_injective, decimal_nonempty, first_decimal, decimal-digits_value}
@@ -80,25 +80,29 @@ place-same i v j w is vs js ws e =
     let f : (48 + i) ∷ 32 ∷ decimal v ≡ (48 + j) ∷ 32 ∷ decimal w = sym (place-is i v is) ∙ e ∙ place-is j w js in
     (omega (arith, ap (λ (l : List ℕ). get_or l 0 0) f), decimal_injective v w (omega (arith, vs)) (omega (arith, ws)) (ap (drop 2) f))
 
-pub place-long : (bytes : List ℕ) (i v : ℕ) → i < 10 → v < 2 ^ 32 → bytes ≡ place_words i v → 2 ≤ length bytes
-place-long bytes i v is vs e = omega (arith, ap length e, ap length (place-is i v is))
+line-place : (bytes : List ℕ) (i v : ℕ) (later : List ℕ) → i < 10 → bytes ≡ place_words i v ++ 10 ∷ later → bytes ≡ (48 + i) ∷ 32 ∷ decimal v ++ 10 ∷ later
+line-place bytes i v later is e = e ∙ ap (λ (l : List ℕ). l ++ 10 ∷ later) (place-is i v is)
 
-pub place-digit : (bytes : List ℕ) (i v : ℕ) → i < 10 → bytes ≡ place_words i v → get_or bytes 0 0 ≡ 48 + i
-place-digit bytes i v is e = ap (λ (l : List ℕ). get_or l 0 0) (e ∙ place-is i v is)
+pub place-long : (bytes : List ℕ) (i v : ℕ) (later : List ℕ) → i < 10 → bytes ≡ place_words i v ++ 10 ∷ later → 2 ≤ length bytes
+place-long bytes i v later is e = omega (arith, ap length (line-place bytes i v later is e))
 
-pub place-space : (bytes : List ℕ) (i v : ℕ) → i < 10 → bytes ≡ place_words i v → get_or bytes 1 0 ≡ 32
-place-space bytes i v is e = ap (λ (l : List ℕ). get_or l 1 0) (e ∙ place-is i v is)
+pub place-digit : (bytes : List ℕ) (i v : ℕ) (later : List ℕ) → i < 10 → bytes ≡ place_words i v ++ 10 ∷ later → get_or bytes 0 0 ≡ 48 + i
+place-digit bytes i v later is e = ap (λ (l : List ℕ). get_or l 0 0) (line-place bytes i v later is e)
 
-pub place-vertex : (bytes : List ℕ) (i v : ℕ) → i < 10 → bytes ≡ place_words i v → drop 2 bytes ≡ decimal v
-place-vertex bytes i v is e = ap (drop 2) (e ∙ place-is i v is)
+pub place-space : (bytes : List ℕ) (i v : ℕ) (later : List ℕ) → i < 10 → bytes ≡ place_words i v ++ 10 ∷ later → get_or bytes 1 0 ≡ 32
+place-space bytes i v later is e = ap (λ (l : List ℕ). get_or l 1 0) (line-place bytes i v later is e)
 
-pub place-read : (bytes : List ℕ) (v : ℕ) → 2 ≤ length bytes → 48 ≤ get_or bytes 0 0 → get_or bytes 0 0 ≤ 57 → get_or bytes 1 0 ≡ 32 → drop 2 bytes ≡ decimal v
-    → bytes ≡ place_words (get_or bytes 0 0 - 48) v
-place-read [] v long low high space e = absurd (omega (arith, long))
-place-read (a ∷ []) v long low high space e = absurd (omega (arith, long))
-place-read (a ∷ b ∷ bytes) v long low high space e =
+pub place-vertex : (bytes : List ℕ) (i v : ℕ) (later : List ℕ) → i < 10 → bytes ≡ place_words i v ++ 10 ∷ later → drop 2 bytes ≡ decimal v ++ 10 ∷ later
+place-vertex bytes i v later is e = ap (drop 2) (line-place bytes i v later is e)
+
+pub place-read : (bytes : List ℕ) (v : ℕ) (later : List ℕ) → 2 ≤ length bytes → 48 ≤ get_or bytes 0 0 → get_or bytes 0 0 ≤ 57 → get_or bytes 1 0 ≡ 32
+    → drop 2 bytes ≡ decimal v ++ 10 ∷ later → bytes ≡ place_words (get_or bytes 0 0 - 48) v ++ 10 ∷ later
+place-read [] v later long low high space e = absurd (omega (arith, long))
+place-read (a ∷ []) v later long low high space e = absurd (omega (arith, long))
+place-read (a ∷ b ∷ bytes) v later long low high space e =
     let digit : a ≡ 48 + (a - 48) = omega (arith, low) in
-    ap (λ (c : ℕ). a ∷ c ∷ bytes) space ∙ ap (λ (l : List ℕ). a ∷ 32 ∷ l) e ∙ ap (λ (c : ℕ). c ∷ 32 ∷ decimal v) digit ∙ sym (place-is (a - 48) v (omega (arith, low, high)))
+    ap (λ (c : ℕ). a ∷ c ∷ bytes) space ∙ ap (λ (l : List ℕ). a ∷ 32 ∷ l) e ∙ ap (λ (c : ℕ). c ∷ 32 ∷ decimal v ++ 10 ∷ later) digit
+    ∙ ap (λ (l : List ℕ). l ++ 10 ∷ later) (sym (place-is (a - 48) v (omega (arith, low, high))))
 
 -- a number that has a leading 0 and more
 pub number-led : (bytes : List ℕ) (v : ℕ) → v < 2 ^ 32 → get_or bytes 0 0 ≡ 48 → length bytes ≢ 1 → bytes ≡ decimal v → ⊥
@@ -247,32 +251,6 @@ never-both (a ∷ moves) (b ∷ before) left h k some bad e =
 pub moves_or_fault : MovesOrFault
 moves_or_fault bytes moves place h k = never-both moves k.before k.left h.each k.each k.some k.bad (sym h.text ∙ k.text)
 
--- ---- the first line
-
--- where what stands before the first newline says a move, the bytes begin with its line
-pub line-read : (bytes : List ℕ) (end : ℕ) (move : TowerMove) → end < length bytes → nat_eq (get_or bytes end 0) 10 ≡ true → take end bytes ≡ move_words move
-    → bytes ≡ move_line move ++ drop (end + 1) bytes
-line-read bytes end move below newline e =
-    split-at bytes end below
-    ∙ ap (λ (b : ℕ). take end bytes ++ b ∷ drop (end + 1) bytes) (eqb-true (get_or bytes end 0) 10 newline)
-    ∙ ap (λ (l : List ℕ). l ++ 10 ∷ drop (end + 1) bytes) e
-    ∙ sym (line-is move (drop (end + 1) bytes))
-
--- where it says none, they don't
-pub line-unread : (bytes : List ℕ) (end : ℕ) → end < length bytes → nat_eq (get_or bytes end 0) 10 ≡ true → ((k : ℕ) → k < end → nat_eq (get_or bytes k 0) 10 ≡ false)
-    → ((move : TowerMove) → CanBeWritten move → take end bytes ≢ move_words move) → ¬ BeginsWithMove bytes
-line-unread bytes end below newline before none begins =
-    none begins.move begins.written (split-one (take end bytes) (move_words begins.move) (drop (end + 1) bytes) begins.later (clean-before bytes end before) (words-clean begins.move begins.written)
-    (ap (λ (b : ℕ). take end bytes ++ b ∷ drop (end + 1) bytes) (sym (eqb-true (get_or bytes end 0) 10 newline)) ∙ sym (split-at bytes end below) ∙ begins.text ∙ line-is begins.move begins.later)).0
-
--- nor where there is no newline
-has-newline : (xs ys : List ℕ) → AllByRecursion (λ b. nat_eq b 10 ≡ false) (xs ++ 10 ∷ ys) → ⊥
-has-newline [] ys h = let f : nat_eq 10 10 ≡ true = refl in let g : nat_eq 10 10 ≡ false = h.0 in absurd cc
-has-newline (x ∷ xs) ys h = has-newline xs ys h.1
-
-pub unended : (bytes : List ℕ) → IsClean bytes → ¬ BeginsWithMove bytes
-unended bytes h begins = has-newline (move_words begins.move) begins.later (subst (λ (l : List ℕ). IsClean l) (begins.text ∙ line-is begins.move begins.later) h)
-
 -- ---- the first newline
 
 pub newline-at : (bytes : List ℕ) (end : ℕ) → position (λ b. b == 10) bytes ≡ Some end
@@ -291,5 +269,48 @@ no-newline bytes e = subst (λ (l : List ℕ). IsClean l) (take_all (length byte
     by true same f = cc
     by false same f = ltb-false n m (sym same)
 
-pub line-length : (bytes : List ℕ) (end : ℕ) (move : TowerMove) → end < length bytes → take end bytes ≡ move_words move → end + 1 ≡ length (move_line move)
-line-length bytes end move below e = omega (arith, ap length e, length-take end bytes, length-append (move_words move) (10 ∷ []))
+-- ---- a number up to the end of its line
+
+-- what stands up to the first newline and behind it
+line-split : (bytes : List ℕ) (end : ℕ) → end < length bytes → nat_eq (get_or bytes end 0) 10 ≡ true → bytes ≡ take end bytes ++ 10 ∷ drop (end + 1) bytes
+line-split bytes end below newline =
+    split-at bytes end below ∙ ap (λ (b : ℕ). take end bytes ++ b ∷ drop (end + 1) bytes) (eqb-true (get_or bytes end 0) 10 newline)
+
+pub ended-number : (bytes : List ℕ) (end v : ℕ) → end < length bytes → nat_eq (get_or bytes end 0) 10 ≡ true → take end bytes ≡ decimal v
+    → bytes ≡ decimal v ++ 10 ∷ drop (end + 1) bytes
+ended-number bytes end v below newline e = line-split bytes end below newline ∙ ap (λ (l : List ℕ). l ++ 10 ∷ drop (end + 1) bytes) e
+
+pub no-number : (bytes : List ℕ) (end : ℕ) → end < length bytes → nat_eq (get_or bytes end 0) 10 ≡ true → ((k : ℕ) → k < end → nat_eq (get_or bytes k 0) 10 ≡ false)
+    → ((v : ℕ) → v < 2 ^ 32 → take end bytes ≢ decimal v) → (v : ℕ) (later : List ℕ) → v < 2 ^ 32 → bytes ≢ decimal v ++ 10 ∷ later
+no-number bytes end below newline before none v later small e =
+    none v small (split-one (take end bytes) (decimal v) (drop (end + 1) bytes) later (clean-before bytes end before) (decimal-clean v small) (sym (line-split bytes end below newline) ∙ e)).0
+
+has-newline : (xs ys : List ℕ) → AllByRecursion (λ b. nat_eq b 10 ≡ false) (xs ++ 10 ∷ ys) → ⊥
+has-newline [] ys h = let f : nat_eq 10 10 ≡ true = refl in let g : nat_eq 10 10 ≡ false = h.0 in absurd cc
+has-newline (x ∷ xs) ys h = has-newline xs ys h.1
+
+pub unended-number : (bytes : List ℕ) → IsClean bytes → (v : ℕ) (later : List ℕ) → bytes ≢ decimal v ++ 10 ∷ later
+unended-number bytes h v later e = has-newline (decimal v) later (subst (λ (l : List ℕ). IsClean l) e h)
+
+-- ---- a word in front, and what stands behind it
+
+behind-is : (word bytes rest : List ℕ) → behind word bytes ≡ Some rest → bytes ≡ word ++ rest
+behind-is [] bytes rest e = cc
+behind-is (w ∷ word) [] rest e = absurd cc
+behind-is (w ∷ word) (b ∷ bytes) rest e = by (b == w) refl e (behind-is word bytes rest) where
+  by : (same : Bool) → same ≡ (b == w) → cond same (behind word bytes) None ≡ Some rest → (behind word bytes ≡ Some rest → bytes ≡ word ++ rest) → b ∷ bytes ≡ w ∷ word ++ rest
+  by true is f inner = ap (λ (c : ℕ). c ∷ bytes) (eqb-true b w (sym is)) ∙ ap (λ (l : List ℕ). w ∷ l) (inner f)
+  by false is f inner = absurd cc
+
+-- a place behind a word, up to the end of its line
+pub placed-line : (word bytes place : List ℕ) (i v : ℕ) (later : List ℕ) → behind word bytes ≡ Some place → place ≡ place_words i v ++ 10 ∷ later
+    → bytes ≡ ((word ++ place_words i v) ++ 10 ∷ []) ++ later
+placed-line word bytes place i v later e f =
+    behind-is word bytes place e ∙ ap (λ (l : List ℕ). word ++ l) f ∙ sym (append_assoc word (place_words i v) (10 ∷ later))
+    ∙ sym (append_assoc (word ++ place_words i v) (10 ∷ []) later)
+
+pub numbered-line : (word bytes number : List ℕ) (v : ℕ) (later : List ℕ) → behind word bytes ≡ Some number → number ≡ decimal v ++ 10 ∷ later
+    → bytes ≡ ((word ++ decimal v) ++ 10 ∷ []) ++ later
+numbered-line word bytes number v later e f =
+    behind-is word bytes number e ∙ ap (λ (l : List ℕ). word ++ l) f ∙ sym (append_assoc word (decimal v) (10 ∷ later))
+    ∙ sym (append_assoc (word ++ decimal v) (10 ∷ []) later)

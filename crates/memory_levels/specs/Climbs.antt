@@ -23,6 +23,10 @@ crossing steps boundary = record { brings = brings boundary steps; sends = sends
 abbrev pub crossings : ℕ → List TowerMove → List Crossed
 crossings fast steps = map (crossing steps) (boundaries fast)
 
+-- these are how many words some moves carry over each boundary
+abbrev pub AreCrossings : List Crossed → List TowerMove → Type 0
+AreCrossings crossed steps = crossed ≡ crossings (length crossed) steps
+
 -- each move is allowed, from the first board on
 abbrev pub AreLegal : ComputationGraph → List ℕ → List TowerMove → Type 0
 AreLegal graph capacities steps = AreTowerAllowed graph capacities (first_tower_board (length capacities) graph) steps

@@ -1,10 +1,10 @@
 //! Plays of moves over levels of memory.
 
-ghost use Rattle.std.specs.Prelude.{◌≡◌, ◌≤◌, length, IfOk, IfErr};
-ghost use Rattle.iolb_model.specs.Tower.{brings, is_bring, is_send, sends, tower_left};
-ghost use Rattle.memory_levels.specs.Climbs.{AreLegal, Climbs, IsPlayFault, crossings};
+ghost use Rattle.std.specs.Prelude.{◌≡◌, ◌≢◌, ℕ, ◌+◌, ◌<◌, ◌++◌, MatchOption, ◌^◌, ◌∷◌, [], List, length, IfOk, IfErr};
+ghost use Rattle.iolb_model.specs.Tower.{tower_left};
+ghost use Rattle.iolb_model.specs.declared.tower.TowerMove.{TowerMove as ModelMove};
+ghost use Rattle.memory_levels.specs.Climbs.{AreCrossings, AreLegal, Climbs, IsPlayFault, crossings};
 ghost use Rattle.memory_levels.specs.Towers.{AreCapacities, IsTowerOf};
-ghost use Rattle.iolb_model.specs.declared.limits.TheConstants.{LEVELS};
 
 use crate::illegal::TowerIllegal;
 use crate::tower::Tower;
@@ -94,55 +94,44 @@ fn tower_after(
 
 /// How many words moves carry over each boundary.
 fn crossings(alloc: Global, fast: usize, moves: &[TowerMove]) -> Result<Vec<Crossed>, AllocError>
-    requires { fast ≤ LEVELS }
     ensures { IfOk result (λ crossed. crossed.items ≡ crossings fast moves.now) }
 {
-    let mut crossed = Vec::with_capacity(alloc, fast)?;
-    for passed in 0..fast {
-        crossed.push(Crossed {
-            brings: brings(moves, passed + 1),
-            sends: sends(moves, passed + 1),
-        })?;
+    let none = Crossed {
+        brings: 0,
+        sends: 0,
+    };
+    let mut crossed = vec![in alloc; none; fast]?;
+    for step in moves {
+        count_move(crossed.as_mut_slice(), *step);
     }
     Ok(crossed)
 }
 
-/// How many words moves bring over a boundary.
-fn brings(moves: &[TowerMove], boundary: usize) -> u64
-    ensures { result ≡ brings boundary moves.now }
-{
-    moves
-        .iter()
-        .filter(|step| is_bring(boundary, **step))
-        .count() as u64
-}
-
-/// How many words they send over it.
-fn sends(moves: &[TowerMove], boundary: usize) -> u64
-    ensures { result ≡ sends boundary moves.now }
-{
-    moves
-        .iter()
-        .filter(|step| is_send(boundary, **step))
-        .count() as u64
-}
-
-/// Whether a move brings a word over a boundary.
-fn is_bring(boundary: usize, step: TowerMove) -> bool
-    ensures { result ≡ is_bring boundary step }
+/// Counts a move at the boundary that it carries a word over, if it is one of these.
+fn count_move(crossed: &mut [Crossed], step: TowerMove)
+    requires room { (steps : List ModelMove) × (length steps < 2 ^ 63) × AreCrossings crossed.old steps }
+    ensures counted { (steps : List ModelMove) → AreCrossings crossed.old steps → AreCrossings crossed.new (steps ++ step ∷ []) }
+    ensures length { length crossed.new ≡ length crossed.old }
 {
     match step {
-        TowerMove::Bring(i, _) => usize::from(i) == boundary,
-        _ => false,
+        TowerMove::Bring(i, _) => {
+            if let Some(place) = boundary_place(i, crossed.len()) {
+                crossed[place].brings += 1;
+            }
+        }
+        TowerMove::Send(i, _) => {
+            if let Some(place) = boundary_place(i, crossed.len()) {
+                crossed[place].sends += 1;
+            }
+        }
+        TowerMove::Compute(_) | TowerMove::Drop(_, _) => {}
     }
 }
 
-/// Whether a move sends one.
-fn is_send(boundary: usize, step: TowerMove) -> bool
-    ensures { result ≡ is_send boundary step }
+/// The place of a boundary among those below so many fast levels, if it is one of them.
+fn boundary_place(boundary: u8, fast: usize) -> Option<usize>
+    ensures { MatchOption result ((place : ℕ) → place < fast → boundary ≢ place + 1) (λ place. (place < fast) × (boundary ≡ place + 1)) }
 {
-    match step {
-        TowerMove::Send(i, _) => usize::from(i) == boundary,
-        _ => false,
-    }
+    let place = usize::from(boundary).checked_sub(1)?;
+    if place < fast { Some(place) } else { None }
 }

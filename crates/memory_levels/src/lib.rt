@@ -23,6 +23,3 @@ pub use moves_error::MovesError;
 pub use moves_text::read_moves;
 pub use seeing::seen;
 pub use tower::Tower;
-
-#[cfg(test)]
-mod tests;

@@ -1,9 +1,8 @@
 //! Reading moves from a text.
 
-ghost use Rattle.std.specs.Prelude.{◌≡◌, ◌≢◌, ◌<◌, ◌+◌, ◌++◌, ◌^◌, ℕ, List, length, drop, option_copied, decimal, position, ◌==◌, MatchOption};
+ghost use Rattle.std.specs.Prelude.{◌≡◌, ◌≢◌, ◌<◌, ◌++◌, ◌∷◌, ◌^◌, ℕ, List, option_copied, decimal, position, ◌==◌, MatchOption};
 ghost use Rattle.std.specs.Str.Parse.{AllDigits, digits_value};
-ghost use Rattle.iolb_model.specs.declared.tower.TowerMove.{TowerMove as ModelMove};
-ghost use Rattle.memory_levels.specs.MovesText.{BeginsWithMove, CanBeWritten, ReadsMoves, behind, move_line, move_words, place_words};
+ghost use Rattle.memory_levels.specs.MovesText.{BeginsWithMove, CanBeWritten, ReadsMoves, behind, move_line, place_words};
 
 use crate::moves_error::MovesError;
 use iolb_model::tower::TowerMove;
@@ -19,54 +18,38 @@ pub fn read_moves(alloc: Global, bytes: &[u8]) -> Result<Vec<TowerMove>, MovesEr
     ensures { ReadsMoves bytes.now result }
 {
     let mut moves = Vec::new(alloc);
-    let mut at = 0;
-    while at < bytes.len() {
-        let Some((step, length)) = first_line(&bytes[at..]) else {
-            return Err(MovesError::Line(at as u64));
+    let mut rest = bytes;
+    while !rest.is_empty() {
+        let Some((step, behind)) = first_line(rest) else {
+            return Err(MovesError::Line((bytes.len() - rest.len()) as u64));
         };
         if moves.push(step).is_err() {
             return Err(MovesError::Memory);
         }
-        at += length;
+        rest = behind;
     }
     Ok(moves)
 }
 
-/// The move that the first line says, and the line's length.
-fn first_line(bytes: &[u8]) -> Option<(TowerMove, usize)>
-    ensures { MatchOption result (¬ BeginsWithMove bytes.now) (λ read. CanBeWritten read.0 × (bytes.now ≡ move_line read.0 ++ drop read.1 bytes.now) × (read.1 ≡ length (move_line read.0))) }
+/// The move that the first line says, and what stands behind the line.
+fn first_line(bytes: &[u8]) -> Option<(TowerMove, &[u8])>
+    ensures { MatchOption result (¬ BeginsWithMove bytes.now) (λ read. CanBeWritten read.0 × (bytes.now ≡ move_line read.0 ++ read.1.now)) }
 {
-    let end = line_end(bytes)?;
-    let step = said_by(&bytes[..end])?;
-    Some((step, end + 1))
-}
-
-/// Where the first newline stands.
-fn line_end(bytes: &[u8]) -> Option<usize>
-    ensures { result ≡ position (λ b. b == 10) bytes.now }
-{
-    bytes.iter().position(|b| *b == b'\n')
-}
-
-/// The move that a line says, without its newline.
-fn said_by(line: &[u8]) -> Option<TowerMove>
-    ensures { MatchOption result ((move : ModelMove) → CanBeWritten move → line.now ≢ move_words move) (λ move. CanBeWritten move × (line.now ≡ move_words move)) }
-{
-    if let Some(rest) = after(b"bring ", line) {
-        let (i, v) = place_in(rest)?;
-        return Some(TowerMove::Bring(i, v));
+    if let Some(place) = after(b"bring ", bytes) {
+        let (i, v, rest) = place_in(place)?;
+        return Some((TowerMove::Bring(i, v), rest));
     }
-    if let Some(rest) = after(b"send ", line) {
-        let (i, v) = place_in(rest)?;
-        return Some(TowerMove::Send(i, v));
+    if let Some(place) = after(b"send ", bytes) {
+        let (i, v, rest) = place_in(place)?;
+        return Some((TowerMove::Send(i, v), rest));
     }
-    if let Some(rest) = after(b"compute ", line) {
-        let v = number_in(rest)?;
-        return Some(TowerMove::Compute(v));
+    if let Some(number) = after(b"compute ", bytes) {
+        let (v, rest) = number_in(number)?;
+        return Some((TowerMove::Compute(v), rest));
     }
-    let rest = after(b"drop ", line)?;
-    let (i, v) = place_in(rest)?;
-    Some(TowerMove::Drop(i, v))
+    let place = after(b"drop ", bytes)?;
+    let (i, v, rest) = place_in(place)?;
+    Some((TowerMove::Drop(i, v), rest))
 }
 
 /// What follows a word in front.
@@ -84,9 +67,9 @@ fn after<'a>(word: &[u8], line: &'a [u8]) -> Option<&'a [u8]>
     Some(rest)
 }
 
-/// A level and a vertex, a space between them.
-fn place_in(bytes: &[u8]) -> Option<(u8, u32)>
-    ensures { MatchOption result ((i v : ℕ) → i < 10 → v < 2 ^ 32 → bytes.now ≢ place_words i v) (λ place. (place.0 < 10) × (place.1 < 2 ^ 32) × (bytes.now ≡ place_words place.0 place.1)) }
+/// A level and a vertex, a space between them, up to the end of the line, and what stands behind it.
+fn place_in(bytes: &[u8]) -> Option<(u8, u32, &[u8])>
+    ensures { MatchOption result ((i v : ℕ) (later : List ℕ) → i < 10 → v < 2 ^ 32 → bytes.now ≢ place_words i v ++ 10 ∷ later) (λ read. (read.0 < 10) × (read.1 < 2 ^ 32) × (bytes.now ≡ place_words read.0 read.1 ++ 10 ∷ read.2.now)) }
 {
     if bytes.len() < 2 {
         return None;
@@ -97,12 +80,28 @@ fn place_in(bytes: &[u8]) -> Option<(u8, u32)>
     if bytes[1] != b' ' {
         return None;
     }
-    let v = number_in(&bytes[2..])?;
-    Some((bytes[0] - b'0', v))
+    let (v, rest) = number_in(&bytes[2..])?;
+    Some((bytes[0] - b'0', v, rest))
+}
+
+/// The number below 2^32 that the line writes, and what stands behind the line.
+fn number_in(bytes: &[u8]) -> Option<(u32, &[u8])>
+    ensures { MatchOption result ((v : ℕ) (later : List ℕ) → v < 2 ^ 32 → bytes.now ≢ decimal v ++ 10 ∷ later) (λ read. (read.0 < 2 ^ 32) × (bytes.now ≡ decimal read.0 ++ 10 ∷ read.1.now)) }
+{
+    let end = line_end(bytes)?;
+    let v = number_of(&bytes[..end])?;
+    Some((v, &bytes[end + 1..]))
+}
+
+/// Where the first newline stands.
+fn line_end(bytes: &[u8]) -> Option<usize>
+    ensures { result ≡ position (λ b. b == 10) bytes.now }
+{
+    bytes.iter().position(|b| *b == b'\n')
 }
 
 /// The number below 2^32 that these bytes write, without a leading 0 unless it is 0.
-fn number_in(bytes: &[u8]) -> Option<u32>
+fn number_of(bytes: &[u8]) -> Option<u32>
     ensures { MatchOption result ((v : ℕ) → v < 2 ^ 32 → bytes.now ≢ decimal v) (λ v. (v < 2 ^ 32) × (bytes.now ≡ decimal v)) }
 {
     if bytes.is_empty() {

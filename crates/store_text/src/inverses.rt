@@ -9,6 +9,7 @@ ghost use Rattle.store_text.specs.Outputs.{inverse_shape};
 use affine_form::Memory;
 use certificate_parts::OfMatrix;
 use json_parts::{CertError, End, Number32, Part, Put, read_object, write_object};
+use json_values::Json;
 use serde_json::Value;
 use std::alloc::Global;
 use std::marker::PhantomData;
@@ -31,7 +32,7 @@ impl Part for OfInverse {
     ghost Fits = { λ inverse. (1 ≤ inverse.scale) × (inverse.scale ≤ SCALE) };
 
     #[tactic(auto, unfolding(crate::specs::Outputs::inverse_shape))]
-    fn read(alloc: Global, value: &Value) -> Result<Inverse, CertError> {
+    fn read(alloc: Global, value: &Json) -> Result<Inverse, CertError> {
         let (matrix, (scale, ())) = read_object::<(OfMatrix, (Scale, End))>(
             alloc,
             value,

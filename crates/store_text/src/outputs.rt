@@ -11,6 +11,7 @@ use affine_form::Memory;
 use certificate_parts::{OfForm, OfMultipliers, OfNest, OfPolynomial};
 use domain_count::Sums;
 use json_parts::{Any16, CertError, End, ListOf, Part, Put, PutList, read_object, write_object};
+use json_values::Json;
 use serde_json::Value;
 use std::alloc::Global;
 use std::marker::PhantomData;
@@ -51,7 +52,7 @@ impl Part for OfOutput {
     ghost Fits = { IsSmallOutput };
 
     #[tactic(auto, unfolding(crate::specs::Outputs::output_shape))]
-    fn read(alloc: Global, value: &Value) -> Result<Output, CertError> {
+    fn read(alloc: Global, value: &Json) -> Result<Output, CertError> {
         let (inside, (inverse, (later, (nest, rest)))) = read_object::<Members>(
             alloc, value, &NAMES,
         )?;

@@ -1,7 +1,7 @@
 //! Reading stores.
 
 ghost use Rattle.json_parts.specs.Outcome.{GivesBy};
-ghost use Rattle.serde_json.specs.View.{view};
+ghost use Rattle.json_values.specs.View.{json_data};
 ghost use Rattle.store_terms.specs.Claims.{claim_of_stores};
 ghost use Rattle.store_text.specs.Read.{IsStores};
 ghost use Rattle.store_text.specs.Stores.{reads_stores};
@@ -10,7 +10,7 @@ ghost use Rattle.store_text.specs.Texts.{ReadsText};
 use crate::outputs::OfOutput;
 use certificate_parts::OfMultipliers;
 use json_parts::{Any8, CertError, End, Exactly, Few, ListOf, OrNull, fault, read_object};
-use serde_json::{Category, Value};
+use json_values::{Json, JsonError};
 use std::alloc::Global;
 use store_terms::Stores;
 
@@ -20,8 +20,8 @@ type Members = (ListOf<OfMultipliers>, (OrNull<Any8>, Behind));
 
 /// The stores that a value says.
 #[tactic(auto, unfolding(crate::specs::Stores::stores_shape))]
-fn stores_in(alloc: Global, value: &Value) -> Result<Stores, CertError>
-    ensures { GivesBy (λ said stores. IsStores said (claim_of_stores stores)) result (reads_stores (view value.now)) }
+fn stores_in(alloc: Global, value: &Json) -> Result<Stores, CertError>
+    ensures { GivesBy (λ said stores. IsStores said (claim_of_stores stores)) result (reads_stores (json_data value.now)) }
 {
     let names = ["apart", "branch", "outputs", "version"];
     let (apart, (branch, (outputs, ((), ())))) = read_object::<Members>(alloc, value, &names)?;
@@ -39,10 +39,10 @@ fn stores_in(alloc: Global, value: &Value) -> Result<Stores, CertError>
 pub fn read_stores(alloc: Global, bytes: &[u8]) -> Result<Stores, CertError>
     ensures { ReadsText bytes.now result }
 {
-    let value = match Value::from_slice(alloc, bytes) {
+    let value = match Json::from_slice(alloc, bytes) {
         Ok(value) => value,
-        Err(error) if error.classify() == Category::Memory => return Err(CertError::Memory),
-        Err(_) => return Err(fault(alloc, 1)),
+        Err(JsonError::Memory) => return Err(CertError::Memory),
+        Err(JsonError::NoJson) => return Err(fault(alloc, 1)),
     };
     stores_in(alloc, &value)
 }

@@ -1,7 +1,7 @@
 //! Reading schedules.
 
 ghost use Rattle.std.specs.Prelude.{◌≡◌, ◌<◌, ◌^◌, length, map, IfOk};
-ghost use Rattle.serde_json.specs.View.{view};
+ghost use Rattle.json_values.specs.View.{json_data};
 ghost use Rattle.affine_program.specs.Parts.{meaning};
 ghost use Rattle.json_parts.specs.Outcome.{Gives};
 ghost use Rattle.certificate_parts.specs.Matrices.{columns_of};
@@ -17,14 +17,14 @@ use certificate_parts::OfForm;
 use claims::{ObjectKey, Step};
 use iolb_model::limits;
 use json_parts::{CertError, Part, fault, has_keys, list, natural, under};
-use serde_json::{Category, Value};
+use json_values::{Json, JsonError};
 use std::alloc::Global;
 
 /// A form over so many variables. Another length has fault 2.
 #[tactic(auto, unfolding(crate::specs::Reading::reads_form_over))]
-fn form_over(alloc: Global, value: &Value, variables: usize) -> Result<Form, CertError>
+fn form_over(alloc: Global, value: &Json, variables: usize) -> Result<Form, CertError>
     requires { variables < 2 ^ 32 }
-    ensures { Gives (λ form. form) result (reads_form_over variables (view value.now)) }
+    ensures { Gives (λ form. form) result (reads_form_over variables (json_data value.now)) }
 {
     let numbers = list(alloc, value)?;
     if numbers.len() == variables + 1 {
@@ -37,9 +37,9 @@ fn form_over(alloc: Global, value: &Value, variables: usize) -> Result<Form, Cer
 
 /// A key over so many variables: its form, then its divisor.
 #[tactic(auto, unfolding(crate::specs::Reading::reads_key))]
-fn one_key(alloc: Global, value: &Value, variables: usize) -> Result<Key, CertError>
+fn one_key(alloc: Global, value: &Json, variables: usize) -> Result<Key, CertError>
     requires { variables < 2 ^ 32 }
-    ensures { Gives (λ key. key) result (reads_key variables (view value.now)) }
+    ensures { Gives (λ key. key) result (reads_key variables (json_data value.now)) }
 {
     let values = list(alloc, value)?;
     if values.len() != 2 {
@@ -60,8 +60,8 @@ fn one_key(alloc: Global, value: &Value, variables: usize) -> Result<Key, CertEr
 
 /// The members of an array of so many. Another length has fault 2, and a length above the limit fault 3.
 #[tactic(auto, unfolding(crate::specs::Reading::reads_key_list))]
-fn key_list(alloc: Global, value: &Value, count: usize) -> Result<&[Value], CertError>
-    ensures { Gives (λ list. map view list.now) result (reads_key_list count (view value.now)) }
+fn key_list(alloc: Global, value: &Json, count: usize) -> Result<&[Json], CertError>
+    ensures { Gives (λ list. map json_data list.now) result (reads_key_list count (json_data value.now)) }
 {
     let values = list(alloc, value)?;
     if values.len() != count {
@@ -76,9 +76,9 @@ fn key_list(alloc: Global, value: &Value, count: usize) -> Result<&[Value], Cert
 
 /// The keys of a statement: so many, each over so many variables.
 #[tactic(auto, unfolding(crate::specs::Reading::reads_keys))]
-fn keys(alloc: Global, value: &Value, count: usize, variables: usize) -> Result<Vec<Key>, CertError>
+fn keys(alloc: Global, value: &Json, count: usize, variables: usize) -> Result<Vec<Key>, CertError>
     requires { variables < 2 ^ 32 }
-    ensures { Gives (λ keys. keys.items) result (reads_keys count variables (view value.now)) }
+    ensures { Gives (λ keys. keys.items) result (reads_keys count variables (json_data value.now)) }
 {
     let values = key_list(alloc, value, count)?;
     let mut keys = Vec::new(alloc);
@@ -102,22 +102,22 @@ fn variables_of(program: &Program, statement: usize) -> usize
 }
 
 /// How many members the first array has.
-fn first_count(values: &[Value]) -> usize
-    ensures { result ≡ columns_of (map view values.now) }
+fn first_count(values: &[Json]) -> usize
+    ensures { result ≡ columns_of (map json_data values.now) }
 {
     if values.is_empty() {
         return 0;
     }
     match values[0].as_array() {
-        Some(members) => members.as_slice().len(),
+        Some(members) => members.len(),
         None => 0,
     }
 }
 
 /// The keys of each statement: as many for each as the first has.
 #[tactic(auto, unfolding(crate::specs::Reading::reads_all))]
-fn rows(alloc: Global, program: &Program, value: &Value) -> Result<Vec<Vec<Key>>, CertError>
-    ensures { Gives (λ rows. rows_of rows.items) result (reads_all (meaning program.now) (view value.now)) }
+fn rows(alloc: Global, program: &Program, value: &Json) -> Result<Vec<Vec<Key>>, CertError>
+    ensures { Gives (λ rows. rows_of rows.items) result (reads_all (meaning program.now) (json_data value.now)) }
 {
     let values = list(alloc, value)?;
     if values.len() != program.statements().len() {
@@ -136,8 +136,8 @@ fn rows(alloc: Global, program: &Program, value: &Value) -> Result<Vec<Vec<Key>>
 
 /// A schedule of a program.
 #[tactic(auto, unfolding(crate::specs::Reading::reads_schedule, json_parts::specs::Json::with_keys))]
-fn schedule(alloc: Global, program: &Program, value: &Value) -> Result<Schedule, CertError>
-    ensures { Gives (λ schedule. schedule) result (schedule_in (meaning program.now) (view value.now)) }
+fn schedule(alloc: Global, program: &Program, value: &Json) -> Result<Schedule, CertError>
+    ensures { Gives (λ schedule. schedule) result (schedule_in (meaning program.now) (json_data value.now)) }
 {
     if !has_keys(value, &["keys"]) {
         return Err(fault(alloc, 2));
@@ -162,10 +162,10 @@ pub fn read_schedule(alloc: Global, bytes: &[u8], program: &Program) -> Result<S
     ensures read { ReadsText (meaning program.now) bytes.now result }
     ensures fits { IfOk result (IsSchedule (meaning program.now)) }
 {
-    let value = match Value::from_slice(alloc, bytes) {
+    let value = match Json::from_slice(alloc, bytes) {
         Ok(value) => value,
-        Err(error) if error.classify() == Category::Memory => return Err(SchedError::Memory),
-        Err(_) => return Err(schedule_error(fault(alloc, 1))),
+        Err(JsonError::Memory) => return Err(SchedError::Memory),
+        Err(JsonError::NoJson) => return Err(schedule_error(fault(alloc, 1))),
     };
     match schedule(alloc, program, &value) {
         Ok(schedule) => Ok(schedule),

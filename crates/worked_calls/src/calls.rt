@@ -48,6 +48,15 @@ struct Answered {
     status: u8,
 }
 
+/// The line of a status: of any but 0 with how many bytes the output gained.
+fn status_line(alloc: Global, status: u8, gained: usize) -> Result<String, AllocError> {
+    if status == 0 {
+        format!(in alloc; "status 0\n")
+    } else {
+        format!(in alloc; "status {status}, output {gained} bytes\n")
+    }
+}
+
 /// What is kept of a call that wrote this and ended with this status: all of the output, or the last lines of it, are printed,
 /// and what was written to the standard error, and the status.
 fn answer_of(
@@ -63,7 +72,7 @@ fn answer_of(
     };
     let mut printed = Vec::from_slice(alloc, written)?;
     printed.extend_from_slice(error)?;
-    printed.extend_from_slice(format!(in alloc; "status {status}\n")?.as_bytes())?;
+    printed.extend_from_slice(status_line(alloc, status, output.len())?.as_bytes())?;
     Ok(Answered {
         output: Vec::from_slice(alloc, output)?,
         printed,

@@ -1,5 +1,5 @@
 use Rattle.iolb_commands.proofs.Beside.{bounds_below}
-use Rattle.iolb_commands.proofs.One.{outcomes_one, valid_pass, others_never, playable_pass, climbs_pass, readable_pass, stores_pass}
+use Rattle.iolb_commands.proofs.One.{outcomes_one, valid_pass, others_never, playable_pass, climbs_pass, readable_pass, samples_pass, stores_pass}
 use Rattle.iolb_commands.proofs.Ends.{AreExact}
 use Rattle.iolb_commands.proofs.law.outcomes_are_one.Goals as goal
 
@@ -43,6 +43,9 @@ returns-clause-playable c = playable_pass (exact c)
 
 pub returns-clause-bounded : goal.returns-clause-bounded
 returns-clause-bounded c = readable_pass (exact c)
+
+pub returns-clause-sampled : goal.returns-clause-sampled
+returns-clause-sampled c = samples_pass
 
 pub returns-clause-below : goal.returns-clause-below
 returns-clause-below c = bounds_below c.replays_are_one.ensures.complete (exact c)

@@ -1,7 +1,10 @@
--- The first boundaries are counted.
-use Rattle.std.proofs.Common.{◌≡◌}
-use Rattle.memory_levels.specs.Climbs.{crossings}
+-- The moves so far are counted.
+use Rattle.std.proofs.Common.{◌≡◌, length, take}
+use Rattle.memory_levels.specs.Climbs.{AreCrossings}
 use Rattle.memory_levels.proofs.climbs.crossings.Given as goal
 
-abbrev pub invariant-loop-passed : goal.invariant-loop-passed
-invariant-loop-passed l = l.crossed.items ≡ crossings l.passed l.moves
+abbrev pub invariant-loop-step : goal.invariant-loop-step
+invariant-loop-step l = record {
+  counted : AreCrossings l.crossed.items (take l.step-index l.moves);
+  each : length l.crossed.items ≡ l.fast;
+}

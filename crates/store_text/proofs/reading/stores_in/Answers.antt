@@ -2,7 +2,7 @@ use Rattle.std.proofs.Common.{◌≡◌, ◌∙◌, ℕ, Vec, Global, refl, sym,
 use Rattle.std.specs.Prelude.{Option, None, Some, option_map}
 use Rattle.std.proofs.lemmas.Result.{IfOk-at_ok}
 use Rattle.affine_form.specs.Multipliers.{FarkasMultipliers}
-use Rattle.serde_json.specs.View.{view}
+use Rattle.json_values.specs.View.{json_data}
 use Rattle.json_parts.specs.Fields.{reads_object, object-kept}
 use Rattle.json_parts.specs.Related.{AreAll}
 use Rattle.json_parts.proofs.Failing.{made_fails}
@@ -32,7 +32,7 @@ is-read b outputs branch apart shown named are = record {
 
 pub returns-in_err-apart : goal.returns-in_err-apart
 unfolding stores_shape
-returns-in_err-apart c = made_fails _ c.from_residual.result c.in_err-apart.field-0.0 (reads_object stores_fields (view c.args.value.now)) stores_made c.from_residual.ensures c.in_err-apart.ensures
+returns-in_err-apart c = made_fails _ c.from_residual.result c.in_err-apart.field-0.0 (reads_object stores_fields (json_data c.args.value.now)) stores_made c.from_residual.ensures c.in_err-apart.ensures
 
 pub within-requires : goal.within-requires
 unfolding stores_shape
@@ -41,7 +41,7 @@ within-requires c =
     let are = said.2 in
     read_stores_small (stores_made said.0) (parts_of c.in_ok-apart.outputs c.in_ok-apart.branch c.in_ok-apart.apart)
     (is-read said.0 c.in_ok-apart.outputs c.in_ok-apart.branch c.in_ok-apart.apart are.0 are.1.0 are.1.1.0)
-    (IfOk-at_ok stores_fields.IsWithin said.1 (object-kept stores_fields (view c.args.value.now)))
+    (IfOk-at_ok stores_fields.IsWithin said.1 (object-kept stores_fields (json_data c.args.value.now)))
 
 pub returns : goal.returns
 unfolding stores_shape

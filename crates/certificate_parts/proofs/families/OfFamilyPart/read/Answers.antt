@@ -1,5 +1,5 @@
 use Rattle.std.proofs.Common.{Ok, refl}
-use Rattle.serde_json.specs.View.{view}
+use Rattle.json_values.specs.View.{json_data}
 use Rattle.reuse_paths.specs.Families.{family_of}
 use Rattle.json_parts.specs.Fields.{reads_object}
 use Rattle.json_parts.specs.Related.{plain_link}
@@ -11,7 +11,7 @@ pub returns-in_err-inputs : goal.returns-in_err-inputs
 unfolding family_shape
 returns-in_err-inputs c =
     hands_on_by (plain_link family_of).Is c.from_residual.result c.in_err-inputs.field-0.0 _ c.from_residual.ensures
-    (fails_then c.in_err-inputs.field-0.0 (reads_object family_fields (view c.args.value.now)) (λ b. Ok (family_made b)) c.in_err-inputs.ensures)
+    (fails_then c.in_err-inputs.field-0.0 (reads_object family_fields (json_data c.args.value.now)) (λ b. Ok (family_made b)) c.in_err-inputs.ensures)
 
 pub returns : goal.returns
 unfolding family_shape

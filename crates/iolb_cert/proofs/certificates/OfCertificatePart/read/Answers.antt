@@ -1,7 +1,7 @@
 use Rattle.std.proofs.Common.{◌≡◌, Ok, Vec, Global, refl, sym, subst}
 use Rattle.std.proofs.lemmas.Result.{IfOk-at_ok}
 use Rattle.serde_json.specs.Data.{Data}
-use Rattle.serde_json.specs.View.{view}
+use Rattle.json_values.specs.View.{json_data}
 use Rattle.dep_quast.specs.Quasts.{trees_of}
 use Rattle.dep_quast.specs.declared.quasts.Quasts.{Quasts}
 use Rattle.iolb_check.specs.Claims.{claim_of_branch, claim_of_certificate}
@@ -33,11 +33,11 @@ are-small d b quasts branches says trees are =
 pub returns-in_err-branches : goal.returns-in_err-branches
 unfolding certificate_shape
 returns-in_err-branches c =
-    made_fails _ c.from_residual.result c.in_err-branches.field-0.0 (reads_object certificate_fields (view c.args.value.now)) certificate_made c.from_residual.ensures c.in_err-branches.ensures
+    made_fails _ c.from_residual.result c.in_err-branches.field-0.0 (reads_object certificate_fields (json_data c.args.value.now)) certificate_made c.from_residual.ensures c.in_err-branches.ensures
 
 pub within-requires : goal.within-requires
 within-requires c =
-    let said = c.in_ok-branches.ensures in (are-small (view c.args.value.now) said.0 c.in_ok-branches.quasts c.in_ok-branches.branches said.1 said.2.1.0 said.2.0)
+    let said = c.in_ok-branches.ensures in (are-small (json_data c.args.value.now) said.0 c.in_ok-branches.quasts c.in_ok-branches.branches said.1 said.2.1.0 said.2.0)
 
 pub returns : goal.returns
 unfolding certificate_shape

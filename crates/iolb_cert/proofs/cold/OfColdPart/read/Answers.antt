@@ -1,5 +1,5 @@
 use Rattle.std.proofs.Common.{refl}
-use Rattle.serde_json.specs.View.{view}
+use Rattle.json_values.specs.View.{json_data}
 use Rattle.json_parts.specs.Fields.{reads_object}
 use Rattle.json_parts.proofs.Failing.{made_fails}
 use Rattle.iolb_cert.specs.ColdTexts.{cold_fields, cold_made, cold_shape}
@@ -7,7 +7,7 @@ use Rattle.iolb_cert.proofs.cold.OfColdPart.read.Goals as goal
 
 pub returns-in_err-inside : goal.returns-in_err-inside
 unfolding cold_shape
-returns-in_err-inside c = made_fails _ c.from_residual.result c.in_err-inside.field-0.0 (reads_object cold_fields (view c.args.value.now)) cold_made c.from_residual.ensures c.in_err-inside.ensures
+returns-in_err-inside c = made_fails _ c.from_residual.result c.in_err-inside.field-0.0 (reads_object cold_fields (json_data c.args.value.now)) cold_made c.from_residual.ensures c.in_err-inside.ensures
 
 pub returns : goal.returns
 unfolding cold_shape

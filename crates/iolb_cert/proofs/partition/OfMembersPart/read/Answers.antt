@@ -1,5 +1,5 @@
 use Rattle.std.proofs.Common.{refl}
-use Rattle.serde_json.specs.View.{view}
+use Rattle.json_values.specs.View.{json_data}
 use Rattle.json_parts.specs.Fields.{reads_object}
 use Rattle.json_parts.proofs.Failing.{made_fails}
 use Rattle.iolb_cert.specs.PartitionTexts.{partition_fields, partition_made, members_shape}
@@ -10,7 +10,7 @@ use Rattle.iolb_cert.proofs.partition.OfMembersPart.read.Goals as goal
 
 pub returns-in_err-a : goal.returns-in_err-a
 unfolding members_shape
-returns-in_err-a c = made_fails _ c.from_residual.result c.in_err-a.field-0.0 (reads_object partition_fields (view c.args.value.now)) partition_made c.from_residual.ensures c.in_err-a.ensures
+returns-in_err-a c = made_fails _ c.from_residual.result c.in_err-a.field-0.0 (reads_object partition_fields (json_data c.args.value.now)) partition_made c.from_residual.ensures c.in_err-a.ensures
 
 pub returns : goal.returns
 unfolding members_shape

@@ -1,5 +1,5 @@
 use Rattle.std.proofs.Common.{refl}
-use Rattle.serde_json.specs.View.{view}
+use Rattle.json_values.specs.View.{json_data}
 use Rattle.json_parts.specs.Fields.{reads_object}
 use Rattle.json_parts.proofs.Failing.{made_fails}
 use Rattle.iolb_cert.specs.Terms.{branch_fields, branch_made, branch_shape}
@@ -10,7 +10,7 @@ use Rattle.iolb_cert.proofs.terms.OfBranchPart.read.Goals as goal
 
 pub returns-in_err-disjoint : goal.returns-in_err-disjoint
 unfolding branch_shape
-returns-in_err-disjoint c = made_fails _ c.from_residual.result c.in_err-disjoint.field-0.0 (reads_object branch_fields (view c.args.value.now)) branch_made c.from_residual.ensures c.in_err-disjoint.ensures
+returns-in_err-disjoint c = made_fails _ c.from_residual.result c.in_err-disjoint.field-0.0 (reads_object branch_fields (json_data c.args.value.now)) branch_made c.from_residual.ensures c.in_err-disjoint.ensures
 
 pub returns : goal.returns
 unfolding branch_shape

@@ -1,5 +1,5 @@
 use Rattle.std.proofs.Common.{ℕ, List}
-use Rattle.serde_json.specs.View.{view}
+use Rattle.json_values.specs.View.{json_data}
 use Rattle.json_parts.proofs.Read.{more-read}
 use Rattle.json_parts.proofs.members.Tuple2Members.read.Goals as goal
 
@@ -8,7 +8,7 @@ returns g c =
     let first = c.in_ok-first.ensures in
     let rest = c.in_ok-rest.ensures in (
       (first.0, rest.0),
-      more-read g.R.Members.COUNT c.args.names.now _ g.S.Part.shape.reads (λ (names : List (List ℕ)). (g.R.Members.fields names).reads (view c.args.value.now)) (view c.args.value.now) first.0 rest.0
+      more-read g.R.Members.COUNT c.args.names.now _ g.S.Part.shape.reads (λ (names : List (List ℕ)). (g.R.Members.fields names).reads (json_data c.args.value.now)) (json_data c.args.value.now) first.0 rest.0
           c.requires.names first.1 rest.1,
       (first.2, rest.2),
     )

@@ -1,5 +1,5 @@
 use Rattle.std.proofs.Common.{refl}
-use Rattle.serde_json.specs.View.{view}
+use Rattle.json_values.specs.View.{json_data}
 use Rattle.json_parts.specs.Fields.{reads_object}
 use Rattle.json_parts.proofs.Failing.{made_fails}
 use Rattle.store_text.specs.Outputs.{inverse_fields, inverse_made, inverse_shape}
@@ -7,7 +7,7 @@ use Rattle.store_text.proofs.inverses.OfInversePart.read.Goals as goal
 
 pub returns-in_err-matrix : goal.returns-in_err-matrix
 unfolding inverse_shape
-returns-in_err-matrix c = made_fails _ c.from_residual.result c.in_err-matrix.field-0.0 (reads_object inverse_fields (view c.args.value.now)) inverse_made c.from_residual.ensures c.in_err-matrix.ensures
+returns-in_err-matrix c = made_fails _ c.from_residual.result c.in_err-matrix.field-0.0 (reads_object inverse_fields (json_data c.args.value.now)) inverse_made c.from_residual.ensures c.in_err-matrix.ensures
 
 pub returns : goal.returns
 unfolding inverse_shape

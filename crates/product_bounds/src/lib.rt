@@ -1,0 +1,4 @@
+//! What is known of the bounds of matrix products.
+#![tactic(auto)]
+
+pub mod law;
