@@ -1,26 +1,26 @@
 PREFIX ?= /usr/local
 
-# The program and the libraries that it stands on, the lowest first; what only cases use is the gate's.
+# The two programs and the libraries that they stand on, the lowest first; what only cases use is the gate's.
 parts := $(shell awk -F: '/^[a-z]/ { below[$$1] = $$2 } \
 	function visit(it, names, n, i) { if (it in seen || !(it in below)) return; seen[it]; n = split(below[it], names, " "); \
-	for (i = 1; i <= n; i++) visit(names[i]); print it } END { visit("iolb_cli") }' crates.txt)
+	for (i = 1; i <= n; i++) visit(names[i]); print it } END { visit("iolb_cli"); visit("iolb_explain") }' crates.txt)
 sources := crates.txt HANDLES $(shell find $(parts:%=crates/%) \( -name '*.rt' -o -name '*.antt' \) -not -path '*/out/*')
 
 .PHONY: all test docs install uninstall clean
 
-all: bin/iolb
+all: bin/iolb bin/iolb-explain
 
 # The prover of the gate works on a copy that has no edits and no cases: each crate is proved as soon as those below it are, as
-# many side by side as processors and memory allow, and the program is compiled and run on its stored example.
-bin/iolb: $(sources)
+# many side by side as processors and memory allow, and the programs are compiled and run on their stored examples.
+bin/iolb bin/iolb-explain &: $(sources)
 	@mkdir -p bin
 	@room=$$(mktemp -d) && trap 'rm -rf "$$room"' EXIT && mkdir "$$room/crates" \
 	&& for it in $(parts); do mkdir "$$room/crates/$$it" && (cd crates/$$it && cp -r $$(ls | grep -vx -e out -e must-fail -e README.md) "$$room/crates/$$it") || exit 1; done \
 	&& cp HANDLES "$$room" && for it in $(parts); do grep "^$$it:" crates.txt; done > "$$room/crates.txt" \
 	&& (cd "$$room" && rt ci 2>&1) | tee bin/build.log | awk '/^rt: [a-z0-9_]+ proved$$/ { print ++done " of $(words $(parts)): " $$2; fflush() }' \
 	&& tail -n 1 bin/build.log | grep -q ' passed, 0 failed$$' || { tail -n 40 bin/build.log; exit 1; } \
-	&& cp "$$room/crates/iolb_cli/out/iolb_cli" bin/iolb
-	@echo "bin/iolb is built"
+	&& cp "$$room/crates/iolb_cli/out/iolb_cli" bin/iolb && cp "$$room/crates/iolb_explain/out/iolb_explain" bin/iolb-explain
+	@echo "bin/iolb and bin/iolb-explain are built"
 
 test:
 	rt ci
@@ -31,10 +31,11 @@ docs: bin/iolb
 	bench/schemas bin/iolb
 
 share := $(DESTDIR)$(PREFIX)/share
-installed := $(DESTDIR)$(PREFIX)/bin/iolb $(share)/man/man1/iolb.1 $(share)/bash-completion/completions/iolb $(share)/zsh/site-functions/_iolb
+installed := $(DESTDIR)$(PREFIX)/bin/iolb $(DESTDIR)$(PREFIX)/bin/iolb-explain $(share)/man/man1/iolb.1 $(share)/bash-completion/completions/iolb $(share)/zsh/site-functions/_iolb
 
-install: bin/iolb
+install: bin/iolb bin/iolb-explain
 	install -D -m 755 bin/iolb $(DESTDIR)$(PREFIX)/bin/iolb
+	install -D -m 755 bin/iolb-explain $(DESTDIR)$(PREFIX)/bin/iolb-explain
 	install -D -m 644 package/iolb.1 $(share)/man/man1/iolb.1
 	install -D -m 644 package/iolb.bash $(share)/bash-completion/completions/iolb
 	install -D -m 644 package/_iolb $(share)/zsh/site-functions/_iolb

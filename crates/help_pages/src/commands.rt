@@ -1,0 +1,67 @@
+//! The commands of the companion.
+
+/// How the program is called.
+pub const USAGE: &str = "usage: iolb-explain help [COMMAND | fault N | condition N]
+       iolb-explain version
+       iolb-explain program FILE
+       iolb-explain vertex FILE VERTEX NAME=NUMBER...
+";
+
+/// What a page of help is about.
+#[derive(Clone, Copy, Debug, PartialEq, Eq)]
+pub enum Topic {
+    Help,
+    Version,
+    Program,
+    Vertex,
+}
+
+const HELP: &str = "iolb-explain help
+    prints how the program is called.
+iolb-explain help COMMAND
+    prints what a command does.
+iolb-explain help fault N
+    prints what fault N of a program's text is, and what to write instead.
+iolb-explain help condition N
+    prints when condition N of a certificate holds, and what its places name.
+The statuses are 0; 1, something was found wrong; 2, the words aren't as in the usage; 3, a file isn't read, or a write or memory failed.
+";
+
+const VERSION: &str = "iolb-explain version
+    prints the program's name and version.
+";
+
+const PROGRAM: &str = "iolb-explain program FILE
+    prints whether the program is read. If it isn't, a line `FILE:LINE:COLUMN: error: ..` says why, with the source line, what to
+    write instead, and the fault's number. If it is: its parameters, its assumptions, its arrays, its statements with their numbers,
+    and the reads of each with theirs; and warnings of what keeps bounds from being found.
+";
+
+const VERTEX: &str = "iolb-explain vertex FILE VERTEX NAME=NUMBER...
+    prints what a vertex of the computation graph is where the parameters are these numbers. VERTEX is the vertex's number, as
+    `iolb replay` prints it; or STATEMENT:VALUE,VALUE,.. for the instance of a statement at these values of its loops, as `0:1,3`; or
+    ARRAY:VALUE,VALUE,.. for the input in this cell, as `A:3`.
+";
+
+/// The page of help on a topic.
+pub fn command_help(topic: Topic) -> &'static str {
+    match topic {
+        Topic::Help => HELP,
+        Topic::Version => VERSION,
+        Topic::Program => PROGRAM,
+        Topic::Vertex => VERTEX,
+    }
+}
+
+impl Topic {
+    /// The topic that a word names.
+    pub fn of(word: &str) -> Option<Topic> {
+        match word {
+            "help" => Some(Topic::Help),
+            "version" => Some(Topic::Version),
+            "program" => Some(Topic::Program),
+            "vertex" => Some(Topic::Vertex),
+            _ => None,
+        }
+    }
+}
