@@ -20,11 +20,15 @@ use serde_json::Value;
 use std::alloc::Global;
 use std::marker::PhantomData;
 
+/// For how many members of an array room is made before they are read. A longer list gets more as it grows, so that an array
+/// whose first member is at fault costs no room for all.
+const AT_ONCE: usize = 1024;
+
 /// What each member of an array says.
 fn read_all<S: Part>(alloc: Global, values: &[Json]) -> Result<Vec<S::Value>, CertError>
     ensures { GivesBy (λ said all. AreSaid S.link.is_plain S.link.all_said S.link.Is said all.items) result (each S.shape.reads 0 (map json_data values.now)) }
 {
-    let mut all = Vec::new(alloc);
+    let mut all = Vec::with_capacity(alloc, values.len().min(AT_ONCE))?;
     for (i, value) in values.iter().enumerate() {
         match S::read(alloc, value) {
             Ok(found) => all.push(found)?,

@@ -1,3 +1,4 @@
 pub mod Members
 pub mod InOrder
+pub mod Collected
 pub mod Turns

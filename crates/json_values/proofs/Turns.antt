@@ -129,12 +129,6 @@ module _ (p : Parse json.Json) (old : Members) where
 abbrev pub whole : Option (json.Json × List Token) → Option Data
 whole o = option_and_then of_json (option_and_then (λ p. if_last p.0 p.1) o)
 
-pub whole-read : (o : Option (json.Json × List Token)) (d : Data) → converted of_json o ≡ Some (d, []) → whole o ≡ Some d
-whole-read o d e = let read = came-of of_json o d [] e in ap whole read.1 ∙ read.2
-
-pub more-behind : (o : Option (json.Json × List Token)) (d : Data) (t : Token) (r : List Token) → converted of_json o ≡ Some (d, t ∷ r) → whole o ≡ None
-more-behind o d t r e = ap whole (came-of of_json o d (t ∷ r) e).1
-
 pub none-read : (o : Option (json.Json × List Token)) → converted of_json o ≡ None → whole o ≡ None
 none-read o e = elim (none-of of_json o e) [
   | inl fails ↦ ap whole fails

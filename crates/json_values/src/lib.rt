@@ -3,6 +3,7 @@
 
 mod numbers;
 mod reading;
+mod room;
 mod sorting;
 mod value;
 

@@ -9,7 +9,8 @@ ghost use Rattle.json_values.specs.View.{json_data, items_data, members_data};
 ghost use Rattle.json_values.specs.declared.reading.JsonError.TheVariants.{NoJson};
 
 use crate::numbers::number;
-use crate::sorting::sorted;
+use crate::room::without_spare;
+use crate::sorting::members_in_key_order;
 use crate::value::Json;
 use json::{Invalid, Reader, Scratch, Token};
 use std::alloc::{AllocError, AllocFailed, Global};
@@ -136,7 +137,7 @@ fn next_items(alloc: Global, reader: &mut Reader<'_>, depth: usize) -> Result<Ve
         let item = next_value(alloc, reader, depth)?;
         found.push(item)?;
     }
-    Ok(found)
+    Ok(without_spare(alloc, found)?)
 }
 
 /// The members of an object up to its end.
@@ -156,5 +157,5 @@ fn next_members(
         let member = next_value(alloc, reader, depth)?;
         found.push((name, member))?;
     }
-    Ok(sorted(alloc, found)?)
+    Ok(members_in_key_order(alloc, found)?)
 }

@@ -7,22 +7,23 @@ ghost use Rattle.serde_json.specs.Data.{no_members};
 ghost use Rattle.json_values.specs.Puts.{put_all};
 ghost use Rattle.json_values.specs.View.{members_data};
 
+use crate::room::without_spare;
 use crate::value::Json;
 use std::alloc::{AllocError, Global};
 use std::cmp::Ordering;
 use std::collections::BTreeMap;
 
 /// Members as an object has them: by the byte order of their keys, of equal ones the last.
-pub(crate) fn sorted(
+pub(crate) fn members_in_key_order(
     alloc: Global,
     members: Vec<(String, Json)>,
 ) -> Result<Vec<(String, Json)>, AllocError>
-    ensures { IfOk result (λ sorted. members_data sorted.items ≡ put_all members.items no_members) }
+    ensures { IfOk result (λ ordered. members_data ordered.items ≡ put_all members.items no_members) }
 {
     if are_sorted(members.as_slice()) {
-        return Ok(members);
+        return without_spare(alloc, members);
     }
-    in_order(alloc, by_key(alloc, members)?)
+    members_of_map(alloc, map_of_members(alloc, members)?)
 }
 
 /// Whether each key is below the next.
@@ -38,26 +39,25 @@ fn are_sorted(members: &[(String, Json)]) -> bool
     true
 }
 
-/// The members by their keys.
-fn by_key(alloc: Global, members: Vec<(String, Json)>) -> Result<BTreeMap<String, Json>, AllocError>
-    ensures { IfOk result (λ by_key. members_data by_key.entries ≡ put_all members.items no_members) }
+/// The map of the members, of equal keys the last.
+fn map_of_members(
+    alloc: Global,
+    members: Vec<(String, Json)>,
+) -> Result<BTreeMap<String, Json>, AllocError>
+    ensures { IfOk result (λ map. members_data map.entries ≡ put_all members.items no_members) }
 {
-    let mut by_key = BTreeMap::new(alloc);
-    for (name, value) in members {
-        drop(by_key.insert(name, value)?);
-    }
-    Ok(by_key)
+    members.into_iter().collect(alloc)
 }
 
-/// The members in the order of their keys.
-fn in_order(
+/// The members of a map, by the byte order of their keys.
+fn members_of_map(
     alloc: Global,
-    by_key: BTreeMap<String, Json>,
+    map: BTreeMap<String, Json>,
 ) -> Result<Vec<(String, Json)>, AllocError>
-    ensures { IfOk result (λ members. members.items ≡ by_key.entries) }
+    ensures { IfOk result (λ members. members.items ≡ map.entries) }
 {
-    let mut members = Vec::with_capacity(alloc, by_key.len())?;
-    for member in by_key {
+    let mut members = Vec::with_capacity(alloc, map.len())?;
+    for member in map {
         members.push(member)?;
     }
     Ok(members)

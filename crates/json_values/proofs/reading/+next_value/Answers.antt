@@ -8,7 +8,7 @@ use Rattle.serde_json.specs.Data.{null, boolean, number, string, array, object, 
 use Rattle.serde_json.specs.Read.{of_json, of_items, of_members, converted}
 use Rattle.serde_json.specs.View.{number_view}
 use Rattle.json_values.specs.Puts.{put_all}
-use Rattle.json_values.specs.View.{json_data}
+use Rattle.json_values.specs.View.{json_data, items_data}
 use Rattle.json_values.specs.declared.value.Json.{String, Number, Bool, Null, the_lemmas}
 use Rattle.json_values.proofs.Members.{data-array, data-object}
 use Rattle.json_values.proofs.InOrder.{put-more}
@@ -132,7 +132,8 @@ next_items-returns-clause-value t c =
     let l = c.items in
     let n = l.invariant.0 in
     let r = c.take_end_array.new.self in
-    l.invariant.2 ∙ ap (parse_map (items_before l.found.items)) (items-over p n l.reader r l.invariant.1 (grind arith)) ∙ ap (λ ds. Some (ds, r)) (before-none l.found.items)
+    l.invariant.2 ∙ ap (parse_map (items_before l.found.items)) (items-over p n l.reader r l.invariant.1 (grind arith))
+    ∙ ap (λ ds. Some (ds, r)) (before-none l.found.items ∙ ap items_data (sym c.in_ok-without_spare.ensures))
 
 pub next_members-returns-in_err-name-clause-none : goal.next_members-returns-in_err-name-clause-none
 next_members-returns-in_err-name-clause-none t c refused =
@@ -184,4 +185,4 @@ next_members-returns-clause-value t c =
     let n = l.invariant.0 in
     let old = put_all l.found.items no_members in
     l.invariant.2 ∙ members-over p old n l.reader c.next_key.new.self l.invariant.1 (grind arith)
-    ∙ ap (λ ms. Some (ms, c.next_key.new.self)) (sym c.in_ok-sorted.ensures)
+    ∙ ap (λ ms. Some (ms, c.next_key.new.self)) (sym c.in_ok-members_in_key_order.ensures)
