@@ -1,19 +1,21 @@
 -- Lines of moves, and what they say.
-use Rattle.std.proofs.Common.{◌≡◌, ◌≢◌, refl, sym, ◌∙◌, ap, subst, inl, inr, ℕ, zero, suc, ◌+◌, ◌-◌, ◌*◌, ◌<◌, ◌≤◌, ◌^◌, ◌==◌, Bool, true, false, cond, not, ltb, List, [], ◌∷◌, ◌++◌, length, get_or, take, drop, codes, decimal, Option, Some, None, MatchOption, position, arith}
-use Rattle.std.specs.Prelude.{◌⊎◌, IsTrue, MatchBool, nat_eq}
-use Rattle.std.specs.List.{AllByRecursion, position_or_len}
-use Rattle.std.specs.Char.{IsAsciiDigit, IsNotAsciiDigit, digit_value}
-use Rattle.std.specs.Str.Parse.{AllDigits, digits_value, digits_value_after}
-use Rattle.std.proofs.lemmas.Bool.{eqb-true, ne_eqb, eq-eqb, ltb-false}
-use Rattle.std.proofs.lemmas.List.{append_assoc, append_cancel_left, length-append, take_all}
-use Rattle.std.proofs.lemmas.List.Sums.{prefix_len_passes}
-use Rattle.std.proofs.lemmas.List.Quantifiers.{position-Some}
-use Rattle.std.proofs.lemmas.Fmt.{decimal_is_IsNumeral, decimal_digit, decimal_injective, decimal_nonempty, first_decimal, decimal-digits_value}
+use Rattle.std.proofs.Common.{◌≡◌, ◌≢◌, refl, sym, ◌∙◌, ap, subst, inl, inr, ℕ, zero, suc, ◌+◌, ◌-◌, ◌*◌, ◌<◌, ◌≤◌, ◌^◌, ◌==◌, Bool, true, false, cond, List, [], ◌∷◌, ◌++◌, length, get_or, take, drop, codes, decimal, Some, None, min, arith}
+use Rattle.std.specs.Prelude.{IsTrue, MatchBool, nat_eq}
+use Rattle.std.specs.List.{AllByRecursion}
+use Rattle.std.specs.Char.{IsAsciiDigit, IsNotAsciiDigit}
+use Rattle.std.specs.Str.Parse.{AllDigits, digits_value}
+use Rattle.std.proofs.lemmas.Bool.{eqb-true, ne_eqb, eq-eqb}
+use Rattle.std.proofs.lemmas.List.{append_assoc, append_cancel_left, get_or-take, length-append, length-take, length-take-le, take-append-drop, take-take}
+use Rattle.std.proofs.lemmas.Fmt.{decimal_is_IsNumeral, decimal_digit, decimal_injective, decimal_nonempty, first_decimal, decimal-digits_value, length-decimal-le}
+use Rattle.std.proofs.lemmas.Int.Digits.{digits_more, digits_value_more}
 use Rattle.std.proofs.lemmas.Str.{digit_value_digit}
-use Rattle.std.proofs.lemmas.Str.Parse.{digit_from_value, numerals_by_value, tells_digits}
+use Rattle.std.proofs.lemmas.Str.Parse.{digit_from_value, digits_value_short, numerals_by_value, tells_digits}
 use Rattle.iolb_model.specs.declared.tower.TowerMove.{TowerMove}
 use Rattle.iolb_model.specs.declared.tower.TowerMove.TheVariants.{Bring, Send, Compute, Drop}
-use Rattle.memory_levels.specs.MovesText.{BeginsWithMove, CanBeWritten, MovesOrFault, TextsHaveOneFault, TextsHaveOneList, behind, move_line, move_words, moves_text, place_words}
+use Rattle.memory_levels.specs.MovesText.{AreDigitsInFront, BeginsWithMove, CanBeWritten, MovesOrFault, TextsHaveOneFault, TextsHaveOneList, behind, move_line, move_words, moves_text, place_words}
+
+head-of : (xs ys : List ℕ) → xs ≡ ys → get_or xs 0 0 ≡ get_or ys 0 0
+head-of xs ys e = ap (λ (l : List ℕ). get_or l 0 0) e
 
 -- ---- digits
 
@@ -27,10 +29,6 @@ no-digit false (inl h) told low high = absurd (omega (arith, h, low))
 no-digit false (inr h) told low high = absurd (omega (arith, h, high))
 
 -- ---- numbers
-
-pub le-after : (n : ℕ) (ds : List ℕ) → n ≤ digits_value_after 10 n ds
-le-after n [] = omega arith
-le-after n (c ∷ cs) = omega (arith, le-after (n * 10 + digit_value c) cs)
 
 -- what a number below 2^32 writes
 pub number-value : (ds : List ℕ) (v : ℕ) → v < 2 ^ 32 → ds ≡ decimal v → AllDigits 10 ds × (digits_value 10 ds ≡ v)
@@ -50,25 +48,28 @@ pub number-lead : (x v : ℕ) (ds : List ℕ) → v < 2 ^ 32 → 48 ∷ x ∷ ds
 number-lead x zero ds small e = omega (arith, ap length e, ap length (decimal_digit 0 (omega arith)))
 number-lead x (suc v) ds small e = omega (arith, first_decimal (suc v) (omega arith) (omega (arith, small)), ap (λ (l : List ℕ). get_or l 0 0) e)
 
-drop-at : (bytes : List ℕ) (i : ℕ) → i < length bytes → drop i bytes ≡ get_or bytes i 0 ∷ drop (i + 1) bytes
-drop-at [] i below = absurd (omega (arith, below))
-drop-at (b ∷ bytes) zero below = refl
-drop-at (b ∷ bytes) (suc i) below = drop-at bytes i (omega (arith, below)) ∙ ap (λ (n : ℕ). get_or bytes i 0 ∷ drop n (b ∷ bytes)) (next i) where
-  next : (n : ℕ) → suc (n + 1) ≡ suc n + 1
-  next n = omega arith
+-- ten digits fit
+pub ten-digits : (bytes : List ℕ) (i value : ℕ) → i < length bytes → length bytes ≤ 11 → AllDigits 10 (take i bytes) → value ≡ digits_value 10 (take i bytes) → value < 10 ^ 10
+ten-digits bytes i value below few digits e =
+    omega (arith, e, digits_value_short (numerals_by_value _ tells_digits) (take i bytes) 10 digits (omega (arith, length-take-le i bytes (omega (arith, below)), below, few)))
 
--- a value that is too great with one digit more stays so
-pub too-great : (bytes : List ℕ) (i value : ℕ) → i < length bytes → digits_value 10 bytes ≡ digits_value_after 10 value (drop i bytes)
-    → 48 ≤ get_or bytes i 0 → get_or bytes i 0 ≤ 57 → 2 ^ 32 ≤ value * 10 + (get_or bytes i 0 - 48) → digits_value 10 bytes < 2 ^ 32 → ⊥
-too-great bytes i value below e low high big small =
-    omega (arith, e, ap (digits_value_after 10 value) (drop-at bytes i below), le-after (value * 10 + digit_value (get_or bytes i 0)) (drop (i + 1) bytes), digit_value_digit (get_or bytes i 0) (low, high), big, small)
+-- one digit more
+pub digit-more : (bytes : List ℕ) (i value : ℕ) → i < length bytes → AllDigits 10 (take i bytes) → value ≡ digits_value 10 (take i bytes)
+    → 48 ≤ get_or bytes i 0 → get_or bytes i 0 ≤ 57 → AllDigits 10 (take (i + 1) bytes) × (value * 10 + (get_or bytes i 0 - 48) ≡ digits_value 10 (take (i + 1) bytes))
+digit-more bytes i value below digits e low high =
+    let digit = digit_value_digit (get_or bytes i 0) (low, high) in
+    (digits_more 10 bytes i below digits (omega (arith, digit, high)), omega (arith, digits_value_more 10 bytes i below, digit, e))
 
 -- ---- words in front
 
--- a line that ends before the word
-pub behind-short : (word line rest : List ℕ) (i : ℕ) → behind (drop i word) rest ≡ behind word line → i < length word → length rest ≡ 0 → behind word line ≡ None
-behind-short word line (r ∷ rest) i e below short = absurd (omega (arith, short))
-behind-short word line [] i e below short = sym e ∙ ap (λ (w : List ℕ). behind w []) (drop-at word i below)
+-- a line that is shorter than the word
+pub behind-short : (word line : List ℕ) → length line < length word → behind word line ≡ None
+behind-short [] line short = absurd (omega (arith, short))
+behind-short (w ∷ word) [] short = refl
+behind-short (w ∷ word) (b ∷ line) short = by (b == w) (behind-short word line (omega (arith, short))) where
+  by : (same : Bool) → behind word line ≡ None → cond same (behind word line) None ≡ None
+  by true e = e
+  by false e = refl
 
 -- ---- places
 
@@ -110,22 +111,9 @@ number-led [] v small lead more e = omega (arith, number-some [] v small e)
 number-led (a ∷ []) v small lead more e = more refl
 number-led (a ∷ b ∷ bytes) v small lead more e = number-lead b v bytes small (ap (λ (c : ℕ). c ∷ b ∷ bytes) (sym lead) ∙ e)
 
--- what digits say, or that they say nothing
-pub value-none : (bytes : List ℕ) → ¬ (AllDigits 10 bytes × (digits_value 10 bytes < 2 ^ 32)) → (v : ℕ) → v < 2 ^ 32 → bytes ≢ decimal v
-value-none bytes none v small e = let is = number-value bytes v small e in none (is.0, omega (arith, is.1, small))
-
+-- what digits say
 pub value-some : (bytes : List ℕ) (v : ℕ) → AllDigits 10 bytes → v ≡ digits_value 10 bytes → v < 2 ^ 32 → 0 < length bytes → (get_or bytes 0 0 ≡ 48 → length bytes ≡ 1) → bytes ≡ decimal v
 value-some bytes v digits e small some lead = number-is bytes digits some lead (omega (arith, e, small)) ∙ ap decimal (sym e)
-
--- the number that is read, or none
-pub number-read : (bytes : List ℕ) (found : Option ℕ) → 0 < length bytes → ((get_or bytes 0 0 ≡ 48) × (length bytes ≡ 1)) ⊎ (get_or bytes 0 0 ≡ 48 → ⊥)
-    → MatchOption found (¬ (AllDigits 10 bytes × (digits_value 10 bytes < 2 ^ 32))) (λ value. AllDigits 10 bytes × (value < 2 ^ 32) × (value ≡ digits_value 10 bytes))
-    → MatchOption found ((v : ℕ) → v < 2 ^ 32 → bytes ≢ decimal v) (λ v. (v < 2 ^ 32) × (bytes ≡ decimal v))
-number-read bytes None some lead none = value-none bytes none
-number-read bytes (Some v) some lead is = (is.1, value-some bytes v is.0 is.2 is.1 some (alone lead)) where
-  alone : ((get_or bytes 0 0 ≡ 48) × (length bytes ≡ 1)) ⊎ (get_or bytes 0 0 ≡ 48 → ⊥) → get_or bytes 0 0 ≡ 48 → length bytes ≡ 1
-  alone (inl one) h = one.1
-  alone (inr other) h = absurd (other h)
 
 -- ---- a line has no newline but its last byte
 
@@ -162,13 +150,7 @@ split-one (x ∷ xs) (y ∷ ys) as_ bs h k e =
     let rest = split-one xs ys as_ bs h.1 k.1 (ap (drop 1) e) in
     let tail = rest.0 in (cc, rest.1)
 
--- bytes up to the first newline
-pub clean-before : (bytes : List ℕ) (end : ℕ) → ((k : ℕ) → k < end → nat_eq (get_or bytes k 0) 10 ≡ false) → IsClean (take end bytes)
-clean-before bytes zero h = tt
-clean-before [] (suc end) h = tt
-clean-before (b ∷ bytes) (suc end) h = (h 0 (omega arith), clean-before bytes end (λ k below. h (suc k) (omega (arith, below))))
-
-pub split-at : (bytes : List ℕ) (end : ℕ) → end < length bytes → bytes ≡ take end bytes ++ get_or bytes end 0 ∷ drop (end + 1) bytes
+split-at : (bytes : List ℕ) (end : ℕ) → end < length bytes → bytes ≡ take end bytes ++ get_or bytes end 0 ∷ drop (end + 1) bytes
 split-at [] end below = absurd (omega (arith, below))
 split-at (b ∷ bytes) zero below = refl
 split-at (b ∷ bytes) (suc end) below = ap (λ (l : List ℕ). b ∷ l) (split-at bytes end (omega (arith, below))) ∙ ap (λ (n : ℕ). b ∷ take end bytes ++ get_or bytes end 0 ∷ drop n (b ∷ bytes)) (next end) where
@@ -182,9 +164,6 @@ line-some : (move : TowerMove) → 1 ≤ length (move_line move)
 line-some move = omega (arith, length-append (move_words move) (10 ∷ []))
 
 -- ---- what a line says is one
-
-head-of : (xs ys : List ℕ) → xs ≡ ys → get_or xs 0 0 ≡ get_or ys 0 0
-head-of xs ys e = ap (λ (l : List ℕ). get_or l 0 0) e
 
 words-same : (a b : TowerMove) → CanBeWritten a → CanBeWritten b → move_words a ≡ move_words b → a ≡ b
 words-same (Bring i v) (Bring j w) h k e = let same = place-same i v j w h.0 h.1 k.0 k.1 (append_cancel_left (codes "bring ") (place_words i v) (place_words j w) e) in let one = same.0 in let two = same.1 in cc
@@ -251,46 +230,61 @@ never-both (a ∷ moves) (b ∷ before) left h k some bad e =
 pub moves_or_fault : MovesOrFault
 moves_or_fault bytes moves place h k = never-both moves k.before k.left h.each k.each k.some k.bad (sym h.text ∙ k.text)
 
--- ---- the first newline
-
-pub newline-at : (bytes : List ℕ) (end : ℕ) → position (λ b. b == 10) bytes ≡ Some end
-    → (end < length bytes) × (nat_eq (get_or bytes end 0) 10 ≡ true) × ((k : ℕ) → k < end → nat_eq (get_or bytes k 0) 10 ≡ false)
-newline-at bytes end e = position-Some (λ b. b == 10) bytes end 0 e
-
-pub no-newline : (bytes : List ℕ) → position (λ b. b == 10) bytes ≡ None → IsClean bytes
-no-newline bytes e = subst (λ (l : List ℕ). IsClean l) (take_all (length bytes) bytes (omega arith)) (clean-before bytes (length bytes) (λ k below. off (get_or bytes k 0 == 10) (prefix_len_passes (λ x. not (x == 10)) bytes k 0 (omega (arith, below, all (position_or_len (λ b. b == 10) bytes) (length bytes) e))))) where
-  off : (b : Bool) → not b ≡ true → b ≡ false
-  off true h = cc
-  off false h = refl
-
-  all : (n m : ℕ) → cond (ltb n m) (Some n) None ≡ None → m ≤ n
-  all n m h = by (ltb n m) refl h where
-    by : (b : Bool) → b ≡ ltb n m → cond b (Some n) None ≡ None → m ≤ n
-    by true same f = cc
-    by false same f = ltb-false n m (sym same)
-
 -- ---- a number up to the end of its line
 
--- what stands up to the first newline and behind it
-line-split : (bytes : List ℕ) (end : ℕ) → end < length bytes → nat_eq (get_or bytes end 0) 10 ≡ true → bytes ≡ take end bytes ++ 10 ∷ drop (end + 1) bytes
-line-split bytes end below newline =
-    split-at bytes end below ∙ ap (λ (b : ℕ). take end bytes ++ b ∷ drop (end + 1) bytes) (eqb-true (get_or bytes end 0) 10 newline)
-
-pub ended-number : (bytes : List ℕ) (end v : ℕ) → end < length bytes → nat_eq (get_or bytes end 0) 10 ≡ true → take end bytes ≡ decimal v
+pub ended-number : (bytes : List ℕ) (end v : ℕ) → end < length bytes → get_or bytes end 0 ≡ 10 → take end bytes ≡ decimal v
     → bytes ≡ decimal v ++ 10 ∷ drop (end + 1) bytes
-ended-number bytes end v below newline e = line-split bytes end below newline ∙ ap (λ (l : List ℕ). l ++ 10 ∷ drop (end + 1) bytes) e
+ended-number bytes end v below newline e =
+    split-at bytes end below ∙ ap (λ (b : ℕ). take end bytes ++ b ∷ drop (end + 1) bytes) newline ∙ ap (λ (l : List ℕ). l ++ 10 ∷ drop (end + 1) bytes) e
 
-pub no-number : (bytes : List ℕ) (end : ℕ) → end < length bytes → nat_eq (get_or bytes end 0) 10 ≡ true → ((k : ℕ) → k < end → nat_eq (get_or bytes k 0) 10 ≡ false)
-    → ((v : ℕ) → v < 2 ^ 32 → take end bytes ≢ decimal v) → (v : ℕ) (later : List ℕ) → v < 2 ^ 32 → bytes ≢ decimal v ++ 10 ∷ later
-no-number bytes end below newline before none v later small e =
-    none v small (split-one (take end bytes) (decimal v) (drop (end + 1) bytes) later (clean-before bytes end before) (decimal-clean v small) (sym (line-split bytes end below newline) ∙ e)).0
+-- digits in front of a newline reach to it at most
+digits-stop : (ds ys rest later : List ℕ) → AllDigits 10 ds → ds ++ rest ≡ ys ++ 10 ∷ later → length ds ≤ length ys
+digits-stop [] ys rest later h e = omega arith
+digits-stop (d ∷ ds) [] rest later h e = omega (arith, digit_from_value d h.0, head-of (d ∷ ds ++ rest) (10 ∷ later) e)
+digits-stop (d ∷ ds) (y ∷ ys) rest later h e = omega (arith, digits-stop ds ys rest later h.1 (ap (drop 1) e))
 
-has-newline : (xs ys : List ℕ) → AllByRecursion (λ b. nat_eq b 10 ≡ false) (xs ++ 10 ∷ ys) → ⊥
-has-newline [] ys h = let f : nat_eq 10 10 ≡ true = refl in let g : nat_eq 10 10 ≡ false = h.0 in absurd cc
-has-newline (x ∷ xs) ys h = has-newline xs ys h.1
+-- all digits in front of it are one number
+digits-same : (ds ys : List ℕ) (b : ℕ) (rest later : List ℕ) → AllDigits 10 ds → AllDigits 10 ys → IsNotAsciiDigit b → ds ++ b ∷ rest ≡ ys ++ 10 ∷ later
+    → (ds ≡ ys) × (b ≡ 10)
+digits-same [] [] b rest later h k other e = (refl, head-of (b ∷ rest) (10 ∷ later) e)
+digits-same [] (y ∷ ys) b rest later h k other e = absurd (omega (arith, digit_from_value y k.0, other, head-of (b ∷ rest) (y ∷ ys ++ 10 ∷ later) e))
+digits-same (d ∷ ds) [] b rest later h k other e = absurd (omega (arith, digit_from_value d h.0, head-of (d ∷ ds ++ b ∷ rest) (10 ∷ later) e))
+digits-same (d ∷ ds) (y ∷ ys) b rest later h k other e =
+    let head : d ≡ y = head-of (d ∷ ds ++ b ∷ rest) (y ∷ ys ++ 10 ∷ later) e in
+    let same = digits-same ds ys b rest later h.1 k.1 other (ap (drop 1) e) in
+    let tail : ds ≡ ys = same.0 in (cc, same.1)
 
-pub unended-number : (bytes : List ℕ) → IsClean bytes → (v : ℕ) (later : List ℕ) → bytes ≢ decimal v ++ 10 ∷ later
-unended-number bytes h v later e = has-newline (decimal v) later (subst (λ (l : List ℕ). IsClean l) e h)
+-- Where digits stand in front of eleven bytes at most, with none behind them, a number up to a newline is these digits.
+pub number-in-front : (bytes : List ℕ) (most many value : ℕ) → most ≡ min (length bytes) 11 → AreDigitsInFront (take most bytes) many value → (v : ℕ) (later : List ℕ) → v < 2 ^ 32
+    → bytes ≡ decimal v ++ 10 ∷ later → (many < length bytes) × (get_or bytes many 0 ≡ 10) × (take many bytes ≡ decimal v) × (value ≡ v)
+number-in-front bytes most many value is_most front v later small e =
+    let is = decimal_is_IsNumeral v (omega (arith, small)) in
+    let room : many ≤ most = omega (arith, front.within, length-take most bytes) in
+    let same : take many (take most bytes) ≡ take many bytes = take-take many most bytes room in
+    let digits : AllDigits 10 (take many bytes) = subst (λ (l : List ℕ). AllDigits 10 l) same front.digits in
+    let stop : length (take many bytes) ≤ length (decimal v) = digits-stop (take many bytes) (decimal v) (drop many bytes) later digits (take-append-drop many bytes ∙ e) in
+    let short : many ≤ length (decimal v) = omega (arith, stop, length-take-le many bytes (omega (arith, room))) in
+    let ten : length (decimal v) ≤ 10 = length-decimal-le 10 v (omega arith) (omega (arith, small)) (omega (arith, small)) in
+    let long : length (decimal v) < length bytes = omega (arith, ap length e, length-append (decimal v) (10 ∷ later)) in
+    let below : many < most = omega (arith, short, ten, long) in
+    let other : IsNotAsciiDigit (get_or bytes many 0) = subst (λ (b : ℕ). IsNotAsciiDigit b) (get_or-take most bytes many 0 below) (front.ends (omega (arith, below, length-take most bytes))) in
+    let both = digits-same (take many bytes) (decimal v) (get_or bytes many 0) (drop (many + 1) bytes) later digits is.0.1 other (sym (split-at bytes many (omega (arith, below))) ∙ e) in (
+      omega (arith, below),
+      both.1,
+      both.0,
+      front.value_is ∙ ap (digits_value 10) (same ∙ both.0) ∙ is.1,
+    )
+
+-- what is read of them
+pub number-read : (bytes : List ℕ) (most many value : ℕ) → most ≡ min (length bytes) 11 → AreDigitsInFront (take most bytes) many value → many < length bytes → get_or bytes many 0 ≡ 10
+    → 0 < many → (get_or bytes 0 0 ≡ 48 → many ≡ 1) → value < 2 ^ 32 → bytes ≡ decimal value ++ 10 ∷ drop (many + 1) bytes
+number-read bytes most many value is_most front below newline some lead small =
+    let room : many ≤ most = omega (arith, front.within, length-take most bytes) in
+    let same : take many (take most bytes) ≡ take many bytes = take-take many most bytes room in
+    let long : length (take many bytes) ≡ many = length-take-le many bytes (omega (arith, below)) in
+    let first : get_or (take many bytes) 0 0 ≡ get_or bytes 0 0 = get_or-take many bytes 0 0 some in
+    ended-number bytes many value below newline
+    (value-some (take many bytes) value (subst (λ (l : List ℕ). AllDigits 10 l) same front.digits) (front.value_is ∙ ap (digits_value 10) same) small (omega (arith, long, some)) (λ zero_. long ∙ lead (sym first ∙ zero_)))
 
 -- ---- a word in front, and what stands behind it
 

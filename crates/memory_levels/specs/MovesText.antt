@@ -1,7 +1,9 @@
 -- The text of moves over levels of memory: a line for each move, in their order.
-use Rattle.std.specs.Prelude.{◌≡◌, ⊤, ℕ, ◌<◌, ◌≤◌, ◌^◌, ◌==◌, if◌then◌else◌, List, [], ◌∷◌, ◌++◌, flat_map, length, codes, decimal, Option, Some, None, Result, Ok, Err, Vec}
+use Rattle.std.specs.Prelude.{◌≡◌, ⊤, ℕ, ◌<◌, ◌≤◌, ◌^◌, ◌==◌, if◌then◌else◌, List, [], ◌∷◌, ◌++◌, flat_map, length, take, slice_index, codes, decimal, Option, Some, None, Result, Ok, Err, Vec}
 use Rattle.std.specs.Global.{Global}
 use Rattle.std.specs.List.{AllByRecursion}
+use Rattle.std.specs.Char.{IsNotAsciiDigit}
+use Rattle.std.specs.Str.Parse.{AllDigits, digits_value}
 use Rattle.iolb_model.specs.declared.tower.TowerMove.{TowerMove}
 use Rattle.iolb_model.specs.declared.tower.TowerMove.TheVariants.{Bring, Send, Compute, Drop}
 use Rattle.memory_levels.specs.declared.moves_error.MovesError.{MovesError}
@@ -81,3 +83,12 @@ abbrev pub behind : List ℕ → List ℕ → Option (List ℕ)
 behind [] line = Some line
 behind (w ∷ word) [] = None
 behind (w ∷ word) (b ∷ line) = if b == w then behind word line else None
+
+-- ---- digits in front
+
+-- So many digits stand in front of bytes, with this value, and none behind them.
+pub record AreDigitsInFront (bytes : List ℕ) (many value : ℕ) : Type 0 where
+  pub within : many ≤ length bytes
+  pub digits : AllDigits 10 (take many bytes)
+  pub value_is : value ≡ digits_value 10 (take many bytes)
+  pub ends : many < length bytes → IsNotAsciiDigit (slice_index bytes many)

@@ -1,8 +1,7 @@
 //! Reading moves from a text.
 
-ghost use Rattle.std.specs.Prelude.{◌≡◌, ◌≢◌, ◌<◌, ◌++◌, ◌∷◌, ◌^◌, ℕ, List, option_copied, decimal, position, ◌==◌, MatchOption};
-ghost use Rattle.std.specs.Str.Parse.{AllDigits, digits_value};
-ghost use Rattle.memory_levels.specs.MovesText.{BeginsWithMove, CanBeWritten, ReadsMoves, behind, move_line, place_words};
+ghost use Rattle.std.specs.Prelude.{◌≡◌, ◌≢◌, ◌<◌, ◌≤◌, ◌++◌, ◌∷◌, ◌^◌, ℕ, List, length, option_copied, decimal, MatchOption};
+ghost use Rattle.memory_levels.specs.MovesText.{AreDigitsInFront, BeginsWithMove, CanBeWritten, ReadsMoves, behind, move_line, place_words};
 
 use crate::moves_error::MovesError;
 use iolb_model::tower::TowerMove;
@@ -56,15 +55,15 @@ fn first_line(bytes: &[u8]) -> Option<(TowerMove, &[u8])>
 fn after<'a>(word: &[u8], line: &'a [u8]) -> Option<&'a [u8]>
     ensures { option_copied result ≡ behind word.now line.now }
 {
-    let mut rest = line;
-    for w in word {
-        let (b, behind) = rest.split_first()?;
-        if *b != *w {
+    if line.len() < word.len() {
+        return None;
+    }
+    for (place, w) in word.iter().enumerate() {
+        if line[place] != *w {
             return None;
         }
-        rest = behind;
     }
-    Some(rest)
+    Some(&line[word.len()..])
 }
 
 /// A level and a vertex, a space between them, up to the end of the line, and what stands behind it.
@@ -88,41 +87,37 @@ fn place_in(bytes: &[u8]) -> Option<(u8, u32, &[u8])>
 fn number_in(bytes: &[u8]) -> Option<(u32, &[u8])>
     ensures { MatchOption result ((v : ℕ) (later : List ℕ) → v < 2 ^ 32 → bytes.now ≢ decimal v ++ 10 ∷ later) (λ read. (read.0 < 2 ^ 32) × (bytes.now ≡ decimal read.0 ++ 10 ∷ read.1.now)) }
 {
-    let end = line_end(bytes)?;
-    let v = number_of(&bytes[..end])?;
-    Some((v, &bytes[end + 1..]))
-}
-
-/// Where the first newline stands.
-fn line_end(bytes: &[u8]) -> Option<usize>
-    ensures { result ≡ position (λ b. b == 10) bytes.now }
-{
-    bytes.iter().position(|b| *b == b'\n')
-}
-
-/// The number below 2^32 that these bytes write, without a leading 0 unless it is 0.
-fn number_of(bytes: &[u8]) -> Option<u32>
-    ensures { MatchOption result ((v : ℕ) → v < 2 ^ 32 → bytes.now ≢ decimal v) (λ v. (v < 2 ^ 32) × (bytes.now ≡ decimal v)) }
-{
-    if bytes.is_empty() {
+    // A number below 2^32 has ten digits at most, so of eleven bytes one ends it.
+    let (many, value) = digits_in(&bytes[..bytes.len().min(11)]);
+    if many == bytes.len() {
         return None;
     }
-    if bytes[0] == b'0' && bytes.len() != 1 {
+    if bytes[many] != b'\n' {
         return None;
     }
-    value_of(bytes)
+    if many == 0 {
+        return None;
+    }
+    if bytes[0] == b'0' && many != 1 {
+        return None;
+    }
+    if value > u64::from(u32::MAX) {
+        return None;
+    }
+    Some((value as u32, &bytes[many + 1..]))
 }
 
-/// The value of bytes that are digits, if it is below 2^32.
-fn value_of(bytes: &[u8]) -> Option<u32>
-    ensures { MatchOption result (¬ (AllDigits 10 bytes.now × (digits_value 10 bytes.now < 2 ^ 32))) (λ value. AllDigits 10 bytes.now × (value < 2 ^ 32) × (value ≡ digits_value 10 bytes.now)) }
+/// How many digits stand in front, and their value.
+fn digits_in(bytes: &[u8]) -> (usize, u64)
+    requires { length bytes.now ≤ 11 }
+    ensures { AreDigitsInFront bytes.now result.0 result.1 }
 {
-    let mut value: u32 = 0;
-    for b in bytes {
+    let mut value: u64 = 0;
+    for (place, b) in bytes.iter().enumerate() {
         if !b.is_ascii_digit() {
-            return None;
+            return (place, value);
         }
-        value = value.checked_mul(10)?.checked_add(u32::from(*b - b'0'))?;
+        value = value * 10 + (u64::from(*b) - 48);
     }
-    Some(value)
+    (bytes.len(), value)
 }

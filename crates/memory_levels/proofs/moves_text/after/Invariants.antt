@@ -3,5 +3,5 @@ use Rattle.std.proofs.Common.{◌≡◌, drop}
 use Rattle.memory_levels.specs.MovesText.{behind}
 use Rattle.memory_levels.proofs.moves_text.after.Given as goal
 
-abbrev pub invariant-loop-w : goal.invariant-loop-w
-invariant-loop-w l = behind (drop l.w-index l.word) l.rest ≡ behind l.word l.fn.line
+abbrev pub invariant-loop-place : goal.invariant-loop-place
+invariant-loop-place l = behind (drop l.place l.word) (drop l.place l.line) ≡ behind l.word l.line
