@@ -1,3 +1,11 @@
+pub mod Lowered
+pub mod Summation
+pub mod NamedLoops
+pub mod NamedInside
+pub mod NamedCounts
+pub mod NamedNests
+pub mod Permutations
+pub mod InputReads
 pub mod Squares
 pub mod Worth
 pub mod Programs

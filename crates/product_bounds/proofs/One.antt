@@ -1,16 +1,15 @@
 -- The certificate of one matrix product, at matrices of 64 by 64 numbers.
-use Rattle.std.proofs.Common.{◌≡◌, refl, sym, ◌∙◌, ap, subst, inl, inr, ℕ, zero, suc, ◌+◌, ◌*◌, ◌-◌, ◌/◌, ◌^◌, ◌<◌, ◌≤◌, List, [], ◌∷◌, length, map, get_or, replicate, sum, arith}
-use Rattle.std.specs.Prelude.{◌⊎◌, true, sum_by}
+use Rattle.std.proofs.Common.{◌≡◌, refl, sym, ◌∙◌, ap, subst, inl, inr, ℕ, zero, suc, ◌+◌, ◌*◌, ◌-◌, ◌/◌, ◌^◌, ◌<◌, ◌≤◌, List, [], ◌∷◌, length, map, get_or, sum, arith}
+use Rattle.std.specs.Prelude.{true, sum_by}
 use Rattle.std.specs.List.{AllByRecursion}
-use Rattle.std.proofs.Math.IntN.{ℤ, pos, negsuc, ◌+ℤ◌, ◌*ℤ◌}
+use Rattle.std.proofs.Math.IntN.{pos}
 use Rattle.std.proofs.lemmas.Int.{ints}
 use Rattle.std.proofs.lemmas.List.{length-map}
-use Rattle.base_laws.proofs.Ring.{mul-one}
-use Rattle.iolb_model.specs.Bound.{branch_value, count_value, events_of, labels_of, points_of, term_value}
+use Rattle.iolb_model.specs.Bound.{count_value, events_of, labels_of, points_of, term_value}
 use Rattle.iolb_model.specs.Form.{AffineForm}
 use Rattle.iolb_model.specs.Program.{Access, AffineProgram, read_at, statement_at}
 use Rattle.affine_form.specs.Rows.{step_of}
-use Rattle.affine_program.specs.Domain.{depth_of, path_of}
+use Rattle.affine_program.specs.Domain.{path_of}
 use Rattle.affine_c.specs.Products.{product_program}
 use Rattle.cover_lp.specs.Cover.{IsPair, weight_at}
 use Rattle.cover_lp.proofs.Duality.{one-total}
@@ -20,23 +19,19 @@ use Rattle.domain_count.specs.Count.{IsCount}
 use Rattle.domain_count.proofs.Claimed.{right-claims-give-one}
 use Rattle.k_partition.specs.declared.term.PartitionBound.{PartitionBound}
 use Rattle.k_partition.specs.declared.term.Shape.{Shape}
-use Rattle.k_partition.specs.declared.term.Shape.TheVariants.{Sum}
 use Rattle.k_partition.specs.Numbers.{factor_over, numbers_of}
 use Rattle.k_partition.specs.PartitionClaims.{IsCreditsTotal, no_points}
 use Rattle.k_partition.specs.Term.{CreditTerm, PartitionTerm}
-use Rattle.k_partition.specs.TermLoads.{weight_of}
 use Rattle.k_partition.specs.View.{partition_of}
-use Rattle.poly_tree.specs.Expansion.{Expansion, at, over, none, part, number, value, zero_expansion}
-use Rattle.poly_tree.specs.Poly.{IsLegal, Quotient, numerator_at}
+use Rattle.poly_tree.specs.Expansion.{Expansion, over, none, part, number, zero_expansion}
+use Rattle.poly_tree.specs.Poly.{IsLegal, Quotient}
 use Rattle.poly_tree.specs.Printed.{polynomial_of}
-use Rattle.poly_tree.proofs.SameLemmas.{same-polynomial}
 use Rattle.reuse_paths.specs.Families.{FamilyForms}
 use Rattle.uniform_cover.specs.Products.{product_by}
 use Rattle.wavefront.specs.declared.cold.Cold.{Cold}
-use Rattle.iolb_check.specs.Bounds.{AreWideEvents, AreWideLabels, HasWideBranch, HasWideTerm, IsWideAt, IsWideBranch, IsWidePartition, IsWideTerm, term_of as bound_term, terms_of}
-use Rattle.iolb_check.specs.Claims.{BranchClaim, claim_of_branch, claim_of_certificate, claim_of_term}
-use Rattle.iolb_check.specs.Conditions.{AreBranchValues, AreValuesOf, IsPartitionValue, IsValueOf, MeetsConditions}
-use Rattle.iolb_check.specs.Limits.{CertificateParts}
+use Rattle.iolb_check.specs.Bounds.{HasWideBranch, IsWideAt, IsWideBranch, IsWidePartition, IsWideTerm, term_of as bound_term}
+use Rattle.iolb_check.specs.Claims.{claim_of_branch, claim_of_term}
+use Rattle.iolb_check.specs.Conditions.{AreBranchValues, AreValuesOf, IsPartitionValue, IsValueOf}
 use Rattle.iolb_check.specs.declared.bound.Value.{Value}
 use Rattle.iolb_check.specs.declared.bound.Value.TheVariants as values
 use Rattle.iolb_check.specs.declared.term.Branch.{Branch}
@@ -49,9 +44,11 @@ use Rattle.projective_bounds.specs.Colds.{AreColdsOf, IsReadCold}
 use Rattle.projective_bounds.specs.Families.{array_families, loop_form}
 use Rattle.projective_bounds.specs.Loops.{parameters_of}
 use Rattle.projective_bounds.specs.Whole.{IsWholeTerm, stretch_for}
-use Rattle.find_terms.specs.Made.{IsMadeFor}
 use Rattle.product_bounds.specs.Openings.{OneProductIsCertified}
-use Rattle.product_bounds.proofs.Squares.{square-legal, square-value, square_tree, whole, whole-legal}
+use Rattle.projective.proofs.Summed.{whole, whole-legal}
+use Rattle.projective.proofs.Times.{product-value}
+use Rattle.product_bounds.proofs.Squares.{parameters, product-is, square-is, square_tree, two-parameters}
+use Rattle.std.proofs.Math.Nat.{div-le_self}
 use Rattle.product_bounds.proofs.Worth.{AreSquares, narrow, sizes}
 
 abbrev one : AffineProgram
@@ -144,20 +141,12 @@ all-ones (a ∷ b ∷ c ∷ d ∷ weights) many total covered = absurd (omega (a
 
 -- ---- products of the parameter
 
-abbrev zero_list : ℕ → List ℕ
-zero_list count = replicate count 0
-
-zeros : (vars : ℕ) (nest : List (AffineForm × AffineForm)) (ps : List ℕ) → RunBelow one vars nest ps → ps ≡ zero_list (length nest)
+zeros : (vars : ℕ) (nest : List (AffineForm × AffineForm)) (ps : List ℕ) → RunBelow one vars nest ps → ps ≡ parameters (length nest)
 zeros vars [] [] run = refl
 zeros vars [] (p ∷ ps) run = absurd run
 zeros vars (b ∷ nest) [] run = absurd run
 zeros vars (b ∷ nest) (p ∷ ps) run =
     let first : p ≡ 0 = omega (arith, run.0.there) in ap (λ (x : ℕ). x ∷ ps) first ∙ ap (λ (xs : List ℕ). 0 ∷ xs) (zeros (suc vars) nest ps run.1)
-
-zero-at : (count place : ℕ) → get_or (zero_list count) place 0 ≡ 0
-zero-at zero place = refl
-zero-at (suc count) zero = refl
-zero-at (suc count) (suc place) = zero-at count place
 
 abbrev cube_tree : Expansion
 cube_tree = over 0 (part zero_expansion (part zero_expansion (part zero_expansion (part (number (pos 1)) none))))
@@ -165,31 +154,10 @@ cube_tree = over 0 (part zero_expansion (part zero_expansion (part zero_expansio
 cube-legal : IsLegal (whole cube_tree)
 cube-legal = whole-legal cube_tree (omega arith, (tt, (tt, (tt, (tt, tt)))), λ e. let same : pos 1 ≡ pos 0 = cc in absurd cc) (omega arith, (tt, (tt, (tt, (tt, tt)))))
 
-cube-value : (f : ℕ → ℤ) → value cube_tree f ≡ f 0 *ℤ (f 0 *ℤ f 0)
-cube-value f = front (f 0 *ℤ value square_tree f) ∙ ap (λ (z : ℤ). f 0 *ℤ z) (square-value f) where
-  front : (y : ℤ) → pos 0 +ℤ y ≡ y
-  front y = omega (arith, ints)
-
-over-one : (t u : ℤ) (d : ℕ) → d ≡ 1 → t ≡ u → t *ℤ pos 1 ≡ u *ℤ pos d
-over-one t u d e same = ap (λ (z : ℤ). z *ℤ pos 1) same ∙ ap (λ (k : ℕ). u *ℤ pos k) (sym e)
-
 cube-is : (total : Quotient) (ps : List ℕ) → ps ≡ 0 ∷ 0 ∷ 0 ∷ [] → IsProduct ps total → total ≡ whole cube_tree
-cube-is total ps are h = same-polynomial total (whole cube_tree) h.legal cube-legal
-    (λ point. over-one (numerator_at total point) (value cube_tree (at point)) total.denominator h.whole
-    (h.value point ∙ ap (λ (qs : List ℕ). product_of qs (at point)) are ∙ ap (λ (z : ℤ). at point 0 *ℤ (at point 0 *ℤ z)) (mul-one (at point 0)) ∙ sym (cube-value (at point))))
-
-square-is : (total : Quotient) (ps : List ℕ) → ps ≡ 0 ∷ 0 ∷ [] → IsProduct ps total → total ≡ whole square_tree
-square-is total ps are h = same-polynomial total (whole square_tree) h.legal square-legal
-    (λ point. over-one (numerator_at total point) (value square_tree (at point)) total.denominator h.whole
-    (h.value point ∙ ap (λ (qs : List ℕ). product_of qs (at point)) are ∙ ap (λ (z : ℤ). at point 0 *ℤ z) (mul-one (at point 0)) ∙ sym (square-value (at point))))
+cube-is total ps are = product-is total ps cube_tree cube-legal (λ f. product-value (0 ∷ 0 ∷ 0 ∷ []) f ∙ ap (λ (qs : List ℕ). product_of qs f) (sym are))
 
 -- ---- the term of the whole domain
-
-quotient-le : (q n : ℕ) → q / n ≤ q
-quotient-le q n = grind arith
-
-product-le : (e a b : ℕ) → a ≤ b → e * a ≤ e * b
-product-le e a b h = grind (arith, h)
 
 module _ (trees : List (List SelectionTree)) (q : ℕ) (weights : List ℕ) (term : PartitionTerm) (is : IsWholeTerm one trees q weights term) (two : q ≡ 2) (are : weights ≡ ones) (bound : PartitionBound)
     (valued : IsPartitionValue one term bound) where
@@ -199,7 +167,7 @@ module _ (trees : List (List SelectionTree)) (q : ℕ) (weights : List ℕ) (ter
   count-is : bound.count ≡ whole cube_tree
   count-is =
       right-claims-give-one one term.nest term.count bound.count is.count.total valued.count is.count.right
-      ∙ cube-is is.count.total is.count.parameters (zeros 1 term.nest is.count.parameters is.count.run ∙ ap zero_list three) is.count.product
+      ∙ cube-is is.count.total is.count.parameters (zeros 1 term.nest is.count.parameters is.count.run ∙ ap parameters three) is.count.product
 
   credits-are : bound.credits ≡ no_points
   credits-are = subst (λ (credits : List CreditTerm). IsCreditsTotal 1 no_points credits bound.credits) is.credits valued.credits
@@ -234,7 +202,7 @@ module _ (trees : List (List SelectionTree)) (q : ℕ) (weights : List ℕ) (ter
   events-few : events_of (numbers_of bound) 64 * ((count_value (polynomial_of bound.count) sizes - 1) / points_of (numbers_of bound) 64) ≤ 128 * 262143
   events-few =
       let u : ℕ = points_of (numbers_of bound) 64 in
-      let less : 262143 / u ≤ 262143 = quotient-le 262143 u in
+      let less : 262143 / u ≤ 262143 = div-le_self 262143 u in
       let is_so : events_of (numbers_of bound) 64 * ((count_value (polynomial_of bound.count) sizes - 1) / u) ≡ 128 * (262143 / u) =
       ap (λ (e : ℕ). e * ((count_value (polynomial_of bound.count) sizes - 1) / u)) events-are ∙ ap (λ (c : ℕ). 128 * ((c - 1) / u)) points-are in
       omega (arith, less, is_so)
@@ -264,19 +232,13 @@ two-each (suc zero) below = refl
 two-each (suc (suc zero)) below = refl
 two-each (suc (suc (suc read))) below = absurd (omega (arith, below))
 
-two-zeros : (loops : List ℕ) (count : ℕ) → length loops ≡ 2 → parameters_of (zero_list count) loops ≡ 0 ∷ 0 ∷ []
-two-zeros [] count many = absurd (omega (arith, many))
-two-zeros (x ∷ []) count many = absurd (omega (arith, many))
-two-zeros (x ∷ y ∷ []) count many = ap (λ (n : ℕ). n ∷ get_or (zero_list count) y 0 ∷ []) (zero-at count x) ∙ ap (λ (n : ℕ). 0 ∷ n ∷ []) (zero-at count y)
-two-zeros (x ∷ y ∷ z ∷ loops) count many = absurd (omega (arith, many))
-
 cold-is : (read : ℕ) (cold : Cold) (count : Quotient) → read < 3 → IsReadCold one read cold → IsCount one cold.nest cold.sums count → count ≡ whole square_tree
 cold-is read cold count below h right =
     let outline = h.outline in
     let many : length outline.loops ≡ 2 = sym (ap length outline.are.subscripts ∙ length-map outline.loops (loop_form one)) ∙ two-each read below in
     right-claims-give-one one cold.nest cold.sums count h.total right h.right
     ∙ square-is h.total (parameters_of outline.below outline.loops)
-    (ap (λ (bs : List ℕ). parameters_of bs outline.loops) (zeros 1 outline.run.nest outline.below outline.run.run) ∙ two-zeros outline.loops (length outline.run.nest) many) h.product
+    (ap (λ (bs : List ℕ). parameters_of bs outline.loops) (zeros 1 outline.run.nest outline.below outline.run.run) ∙ two-parameters outline.loops (length outline.run.nest) many) h.product
 
 colds-are : (reads : List ℕ) (colds : List Cold) (vs : List Value) → AllByRecursion (λ (read : ℕ). read < 3) reads → AreColdsOf one reads colds
     → AreValuesOf one (map claim_of_term (map terms.Cold colds)) vs → AreSquares vs × (length vs ≡ length reads)

@@ -1,14 +1,14 @@
 -- The statements of a program of matrix products, and what is around them.
-use Rattle.std.proofs.Common.{◌≡◌, ◌≢◌, refl, sym, ◌∙◌, ap, subst, ℕ, zero, suc, ◌+◌, ◌*◌, ◌<◌, ◌≤◌, Bool, true, false, List, [], ◌∷◌, length, map, get_or, arith}
+use Rattle.std.proofs.Common.{◌≡◌, ◌≢◌, refl, ◌∙◌, ap, ℕ, zero, suc, ◌+◌, ◌*◌, ◌<◌, ◌≤◌, Bool, true, false, List, [], ◌∷◌, map, get_or, arith}
 use Rattle.std.specs.Prelude.{◌==◌, if◌then◌else◌, Option, Some, None, option_map, unwrap_or}
 use Rattle.std.specs.List.{range_with_len}
 use Rattle.std.proofs.lemmas.Bool.{eq-eqb, eqb-true}
 use Rattle.iolb_model.specs.Path.{PathStep, rises, first_of, row_path}
-use Rattle.iolb_model.specs.Program.{Access, Statement, AffineProgram, no_statement, statement_at}
+use Rattle.iolb_model.specs.Program.{Statement, no_statement, statement_at}
 use Rattle.affine_program.specs.Domain.{path_of}
 use Rattle.affine_program.specs.Tree.{row_from}
 use Rattle.affine_c.specs.Products.{first_value, last_value, matrix_cell, product_nest, product_program, product_statement}
-use Rattle.dep_quast.specs.Context.{ReadOf, reference_of}
+use Rattle.dep_quast.specs.Context.{reference_of}
 use Rattle.dep_quast.specs.Levels.{writers, writers_from}
 
 -- the loops i, j and k

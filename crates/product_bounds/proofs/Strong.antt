@@ -1,48 +1,41 @@
 -- The opening branch of a program of matrix products, at matrices of 64 by 64 numbers.
-use Rattle.std.proofs.Common.{◌≡◌, ◌⊎◌, refl, sym, ◌∙◌, ap, subst, inl, inr, ℕ, zero, suc, ◌+◌, ◌*◌, ◌-◌, ◌^◌, ◌<◌, ◌≤◌, min, Bool, true, false, List, [], ◌∷◌, length, map, get_or, arith, sum}
-use Rattle.std.specs.Prelude.{Contains, nat_eq, Some, slice_get}
+use Rattle.std.proofs.Common.{◌≡◌, ◌⊎◌, refl, sym, ◌∙◌, ap, subst, inl, inr, ℕ, zero, suc, ◌+◌, ◌*◌, ◌-◌, ◌<◌, ◌≤◌, min, List, [], ◌∷◌, length, map, get_or, arith}
+use Rattle.std.specs.Prelude.{Some, slice_get}
 use Rattle.std.specs.Global.{Global}
-use Rattle.std.specs.List.{AllByRecursion, IsDistinct, range_with_len}
-use Rattle.std.proofs.Math.IntN.{ℤ, pos}
+use Rattle.std.specs.List.{AllByRecursion, range_with_len}
+use Rattle.std.proofs.Math.IntN.{pos}
 use Rattle.std.proofs.lemmas.List.{length-map}
 use Rattle.std.proofs.lemmas.List.FromFn.{length-range_with_len}
 use Rattle.base_laws.proofs.Lists.{All-at}
-use Rattle.iolb_model.specs.Form.{AffineForm}
 use Rattle.iolb_model.specs.Bound.{branch_value}
-use Rattle.iolb_model.specs.Path.{PathStep}
 use Rattle.iolb_model.specs.Program.{AffineProgram, Statement, no_statement, statement_at}
-use Rattle.affine_program.specs.Domain.{path_of}
 use Rattle.affine_c.specs.Products.{product_program, product_statement}
 use Rattle.dep_quast.specs.Context.{ReadOf, reference_of}
 use Rattle.dep_quast.specs.Truth.{ReadFits}
-use Rattle.domain_count.specs.Count.{IsCount, IsSumFrom}
-use Rattle.flow_deps.specs.Candidates.{loop_variable}
-use Rattle.domain_count.specs.Made.{AreMade}
-use Rattle.domain_count.proofs.Claimed.{right-claims-give-one}
-use Rattle.domain_count.proofs.WithinLimits.{made-one}
+use Rattle.domain_count.specs.Count.{IsCount}
 use Rattle.poly_tree.specs.Poly.{Quotient}
 use Rattle.wavefront.specs.declared.cold.Cold.{Cold}
-use Rattle.wavefront.specs.View.{term_of}
 use Rattle.cold_terms.specs.Held.{array_read, reader_of}
-use Rattle.cold_terms.specs.Outline.{ColdOutline, outline_in}
 use Rattle.iolb_check.specs.Bounds.{IsWideBranch, terms_of}
-use Rattle.iolb_check.specs.Claims.{BranchClaim, claim_of_branch, claim_of_certificate, claim_of_term}
-use Rattle.iolb_check.specs.Conditions.{AreBranchValues, AreValuesOf, IsValueOf, MeetsConditions}
-use Rattle.iolb_check.specs.Limits.{CertificateParts}
+use Rattle.iolb_check.specs.Claims.{BranchClaim, claim_of_branch, claim_of_term}
+use Rattle.iolb_check.specs.Conditions.{AreBranchValues, AreValuesOf, IsValueOf}
 use Rattle.iolb_check.specs.declared.bound.Value.{Value}
 use Rattle.iolb_check.specs.declared.bound.Value.TheVariants as values
 use Rattle.iolb_check.specs.declared.term.Branch.{Branch}
 use Rattle.iolb_check.specs.declared.term.Term.{Term}
 use Rattle.iolb_check.specs.declared.term.Term.TheVariants as terms
 use Rattle.projective_bounds.specs.Certified.{HasCoverInReach}
-use Rattle.find_terms.specs.Made.{IsMadeFor}
+use Rattle.projective_bounds.specs.Loops.{parameters_of}
 use Rattle.find_terms.specs.Opened.{BeginsWithOpening}
-use Rattle.find_terms.specs.Openings.{AreNamed, AreOpenings, AreRising, HasPlainRead, IsFirstOpening, IsOpeningBranch, IsOpeningTerm, IsPlainRead, nest_along, opening_outline}
+use Rattle.find_terms.specs.Openings.{AreOpenings, AreRising, HasPlainRead, IsFirstOpening, IsOpeningTerm}
 use Rattle.product_bounds.specs.Openings.{ProductsHaveOpenings}
-use Rattle.product_bounds.proofs.Plain.{first-plain, second-plain, start}
-use Rattle.product_bounds.proofs.Programs.{path-is, product_path, statement-is}
+use Rattle.product_bounds.proofs.InputReads.{opening-counts}
+use Rattle.product_bounds.proofs.Plain.{first-plain, room, runs, second-plain}
+use Rattle.product_bounds.proofs.Programs.{statement-is}
 use Rattle.product_bounds.proofs.Worth.{AreSquares, branch-worth, narrow}
-use Rattle.product_bounds.proofs.Squares.{square-summed, square-sums, square_nest, square_sums, square_tree, whole}
+use Rattle.product_bounds.proofs.Squares.{parameters, square-is, square_tree, two-parameters}
+use Rattle.projective.proofs.Summed.{whole}
+use Rattle.find_terms.proofs.NameLaws.{named-many}
 use Rattle.iolb_model.specs.declared.limits.TheConstants.{OPENING_TERMS}
 
 -- ---- places in a list that rises
@@ -63,7 +56,7 @@ module _ (n : ℕ) where
   statements-many : length program.statements ≡ n
   statements-many = length-map (range_with_len 0 n) product_statement ∙ length-range_with_len 0 n
 
-  -- ---- the nest of an opening term
+  -- ---- what an opening term counts
 
   read-two : (q r : ℕ) → r < 3 → length (get_or (product_statement q).reads r no_statement.writes).subscripts ≡ 2
   read-two q zero less = refl
@@ -77,49 +70,14 @@ module _ (n : ℕ) where
       let less : reader.read < 3 = subst (λ (s : Statement). reader.read < length s.reads) is fits.read in
       ap (λ (s : Statement). length (get_or s.reads reader.read no_statement.writes).subscripts) is ∙ read-two reader.statement reader.read less
 
-  two-loops : (x y : ℕ) → x < 3 → y < 3 → IsDistinct nat_eq (x ∷ y ∷ []) → (nest_along program (x ∷ y ∷ []) 0 product_path (start n)).nest ≡ square_nest
-  unfolding IsDistinct
-  two-loops zero zero p q h = absurd (let e : true ≡ false = h.0.0 in cc)
-  two-loops zero (suc zero) p q h = refl
-  two-loops zero (suc (suc zero)) p q h = refl
-  two-loops (suc zero) zero p q h = refl
-  two-loops (suc zero) (suc zero) p q h = absurd (let e : true ≡ false = h.0.0 in cc)
-  two-loops (suc zero) (suc (suc zero)) p q h = refl
-  two-loops (suc (suc zero)) zero p q h = refl
-  two-loops (suc (suc zero)) (suc zero) p q h = refl
-  two-loops (suc (suc zero)) (suc (suc zero)) p q h = absurd (let e : true ≡ false = h.0.0 in cc)
-  two-loops zero (suc (suc (suc y))) p q h = absurd (omega (arith, q))
-  two-loops (suc zero) (suc (suc (suc y))) p q h = absurd (omega (arith, q))
-  two-loops (suc (suc zero)) (suc (suc (suc y))) p q h = absurd (omega (arith, q))
-  two-loops (suc (suc (suc x))) y p q h = absurd (omega (arith, p))
-
-  pair-nest : (loops : List ℕ) → length loops ≡ 2 → AllByRecursion (λ (loop : ℕ). loop < 3) loops → IsDistinct nat_eq loops → (nest_along program loops 0 product_path (start n)).nest ≡ square_nest
-  pair-nest [] many below different = absurd (omega (arith, many))
-  pair-nest (x ∷ []) many below different = absurd (omega (arith, many))
-  pair-nest (x ∷ y ∷ []) many below different = two-loops x y below.0 below.1.0 different
-  pair-nest (x ∷ y ∷ z ∷ loops) many below different = absurd (omega (arith, many))
-
-  module _ (cold : Cold) (opens : IsOpeningTerm program (reader_of cold) cold) where
-    path : path_of program cold.statement ≡ product_path
-    path = path-is n cold.statement (omega (arith, opens.read.statement, statements-many))
-
-    opening-nest : cold.nest ≡ square_nest
-    opening-nest =
-        let named : AreNamed program (reader_of cold) opens.outline.0 = opens.outline.1 in
-        let many : length opens.outline.0 ≡ 2 =
-        sym (ap length named.subscripts ∙ length-map opens.outline.0 (λ (loop : ℕ). loop_variable program (reader_of cold) loop)) ∙ two-subscripts (reader_of cold) opens.read in
-        ap (λ (o : ColdOutline). o.nest) opens.outline.2 ∙ ap (λ (way : List PathStep). (nest_along program opens.outline.0 0 way (start n)).nest) path
-        ∙ pair-nest opens.outline.0 many (subst (λ (d : ℕ). AllByRecursion (λ (loop : ℕ). loop < d) opens.outline.0) (ap length path) named.there) named.different
-
-    -- its count
-    count-is : (count : Quotient) → IsCount program cold.nest cold.sums count → count ≡ whole square_tree
-    count-is count right =
-        let here : IsCount program square_nest cold.sums count = subst (λ (nest : List (AffineForm × AffineForm)). IsCount program nest cold.sums count) opening-nest right in
-        let made : AreMade 1 square_nest cold.sums.sums = subst (λ (nest : List (AffineForm × AffineForm)). AreMade 1 nest cold.sums.sums) opening-nest opens.shown.made in
-        let same : cold.sums.sums ≡ square_sums = made-one program square_nest cold.sums.sums square_sums made (whole square_tree, square-summed) in
-        right-claims-give-one program square_nest (record { shown = cold.sums.shown; sums = square_sums }) count (whole square_tree)
-        (record { shown = here.shown; sums = subst (λ (sums : List Quotient). IsSumFrom 1 square_nest sums count) same here.sums })
-        (record { shown = here.shown; sums = square-sums })
+  -- its count
+  count-is : (cold : Cold) → IsOpeningTerm program (reader_of cold) cold → (count : Quotient) → IsCount program cold.nest cold.sums count → count ≡ whole square_tree
+  count-is cold opens count right =
+      square-is count (parameters_of (parameters 3) opens.outline.0)
+      (two-parameters opens.outline.0 3 (sym (named-many program (reader_of cold) opens.outline.0 opens.outline.1) ∙ two-subscripts (reader_of cold) opens.read))
+      (opening-counts program (reader_of cold) opens.outline.0 (parameters 3) opens.outline.1 (runs n cold.statement below) (room n cold.statement below) cold count opens right) where
+        below : cold.statement < n
+        below = omega (arith, opens.read.statement, statements-many)
 
   -- ---- the values of opening terms
 

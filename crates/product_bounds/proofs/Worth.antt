@@ -7,7 +7,8 @@ use Rattle.iolb_model.specs.Bound.{BoundTerm, branch_value, term_value}
 use Rattle.iolb_check.specs.Bounds.{HasWideTerm, IsWideBranch, IsWideTerm, term_of, terms_of}
 use Rattle.iolb_check.specs.declared.bound.Value.{Value}
 use Rattle.iolb_check.specs.declared.bound.Value.TheVariants.{Cold}
-use Rattle.product_bounds.proofs.Squares.{square-size, square_tree, whole}
+use Rattle.projective.proofs.Summed.{whole}
+use Rattle.product_bounds.proofs.Squares.{square-size, square_tree}
 
 abbrev pub sizes : List ℤ
 sizes = pos 64 ∷ []
