@@ -26,6 +26,25 @@ fn narrow(number: i128) -> i64 {
     i64::try_from(number).unwrap_or(LARGE)
 }
 
+/// A number divided by another one that divides it.
+fn quotient(number: i64, divisor: i64) -> Option<i64> {
+    if number.checked_rem(divisor)? == 0 {
+        number.checked_div(divisor)
+    } else {
+        None
+    }
+}
+
+/// A number divided by one of at least 1, rounded down.
+fn rounded_down(number: i64, divisor: i64) -> i64 {
+    let quotient = number.checked_div(divisor).unwrap_or(number);
+    if number.checked_rem(divisor).unwrap_or(0) < 0 {
+        quotient.saturating_sub(1)
+    } else {
+        quotient
+    }
+}
+
 impl Affine {
     /// The form that is this number everywhere.
     pub fn number(alloc: Global, constant: i64) -> Affine {
@@ -169,6 +188,37 @@ impl Affine {
             }
         }
         None
+    }
+
+    /// The last variable past the parameters whose coefficient isn't 0.
+    pub fn last_loop(&self, params: usize) -> Option<usize> {
+        let mut last = None;
+        for place in params..self.width() {
+            if self.at(place) != 0 {
+                last = Some(place - params);
+            }
+        }
+        last
+    }
+
+    /// A row divided by the size of its last loop's coefficient, where this divides each coefficient; its constant is rounded
+    /// down, so that the row holds at the same points.
+    pub fn reduced(&self, alloc: Global, params: usize) -> Result<Affine, Memory> {
+        let Some(last) = self.last_loop(params) else {
+            return self.copied(alloc);
+        };
+        let size = self.at(params.saturating_add(last)).saturating_abs();
+        let mut coef = Vec::new(alloc);
+        for number in self.coef.as_slice() {
+            match quotient(*number, size) {
+                Some(number) => coef.push(number)?,
+                None => return self.copied(alloc),
+            }
+        }
+        Ok(Affine {
+            coef,
+            constant: rounded_down(self.constant, size),
+        })
     }
 
     /// The loop with which the form is that loop or its opposite, and some form of the parameters.

@@ -6,7 +6,7 @@ ghost use Rattle.iolb_model.specs.declared.limits.TheConstants.{NEST_VARIABLES, 
 
 use crate::affine::{Affine, copies, loops};
 use crate::combined::combined;
-use crate::facts::Facts;
+use crate::facts::{Facts, StatementFacts};
 use crate::shown::{Rows, all_shown, followed, within};
 use affine_form::Memory;
 use affine_program::Program;
@@ -26,6 +26,34 @@ pub fn copied_bounds(
     Ok(all)
 }
 
+/// What a row says of the last loop that stands in it.
+#[derive(Drop)]
+pub struct Limit {
+    pub place: usize,
+    pub bound: Affine,
+    pub is_lower: bool,
+}
+
+/// The bound of the last loop in a row by the parameters and the loops around it, where the row is one.
+pub fn limit_of(alloc: Global, params: usize, row: &Affine) -> Result<Option<Limit>, Memory> {
+    let Some(place) = row.last_loop(params) else {
+        return Ok(None);
+    };
+    let variable = params.saturating_add(place);
+    let sign = row.at(variable);
+    if sign != 1 && sign != -1 {
+        return Ok(None);
+    }
+    let mut bound = Affine::number(alloc, 0);
+    bound.add(row, sign.saturating_neg())?;
+    bound.add_variable(variable, 1)?;
+    Ok(Some(Limit {
+        place,
+        bound,
+        is_lower: sign == 1,
+    }))
+}
+
 /// The bounds of those that meet a row too, where the row bounds one loop by the parameters and the loops around it.
 pub fn tightened(
     alloc: Global,
@@ -33,29 +61,17 @@ pub fn tightened(
     bounds: &[(Affine, Affine)],
     row: &Affine,
 ) -> Result<Option<Vec<(Affine, Affine)>>, Memory> {
-    let mut all = copied_bounds(alloc, bounds)?;
-    if row.width() <= params {
-        return Ok(None);
-    }
-    let mut place = row.width().saturating_sub(1);
-    for _turn in 0..row.width() {
-        if place > params && row.at(place) == 0 {
-            place = place.saturating_sub(1);
-        }
-    }
-    let sign = row.at(place);
-    let mut limit = Affine::number(alloc, 0);
-    limit.add(row, sign.saturating_neg())?;
-    limit.add_variable(place, 1)?;
-    let Some(pair) = all.get_mut(place.saturating_sub(params)) else {
+    let Some(limit) = limit_of(alloc, params, row)? else {
         return Ok(None);
     };
-    if sign == 1 {
-        pair.0 = limit;
-    } else if sign == -1 {
-        pair.1 = limit;
-    } else {
+    let mut all = copied_bounds(alloc, bounds)?;
+    let Some(pair) = all.get_mut(limit.place) else {
         return Ok(None);
+    };
+    if limit.is_lower {
+        pair.0 = limit.bound;
+    } else {
+        pair.1 = limit.bound;
     }
     Ok(Some(all))
 }
@@ -117,6 +133,66 @@ fn first_open(
         rows.push(upper.less(alloc, value, 0)?)?;
     }
     Ok(None)
+}
+
+/// The rows which say that bounds are within others.
+fn nested_rows(
+    alloc: Global,
+    bounds: &[(Affine, Affine)],
+    domain: &[(Affine, Affine)],
+) -> Result<Vec<Affine>, Memory> {
+    let mut rows = Vec::new(alloc);
+    for ((lower, upper), (least, most)) in bounds.iter().zip(domain.iter()) {
+        rows.push(lower.less(alloc, least, 0)?)?;
+        rows.push(most.less(alloc, upper, 0)?)?;
+    }
+    Ok(rows)
+}
+
+/// The bounds with those of the loops around tightened, as far as they are seen to pass the statement's own.
+fn within_domain(
+    alloc: Global,
+    facts: &Facts,
+    bounds: Vec<(Affine, Affine)>,
+    own: &StatementFacts,
+) -> Result<Option<Vec<(Affine, Affine)>>, Memory> {
+    let rows = nested_rows(alloc, bounds.as_slice(), own.bounds.as_slice())?;
+    let mut all = bounds;
+    for row in rows {
+        let given = nest_rows(alloc, facts, all.as_slice())?;
+        let goals = vec![in alloc; row.copied(alloc)?]?;
+        if all_shown(alloc, &given, goals.as_slice())?.is_none() {
+            match tightened(alloc, facts.params, all.as_slice(), &row)? {
+                Some(fewer) => all = fewer,
+                None => return Ok(None),
+            }
+        }
+    }
+    Ok(Some(all))
+}
+
+/// The bounds tightened until the points between them are seen to be instances of the statement, and each range to be whole.
+pub fn fitted(
+    alloc: Global,
+    facts: &Facts,
+    bounds: Vec<(Affine, Affine)>,
+    own: &StatementFacts,
+) -> Result<Option<Vec<(Affine, Affine)>>, Memory> {
+    match within_domain(alloc, facts, bounds, own)? {
+        Some(bounds) => ranged(alloc, facts, bounds),
+        None => Ok(None),
+    }
+}
+
+/// Whether some variable is seen to have no value.
+pub fn is_empty(alloc: Global, bounds: &[(Affine, Affine)]) -> Result<bool, Memory> {
+    for (lower, upper) in bounds {
+        let count = upper.less(alloc, lower, 1)?;
+        if count.is_number() && count.constant() <= 0 {
+            return Ok(true);
+        }
+    }
+    Ok(false)
 }
 
 /// How many loops may take many values, since no number bounds how far their bounds are apart.

@@ -16,6 +16,7 @@ use projective_bounds::stretch_for;
 use proposals::{Proposal, ProposedTerm, proposals};
 use reuse_paths::Quasts;
 use std::alloc::Global;
+use wavefront::Cold;
 
 /// Branches for a program's certificate.
 #[derive(Drop)]
@@ -142,17 +143,28 @@ fn branch_of(alloc: Global, proposal: Proposal) -> Result<Branch, Memory> {
     Ok(Branch { terms, disjoint })
 }
 
-/// Whether a branch has cold terms alone, and no more of them than the opening branch.
+/// Whether a branch has a cold term of this read.
+fn has_cold(branch: &Branch, cold: &Cold) -> bool {
+    for term in branch.terms.as_slice() {
+        if let Term::Cold(other) = term {
+            if other.statement == cold.statement && other.read == cold.read {
+                return true;
+            }
+        }
+    }
+    false
+}
+
+/// Whether a branch has cold terms alone, no more of them than the opening branch, and of its reads.
 fn is_no_more(branch: &Branch, opening: &Option<Branch>) -> bool {
-    let most = match opening {
-        Some(opening) => opening.terms.len(),
-        None => 0,
+    let Some(opening) = opening else {
+        return false;
     };
     for term in branch.terms.as_slice() {
         match term {
-            Term::Cold(_) => {}
-            Term::Partition(_) | Term::Wavefront(_) => return false,
+            Term::Cold(cold) if has_cold(opening, cold) => {}
+            Term::Cold(_) | Term::Partition(_) | Term::Wavefront(_) => return false,
         }
     }
-    branch.terms.len() <= most
+    branch.terms.len() <= opening.terms.len()
 }

@@ -3,6 +3,7 @@
 mod claims_shown;
 mod outlines;
 mod terms;
+mod turns;
 mod ways;
 
 pub use terms::{Proposed, wavefronts};

@@ -1,6 +1,6 @@
 //! The terms of a program.
 
-use crate::colds::{Outline, cold_outlines, cold_term};
+use crate::colds::{Choice, Outline, cold_choice, cold_term};
 use crate::fronts::wavefronts;
 use crate::partitions::{Coordinates, Proposed, partition, strength};
 use affine_facts::facts::{Facts, facts_of};
@@ -171,6 +171,31 @@ fn with_colds(
     Ok(Gathered { terms, taken })
 }
 
+/// Cold terms and their words.
+fn colds_alone(alloc: Global, colds: Vec<Cold>, chosen: &[Outline]) -> Result<Gathered, Memory> {
+    let (mut terms, mut taken) = (Vec::new(alloc), Vec::new(alloc));
+    for cold in colds {
+        terms.push(ProposedTerm::Cold(cold))?;
+    }
+    for outline in chosen {
+        taken.push(copied_words(alloc, outline.words.as_slice())?)?;
+    }
+    Ok(Gathered { terms, taken })
+}
+
+/// Terms with the cold terms whose cells aren't taken behind: first of those that are chosen, then of the others.
+fn with_all_colds(
+    alloc: Global,
+    program: &Program,
+    facts: &Facts,
+    chosen: &[Outline],
+    others: &[Outline],
+    gathered: Gathered,
+) -> Result<Gathered, Memory> {
+    let more = with_colds(alloc, program, facts, chosen, gathered)?;
+    with_colds(alloc, program, facts, others, more)
+}
+
 /// Terms as a proposal, where there are some, and their words are shown to differ.
 fn proposal_of(
     alloc: Global,
@@ -215,12 +240,16 @@ fn without_empty(alloc: Global, all: Vec<Gathered>) -> Result<Vec<Gathered>, Mem
     Ok(some)
 }
 
-/// Terms for branches, before cold terms are added: partition terms and then wavefront terms with different words together,
-/// where they are several; wavefront terms alone; nothing; then each partition term by itself, strongest first.
-fn gatherings(alloc: Global, program: &Program, facts: &Facts) -> Result<Vec<Gathered>, Memory> {
-    let candidates = candidates_of(alloc, program, facts)?;
+/// Terms for branches, before cold terms are added, where there are some: partition terms and then wavefront terms with different
+/// words together, where they are several; wavefront terms alone.
+fn mixed(
+    alloc: Global,
+    program: &Program,
+    facts: &Facts,
+    candidates: &[Candidate],
+) -> Result<Vec<Gathered>, Memory> {
     let mut all = Vec::new(alloc);
-    let some = partitions(alloc, program, facts, candidates.as_slice())?;
+    let some = partitions(alloc, program, facts, candidates)?;
     let is_mixed = !some.terms.is_empty();
     let first = with_wavefronts(alloc, program, facts, some)?;
     if first.terms.len() > 1 || !is_mixed {
@@ -229,10 +258,27 @@ fn gatherings(alloc: Global, program: &Program, facts: &Facts) -> Result<Vec<Gat
     if is_mixed {
         all.push(with_wavefronts(alloc, program, facts, nothing(alloc))?)?;
     }
-    all = without_empty(alloc, all)?;
-    all.push(nothing(alloc))?;
+    without_empty(alloc, all)
+}
+
+/// Terms for branches: mixed ones; cold terms alone; then each partition term by itself, strongest first. In each but that of cold
+/// terms the cold terms whose cells differ from what is counted stand behind.
+fn gatherings(alloc: Global, program: &Program, facts: &Facts) -> Result<Vec<Gathered>, Memory> {
+    let Choice {
+        terms,
+        chosen,
+        others,
+    } = cold_choice(alloc, program, facts)?;
+    let (chosen, others) = (chosen.as_slice(), others.as_slice());
+    let candidates = candidates_of(alloc, program, facts)?;
+    let mut all = Vec::new(alloc);
+    for some in mixed(alloc, program, facts, candidates.as_slice())? {
+        all.push(with_all_colds(alloc, program, facts, chosen, others, some)?)?;
+    }
+    all.push(colds_alone(alloc, terms, chosen)?)?;
     for candidate in candidates {
-        all.push(alone(alloc, candidate.proposed)?)?;
+        let some = alone(alloc, candidate.proposed)?;
+        all.push(with_all_colds(alloc, program, facts, chosen, others, some)?)?;
     }
     Ok(all)
 }
@@ -246,10 +292,8 @@ pub fn proposals(
     quasts: &Quasts,
 ) -> Result<Vec<Proposal>, Memory> {
     let facts = facts_of(alloc, program, quasts)?;
-    let colds = cold_outlines(alloc, &facts)?;
     let mut all = Vec::new(alloc);
     for gathered in gatherings(alloc, program, &facts)? {
-        let gathered = with_colds(alloc, program, &facts, colds.as_slice(), gathered)?;
         if let Some(proposal) = proposal_of(alloc, &facts, gathered)? {
             all.push(proposal)?;
         }

@@ -7,6 +7,7 @@ mod entries;
 mod families;
 mod labels;
 mod nodes;
+mod searching;
 mod taking;
 mod terms;
 mod walks;

@@ -2,7 +2,6 @@
 
 use crate::colds::outlines::Outline;
 use affine_facts::facts::{Facts, Origin, ReadFacts};
-use affine_facts::inverses::undoing_matrix;
 use affine_facts::leaves::{empty_entry, with_tests};
 use affine_facts::nests::{counted, nest_rows};
 use affine_facts::shown::{Rows, all_forms, all_shown, within};
@@ -69,10 +68,6 @@ pub fn cold_term(
 ) -> Result<Option<Cold>, Memory> {
     let bounds = outline.bounds.as_slice();
     let given = nest_rows(alloc, facts, bounds)?;
-    let cell = outline.cell.as_slice();
-    let Some(matrix) = undoing_matrix(alloc, facts.params, bounds.len(), cell)? else {
-        return Ok(None);
-    };
     let Some((inside, leaves)) = points(alloc, facts, &given, outline)? else {
         return Ok(None);
     };
@@ -82,6 +77,8 @@ pub fn cold_term(
     let Some((nest, sums)) = counted(alloc, program, bounds)? else {
         return Ok(None);
     };
+    let matrix = outline.undoing.matrix.try_clone(alloc)?;
+    let scale = outline.undoing.scale;
     Ok(Some(Cold {
         statement: outline.statement,
         read: outline.read,
@@ -89,7 +86,7 @@ pub fn cold_term(
         sums,
         point,
         inside,
-        inverse: Inverse { matrix, scale: 1 },
+        inverse: Inverse { matrix, scale },
         leaves,
     }))
 }

@@ -2,10 +2,10 @@
 
 use crate::fronts::claims_shown::{Way, edge, reach};
 use crate::fronts::outlines::{Outline, outlines_of};
-use crate::fronts::ways::{Instance, Step};
+use crate::fronts::ways::Instance;
 use affine_facts::affine::{Affine, copies};
 use affine_facts::facts::Facts;
-use affine_facts::inverses::undoing_matrix;
+use affine_facts::inverses::{Undoing, scaled_matrix};
 use affine_facts::nests::{counted, nest_rows};
 use affine_facts::numbers::{narrow, short};
 use affine_facts::shown::{Rows, all_forms, all_shown, followed, within};
@@ -17,6 +17,7 @@ use iolb_model::limits;
 use poly_tree::Poly;
 use reuse_paths::{Leaf, Reach, Spot};
 use std::alloc::Global;
+use std::slice;
 use wavefront::{Inverse, Wavefront};
 
 /// A wavefront term that is proposed, with its words.
@@ -26,11 +27,11 @@ pub struct Proposed {
     pub words: Vec<Words>,
 }
 
-/// The matrix that turns the word's loop values back into the nest's variables, where each is the only one of some value.
+/// The matrix that turns the word's loop values back into a number times the nest's variables.
 fn inverse(alloc: Global, params: usize, outline: &Outline) -> Result<Option<Inverse>, Memory> {
     let vars = outline.bounds.len();
-    match undoing_matrix(alloc, params, vars, outline.word.point.as_slice())? {
-        Some(matrix) => Ok(Some(Inverse { matrix, scale: 1 })),
+    match scaled_matrix(alloc, params, vars, outline.word.point.as_slice())? {
+        Some(Undoing { matrix, scale }) => Ok(Some(Inverse { matrix, scale })),
         None => Ok(None),
     }
 }
@@ -119,16 +120,10 @@ fn ways(
     given: &Rows,
     outline: &Outline,
 ) -> Result<Option<(Reach, Reach)>, Memory> {
-    let first = Step {
-        from: outline.user.copied(alloc)?,
-        turn: None,
-        read: outline.back,
-    };
-    let steps = vec![in alloc; first]?;
     let to_vertex = Way {
         facts,
         nest: given,
-        steps: steps.as_slice(),
+        steps: slice::from_ref(&outline.back),
         target: &outline.vertex,
     };
     let Some(back) = reach(alloc, to_vertex)? else {

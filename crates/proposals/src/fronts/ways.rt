@@ -1,9 +1,10 @@
 //! Ways back from a vertex to a word, thought out without multipliers.
 
+use crate::fronts::turns::read_of_turn;
 use affine_facts::affine::{Affine, copies};
 use affine_facts::facts::{Facts, Origin, ReadFacts, StatementFacts};
 use affine_facts::numbers::short;
-use affine_facts::shown::{all_put, are_same};
+use affine_facts::shown::{Rows, all_put, all_shown, are_same};
 use affine_form::Memory;
 use std::alloc::Global;
 
@@ -113,64 +114,6 @@ fn reading_values(
     }
 }
 
-/// Whether a source is its reader but one turn earlier in a loop.
-fn is_turn_before(
-    alloc: Global,
-    params: usize,
-    place: usize,
-    point: &[Affine],
-) -> Result<bool, Memory> {
-    for (number, value) in point.iter().enumerate() {
-        let mut own = Affine::variable(alloc, params.saturating_add(number))?;
-        if number == place {
-            own.add_number(-1);
-        }
-        if !value.is_same(&own) {
-            return Ok(false);
-        }
-    }
-    Ok(true)
-}
-
-/// Whether some source of a read is its reader but one turn earlier in a loop.
-fn goes_back(
-    alloc: Global,
-    params: usize,
-    statement: u16,
-    place: usize,
-    read: &ReadFacts,
-) -> Result<bool, Memory> {
-    for leaf in read.leaves.as_slice() {
-        if let Origin::Instance {
-            statement: writer,
-            point,
-        } = &leaf.origin
-        {
-            let point = point.as_slice();
-            if *writer == statement && is_turn_before(alloc, params, place, point)? {
-                return Ok(true);
-            }
-        }
-    }
-    Ok(false)
-}
-
-/// The read by which a statement goes back along a loop.
-fn read_of_turn(
-    alloc: Global,
-    params: usize,
-    statement: u16,
-    place: usize,
-    own: &StatementFacts,
-) -> Result<Option<u16>, Memory> {
-    for (number, read) in own.reads.as_slice().iter().enumerate() {
-        if goes_back(alloc, params, statement, place, read)? {
-            return Ok(Some(short(number)));
-        }
-    }
-    Ok(None)
-}
-
 /// The loops whose values differ.
 fn differing(alloc: Global, first: &[Affine], second: &[Affine]) -> Result<Vec<usize>, Memory> {
     let mut places = Vec::new(alloc);
@@ -182,11 +125,27 @@ fn differing(alloc: Global, first: &[Affine], second: &[Affine]) -> Result<Vec<u
     Ok(places)
 }
 
+/// Whether an instance is seen to be no earlier in a loop than a value.
+fn is_from(
+    alloc: Global,
+    given: &Rows,
+    at: &Instance,
+    place: usize,
+    least: &Affine,
+) -> Result<bool, Memory> {
+    let Some(own) = at.point.get(place) else {
+        return Ok(false);
+    };
+    let goals = vec![in alloc; own.less(alloc, least, 0)?]?;
+    Ok(all_shown(alloc, given, goals.as_slice())?.is_some())
+}
+
 /// The last step of a way, from an instance by a read whose word is the wanted one at these loop values: at once, or back along
 /// one loop of a reduction.
 fn step_by(
     alloc: Global,
     facts: &Facts,
+    given: &Rows,
     at: &Instance,
     own: &StatementFacts,
     read: u16,
@@ -205,6 +164,9 @@ fn step_by(
             let Some(least) = values.get(place) else {
                 return Ok(None);
             };
+            if !is_from(alloc, given, at, place, least)? {
+                return Ok(None);
+            }
             let least = least.copied(alloc)?;
             turn = Some(Turn {
                 place,
@@ -222,6 +184,7 @@ fn step_by(
 fn last_step(
     alloc: Global,
     facts: &Facts,
+    given: &Rows,
     at: &Instance,
     word: &Instance,
 ) -> Result<Option<Step>, Memory> {
@@ -229,7 +192,7 @@ fn last_step(
         return Ok(None);
     };
     for (number, read) in own.reads.as_slice().iter().enumerate() {
-        let found = step_to(alloc, facts, at, own, short(number), read, word)?;
+        let found = step_to(alloc, facts, given, at, own, short(number), read, word)?;
         if found.is_some() {
             return Ok(found);
         }
@@ -241,6 +204,7 @@ fn last_step(
 fn step_to(
     alloc: Global,
     facts: &Facts,
+    given: &Rows,
     at: &Instance,
     own: &StatementFacts,
     number: u16,
@@ -255,7 +219,7 @@ fn step_to(
                 let forms = point.as_slice();
                 let found = reading_values(alloc, facts.params, near, forms, wanted)?;
                 if let Some(values) = found {
-                    let step = step_by(alloc, facts, at, own, number, values.as_slice())?;
+                    let step = step_by(alloc, facts, given, at, own, number, values.as_slice())?;
                     if step.is_some() {
                         return Ok(step);
                     }
@@ -336,12 +300,13 @@ fn all_extended(
 fn followed_once(
     alloc: Global,
     facts: &Facts,
+    given: &Rows,
     trails: Vec<Trail>,
     word: &Instance,
 ) -> Result<(Option<Vec<Step>>, Vec<Trail>), Memory> {
     let mut more = Vec::new(alloc);
     for trail in trails {
-        if let Some(step) = last_step(alloc, facts, &trail.at, word)? {
+        if let Some(step) = last_step(alloc, facts, given, &trail.at, word)? {
             return Ok((Some(ended(alloc, trail, step)?), more));
         }
         more = all_extended(alloc, facts, &trail, more)?;
@@ -349,10 +314,11 @@ fn followed_once(
     Ok((None, more))
 }
 
-/// The steps of a way back from a vertex to a word, where one is found.
+/// The steps of a way back from a vertex to a word at all points of a nest, whose rows are given, where one is found.
 pub(crate) fn way_to(
     alloc: Global,
     facts: &Facts,
+    given: &Rows,
     vertex: &Instance,
     word: &Instance,
 ) -> Result<Option<Vec<Step>>, Memory> {
@@ -362,7 +328,7 @@ pub(crate) fn way_to(
     };
     let mut trails = vec![in alloc; first]?;
     for _turn in 0..STEPS {
-        let (found, more) = followed_once(alloc, facts, trails, word)?;
+        let (found, more) = followed_once(alloc, facts, given, trails, word)?;
         if found.is_some() {
             return Ok(found);
         }

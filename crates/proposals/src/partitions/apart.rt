@@ -1,6 +1,7 @@
 //! That families have no word in common, shown.
 
 use crate::partitions::drafts::Draft;
+use crate::partitions::entries::Room;
 use crate::partitions::families::{anew, families_of};
 use affine_facts::facts::Facts;
 use affine_facts::words::{Words, joined, two_apart};
@@ -26,7 +27,7 @@ pub(crate) fn words_by_way(
                     statement,
                     tried.as_mut_slice(),
                     &[1],
-                    false,
+                    Room::Wide,
                 )?,
                 None => None,
             };

@@ -16,6 +16,17 @@ pub(crate) enum Way {
     Dry,
 }
 
+/// How the reads by which a family's walks go on are chosen.
+#[derive(Clone, Copy, PartialEq, Eq)]
+pub(crate) enum Choice {
+    /// From each statement the best, by which each source has the label.
+    Strict,
+    /// From each statement the best, also one that is left out at some leaves.
+    Loose,
+    /// Reads by which walks go on from each statement of as many loops as the start's, tried in turn.
+    Tried,
+}
+
 /// How a walk goes on from a statement: by a read, and from the instances that meet a row, if there is one.
 #[derive(Drop)]
 pub(crate) struct Step {
@@ -35,7 +46,7 @@ pub(crate) struct Node {
 #[derive(Drop)]
 pub(crate) struct Draft {
     pub(crate) way: Way,
-    pub(crate) is_strict: bool,
+    pub(crate) choice: Choice,
     pub(crate) read: u16,
     pub(crate) set: Vec<u8>,
     pub(crate) label: Vec<Affine>,
@@ -106,7 +117,7 @@ pub(crate) fn empty_draft(
     alloc: Global,
     facts: &Facts,
     way: Way,
-    is_strict: bool,
+    choice: Choice,
     read: u16,
     set: Vec<u8>,
     label: Vec<Affine>,
@@ -121,7 +132,7 @@ pub(crate) fn empty_draft(
     }
     Ok(Draft {
         way,
-        is_strict,
+        choice,
         read,
         set,
         label,
@@ -192,11 +203,20 @@ fn copied_cells(
 pub(crate) fn copied(alloc: Global, draft: &Draft) -> Result<Draft, Memory> {
     Ok(Draft {
         way: draft.way,
-        is_strict: draft.is_strict,
+        choice: draft.choice,
         read: draft.read,
         set: Vec::from_slice(alloc, draft.set.as_slice())?,
         label: copies(alloc, draft.label.as_slice())?,
         nodes: copied_nodes(alloc, draft.nodes.as_slice())?,
         cells: copied_cells(alloc, draft.cells.as_slice())?,
     })
+}
+
+/// Copies of drafts.
+pub(crate) fn all_copied(alloc: Global, drafts: &[Draft]) -> Result<Vec<Draft>, Memory> {
+    let mut all = Vec::new(alloc);
+    for draft in drafts {
+        all.push(copied(alloc, draft)?)?;
+    }
+    Ok(all)
 }

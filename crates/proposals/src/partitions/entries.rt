@@ -3,7 +3,7 @@
 use crate::partitions::drafts::{Draft, Way};
 use affine_facts::affine::{Affine, copies};
 use affine_facts::facts::{Facts, Origin, ReadFacts, TreeLeaf};
-use affine_facts::nests::{image, narrowed, ranged, tightened, wide_loops};
+use affine_facts::nests::{fitted, image, narrowed, ranged, tightened, wide_loops};
 use affine_facts::numbers::narrow;
 use affine_facts::shown::{Rows, all_put, all_shown, equalities, followed, no_point, within};
 use affine_facts::words::Words;
@@ -19,13 +19,36 @@ pub(crate) struct Stop {
     pub(crate) bounds: Vec<(Affine, Affine)>,
 }
 
-/// A term as it is made: the statement, the bounds of what is counted, whether nests that are credited are to be as narrow as
-/// their readers leave them, and those that are so far.
+/// How much room nests have in which walks stop.
+#[derive(Clone, Copy)]
+pub(crate) enum Room {
+    /// All that their sources' loop values leave free.
+    Wide,
+    /// As far as there are instances.
+    Fitted,
+    /// As far as their readers come to them.
+    Narrow,
+    /// As far as there are instances to which their readers come.
+    Close,
+}
+
+impl Room {
+    fn is_fitted(self) -> bool {
+        matches!(self, Room::Fitted | Room::Close)
+    }
+
+    fn is_narrow(self) -> bool {
+        matches!(self, Room::Narrow | Room::Close)
+    }
+}
+
+/// A term as it is made: the statement, the bounds of what is counted, how much room nests have that are credited, and those that
+/// are so far.
 #[derive(Drop)]
 pub(crate) struct Work {
     pub(crate) statement: u16,
     pub(crate) bounds: Vec<(Affine, Affine)>,
-    pub(crate) is_narrow: bool,
+    pub(crate) room: Room,
     pub(crate) stops: Vec<Stop>,
 }
 
@@ -112,6 +135,7 @@ fn known_stop(
 fn stop_bounds(
     alloc: Global,
     facts: &Facts,
+    room: Room,
     source: Source,
     outside: Option<&Affine>,
 ) -> Result<Option<Vec<(Affine, Affine)>>, Memory> {
@@ -127,6 +151,7 @@ fn stop_bounds(
         None => Some(image(alloc, facts.params, bounds, source.point)?),
     };
     match found {
+        Some(bounds) if room.is_fitted() => fitted(alloc, facts, bounds, own),
         Some(bounds) => ranged(alloc, facts, bounds),
         None => Ok(None),
     }
@@ -136,14 +161,14 @@ fn stop_bounds(
 fn new_bounds(
     alloc: Global,
     at: &At,
-    is_narrow: bool,
+    room: Room,
     source: Source,
     outside: Option<&Affine>,
 ) -> Result<Option<Vec<(Affine, Affine)>>, Memory> {
-    let Some(bounds) = stop_bounds(alloc, at.facts, source, outside)? else {
+    let Some(bounds) = stop_bounds(alloc, at.facts, room, source, outside)? else {
         return Ok(None);
     };
-    if is_narrow {
+    if room.is_narrow() {
         let bounds = narrowed(alloc, at.facts.params, bounds, source.point, at.bounds)?;
         return ranged(alloc, at.facts, bounds);
     }
@@ -164,7 +189,7 @@ fn credited(
     if known.is_some() {
         return Ok(known);
     }
-    let Some(bounds) = new_bounds(alloc, at, work.is_narrow, source, outside)? else {
+    let Some(bounds) = new_bounds(alloc, at, work.room, source, outside)? else {
         return Ok(None);
     };
     let number = work.stops.len();

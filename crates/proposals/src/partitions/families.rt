@@ -1,8 +1,8 @@
 //! Families that cover the coordinates of a statement.
 
 use crate::partitions::coordinates::Coordinates;
-use crate::partitions::drafts::{Draft, Way};
-use crate::partitions::entries::Work;
+use crate::partitions::drafts::{Choice, Draft, Way};
+use crate::partitions::entries::{Room, Work};
 use crate::partitions::labels::drafted;
 use crate::partitions::walks::{Made, begun, family};
 use affine_facts::affine::Affine;
@@ -70,9 +70,9 @@ pub(crate) fn families_of(
     statement: u16,
     drafts: &mut [Draft],
     weights: &[u8],
-    is_narrow: bool,
+    room: Room,
 ) -> Result<Option<Families>, Memory> {
-    let mut work = begun(alloc, facts, statement, is_narrow)?;
+    let mut work = begun(alloc, facts, statement, room)?;
     for _turn in 0..10 {
         work.stops = Vec::new(alloc);
         let mut families = Vec::new(alloc);
@@ -109,7 +109,7 @@ fn draft_of(
     read: u16,
     set: &[u8],
     label: &[Affine],
-    is_strict: bool,
+    choice: Choice,
 ) -> Result<Option<Draft>, Memory> {
     let found = drafted(
         alloc,
@@ -119,11 +119,20 @@ fn draft_of(
         set,
         label,
         Way::Whole,
-        is_strict,
+        choice,
     )?;
     if let Some(draft) = found {
         let mut alone = vec![in alloc; draft]?;
-        if families_of(alloc, facts, statement, alone.as_mut_slice(), &[1], false)?.is_some() {
+        if families_of(
+            alloc,
+            facts,
+            statement,
+            alone.as_mut_slice(),
+            &[1],
+            Room::Wide,
+        )?
+        .is_some()
+        {
             return drafted(
                 alloc,
                 facts,
@@ -132,7 +141,7 @@ fn draft_of(
                 set,
                 label,
                 Way::Whole,
-                is_strict,
+                choice,
             );
         }
     }
@@ -158,7 +167,7 @@ fn draft_among(
     set: &[u8],
     label: &[Affine],
     is_named: bool,
-    is_strict: bool,
+    choice: Choice,
 ) -> Result<Option<Draft>, Memory> {
     let Some(own) = facts.statement(statement) else {
         return Ok(None);
@@ -172,15 +181,7 @@ fn draft_among(
         )?;
         let is_apt = (loops.as_slice() == set) == is_named;
         if is_apt && !is_used_once(own.depth(), read, loops.as_slice()) {
-            let found = draft_of(
-                alloc,
-                facts,
-                statement,
-                short(number),
-                set,
-                label,
-                is_strict,
-            )?;
+            let found = draft_of(alloc, facts, statement, short(number), set, label, choice)?;
             if found.is_some() {
                 return Ok(found);
             }
@@ -189,28 +190,39 @@ fn draft_among(
     Ok(None)
 }
 
-/// A family with these coordinates: of a read whose subscripts are in just these loops, of another, or of one that is left out at
-/// some leaves.
+/// A family with these coordinates, by one of these choices: of a read whose subscripts are in just these loops, or of another.
 fn draft_for(
     alloc: Global,
     facts: &Facts,
     kind: Coordinates,
     statement: u16,
     set: &[u8],
+    orders: &[(bool, Choice)],
 ) -> Result<Option<Draft>, Memory> {
     let Some(own) = facts.statement(statement) else {
         return Ok(None);
     };
     let label = label_at(alloc, facts, kind, own.depth(), set)?;
-    for (is_named, is_strict) in [(true, true), (false, true), (true, false), (false, false)] {
+    for (is_named, choice) in orders {
         let label = label.as_slice();
-        let found = draft_among(alloc, facts, statement, set, label, is_named, is_strict)?;
+        let found = draft_among(alloc, facts, statement, set, label, *is_named, *choice)?;
         if found.is_some() {
             return Ok(found);
         }
     }
     Ok(None)
 }
+
+/// In which order reads are looked at, whether those whose subscripts are in just some loops, and how walks go on from them.
+const BEST: [(bool, Choice); 4] = [
+    (true, Choice::Strict),
+    (false, Choice::Strict),
+    (true, Choice::Loose),
+    (false, Choice::Loose),
+];
+
+/// In which order reads are looked at by walks that are tried in turn.
+const TRIED: [(bool, Choice); 2] = [(true, Choice::Tried), (false, Choice::Tried)];
 
 /// Whether a list of sets has one already.
 fn has_set(drafts: &[Draft], set: &[u8]) -> bool {
@@ -242,7 +254,33 @@ pub(crate) fn choices(
             && all.len() < limits::FAMILIES
             && !has_set(all.as_slice(), set.as_slice())
         {
-            if let Some(draft) = draft_for(alloc, facts, kind, statement, set.as_slice())? {
+            let found = draft_for(alloc, facts, kind, statement, set.as_slice(), &BEST)?;
+            if let Some(draft) = found {
+                all.push(draft)?;
+            }
+        }
+    }
+    Ok(all)
+}
+
+/// The families from which a cover is chosen, with more for each set of all coordinates but one that has none so far: of walks
+/// that are tried in turn.
+pub(crate) fn with_tried(
+    alloc: Global,
+    facts: &Facts,
+    kind: Coordinates,
+    statement: u16,
+    depth: usize,
+    mut all: Vec<Draft>,
+) -> Result<Vec<Draft>, Memory> {
+    for place in 0..depth {
+        let set = all_but(alloc, depth, place)?;
+        if !set.is_empty()
+            && all.len() < limits::FAMILIES
+            && !has_set(all.as_slice(), set.as_slice())
+        {
+            let found = draft_for(alloc, facts, kind, statement, set.as_slice(), &TRIED)?;
+            if let Some(draft) = found {
                 all.push(draft)?;
             }
         }
@@ -299,7 +337,7 @@ pub(crate) fn anew(
             set,
             label,
             way,
-            draft.is_strict,
+            draft.choice,
         )?
         else {
             return Ok(None);

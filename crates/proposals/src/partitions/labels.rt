@@ -1,6 +1,7 @@
 //! Labels of words along walks back, thought out without multipliers.
 
-use crate::partitions::drafts::{Draft, Way, copied, copied_label, empty_draft};
+use crate::partitions::drafts::{Choice, Draft, Way, copied, copied_label, empty_draft};
+use crate::partitions::searching::searched;
 use affine_facts::affine::{Affine, copies};
 use affine_facts::combined::all_combined;
 use affine_facts::facts::{Access, Facts, Origin, ReadFacts, TreeLeaf};
@@ -140,7 +141,7 @@ fn labelled(
 
 /// How well a read goes on the walk from a statement: by the word that the statement updates, by a word at the same
 /// subscripts, or by another.
-fn rank(facts: &Facts, statement: u16, read: &Access) -> u8 {
+pub(crate) fn rank(facts: &Facts, statement: u16, read: &Access) -> u8 {
     let Some(source) = facts.statement(statement) else {
         return 2;
     };
@@ -154,6 +155,40 @@ fn rank(facts: &Facts, statement: u16, read: &Access) -> u8 {
     }
 }
 
+/// The draft with a step from a statement by a read, where its sources can have the label; and the statements that are new in
+/// it.
+pub(crate) fn stepped_by(
+    alloc: Global,
+    facts: &Facts,
+    draft: &Draft,
+    statement: u16,
+    number: u16,
+    is_strict: bool,
+) -> Result<Option<(Draft, Vec<u16>)>, Memory> {
+    let Some(label) = copied_label(alloc, draft.label_of(statement))? else {
+        return Ok(None);
+    };
+    let Some(source) = facts.statement(statement) else {
+        return Ok(None);
+    };
+    let Some(read) = facts.read(statement, number) else {
+        return Ok(None);
+    };
+    let reader = Reader {
+        bounds: source.bounds.as_slice(),
+        label: label.as_slice(),
+        read,
+    };
+    let mut tried = copied(alloc, draft)?;
+    match labelled(alloc, facts, &mut tried, reader, is_strict)? {
+        Some(fresh) => {
+            tried.put_step(statement, number, None);
+            Ok(Some((tried, fresh)))
+        }
+        None => Ok(None),
+    }
+}
+
 /// The draft with a step from a statement by its first read of a rank, whose sources can have the label; and the statements
 /// that are new in it.
 fn stepped(
@@ -164,24 +199,14 @@ fn stepped(
     wanted: u8,
     is_strict: bool,
 ) -> Result<Option<(Draft, Vec<u16>)>, Memory> {
-    let Some(label) = copied_label(alloc, draft.label_of(statement))? else {
-        return Ok(None);
-    };
     let Some(source) = facts.statement(statement) else {
         return Ok(None);
     };
     for (number, read) in source.reads.as_slice().iter().enumerate() {
         if rank(facts, statement, &read.access) == wanted {
-            let mut tried = copied(alloc, draft)?;
-            let reader = Reader {
-                bounds: source.bounds.as_slice(),
-                label: label.as_slice(),
-                read,
-            };
-            let found = labelled(alloc, facts, &mut tried, reader, is_strict)?;
-            if let Some(fresh) = found {
-                tried.put_step(statement, short(number), None);
-                return Ok(Some((tried, fresh)));
+            let found = stepped_by(alloc, facts, draft, statement, short(number), is_strict)?;
+            if found.is_some() {
+                return Ok(found);
             }
         }
     }
@@ -214,7 +239,7 @@ pub(crate) fn drafted(
     set: &[u8],
     label: &[Affine],
     way: Way,
-    is_strict: bool,
+    choice: Choice,
 ) -> Result<Option<Draft>, Memory> {
     let Some(own_facts) = facts.statement(statement) else {
         return Ok(None);
@@ -229,14 +254,16 @@ pub(crate) fn drafted(
     };
     let set = Vec::from_slice(alloc, set)?;
     let own = copies(alloc, label)?;
-    let mut draft = empty_draft(alloc, facts, way, is_strict, read, set, own)?;
+    let mut draft = empty_draft(alloc, facts, way, choice, read, set, own)?;
+    let is_strict = choice == Choice::Strict;
     let Some(waiting) = labelled(alloc, facts, &mut draft, reader, is_strict)? else {
         return Ok(None);
     };
-    if way != Way::Short {
-        draft = with_steps(alloc, facts, draft, waiting)?;
+    match choice {
+        _ if way == Way::Short => Ok(Some(draft)),
+        Choice::Tried => searched(alloc, facts, own_facts.depth(), draft, waiting),
+        Choice::Strict | Choice::Loose => Ok(Some(with_steps(alloc, facts, draft, waiting)?)),
     }
-    Ok(Some(draft))
 }
 
 /// The draft with steps from the statements that wait, and from those that these lead to.

@@ -2,9 +2,11 @@
 
 use crate::partitions::apart::{apart_by_way, is_apart_code, words_by_way};
 use crate::partitions::coordinates::Coordinates;
-use crate::partitions::drafts::Draft;
-use crate::partitions::entries::Work;
-use crate::partitions::families::{Families, anew, choices, cover, families_of, weighted};
+use crate::partitions::drafts::{Draft, all_copied};
+use crate::partitions::entries::{Room, Work};
+use crate::partitions::families::{
+    Families, anew, choices, cover, families_of, weighted, with_tried,
+};
 use affine_facts::affine::loops;
 use affine_facts::facts::Facts;
 use affine_facts::nests::{counted, nest_rows};
@@ -181,18 +183,15 @@ struct Chosen {
     q: u8,
 }
 
-/// Families of a statement that cover these coordinates, where there are such.
-fn chosen_families(
+/// Families of a statement that cover these coordinates, chosen of these, where there are such.
+fn covering(
     alloc: Global,
-    facts: &Facts,
     kind: Coordinates,
     statement: u16,
+    depth: usize,
+    drafts: Vec<Draft>,
 ) -> Result<Option<Chosen>, Memory> {
-    let Some(own) = facts.statement(statement) else {
-        return Ok(None);
-    };
-    let drafts = choices(alloc, facts, kind, statement)?;
-    let Some((weights, q)) = cover(alloc, drafts.as_slice(), own.depth())? else {
+    let Some((weights, q)) = cover(alloc, drafts.as_slice(), depth)? else {
         return Ok(None);
     };
     let (drafts, weights) = weighted(alloc, drafts, weights.as_slice())?;
@@ -205,13 +204,61 @@ fn chosen_families(
     }))
 }
 
-/// The families by the ways of a code, over credited nests that are to be narrow or needn't.
+/// The sum of weights.
+fn sum_of(weights: &[u8]) -> u32 {
+    let mut sum: u32 = 0;
+    for weight in weights {
+        sum = sum.saturating_add(u32::from(*weight));
+    }
+    sum
+}
+
+/// Whether the exponent of a choice is less than that of another one, if there is one.
+fn is_lesser(chosen: &Chosen, other: &Option<Chosen>) -> bool {
+    let Some(other) = other else {
+        return true;
+    };
+    let (own, total) = (u32::from(chosen.q), sum_of(chosen.weights.as_slice()));
+    total.saturating_mul(u32::from(other.q)) < sum_of(other.weights.as_slice()).saturating_mul(own)
+}
+
+/// Families of a statement that cover these coordinates, where there are such.
+fn chosen_families(
+    alloc: Global,
+    facts: &Facts,
+    kind: Coordinates,
+    statement: u16,
+) -> Result<Option<Chosen>, Memory> {
+    let Some(own) = facts.statement(statement) else {
+        return Ok(None);
+    };
+    let depth = own.depth();
+    let best = choices(alloc, facts, kind, statement)?;
+    let first = covering(
+        alloc,
+        kind,
+        statement,
+        depth,
+        all_copied(alloc, best.as_slice())?,
+    )?;
+    let count = best.len();
+    let tried = with_tried(alloc, facts, kind, statement, depth, best)?;
+    if tried.len() == count {
+        return Ok(first);
+    }
+    match covering(alloc, kind, statement, depth, tried)? {
+        Some(chosen) if is_lesser(&chosen, &first) => Ok(Some(chosen)),
+        _ => Ok(first),
+    }
+}
+
+/// The families by the ways of a code, over credited nests with this room.
 fn made_over(
     alloc: Global,
     facts: &Facts,
     chosen: &Chosen,
     code: u32,
-    is_narrow: bool,
+    room: Room,
 ) -> Result<Option<Families>, Memory> {
     let drafts = chosen.drafts.as_slice();
     let Some(mut tried) = anew(alloc, facts, chosen.statement, drafts, code)? else {
@@ -219,25 +266,29 @@ fn made_over(
     };
     let tried = tried.as_mut_slice();
     let weights = chosen.weights.as_slice();
-    families_of(alloc, facts, chosen.statement, tried, weights, is_narrow)
+    families_of(alloc, facts, chosen.statement, tried, weights, room)
 }
 
-/// The families by the ways of a code, over credited nests that are narrow, where these are no more than others would be.
+/// The families by the ways of a code, over credited nests that are as close as can be, where these are no more than others would
+/// be.
 fn made_by(
     alloc: Global,
     facts: &Facts,
     chosen: &Chosen,
     code: u32,
 ) -> Result<Option<Families>, Memory> {
-    let wide = made_over(alloc, facts, chosen, code, false)?;
-    let most = match &wide {
-        Some(made) => made.work.stops.len(),
-        None => return Ok(None),
+    let Some(mut best) = made_over(alloc, facts, chosen, code, Room::Wide)? else {
+        return Ok(None);
     };
-    match made_over(alloc, facts, chosen, code, true)? {
-        Some(narrow) if narrow.work.stops.len() <= most => Ok(Some(narrow)),
-        _ => Ok(wide),
+    for room in [Room::Fitted, Room::Narrow, Room::Close] {
+        let found = made_over(alloc, facts, chosen, code, room)?;
+        if let Some(made) = found {
+            if made.work.stops.len() <= best.work.stops.len() {
+                best = made;
+            }
+        }
     }
+    Ok(Some(best))
 }
 
 /// The families by the ways of a code, and what shows that they are apart.

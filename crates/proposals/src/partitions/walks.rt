@@ -1,7 +1,7 @@
 //! Families with what is claimed at their leaves, as far as multipliers are found.
 
 use crate::partitions::drafts::Draft;
-use crate::partitions::entries::{At, Work};
+use crate::partitions::entries::{At, Room, Work};
 use crate::partitions::nodes::{Nodes, nodes_of};
 use crate::partitions::taking::{Walked, reader_rows, walk_by, with_words};
 use affine_facts::affine::{Affine, loops};
@@ -152,7 +152,7 @@ pub(crate) fn begun(
     alloc: Global,
     facts: &Facts,
     statement: u16,
-    is_narrow: bool,
+    room: Room,
 ) -> Result<Work, Memory> {
     let bounds = match facts.statement(statement) {
         Some(own) => copied_bounds(alloc, own.bounds.as_slice())?,
@@ -161,7 +161,7 @@ pub(crate) fn begun(
     Ok(Work {
         statement,
         bounds,
-        is_narrow,
+        room,
         stops: Vec::new(alloc),
     })
 }

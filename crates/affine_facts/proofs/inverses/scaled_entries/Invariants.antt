@@ -2,7 +2,7 @@ use Rattle.std.proofs.Common.{◌≡◌, length}
 use Rattle.std.specs.List.{AllByRecursion}
 use Rattle.affine_form.specs.Form.{IsSmall}
 use Rattle.iolb_model.specs.declared.limits.TheConstants.{NUMBER_SIZE}
-use Rattle.affine_facts.proofs.inverses.entries.Given as goal
+use Rattle.affine_facts.proofs.inverses.scaled_entries.Given as goal
 
 abbrev pub invariant-loop-place : goal.invariant-loop-place
 invariant-loop-place l = record {
