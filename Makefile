@@ -31,14 +31,17 @@ docs: bin/iolb
 	bench/schemas bin/iolb
 
 share := $(DESTDIR)$(PREFIX)/share
-installed := $(DESTDIR)$(PREFIX)/bin/iolb $(DESTDIR)$(PREFIX)/bin/iolb-explain $(share)/man/man1/iolb.1 $(share)/bash-completion/completions/iolb $(share)/zsh/site-functions/_iolb
+installed := $(DESTDIR)$(PREFIX)/bin/iolb $(DESTDIR)$(PREFIX)/bin/iolb-explain $(share)/man/man1/iolb.1 $(share)/man/man1/iolb-explain.1 $(share)/bash-completion/completions/iolb $(share)/bash-completion/completions/iolb-explain $(share)/zsh/site-functions/_iolb $(share)/zsh/site-functions/_iolb-explain
 
 install: bin/iolb bin/iolb-explain
 	install -D -m 755 bin/iolb $(DESTDIR)$(PREFIX)/bin/iolb
 	install -D -m 755 bin/iolb-explain $(DESTDIR)$(PREFIX)/bin/iolb-explain
 	install -D -m 644 package/iolb.1 $(share)/man/man1/iolb.1
+	install -D -m 644 package/iolb-explain.1 $(share)/man/man1/iolb-explain.1
 	install -D -m 644 package/iolb.bash $(share)/bash-completion/completions/iolb
+	install -D -m 644 package/iolb-explain.bash $(share)/bash-completion/completions/iolb-explain
 	install -D -m 644 package/_iolb $(share)/zsh/site-functions/_iolb
+	install -D -m 644 package/_iolb-explain $(share)/zsh/site-functions/_iolb-explain
 	install -d $(share)/iolb/schemas
 	install -m 644 package/schemas/*.json $(share)/iolb/schemas
 

@@ -77,7 +77,7 @@ impl Scene<'_> {
             page.text(format!(in self.alloc; ":{line}:{column}")?.as_str())?;
         }
         page.text(": warning: the loop `")?;
-        page.raw(name.bytes())?;
+        page.write_bytes(name.bytes())?;
         page.text("` ")?;
         Ok(())
     }
@@ -92,11 +92,11 @@ impl Scene<'_> {
         )?;
         for row in self.program.assumed().rows() {
             let text = row.text(self.alloc, names)?;
-            page.raw(text.as_slice())?;
+            page.write_bytes(text.as_slice())?;
             page.text(" >= 0 && ")?;
         }
         let text = goal.text(self.alloc, names)?;
-        page.raw(text.as_slice())?;
+        page.write_bytes(text.as_slice())?;
         page.line(" >= 0")?;
         Ok(())
     }

@@ -12,7 +12,7 @@ fn warn_names(page: &mut Page, file: &str, program: &Program) -> Result<(), Memo
     for name in program.params() {
         if let Some(meaning) = meaning_of(name) {
             page.text(format!(in page.alloc(); "{file}: warning: the parameter `")?.as_str())?;
-            page.raw(name.bytes())?;
+            page.write_bytes(name.bytes())?;
             page.line(format!(in page.alloc();
                 "` has the name that bounds give to {meaning}"
             )?.as_str())?;

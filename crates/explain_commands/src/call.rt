@@ -37,7 +37,7 @@ fn stop_page(alloc: Global, words: &[String], stop: Stop) -> Result<Page, Memory
 }
 
 /// Says on the standard error why a call with these words has no answer.
-fn stopped<E: Sink>(alloc: Global, words: &[String], stop: Stop, err: &mut E) -> Status {
+fn report_stop<E: Sink>(alloc: Global, words: &[String], stop: Stop, err: &mut E) -> Status {
     let status = match stop {
         Stop::Words => Status::Words,
         Stop::File { .. } | Stop::Memory => Status::Failed,
@@ -51,7 +51,7 @@ fn stopped<E: Sink>(alloc: Global, words: &[String], stop: Stop, err: &mut E) ->
     }
 }
 
-/// Answers the words behind the program's name: what was asked for is written to the output, and why there is no answer to the
+/// Answers the words after the program's name: what was asked for is written to the output, and why there is no answer to the
 /// standard error.
 pub fn run<F: Files, O: Sink, E: Sink>(
     alloc: Global,
@@ -67,6 +67,6 @@ pub fn run<F: Files, O: Sink, E: Sink>(
             Ok(()) => answer.status,
             Err(_) => Status::Failed,
         },
-        Err(stop) => stopped(alloc, words, stop, err),
+        Err(stop) => report_stop(alloc, words, stop, err),
     }
 }

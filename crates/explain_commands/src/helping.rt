@@ -52,7 +52,7 @@ fn condition_help(alloc: Global, word: &str) -> Result<Answer, Stop> {
     }
 }
 
-/// What is said of what words behind `help` name.
+/// What is said of what words after `help` name.
 pub(crate) fn help_answer(alloc: Global, words: &[String]) -> Result<Answer, Stop> {
     match words {
         [] => answer_of(alloc, USAGE),

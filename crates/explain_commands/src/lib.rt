@@ -2,11 +2,15 @@
 #![tactic(auto)]
 
 mod answer;
+mod bounding;
 mod call;
+mod comparing;
 mod files;
 mod helping;
 mod programs;
+mod refusals;
 mod requests;
+mod schedules;
 mod sizes;
 mod status;
 mod stop;
@@ -15,4 +19,4 @@ mod vertices;
 
 pub use call::run;
 pub use status::Status;
-pub use system::called;
+pub use system::run_from_system;

@@ -52,7 +52,7 @@ pub(crate) fn unnamed_answer(alloc: Global, unnamed: Unnamed) -> Result<Answer, 
 }
 
 /// The vertex that is meant at these sizes of the parameters: its number, and what it is.
-fn found(
+fn find_vertex(
     alloc: Global,
     program: &Program,
     sizes: &[i64],
@@ -86,7 +86,7 @@ fn answer_in(alloc: Global, program: &Program, words: &[String]) -> Result<Answe
     let Some(spot) = spot_of(alloc, program, word.as_str())? else {
         return Err(Stop::Words);
     };
-    match found(alloc, program, sizes.as_slice(), spot) {
+    match find_vertex(alloc, program, sizes.as_slice(), spot) {
         Ok((number, named)) => named_answer(alloc, program, number, &named),
         Err(unnamed) => unnamed_answer(alloc, unnamed),
     }

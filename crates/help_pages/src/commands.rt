@@ -5,6 +5,10 @@ pub const USAGE: &str = "usage: iolb-explain help [COMMAND | fault N | condition
        iolb-explain version
        iolb-explain program FILE
        iolb-explain vertex FILE VERTEX NAME=NUMBER...
+       iolb-explain schedule FILE SCHEDULE NAME=NUMBER...
+       iolb-explain compare [csv | json] FILE CERTIFICATE SCHEDULE... S,S,... NAME=NUMBER...
+       iolb-explain refusal FILE CERTIFICATE
+       iolb-explain bound FILE [CERTIFICATE]
 ";
 
 /// What a page of help is about.
@@ -14,6 +18,10 @@ pub enum Topic {
     Version,
     Program,
     Vertex,
+    Schedule,
+    Compare,
+    Refusal,
+    Bound,
 }
 
 const HELP: &str = "iolb-explain help
@@ -43,6 +51,29 @@ const VERTEX: &str = "iolb-explain vertex FILE VERTEX NAME=NUMBER...
     ARRAY:VALUE,VALUE,.. for the input in this cell, as `A:3`.
 ";
 
+const SCHEDULE: &str = "iolb-explain schedule FILE SCHEDULE NAME=NUMBER...
+    prints whether the order of a schedule can be played where the parameters are these numbers, and else which instance comes
+    before which one whose value it reads.
+";
+
+const COMPARE: &str =
+    "iolb-explain compare [csv | json] FILE CERTIFICATE SCHEDULE... S,S,... NAME=NUMBER...
+    prints a table with a row for each number S of words of fast memory and each schedule: the bound, the loads and the stores of
+    the schedule, and the loads over the bound. A schedule that can't be played has no numbers, and the reason stands below the
+    table. `csv` prints comma-separated values, `json` a line of JSON for each row.
+";
+
+const REFUSAL: &str = "iolb-explain refusal FILE CERTIFICATE
+    prints whether a certificate meets the conditions, and else which it fails, in a sentence, with the line and column of the
+    place in the certificate's text.
+";
+
+const BOUND: &str = "iolb-explain bound FILE [CERTIFICATE]
+    prints the bound that a certificate gives, or the one that is made for the program, branch by branch and term by term: what is
+    counted, the read and the statement with their places, and what the term is worth; arrays whose inputs no cold term counts; and
+    reads without a source tree.
+";
+
 /// The page of help on a topic.
 pub fn command_help(topic: Topic) -> &'static str {
     match topic {
@@ -50,6 +81,10 @@ pub fn command_help(topic: Topic) -> &'static str {
         Topic::Version => VERSION,
         Topic::Program => PROGRAM,
         Topic::Vertex => VERTEX,
+        Topic::Schedule => SCHEDULE,
+        Topic::Compare => COMPARE,
+        Topic::Refusal => REFUSAL,
+        Topic::Bound => BOUND,
     }
 }
 
@@ -61,6 +96,10 @@ impl Topic {
             "version" => Some(Topic::Version),
             "program" => Some(Topic::Program),
             "vertex" => Some(Topic::Vertex),
+            "schedule" => Some(Topic::Schedule),
+            "compare" => Some(Topic::Compare),
+            "refusal" => Some(Topic::Refusal),
+            "bound" => Some(Topic::Bound),
             _ => None,
         }
     }

@@ -1,7 +1,7 @@
 //! The program `iolb-explain`: says in words what `iolb` answers by numbers.
 #![tactic(auto)]
 
-use explain_commands::{Status, called};
+use explain_commands::{Status, run_from_system};
 use iolb_host::{StdFiles, StdSink};
 use std::env;
 use std::process::ExitCode;
@@ -14,6 +14,6 @@ fn main(rt: HostRuntime) -> ExitCode {
         return ExitCode::from(Status::Failed.number());
     };
     let mut files = StdFiles::new(&rt);
-    let status = called(alloc, env::args(&rt), &mut files, &mut out, &mut err);
+    let status = run_from_system(alloc, env::args(&rt), &mut files, &mut out, &mut err);
     ExitCode::from(status.number())
 }

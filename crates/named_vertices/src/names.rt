@@ -48,7 +48,7 @@ fn write_loops(page: &mut Page, names: &[Name], values: &[i128]) -> Result<(), M
     for (place, value) in values.iter().enumerate() {
         page.text(if place == 0 { " at " } else { ", " })?;
         if let Some(name) = names.get(place) {
-            page.raw(name.bytes())?;
+            page.write_bytes(name.bytes())?;
             page.text(" = ")?;
         }
         page.text(format!(in page.alloc(); "{value}")?.as_str())?;
@@ -77,7 +77,7 @@ pub fn write_named(page: &mut Page, program: &Program, named: &Named) -> Result<
         Named::Input { array, subscripts } => {
             page.text("the input ")?;
             if let Some((name, _)) = program.arrays().get(usize::from(*array)) {
-                page.raw(name.bytes())?;
+                page.write_bytes(name.bytes())?;
             }
             write_subscripts(page, subscripts.as_slice())
         }

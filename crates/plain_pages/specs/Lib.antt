@@ -1,1 +1,3 @@
+pub mod Caret
+pub mod Excerpt
 pub mod Position

@@ -1,6 +1,8 @@
 //! The part of a line round a place.
 
-ghost use Rattle.std.specs.Prelude.{◌≤◌, length};
+ghost use Rattle.std.specs.Prelude.{◌≡◌, ◌≤◌, length, take};
+ghost use Rattle.std.specs.List.{after_last, before_first};
+ghost use Rattle.plain_pages.specs.Excerpt.{excerpt_after, excerpt_before, is_newline, take_last};
 
 /// How many bytes of a line are shown on either side of a place, at most.
 pub const EXCERPT_BYTES: usize = 100;
@@ -12,36 +14,47 @@ pub struct Excerpt<'a> {
     pub after: &'a [u8],
 }
 
-/// The last bytes of a text that stand on its last line, at most 100.
-fn line_end(text: &[u8]) -> &[u8]
-    ensures { length result.now ≤ EXCERPT_BYTES }
+/// The last line of a text.
+fn last_line(text: &[u8]) -> &[u8]
+    ensures { result.now ≡ after_last is_newline text.now }
 {
     let mut start = text.len();
-    for _turn in 0..EXCERPT_BYTES {
-        if start == 0 || text[start - 1] == b'\n' {
-            return &text[start..];
-        }
+    while start > 0 && text[start - 1] != b'\n' {
         start -= 1;
     }
     &text[start..]
 }
 
-/// The first bytes of a text that stand on its first line, at most 100.
-fn line_start(text: &[u8]) -> &[u8]
-    ensures { length result.now ≤ EXCERPT_BYTES }
+/// The first line of a text.
+fn first_line(text: &[u8]) -> &[u8]
+    ensures { result.now ≡ before_first is_newline text.now }
 {
-    for (count, byte) in text.iter().enumerate() {
-        if *byte == b'\n' || count == EXCERPT_BYTES {
-            return &text[..count];
-        }
+    let mut end = 0;
+    while end < text.len() && text[end] != b'\n' {
+        end += 1;
     }
-    text
+    &text[..end]
+}
+
+/// The last bytes of a line, as many as an excerpt has.
+fn line_end(line: &[u8]) -> &[u8]
+    ensures { result.now ≡ take_last EXCERPT_BYTES line.now }
+{
+    &line[line.len().saturating_sub(EXCERPT_BYTES)..]
+}
+
+/// The first bytes of a line, as many as an excerpt has.
+#[tactic(auto, using(std::proofs::lemmas::List::take_min))]
+fn line_start(line: &[u8]) -> &[u8]
+    ensures { result.now ≡ take EXCERPT_BYTES line.now }
+{
+    &line[..EXCERPT_BYTES.min(line.len())]
 }
 
 /// What stands round a place of a text on its line. A place past the end is the end.
 pub fn excerpt_at(text: &[u8], place: usize) -> Excerpt<'_>
-    ensures before { length result.before.now ≤ EXCERPT_BYTES }
-    ensures after { length result.after.now ≤ EXCERPT_BYTES }
+    ensures before { result.before.now ≡ excerpt_before text.now place }
+    ensures after { result.after.now ≡ excerpt_after text.now place }
 {
     let (before, after) = if place < text.len() {
         text.split_at(place)
@@ -49,7 +62,7 @@ pub fn excerpt_at(text: &[u8], place: usize) -> Excerpt<'_>
         text.split_at(text.len())
     };
     Excerpt {
-        before: line_end(before),
-        after: line_start(after),
+        before: line_end(last_line(before)),
+        after: line_start(first_line(after)),
     }
 }

@@ -1,6 +1,8 @@
 //! Pages of text.
 
-ghost use Rattle.std.specs.Prelude.{◌≡◌, ◌++◌, ◌∷◌, [], OnOk};
+ghost use Rattle.std.specs.Prelude.{◌≡◌, ◌↔◌, ◌++◌, ◌∷◌, [], IsTrue, OnOk};
+ghost use Rattle.std.specs.List.{cons_option, filter_map};
+ghost use Rattle.plain_pages.specs.Caret.{caret_lines, printable, room_of};
 
 use crate::excerpt::excerpt_at;
 use std::alloc::{AllocError, Global};
@@ -21,20 +23,26 @@ impl Model for Page {
     ghost view = { λ page. page.bytes.items };
 }
 
-/// What is shown of a byte of a source line: control characters but tabs are shown as `?`.
-fn shown(byte: u8) -> u8 {
-    if (byte < b' ' && byte != b'\t') || byte == 127 {
-        b'?'
+/// How a byte of a source line is written: control characters but tabs as `?`, and carriage returns not at all.
+fn printable_byte(byte: u8) -> Option<u8>
+    ensures { result ≡ printable byte }
+{
+    if byte == b'\r' {
+        None
+    } else if (byte < b' ' && byte != b'\t') || byte == 127 {
+        Some(b'?')
     } else {
-        byte
+        Some(byte)
     }
 }
 
 /// The byte that takes as much room as one of a source line; none below the later bytes of a character.
-fn room_of(byte: u8) -> Option<u8> {
+fn room_byte(byte: u8) -> Option<u8>
+    ensures { result ≡ room_of byte }
+{
     if byte == b'\t' {
         Some(byte)
-    } else if (byte & 0xC0) == 0x80 {
+    } else if byte == b'\r' || (byte & 0xC0) == 0x80 {
         None
     } else {
         Some(b' ')
@@ -65,12 +73,14 @@ impl Page {
     }
 
     /// Whether nothing was written.
-    pub fn is_empty(&self) -> bool {
+    pub fn is_empty(&self) -> bool
+        ensures { IsTrue result ↔ (self.now ≡ []) }
+    {
         self.bytes.is_empty()
     }
 
     /// Writes bytes as they are.
-    pub fn raw(&mut self, bytes: &[u8]) -> Result<(), AllocError>
+    pub fn write_bytes(&mut self, bytes: &[u8]) -> Result<(), AllocError>
         ensures { OnOk result (self.new ≡ self.old ++ bytes.now) }
     {
         self.bytes.extend_from_slice(bytes)
@@ -80,7 +90,7 @@ impl Page {
     pub fn text(&mut self, text: &str) -> Result<(), AllocError>
         ensures { OnOk result (self.new ≡ self.old ++ text.now) }
     {
-        self.raw(text.as_bytes())
+        self.write_bytes(text.as_bytes())
     }
 
     /// Writes a text and ends the line.
@@ -88,37 +98,49 @@ impl Page {
         ensures { OnOk result (self.new ≡ self.old ++ text.now ++ 10 ∷ []) }
     {
         self.text(text)?;
-        self.raw(b"\n")
+        self.write_bytes(b"\n")
+    }
+
+    /// Writes a byte, where there is one.
+    fn put(&mut self, byte: Option<u8>) -> Result<(), AllocError>
+        ensures { OnOk result (self.new ≡ self.old ++ cons_option byte []) }
+    {
+        match byte {
+            Some(byte) => self.write_bytes(&[byte]),
+            None => Ok(()),
+        }
     }
 
     /// Writes bytes of a source line, as they are shown.
-    fn source(&mut self, bytes: &[u8]) -> Result<(), AllocError> {
+    fn write_source(&mut self, bytes: &[u8]) -> Result<(), AllocError>
+        ensures { OnOk result (self.new ≡ self.old ++ filter_map printable bytes.now) }
+    {
         for byte in bytes {
-            if *byte != b'\r' {
-                self.raw(&[shown(*byte)])?;
-            }
+            self.put(printable_byte(*byte))?;
         }
         Ok(())
     }
 
     /// Writes as much room as bytes of a source line take.
-    fn room(&mut self, bytes: &[u8]) -> Result<(), AllocError> {
+    fn write_room(&mut self, bytes: &[u8]) -> Result<(), AllocError>
+        ensures { OnOk result (self.new ≡ self.old ++ filter_map room_of bytes.now) }
+    {
         for byte in bytes {
-            if let Some(room) = room_of(*byte) {
-                self.raw(&[room])?;
-            }
+            self.put(room_byte(*byte))?;
         }
         Ok(())
     }
 
     /// Writes what stands round a place of a text on its line, and under it a caret at the place.
-    pub fn caret(&mut self, text: &[u8], place: usize) -> Result<(), AllocError> {
+    pub fn caret(&mut self, text: &[u8], place: usize) -> Result<(), AllocError>
+        ensures { OnOk result (self.new ≡ self.old ++ caret_lines text.now place) }
+    {
         let excerpt = excerpt_at(text, place);
         self.text("    ")?;
-        self.source(excerpt.before)?;
-        self.source(excerpt.after)?;
+        self.write_source(excerpt.before)?;
+        self.write_source(excerpt.after)?;
         self.text("\n    ")?;
-        self.room(excerpt.before)?;
+        self.write_room(excerpt.before)?;
         self.line("^")
     }
 }

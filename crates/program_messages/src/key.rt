@@ -25,10 +25,10 @@ fn type_key<'a>(before: &[u8], word: &'a [u8]) -> &'a [u8] {
 
 /// What a type is that stands at the end of a text, with or without the bracket of a cast behind it; none where none stands there.
 /// A type's name is one of C that programs may use otherwise, so the fault is at what follows it.
-fn behind_type(before: &[u8]) -> Option<&[u8]> {
+fn trailing_type(before: &[u8]) -> Option<&[u8]> {
     let front = without_spaces(before);
     let front = match front.strip_suffix(b")") {
-        Some(inside) => without_spaces(inside),
+        Some(cast) => without_spaces(cast),
         None => front,
     };
     let word = last_word(front);
@@ -70,7 +70,7 @@ pub(crate) fn key_of(text: &[u8], number: u8, place: usize) -> &[u8]
         if is_listed(TYPES, word) {
             return type_key(before, word);
         }
-        if let Some(key) = behind_type(before) {
+        if let Some(key) = trailing_type(before) {
             return key;
         }
     }

@@ -7,3 +7,4 @@ mod rules;
 mod words;
 
 pub use message::fault_message;
+pub use rules::Rule;

@@ -13,7 +13,7 @@ pub(crate) fn write_names(page: &mut Page, names: &[Name]) -> Result<(), Memory>
         if number > 0 {
             page.text(", ")?;
         }
-        page.raw(name.bytes())?;
+        page.write_bytes(name.bytes())?;
     }
     Ok(())
 }
@@ -25,7 +25,7 @@ pub(crate) fn write_assumptions(page: &mut Page, program: &Program) -> Result<()
     for row in program.assumed().rows() {
         let text = row.text(page.alloc(), names)?;
         page.text("  ")?;
-        page.raw(text.as_slice())?;
+        page.write_bytes(text.as_slice())?;
         page.line(" >= 0")?;
     }
     Ok(())
@@ -46,7 +46,7 @@ pub(crate) fn write_arrays(page: &mut Page, program: &Program) -> Result<(), Mem
     page.line("arrays:")?;
     for (number, (name, subscripts)) in program.arrays().iter().enumerate() {
         page.text(format!(in page.alloc(); "  {number} is ")?.as_str())?;
-        page.raw(name.bytes())?;
+        page.write_bytes(name.bytes())?;
         let use_of = if is_written(program, number) {
             "written"
         } else {

@@ -54,7 +54,7 @@ fn is_update(word: &[u8]) -> bool {
 }
 
 /// The part behind a token of a header that has so many open brackets.
-fn behind_header(open: usize, word: &[u8]) -> Part {
+fn after_header(open: usize, word: &[u8]) -> Part {
     if word == b"(".as_slice() {
         return Part::Header(open.saturating_add(1));
     }
@@ -125,14 +125,14 @@ pub fn find_places(alloc: Global, text: &[u8], arrays: &[(Name, u8)]) -> Result<
             Some(next) => spelling(text, *next) == b"(".as_slice(),
             None => false,
         };
-        part = places.behind(alloc, text, arrays, part, *token, calls)?;
+        part = places.take_token(alloc, text, arrays, part, *token, calls)?;
     }
     Ok(places)
 }
 
 impl Places {
     /// Takes a token in a part of the text, where a bracket follows or not: the part behind it.
-    fn behind(
+    fn take_token(
         &mut self,
         alloc: Global,
         text: &[u8],
@@ -151,13 +151,13 @@ impl Places {
                     Ok(part)
                 }
             }
-            Part::Header(open) => Ok(behind_header(open, word)),
-            Part::Statement => self.inside(arrays, token, word, calls),
+            Part::Header(open) => Ok(after_header(open, word)),
+            Part::Statement => self.take_part_of_statement(arrays, token, word, calls),
         }
     }
 
     /// Takes a token of a statement: the part behind it.
-    fn inside(
+    fn take_part_of_statement(
         &mut self,
         arrays: &[(Name, u8)],
         token: Token,

@@ -14,7 +14,7 @@ fn write_subscript(page: &mut Page, names: &[Name], form: &Form) -> Result<(), M
 {
     let text = form.text(page.alloc(), names)?;
     page.text("[")?;
-    page.raw(text.as_slice())?;
+    page.write_bytes(text.as_slice())?;
     page.text("]")?;
     Ok(())
 }
@@ -29,7 +29,7 @@ pub fn write_reference(
     requires { AccessFits (meaning program.now) (length names.now) (access_of reference.now) }
 {
     let (name, _rank) = &program.arrays()[usize::from(reference.array)];
-    page.raw(name.bytes())?;
+    page.write_bytes(name.bytes())?;
     for form in reference.subs.as_slice() {
         write_subscript(page, names, form)?;
     }

@@ -1,0 +1,118 @@
+//! Plays of which only the totals are kept.
+
+ghost use Rattle.std.specs.Prelude.{◌≡◌, ◌≤◌, length};
+ghost use Rattle.std.specs.List.{AllByRecursion};
+ghost use Rattle.affine_form.specs.Form.{IsSmall};
+ghost use Rattle.affine_program.specs.Parts.{meaning};
+ghost use Rattle.pebble_replay.specs.Order.{HoldsEachOnce};
+ghost use Rattle.pebble_replay.specs.Player.{StandsFor};
+ghost use Rattle.tile_sched.specs.Plays.{GivesGraph};
+ghost use Rattle.tile_sched.specs.Schedules.{IsSchedule};
+ghost use Rattle.iolb_model.specs.declared.limits.TheConstants.{VALUE_SIZE};
+
+use crate::capacity::Capacity;
+use affine_form::Memory;
+use affine_program::Program;
+use loop_graph::{GraphFault, build};
+use pebble_game::Graph;
+use pebble_replay::{Player, ReplayFault};
+use std::alloc::Global;
+use tile_sched::{PlayFault, Schedule, Unplayed, order};
+
+/// What comes of a schedule with so many words of fast memory: what it loads and stores, or why it can't be played.
+#[derive(Clone, Copy, Debug, PartialEq, Eq)]
+pub enum Played {
+    Totals { loads: u64, stores: u64 },
+    Refused(Unplayed),
+}
+
+/// Plays on to the end of an order: what was loaded, stored and computed.
+fn totals_of(
+    alloc: Global,
+    graph: &Graph,
+    order: &[u32],
+    mut player: Player,
+) -> Result<(u64, u64, u64), Memory>
+    requires { StandsFor graph.now order.now player }
+{
+    'steps: loop {
+        match player.step(alloc, graph, order) {
+            Ok(Some(_moves)) => {}
+            Ok(None) => return Ok(player.totals()),
+            Err(Memory) => return Err(Memory),
+        }
+    }
+}
+
+/// Plays an order with so many words of fast memory.
+fn play_order(alloc: Global, graph: &Graph, order: &[u32], s: u64) -> Result<Played, Memory>
+    requires each { HoldsEachOnce graph.now order.now }
+    requires some { 1 ≤ s }
+{
+    let player = match Player::new(alloc, graph, order, s) {
+        Ok(player) => player,
+        Err(ReplayFault::OutOfOrder { vertex, source }) => {
+            return Ok(Played::Refused(Unplayed::OutOfOrder { vertex, source }));
+        }
+        Err(ReplayFault::TooSmall { vertex, need }) => {
+            return Ok(Played::Refused(Unplayed::TooSmall { vertex, need }));
+        }
+        Err(ReplayFault::Memory) => return Err(Memory),
+    };
+    let (loads, stores, _computes) = totals_of(alloc, graph, order, player)?;
+    Ok(Played::Totals { loads, stores })
+}
+
+/// The computation graph of a program at sizes.
+fn graph_of(alloc: Global, program: &Program, sizes: &[i64]) -> Result<Graph, PlayFault>
+    requires each { length sizes.now ≡ length program.now.params }
+    requires small { AllByRecursion (IsSmall VALUE_SIZE) sizes.now }
+    ensures { GivesGraph (meaning program.now) sizes.now result }
+{
+    match build(alloc, program, sizes) {
+        Ok(graph) => Ok(graph),
+        Err(GraphFault::OutsideAssumption(number)) => {
+            Err(PlayFault::Refused(Unplayed::Assumption(number)))
+        }
+        Err(GraphFault::TooMany) => Err(PlayFault::Refused(Unplayed::TooMany)),
+        Err(GraphFault::Memory) => Err(PlayFault::Memory),
+    }
+}
+
+/// Plays an order with each of these capacities.
+fn play_all(
+    alloc: Global,
+    graph: &Graph,
+    order: &[u32],
+    capacities: &[Capacity],
+) -> Result<Vec<Played>, Memory>
+    requires { HoldsEachOnce graph.now order.now }
+{
+    let mut all = Vec::with_capacity(alloc, capacities.len())?;
+    for capacity in capacities {
+        all.push(play_order(alloc, graph, order, capacity.words)?)?;
+    }
+    Ok(all)
+}
+
+/// Plays a schedule of a program at sizes of its parameters, with each of these capacities.
+///
+/// # Errors
+///
+/// Those of the graph: an assumption that is false, or too many vertices.
+pub fn play_schedule(
+    alloc: Global,
+    program: &Program,
+    schedule: &Schedule,
+    sizes: &[i64],
+    capacities: &[Capacity],
+) -> Result<Vec<Played>, PlayFault>
+    requires each { length sizes.now ≡ length program.now.params }
+    requires small { AllByRecursion (IsSmall VALUE_SIZE) sizes.now }
+    requires schedule { IsSchedule (meaning program.now) schedule.now }
+{
+    let graph = graph_of(alloc, program, sizes)?;
+    let order = order(alloc, program, sizes, &graph, schedule)?;
+    let all = play_all(alloc, &graph, order.as_slice(), capacities)?;
+    Ok(all)
+}

@@ -1,0 +1,67 @@
+//! Rows.
+
+use crate::plays::Played;
+use crate::ratio::write_ratio;
+use crate::strings::{write_field, write_string};
+use plain_pages::Page;
+use std::alloc::AllocError;
+
+/// A row: the words of fast memory, the bound there, the name of a schedule, and what comes of it.
+#[derive(Clone, Copy)]
+pub struct Row<'a> {
+    pub s: u64,
+    pub bound: u128,
+    pub schedule: &'a str,
+    pub played: Played,
+}
+
+impl Row<'_> {
+    /// Writes a row of columns.
+    pub(crate) fn write_columns(self, page: &mut Page) -> Result<(), AllocError> {
+        let (s, bound) = (self.s, self.bound);
+        page.text(format!(in page.alloc(); "{s:>12}{bound:>16}")?.as_str())?;
+        match self.played {
+            Played::Totals { loads, stores } => {
+                page.text(format!(in page.alloc(); "{loads:>16}{stores:>16}  ")?.as_str())?;
+                write_ratio(page, loads, bound, "-")?;
+            }
+            Played::Refused(_) => page.text("               -               -  -")?,
+        }
+        page.text("  ")?;
+        page.line(self.schedule)
+    }
+
+    /// Writes a row of comma-separated values, where a schedule that isn't played has empty fields.
+    pub(crate) fn write_fields(self, page: &mut Page) -> Result<(), AllocError> {
+        let (s, bound) = (self.s, self.bound);
+        page.text(format!(in page.alloc(); "{s},{bound},")?.as_str())?;
+        match self.played {
+            Played::Totals { loads, stores } => {
+                page.text(format!(in page.alloc(); "{loads},{stores},")?.as_str())?;
+                write_ratio(page, loads, bound, "")?;
+            }
+            Played::Refused(_) => page.text(",,")?,
+        }
+        page.text(",")?;
+        write_field(page, self.schedule)?;
+        page.line("")
+    }
+
+    /// Writes a row as an object of JSON, where a schedule that isn't played has `null`.
+    pub(crate) fn write_object(self, page: &mut Page) -> Result<(), AllocError> {
+        let (s, bound) = (self.s, self.bound);
+        page.text(format!(in page.alloc(); "{{\"S\":{s},\"bound\":{bound},\"loads\":")?.as_str())?;
+        match self.played {
+            Played::Totals { loads, stores } => {
+                page.text(format!(in page.alloc();
+                    "{loads},\"stores\":{stores},\"over\":"
+                )?.as_str())?;
+                write_ratio(page, loads, bound, "null")?;
+            }
+            Played::Refused(_) => page.text("null,\"stores\":null,\"over\":null")?,
+        }
+        page.text(",\"schedule\":")?;
+        write_string(page, self.schedule)?;
+        page.line("}")
+    }
+}

@@ -1,0 +1,33 @@
+//! Tables.
+
+use crate::rows::Row;
+use plain_pages::Page;
+use std::alloc::AllocError;
+
+/// The shape of a table: columns for readers, comma-separated values, or a line of JSON for each row.
+#[derive(Clone, Copy, Debug, PartialEq, Eq)]
+pub enum Shape {
+    Text,
+    Csv,
+    Json,
+}
+
+/// Writes the line above the rows.
+pub fn write_head(page: &mut Page, shape: Shape) -> Result<(), AllocError> {
+    match shape {
+        Shape::Text => page.line(
+            "           S           bound           loads          stores  over  schedule",
+        ),
+        Shape::Csv => page.line("S,bound,loads,stores,over,schedule"),
+        Shape::Json => Ok(()),
+    }
+}
+
+/// Writes a row.
+pub fn write_row(page: &mut Page, shape: Shape, row: Row<'_>) -> Result<(), AllocError> {
+    match shape {
+        Shape::Text => row.write_columns(page),
+        Shape::Csv => row.write_fields(page),
+        Shape::Json => row.write_object(page),
+    }
+}
