@@ -1,5 +1,5 @@
 -- What rows made of forms say of a point.
-use Rattle.std.proofs.Common.{◌≡◌, refl, sym, ◌∙◌, ap, subst, ℕ, zero, suc, ◌+◌, ◌-◌, ◌<◌, ◌≤◌, List, [], ◌∷◌, ◌++◌, length, map, replicate, get_or, arith}
+use Rattle.std.proofs.Common.{◌≡◌, refl, sym, ◌∙◌, ap, subst, ℕ, zero, suc, ◌+◌, ◌-◌, ◌*◌, ◌<◌, ◌≤◌, List, [], ◌∷◌, ◌++◌, length, map, replicate, get_or, arith}
 use Rattle.std.specs.Prelude.{◌<ℤ◌, slice_set}
 use Rattle.std.specs.List.{AllByRecursion}
 use Rattle.std.proofs.Math.IntN.{ℤ, pos, negsuc, ◌+ℤ◌, ◌-ℤ◌, ◌*ℤ◌}
@@ -115,6 +115,18 @@ within_rows-met vars (rises lower upper ∷ path) before (v ∷ vs) point h =
             (subst (λ (p : List ℤ). IsWithin path p (values_at vs point)) (sym (map-append (λ form. form_value form point) before (v ∷ []))) h.2),
       ),
     )
+
+-- they are two for each step of the way
+pub length-within_rows : (vars : ℕ) (path : List PathStep) (before values : List AffineForm) → length values ≡ length path → length (within_rows vars path before values) ≡ 2 * length path
+length-within_rows vars [] before values e = refl
+length-within_rows vars (rises lower upper ∷ path) before [] e = absurd (omega arith)
+length-within_rows vars (rises lower upper ∷ path) before (v ∷ values) e = omega (arith, length-within_rows vars path (before ++ v ∷ []) values (omega arith))
+
+-- and at most so many for any values
+pub within_rows-few : (vars : ℕ) (path : List PathStep) (before values : List AffineForm) → length (within_rows vars path before values) ≤ 2 * length path
+within_rows-few vars [] before values = omega arith
+within_rows-few vars (rises lower upper ∷ path) before [] = omega arith
+within_rows-few vars (rises lower upper ∷ path) before (v ∷ values) = omega (arith, within_rows-few vars path (before ++ v ∷ []) values)
 
 equal-from : (a b d e : ℤ) → d ≡ (a -ℤ b) +ℤ pos 0 → e ≡ (b -ℤ a) +ℤ pos 0 → pos 0 ≤ℤ d → pos 0 ≤ℤ e → a ≡ b
 equal-from a b d e p q h k = omega (arith, ints)

@@ -1,3 +1,4 @@
 pub mod Bounds
 pub mod Decided
+pub mod Domains
 pub mod Ordered

@@ -1,5 +1,6 @@
 -- Iteration domains, as systems of rows.
-use Rattle.std.specs.Prelude.{ℕ, ◌+◌, List, [], length, unwrap_or}
+use Rattle.std.specs.Prelude.{ℕ, ◌+◌, ◌*◌, List, [], length, unwrap_or}
+use Rattle.iolb_model.specs.Form.{AffineForm}
 use Rattle.iolb_model.specs.Path.{PathStep, row_path}
 use Rattle.iolb_model.specs.Program.{AffineProgram}
 use Rattle.affine_form.specs.System.{AffineSystem}
@@ -13,10 +14,19 @@ path_of program statement = unwrap_or (row_path program.tree statement) []
 abbrev pub depth_of : AffineProgram → ℕ → ℕ
 depth_of program statement = length (path_of program statement)
 
--- The rows of a statement's domain over the parameters and its loop values: `x - lower` and `upper - x` for each loop.
+-- How many rows say that loop values are in a statement's domain: two for each loop.
+abbrev pub domain_size : AffineProgram → ℕ → ℕ
+domain_size program statement = 2 * depth_of program statement
+
+-- The rows which say that values are in a statement's domain, where the parameters have these forms, over so many variables:
+-- `value - lower` and `upper - value` for each loop.
+abbrev pub domain_rows : AffineProgram → ℕ → ℕ → List AffineForm → List AffineForm → List AffineForm
+domain_rows program statement vars parameters values = within_rows vars (path_of program statement) parameters values
+
+-- The domain of a statement, over the parameters and its loop values.
 abbrev pub domain_of : AffineProgram → ℕ → AffineSystem
 domain_of program statement =
     let params = length program.parameters in let vars = params + depth_of program statement in record {
       vars = vars;
-      rows = within_rows vars (path_of program statement) (variables_from vars 0 params) (variables_from vars params (depth_of program statement));
+      rows = domain_rows program statement vars (variables_from vars 0 params) (variables_from vars params (depth_of program statement));
     }

@@ -5,7 +5,7 @@ use Rattle.iolb_model.specs.Program.{AffineProgram, statement_at}
 use Rattle.iolb_model.specs.Order.{common_loops}
 use Rattle.claims.specs.declared.place.Step.{Step}
 use Rattle.claims.specs.declared.place.Step.TheVariants.{Key, Index}
-use Rattle.affine_program.specs.Domain.{depth_of}
+use Rattle.affine_program.specs.Domain.{depth_of, domain_size}
 use Rattle.dep_quast.specs.Context.{ReadOf, reference_of, variables_at}
 use Rattle.dep_quast.specs.Levels.{level_count, writers, order_count, levels_before, levels_between}
 use Rattle.dep_quast.specs.Tree.{SourceClaim, Leaf, source, input, empty, blank, SelectionTree, leaf, test}
@@ -26,7 +26,7 @@ source_lists_fit program reader claim place =
     shown_fit (order_rows_at program t s claim.level) (place ++ Key (codes "before") ∷ []) claim.before
     ∷ shown_fit (length (levels_between program t (writers program (reference_of program reader).array) s)) (place ++ Key (codes "between") ∷ []) claim.between
     ∷ shown_fit (2 * length (reference_of program reader).subscripts) (place ++ Key (codes "cell") ∷ []) claim.cell
-    ∷ shown_fit (2 * depth_of program t) (place ++ Key (codes "domain") ∷ []) claim.inside
+    ∷ shown_fit (domain_size program t) (place ++ Key (codes "domain") ∷ []) claim.inside
     ∷ names (place ++ Key (codes "level") ∷ []) claim.level (level_count program t s)
     ∷ so_many (place ++ Key (codes "point") ∷ []) (length claim.point) (depth_of program t) ∷ []
 

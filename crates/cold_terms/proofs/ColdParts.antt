@@ -18,10 +18,9 @@ use Rattle.claims.specs.declared.place.Step.TheVariants.{Key}
 use Rattle.claims.proofs.Laws.{AllHold-append, AllHold-left, AllHold-right}
 use Rattle.dep_quast.specs.Context.{variables_at}
 use Rattle.dep_quast.specs.Tree.{SelectionTree}
-use Rattle.dep_quast.proofs.Fits.{length-within_rows}
 use Rattle.domain_count.specs.CountClaims.{count_claims}
 use Rattle.domain_count.proofs.Claimed.{count-claims}
-use Rattle.affine_program.specs.Domain.{path_of, depth_of}
+use Rattle.affine_program.specs.Domain.{domain_size}
 use Rattle.reuse_paths.specs.LeafClaims.{LeafClaim, claim_of}
 use Rattle.dep_quast.specs.OpenLeaves.{OpenLeaf, TestsFit}
 use Rattle.wavefront.specs.declared.cold.Cold.{Cold}
@@ -40,6 +39,7 @@ use Rattle.poly_tree.specs.Poly.{Quotient}
 use Rattle.certificate_fit.specs.Limits.{NameRows}
 use Rattle.certificate_fit.proofs.FormsFit.{bounds-small}
 use Rattle.cold_terms.specs.Held.{ArePolynomials, IsHeldCold}
+use Rattle.affine_program.proofs.Domains.{length-domain_rows}
 
 -- ---- a term's claims, part by part
 
@@ -79,9 +79,9 @@ module _ (program : AffineProgram) (tree : SelectionTree) (term : ColdTerm) (pla
       (AllHold-append (insides ++ at_leaves) entries (AllHold-append insides at_leaves h.inside h.leaves) h.matrix)
 
 -- the rows of an outline's domain
-pub inside-many : (program : AffineProgram) (outline : ColdOutline) → OutlineFits program outline → length (inside_goals program (bare outline)) ≡ 2 * depth_of program outline.reader.statement
+pub inside-many : (program : AffineProgram) (outline : ColdOutline) → OutlineFits program outline → length (inside_goals program (bare outline)) ≡ domain_size program outline.reader.statement
 inside-many program outline fits =
-    length-within_rows (nest_variables program (bare outline)) (path_of program outline.reader.statement)
+    length-domain_rows program outline.reader.statement (nest_variables program (bare outline))
     (variables_from (nest_variables program (bare outline)) 0 (length program.parameters)) outline.point fits.point
 
 -- ---- outlines

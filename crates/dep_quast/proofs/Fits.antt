@@ -16,7 +16,7 @@ use Rattle.execution_laws.proofs.Orders.{row_common-within, row_common-turn}
 use Rattle.affine_form.specs.Form.{variables, IsSmallForm}
 use Rattle.affine_form.specs.System.{AllOver}
 use Rattle.claims.proofs.Rows.{widened-over}
-use Rattle.affine_form.specs.Rows.{IsSmallOver, IsSmallWithin, widened, equality_rows, put_in, step_of, within_rows}
+use Rattle.affine_form.specs.Rows.{IsSmallOver, IsSmallWithin, widened, equality_rows, put_in, step_of}
 use Rattle.affine_form.specs.Substitution.{substitution}
 use Rattle.affine_program.specs.declared.reference.Reference.{Reference}
 use Rattle.affine_program.specs.declared.statement.Statement.{Statement}
@@ -174,18 +174,6 @@ length-equality_rows vars [] [] e = omega arith
 length-equality_rows vars [] (g ∷ gs) e = absurd (omega arith)
 length-equality_rows vars (f ∷ fs) [] e = absurd (omega arith)
 length-equality_rows vars (f ∷ fs) (g ∷ gs) e = omega (arith, length-equality_rows vars fs gs (omega arith))
-
--- and those of values within the bounds on a way two for each loop
-pub length-within_rows : (vars : ℕ) (path : List PathStep) (before values : List AffineForm) → length values ≡ length path → length (within_rows vars path before values) ≡ 2 * length path
-length-within_rows vars [] before values e = refl
-length-within_rows vars (rises lower upper ∷ path) before [] e = absurd (omega arith)
-length-within_rows vars (rises lower upper ∷ path) before (v ∷ values) e = omega (arith, length-within_rows vars path (before ++ v ∷ []) values (omega arith))
-
--- the rows of values within bounds are at most two for each loop
-pub within_rows-few : (vars : ℕ) (path : List PathStep) (before values : List AffineForm) → length (within_rows vars path before values) ≤ 2 * length path
-within_rows-few vars [] before values = omega arith
-within_rows-few vars (rises lower upper ∷ path) before [] = omega arith
-within_rows-few vars (rises lower upper ∷ path) before (v ∷ values) = omega (arith, within_rows-few vars path (before ++ v ∷ []) values)
 
 -- those of equal forms are at most two for each of the second list
 pub equality_rows-few : (vars : ℕ) (fs gs : List AffineForm) → length (equality_rows vars fs gs) ≤ 2 * length gs

@@ -20,10 +20,10 @@ use Rattle.execution_laws.proofs.Domains.{domains_executed, way-there, way-below
 use Rattle.execution_laws.proofs.Orders.{order_by_levels, row_common-within, row_common-turn}
 use Rattle.affine_form.specs.Substitution.{values_at, substitution}
 use Rattle.affine_form.specs.System.{AffineSystem, IsMet}
-use Rattle.affine_form.specs.Rows.{widened, within_rows, equality_rows, put_in, order_rows, IsSmallOver}
+use Rattle.affine_form.specs.Rows.{widened, equality_rows, put_in, order_rows, IsSmallOver}
 use Rattle.affine_form.proofs.RowLemmas.{length-variables}
-use Rattle.affine_form.proofs.Meaning.{HasLevel, equality_rows-met, equality_rows-say, order_rows-met, order_rows-say, values-end, values-front, values-middle, values_at-front, values_at-put_in, widened-met, widened-stay, within_rows-met, within_rows-says}
-use Rattle.affine_program.specs.Domain.{path_of, depth_of, domain_of}
+use Rattle.affine_form.proofs.Meaning.{HasLevel, equality_rows-met, equality_rows-say, order_rows-met, order_rows-say, values-end, values-front, values-middle, values_at-front, values_at-put_in, widened-met, widened-stay}
+use Rattle.affine_program.specs.Domain.{path_of, depth_of, domain_of, domain_rows}
 use Rattle.dep_quast.specs.Tree.{SourceClaim}
 use Rattle.dep_quast.specs.Levels.{level_count, levels, writers, writers_from}
 use Rattle.dep_quast.specs.Context.{ReadOf, reference_of, variables_at, context, reader_point, parameter_point, reader_values, writer_values, variables_with, write_rows, earlier_write, earlier_writes, write_between, writes_between}
@@ -31,6 +31,7 @@ use Rattle.dep_quast.specs.Claims.{inside_goals, cell_goals, before_goals}
 use Rattle.dep_quast.specs.Truth.{IsLevel, source_at}
 use Rattle.dep_quast.proofs.LastWrites.{writer-at, writes-from, no_last, is_last}
 use Rattle.execution_laws.proofs.Ways.{within-length, there-holds, holds-there}
+use Rattle.affine_program.proofs.Domains.{domain_rows-met, domain_rows-says}
 
 -- a statement that writes the array is one of its writers
 Member-writers : (first : ℕ) (statements : List Statement) (array w : ℕ) → w < length statements → (get_or statements w no_statement).writes.array ≡ array
@@ -109,7 +110,7 @@ module _ (program : AffineProgram) (reader : ReadOf) (parameters : List ℤ) (pl
       subst (IsMet (map (widened vars) program.assumptions)) (sym (append_assoc parameters values rest))
       (widened-met vars (length program.parameters) program.assumptions parameters (values ++ rest) well.assumptions (sym admitted.each) admitted.met) in
       let domain : IsMet (domain_of program reader.statement).rows point =
-      within_rows-met vars (path_of program reader.statement) (parameter_point program vars) (reader_values program reader vars) point
+      domain_rows-met program reader.statement vars (parameter_point program vars) (reader_values program reader vars) point
       (subst (λ (q : List ℤ). IsWithin (path_of program reader.statement) q (values_at (reader_values program reader vars) point)) (sym (parameters-at vars rest (omega arith)))
       (subst (λ (q : List ℤ). IsWithin (path_of program reader.statement) parameters q) (sym (values-are vars rest (omega arith))) reader-within)) in
       let at_point : AffineForm → Type 0 = λ row. pos 0 ≤ℤ form_value row point in
@@ -132,8 +133,8 @@ module _ (program : AffineProgram) (reader : ReadOf) (parameters : List ℤ) (pl
       let is_params : values_at params point ≡ parameters = parameters-at vars z (omega arith) in
       let is_z : values_at zs point ≡ z = writer-values writer z count in
       let rows : IsMet (map (widened vars) (context program reader tests)) point = widened-stay vars (context program reader tests) point (context-met tests met z) in
-      let domain : IsMet (within_rows vars (path_of program writer) params zs) point =
-      within_rows-met vars (path_of program writer) params zs point
+      let domain : IsMet (domain_rows program writer vars params zs) point =
+      domain_rows-met program writer vars params zs point
       (subst (λ (q : List ℤ). IsWithin (path_of program writer) q (values_at zs point)) (sym is_params)
       (subst (λ (q : List ℤ). IsWithin (path_of program writer) parameters q) (sym is_z) within)) in
       let left : values_at (put_in (params ++ zs) written) point ≡ values_at written (parameters ++ z) =
@@ -144,8 +145,8 @@ module _ (program : AffineProgram) (reader : ReadOf) (parameters : List ℤ) (pl
       let equal : IsMet (equality_rows vars (put_in (params ++ zs) written) (put_in (reader_point program reader vars) read)) point =
       equality_rows-met vars (put_in (params ++ zs) written) (put_in (reader_point program reader vars) read) point (left ∙ cells ∙ sym right) in
       let at_point : AffineForm → Type 0 = λ row. pos 0 ≤ℤ form_value row point in
-      All-append at_point (map (widened vars) (context program reader tests) ++ within_rows vars (path_of program writer) params zs) (equality_rows vars (put_in (params ++ zs) written) (put_in (reader_point program reader vars) read))
-      (All-append at_point (map (widened vars) (context program reader tests)) (within_rows vars (path_of program writer) params zs) rows domain) equal
+      All-append at_point (map (widened vars) (context program reader tests) ++ domain_rows program writer vars params zs) (equality_rows vars (put_in (params ++ zs) written) (put_in (reader_point program reader vars) read))
+      (All-append at_point (map (widened vars) (context program reader tests)) (domain_rows program writer vars params zs) rows domain) equal
 
   -- the writer of the cell that is read is one of the array's writers
   writer-member : (writer : ℕ) (z : List ℤ) (k : ℕ) → IsAt program parameters k (record { statement = writer; values = z })
@@ -210,7 +211,7 @@ module _ (program : AffineProgram) (reader : ReadOf) (parameters : List ℤ) (pl
       let is_params : values_at (parameter_point program vars) point ≡ parameters = values-front vars (length program.parameters) parameters values (sym admitted.each) (omega arith) in
       let within : IsWithin (path_of program claim.statement) parameters (values_at claim.point point) =
       subst (λ (q : List ℤ). IsWithin (path_of program claim.statement) q (values_at claim.point point)) is_params
-      (within_rows-says vars (path_of program claim.statement) (parameter_point program vars) claim.point point count met) in
+      (domain_rows-says program claim.statement vars (parameter_point program vars) claim.point point count met) in
       (domains_executed program parameters (record { statement = claim.statement; values = values_at claim.point point }) well).1
       (holds-there (row_path program.tree claim.statement) (λ path. IsWithin path parameters (values_at claim.point point)) (way-there program claim.statement well below) within)
 

@@ -20,17 +20,17 @@ use Rattle.affine_form.specs.System.{AffineSystem, IsMet}
 use Rattle.affine_form.proofs.ShownLemmas.{Shows-none}
 use Rattle.affine_form.specs.Rows.{put_in, IsSmallOver}
 use Rattle.affine_form.proofs.Meaning.{form_value-difference, form_value-front}
-use Rattle.affine_program.specs.Domain.{path_of}
 use Rattle.dep_quast.specs.Tree.{SourceClaim, Leaf, source, input, empty, blank, SelectionTree, leaf, test, leaf_at}
 use Rattle.dep_quast.specs.Context.{ReadOf, reference_of, variables_at, no_row, context, reader_point, parameter_point, earlier_writes, writes_between}
 use Rattle.dep_quast.specs.Claims.{claims, leaf_claims, source_claims, first_shown, context_system, inside_goals, cell_goals, before_goals}
 use Rattle.claims.specs.Shown.{follow_claims, pointless_claims, IsFew}
 use Rattle.claims.specs.Claims.{AllHold, Claim}
 use Rattle.dep_quast.specs.Truth.{IsTrueLeaf, SourceFits, LeafFits, FitsUnder, ReadFits, ValidTreesAreTrue}
-use Rattle.dep_quast.proofs.Fits.{ranks-same, within_rows-few, equality_rows-few}
+use Rattle.dep_quast.proofs.Fits.{ranks-same, equality_rows-few}
 use Rattle.claims.proofs.Systems.{goals-met, none-met}
 use Rattle.claims.proofs.Laws.{AllHold-left, AllHold-right}
 use Rattle.dep_quast.proofs.LastSources.{point-count, context-met, no_earlier, source-place, source-cell, source-before, source-last}
+use Rattle.affine_program.proofs.Domains.{domain_rows-few}
 
 module _ (program : AffineProgram) (reader : ReadOf) (parameters : List ℤ) (place : ℕ) (values : List ℤ) (well : IsWellFormed program)
     (admitted : IsAdmitted program parameters) (there : ReadFits program reader) (here : IsAt program parameters place (record { statement = reader.statement; values = values })) where
@@ -56,7 +56,7 @@ module _ (program : AffineProgram) (reader : ReadOf) (parameters : List ℤ) (pl
       let arrays : (statement_at program claim.statement).writes.array ≡ (reference_of program reader).array = second.0 in
       let found = source-place program reader parameters place values well admitted there.statement here claim fits.there.statement fits.there.point
       (goals-met 3 (at ++ Key (codes "domain") ∷ []) system 0 (inside_goals program reader claim) claim.inside point
-      (omega (arith, fits.lists.inside, within_rows-few (variables_at program reader) (path_of program claim.statement) (parameter_point program (variables_at program reader)) claim.point)) first.1 here_met) in
+      (omega (arith, fits.lists.inside, domain_rows-few program claim.statement (variables_at program reader) (parameter_point program (variables_at program reader)) claim.point)) first.1 here_met) in
       let same_cells = source-cell program reader parameters place values well admitted there.statement here claim (ranks-same program reader claim.statement well there fits.there.statement arrays) arrays
       (goals-met 4 (at ++ Key (codes "cell") ∷ []) system 0 (cell_goals program reader claim) claim.cell point
       (omega (

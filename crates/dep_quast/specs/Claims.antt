@@ -9,8 +9,8 @@ use Rattle.claims.specs.declared.place.Step.{Step}
 use Rattle.claims.specs.declared.place.Step.TheVariants.{Key, Index}
 use Rattle.affine_form.specs.Multipliers.{FarkasMultipliers}
 use Rattle.affine_form.specs.System.{AffineSystem}
-use Rattle.affine_form.specs.Rows.{within_rows, equality_rows, put_in, order_rows}
-use Rattle.affine_program.specs.Domain.{path_of}
+use Rattle.affine_form.specs.Rows.{equality_rows, put_in, order_rows}
+use Rattle.affine_program.specs.Domain.{domain_rows}
 use Rattle.dep_quast.specs.Tree.{SourceClaim, Leaf, source, input, empty, blank, SelectionTree, leaf, test}
 use Rattle.dep_quast.specs.Context.{ReadOf, reference_of, variables_at, no_row, context, reader_point, parameter_point, reader_values, earlier_writes, writes_between}
 
@@ -28,7 +28,7 @@ context_system program reader tests = record { vars = variables_at program reade
 -- the rows which say that the source is in its statement's domain
 abbrev pub inside_goals : AffineProgram → ReadOf → SourceClaim → List AffineForm
 inside_goals program reader claim =
-    let vars = variables_at program reader in within_rows vars (path_of program claim.statement) (parameter_point program vars) claim.point
+    let vars = variables_at program reader in domain_rows program claim.statement vars (parameter_point program vars) claim.point
 
 -- the rows which say that the source writes the cell that is read
 abbrev pub cell_goals : AffineProgram → ReadOf → SourceClaim → List AffineForm

@@ -5,8 +5,8 @@ use Rattle.iolb_model.specs.Form.{AffineForm}
 use Rattle.iolb_model.specs.Program.{Access, AffineProgram, statement_at, read_at}
 use Rattle.iolb_model.specs.Order.{common_loops}
 use Rattle.affine_form.specs.System.{AffineSystem}
-use Rattle.affine_form.specs.Rows.{widened, variables_from, difference, within_rows, equality_rows, put_in, order_rows}
-use Rattle.affine_program.specs.Domain.{path_of, depth_of, domain_of}
+use Rattle.affine_form.specs.Rows.{widened, variables_from, difference, equality_rows, put_in, order_rows}
+use Rattle.affine_program.specs.Domain.{depth_of, domain_of, domain_rows}
 use Rattle.dep_quast.specs.Tree.{SourceClaim}
 use Rattle.dep_quast.specs.Levels.{levels, writers}
 
@@ -57,7 +57,7 @@ write_rows program reader rows writer =
     let vars = variables_with program reader writer in
     let params = parameter_point program vars in
     let values = writer_values program reader writer vars in
-    map (widened vars) rows ++ within_rows vars (path_of program writer) params values
+    map (widened vars) rows ++ domain_rows program writer vars params values
     ++ equality_rows vars (put_in (params ++ values) (statement_at program writer).writes.subscripts)
     (put_in (reader_point program reader vars) (reference_of program reader).subscripts)
 

@@ -11,7 +11,7 @@ use Rattle.iolb_model.specs.Order.{common_loops}
 use Rattle.claims.specs.declared.place.Step.{Step}
 use Rattle.affine_form.specs.Substitution.{values_at}
 use Rattle.affine_form.specs.Rows.{IsSmallOver}
-use Rattle.affine_program.specs.Domain.{depth_of}
+use Rattle.affine_program.specs.Domain.{depth_of, domain_size}
 use Rattle.dep_quast.specs.Tree.{SourceClaim, Leaf, source, input as input_leaf, empty, blank, SelectionTree, leaf, test, leaf_at}
 use Rattle.dep_quast.specs.Context.{ReadOf, reference_of, variables_at, no_row, context, earlier_writes, writes_between}
 use Rattle.dep_quast.specs.Claims.{before_goals, IsValid}
@@ -52,7 +52,7 @@ pub record IsThere (program : AffineProgram) (reader : ReadOf) (claim : SourceCl
 
 -- Each list of a source's claim has the length called for.
 pub record HasLists (program : AffineProgram) (reader : ReadOf) (tests : List AffineForm) (claim : SourceClaim) : Type 0 where
-  pub inside : length claim.inside ≡ 2 * depth_of program claim.statement
+  pub inside : length claim.inside ≡ domain_size program claim.statement
   pub cell : length claim.cell ≡ 2 * length (reference_of program reader).subscripts
   pub before : length claim.before ≡ length (before_goals program reader claim)
   pub between : length claim.between ≡ length (writes_between program reader (context program reader tests) claim)

@@ -6,7 +6,7 @@ ghost use Rattle.iolb_model.specs.Program.{statement_at};
 ghost use Rattle.iolb_model.specs.Order.{common_loops};
 ghost use Rattle.affine_form.specs.System.{AllOver};
 ghost use Rattle.affine_form.specs.Rows.{within_rows, equality_rows, put_in, order_rows, IsSmallOver, IsSmallWithin};
-ghost use Rattle.affine_program.specs.Domain.{path_of, depth_of};
+ghost use Rattle.affine_program.specs.Domain.{depth_of, domain_rows, domain_size};
 ghost use Rattle.affine_program.specs.Parts.{meaning};
 ghost use Rattle.dep_quast.specs.Context.{reference_of, variables_at, parameter_point, reader_point};
 ghost use Rattle.dep_quast.specs.Truth.{ReadFits};
@@ -32,8 +32,8 @@ pub fn domain_rows(
     requires room { length program.now.params ≤ vars }
     requires one_each { length values.now ≡ depth_of (meaning program.now) statement }
     requires values_over { AllByRecursion (IsSmallOver vars) values.now }
-    ensures rows { IfOk result (λ rows. rows.items ≡ within_rows vars (path_of (meaning program.now) statement) (parameter_point (meaning program.now) vars) values.now) }
-    ensures many { IfOk result (λ rows. length rows.items ≡ 2 * depth_of (meaning program.now) statement) }
+    ensures rows { IfOk result (λ rows. rows.items ≡ domain_rows (meaning program.now) statement vars (parameter_point (meaning program.now) vars) values.now) }
+    ensures many { IfOk result (λ rows. length rows.items ≡ domain_size (meaning program.now) statement) }
     ensures over { IfOk result (λ rows. AllOver vars rows.items) }
 {
     let bounds = program.statements()[usize::from(statement)]

@@ -5,7 +5,7 @@ ghost use Rattle.std.specs.Prelude.{◌≡◌, ◌<◌, ◌*◌, ◌++◌, ◌�
 ghost use Rattle.std.specs.List.{AllByRecursion};
 ghost use Rattle.iolb_model.specs.Program.{statement_at};
 ghost use Rattle.affine_form.specs.Rows.{IsSmallOver};
-ghost use Rattle.affine_program.specs.Domain.{depth_of};
+ghost use Rattle.affine_program.specs.Domain.{depth_of, domain_rows, domain_size};
 ghost use Rattle.affine_program.specs.Parts.{meaning};
 ghost use Rattle.claims.specs.declared.place.Step.TheVariants.{Key, Index};
 ghost use Rattle.dep_quast.specs.Claims.{point_claims, first_shown, inside_goals, cell_goals, before_goals};
@@ -68,7 +68,7 @@ pub(crate) fn domain_shown(
     requires there { claimed.now.statement < length program.now.statements }
     requires point { length claimed.now.point.now ≡ depth_of (meaning program.now) claimed.now.statement }
     requires forms { AllByRecursion (IsSmallOver (variables_at (meaning program.now) (read_of reader))) claimed.now.point.now }
-    requires each { length claimed.now.domain.now ≡ 2 * depth_of (meaning program.now) claimed.now.statement }
+    requires each { length claimed.now.domain.now ≡ domain_size (meaning program.now) claimed.now.statement }
     ensures { Decides (follow_claims 3 (place.now ++ Key (codes "domain") ∷ []) system.now 0 (inside_goals (meaning program.now) (read_of reader) (claim_of claimed.now)) claimed.now.domain.now) result }
 {
     let vars = variables(program, reader);
@@ -163,7 +163,7 @@ pub(crate) fn point_shown(
     requires level { IsLevel (meaning program.now) claimed.now.statement reader.statement claimed.now.level }
     requires point { length claimed.now.point.now ≡ depth_of (meaning program.now) claimed.now.statement }
     requires forms { AllByRecursion (IsSmallOver (variables_at (meaning program.now) (read_of reader))) claimed.now.point.now }
-    requires domain { length claimed.now.domain.now ≡ 2 * depth_of (meaning program.now) claimed.now.statement }
+    requires domain { length claimed.now.domain.now ≡ domain_size (meaning program.now) claimed.now.statement }
     requires cell { length claimed.now.cell.now ≡ 2 * length (reference_of (meaning program.now) (read_of reader)).subscripts }
     requires before { length claimed.now.before.now ≡ length (before_goals (meaning program.now) (read_of reader) (claim_of claimed.now)) }
     ensures { Decides (point_claims (meaning program.now) (read_of reader) system.now place.now (claim_of claimed.now)) result }

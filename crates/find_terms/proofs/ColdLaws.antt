@@ -10,9 +10,8 @@ use Rattle.claims.specs.declared.place.Step.TheVariants.{Key}
 use Rattle.claims.specs.Shown.{IsFew}
 use Rattle.dep_quast.specs.Context.{variables_at}
 use Rattle.dep_quast.specs.Tree.{SelectionTree}
-use Rattle.dep_quast.proofs.Fits.{length-within_rows}
 use Rattle.domain_count.proofs.Claimed.{claims-count}
-use Rattle.affine_program.specs.Domain.{path_of, depth_of}
+use Rattle.affine_program.specs.Domain.{domain_size}
 use Rattle.affine_form.specs.Rows.{variables_from}
 use Rattle.reuse_paths.specs.LeafClaims.{claim_of}
 use Rattle.dep_quast.specs.OpenLeaves.{TestsFit}
@@ -26,6 +25,7 @@ use Rattle.cold_terms.specs.Outline.{OutlineFits, bare, outline_in}
 use Rattle.find_terms.specs.Shown.{IsShownCold}
 use Rattle.cold_terms.proofs.EntryLaws.{closed-short, hold-closed}
 use Rattle.cold_terms.proofs.ColdParts.{cold-held, ClaimParts, parts-of, IsUndone, IsInside, IsClosedBy}
+use Rattle.affine_program.proofs.Domains.{length-domain_rows}
 
 -- ---- what is found makes a term that is shown
 
@@ -69,8 +69,8 @@ module _ (program : AffineProgram) (tree : SelectionTree) (cold : Cold) (h : IsS
   shown-inside few =
       follow-short 10 (Key (codes "inside") ∷ []) (nest_system program shown_term) 0 (inside_goals program shown_term) cold.inside.items few
       (h.fits.parts.inside ∙ sym many) parts.inside h.as_short.inside where
-        many : length (inside_goals program shown_term) ≡ 2 * depth_of program shown_term.reader.statement
-        many = length-within_rows (nest_variables program shown_term) (path_of program shown_term.reader.statement)
+        many : length (inside_goals program shown_term) ≡ domain_size program shown_term.reader.statement
+        many = length-domain_rows program shown_term.reader.statement (nest_variables program shown_term)
             (variables_from (nest_variables program shown_term) 0 (length program.parameters)) shown_term.point h.fits.parts.point
 
   pub shown-closed : IsClosedBy Short program tree (outline_in shown_term) (map claim_of cold.leaves.items)

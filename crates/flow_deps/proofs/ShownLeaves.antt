@@ -11,7 +11,7 @@ use Rattle.affine_form.specs.Form.{IsSmallForm}
 use Rattle.affine_form.specs.Multipliers.{FarkasMultipliers}
 use Rattle.affine_form.specs.Rows.{IsSmallOver}
 use Rattle.affine_form.specs.System.{AffineSystem}
-use Rattle.affine_program.specs.Domain.{depth_of, path_of}
+use Rattle.affine_program.specs.Domain.{domain_size}
 use Rattle.claims.specs.Claims.{Claim}
 use Rattle.claims.proofs.Laws.{AllHold-append, AllHold-left, AllHold-right}
 use Rattle.claims.specs.declared.place.Step.{Step}
@@ -21,13 +21,14 @@ use Rattle.claims.specs.Shown.{IsFew, follow_claims, pointless_claims}
 use Rattle.dep_quast.specs.Claims.{context_system, inside_goals, cell_goals, before_goals, point_claims}
 use Rattle.dep_quast.specs.Tree.{SourceClaim, source, input, empty, blank, leaf, test}
 use Rattle.dep_quast.specs.Truth.{IsThere, ReadFits}
-use Rattle.dep_quast.proofs.Fits.{cells-many, ranks-same, length-within_rows}
+use Rattle.dep_quast.proofs.Fits.{cells-many, ranks-same}
 use Rattle.flow_deps.specs.declared.wanted.Wanted.{Wanted}
 use Rattle.flow_deps.specs.declared.wanted.Wanted.TheVariants.{Short}
 use Rattle.flow_deps.specs.Answers.{Question, Answers, HasNoShort, HasShortAnswer, following, pointless}
 use Rattle.flow_deps.specs.Shapes.{Shape, shape_of, no_write, last_write, other, split}
 use Rattle.flow_deps.specs.Shown.{IsShown, IsNotShown}
 use Rattle.flow_deps.proofs.AnswerLaws.{AreAnswered-length, answers-name, follow-hold, follow-short, pointless-hold, pointless-short}
+use Rattle.affine_program.proofs.Domains.{length-domain_rows}
 
 -- ---- no write is earlier
 
@@ -81,9 +82,9 @@ abbrev aim : SourceClaim → SourceClaim
 aim claim = bare claim.statement claim.level claim.point
 
 module _ (program : AffineProgram) (reader : ReadOf) (tests : List AffineForm) (well : IsWellFormed program) (read : ReadFits program reader) where
-  inside-length : (claim : SourceClaim) → IsThere program reader claim → length (inside_goals program reader claim) ≡ 2 * depth_of program claim.statement
+  inside-length : (claim : SourceClaim) → IsThere program reader claim → length (inside_goals program reader claim) ≡ domain_size program claim.statement
   inside-length claim h =
-      length-within_rows (variables_at program reader) (path_of program claim.statement) (parameter_point program (variables_at program reader)) claim.point h.point
+      length-domain_rows program claim.statement (variables_at program reader) (parameter_point program (variables_at program reader)) claim.point h.point
 
   cell-length : (claim : SourceClaim) → IsThere program reader claim → (statement_at program claim.statement).writes.array ≡ (reference_of program reader).array
       → length (cell_goals program reader claim) ≡ 2 * length (reference_of program reader).subscripts

@@ -8,7 +8,7 @@ use Rattle.iolb_model.specs.declared.limits.TheConstants.{TREE_TESTS}
 use Rattle.affine_form.specs.Multipliers.{FarkasMultipliers}
 use Rattle.affine_form.specs.Rows.{IsSmallOver, widened, variables_from}
 use Rattle.affine_form.proofs.RowLemmas.{length-variables}
-use Rattle.affine_program.specs.Domain.{path_of, depth_of, domain_of}
+use Rattle.affine_program.specs.Domain.{depth_of, domain_of}
 use Rattle.affine_program.specs.Parts.{ProgramParts, IsProgram, meaning}
 use Rattle.claims.proofs.Laws.{AllHold-append}
 use Rattle.claims.specs.declared.place.Step.TheVariants.{Key}
@@ -16,10 +16,11 @@ use Rattle.dep_quast.specs.Context.{ReadOf, variables_at, no_row, context}
 use Rattle.claims.specs.Shown.{IsFew}
 use Rattle.dep_quast.specs.Claims.{context_system, claims}
 use Rattle.dep_quast.specs.Tree.{SelectionTree, leaf, test, empty, blank}
-use Rattle.dep_quast.proofs.Fits.{depth-few, length-within_rows}
+use Rattle.dep_quast.proofs.Fits.{depth-few}
 use Rattle.flow_deps.specs.Answers.{IsAnswered, pointless}
 use Rattle.flow_deps.specs.Shown.{IsLeafUnder, Stands}
 use Rattle.flow_deps.proofs.AnswerLaws.{answer-names}
+use Rattle.affine_program.proofs.Domains.{length-domain_rows}
 
 -- the rows of a leaf are few, where not too many tests are nested
 pub context-few : (parts : ProgramParts) (is : IsProgram parts) (reader : ReadOf) (tests : List AffineForm) → reader.statement < length parts.statements → length tests ≤ TREE_TESTS
@@ -36,7 +37,7 @@ context-few parts is reader tests below few =
       length-append assumed domain,
       length-map program.assumptions (widened (variables_at program reader)),
       is.limits.assumptions,
-      length-within_rows vars (path_of program reader.statement) (variables_from vars 0 (length program.parameters)) (variables_from vars (length program.parameters) (depth_of program reader.statement))
+      length-domain_rows program reader.statement vars (variables_from vars 0 (length program.parameters)) (variables_from vars (length program.parameters) (depth_of program reader.statement))
           (length-variables vars (length program.parameters) (depth_of program reader.statement)),
       depth-few parts is reader.statement below,
     )

@@ -12,12 +12,11 @@ use Rattle.claims.specs.declared.place.Step.TheVariants.{Key}
 use Rattle.claims.proofs.Laws.{AllHold-left, AllHold-right}
 use Rattle.affine_form.specs.Rows.{BoundsFit}
 use Rattle.affine_form.specs.Substitution.{substitution}
-use Rattle.affine_program.specs.Domain.{depth_of, path_of}
+use Rattle.affine_program.specs.Domain.{domain_size}
 use Rattle.affine_program.specs.Parts.{ProgramParts, meaning}
 use Rattle.dep_quast.specs.Context.{ReadOf, reference_of, parameter_point}
 use Rattle.dep_quast.specs.Tree.{SelectionTree}
 use Rattle.dep_quast.specs.Truth.{ReadFits}
-use Rattle.dep_quast.proofs.Fits.{length-within_rows}
 use Rattle.reuse_paths.specs.LeafClaims.{LeafClaim, no_point, stops, is_credited, goes_on, arrives}
 use Rattle.dep_quast.specs.Quasts.{tree_or_blank, tree_for}
 use Rattle.reuse_paths.specs.ReachClaims.{setting_of}
@@ -40,14 +39,15 @@ use Rattle.certificate_fit.proofs.WalkParts.{spot-fits, reach-fits}
 use Rattle.iolb_check.specs.Fit.{FrontTermFits}
 use Rattle.iolb_check.specs.FrontFit.{way_fit, back_fit, edge_fit, words_fit, outer_fit, reach_fit, source_way, read_fit, source_fit, inside_count, word_count, front_fit}
 use Rattle.iolb_check.specs.Limits.{IsSmallFront}
+use Rattle.affine_program.proofs.Domains.{length-domain_rows}
 
 module _ (P : AffineProgram) (term : WavefrontTerm) where
   source-fits : (place : List Step) (source : Option SpotForms) → IsSmallSpot source → AllHold (source_fit P place term source) → SourceFits P (front_variables P term) source
   source-fits place None small h = tt
   source-fits place (Some spot) small h = spot-fits P (front_variables P term) (place ++ Key (codes "source") ∷ []) spot small h
 
-  spot-many : (spot : SpotForms) → SpotFits P (front_variables P term) spot → length (spot_goals P term spot) ≡ 2 * depth_of P spot.statement
-  spot-many spot fits = length-within_rows (front_variables P term) (path_of P spot.statement) (parameter_point P (front_variables P term)) spot.point fits.point
+  spot-many : (spot : SpotForms) → SpotFits P (front_variables P term) spot → length (spot_goals P term spot) ≡ domain_size P spot.statement
+  spot-many spot fits = length-domain_rows P spot.statement (front_variables P term) (parameter_point P (front_variables P term)) spot.point fits.point
 
   source-many : (source : Option SpotForms) → SourceFits P (front_variables P term) source → length (source_goals P term source) ≡ 2 * source_depth P source
   source-many None fits = refl

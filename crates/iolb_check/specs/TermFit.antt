@@ -4,7 +4,7 @@ use Rattle.std.specs.Prelude.{ℕ, suc, ◌+◌, ◌*◌, List, [], ◌∷◌, �
 use Rattle.iolb_model.specs.Program.{AffineProgram, statement_at}
 use Rattle.claims.specs.declared.place.Step.{Step}
 use Rattle.claims.specs.declared.place.Step.TheVariants.{Key, Index}
-use Rattle.affine_program.specs.Domain.{depth_of}
+use Rattle.affine_program.specs.Domain.{depth_of, domain_size}
 use Rattle.dep_quast.specs.Context.{reference_of}
 use Rattle.dep_quast.specs.Tree.{SelectionTree}
 use Rattle.wavefront.specs.Term.{ColdTerm}
@@ -21,7 +21,7 @@ use Rattle.iolb_check.specs.PartitionFit.{partition_fit}
 -- the members of a cold term in the order of their keys, up to its nest
 abbrev pub cold_front_fit : AffineProgram → List (List SelectionTree) → List Step → ColdTerm → List Claim
 cold_front_fit program trees place term =
-    shown_fit (2 * depth_of program term.reader.statement) (place ++ Key (codes "inside") ∷ []) term.inside
+    shown_fit (domain_size program term.reader.statement) (place ++ Key (codes "inside") ∷ []) term.inside
     ∷ matrix_fit (length term.nest) (length (reference_of program term.reader).subscripts) (place ++ Key (codes "inverse") ∷ Key (codes "matrix") ∷ []) term.matrix
     ++ so_many (place ++ Key (codes "leaves") ∷ []) (length term.leaves) (length (leaf_names program trees term.reader))
     ∷ entries_fit 0 [] (place ++ Key (codes "leaves") ∷ []) term.leaves

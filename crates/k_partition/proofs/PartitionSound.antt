@@ -20,14 +20,14 @@ use Rattle.claims.proofs.Members.{counts-each}
 use Rattle.affine_form.specs.Rows.{variables_from, step_of}
 use Rattle.affine_form.specs.Substitution.{values_at}
 use Rattle.affine_form.specs.System.{IsMet}
-use Rattle.affine_form.proofs.Meaning.{values-front, values-end, within_rows-says}
+use Rattle.affine_form.proofs.Meaning.{values-front, values-end}
 use Rattle.affine_form.proofs.RowLemmas.{length-variables}
 use Rattle.affine_program.specs.Domain.{path_of, depth_of}
 use Rattle.dep_quast.specs.Context.{parameter_point}
 use Rattle.dep_quast.specs.Tree.{SelectionTree}
 use Rattle.execution_laws.proofs.Ways.{within-length, holds-there}
 use Rattle.claims.proofs.Systems.{goals-met}
-use Rattle.dep_quast.proofs.Fits.{within_rows-few}
+use Rattle.affine_program.proofs.Domains.{domain_rows-few, domain_rows-says}
 use Rattle.domain_count.specs.Count.{rows_before}
 use Rattle.domain_count.specs.CountClaims.{count_claims}
 use Rattle.domain_count.specs.Points.{points}
@@ -106,13 +106,13 @@ module _ (program : AffineProgram) (trees : List (List SelectionTree)) (term : P
         let wide : length term.nest ≡ length u = sym (within-length (map step_of term.nest) parameters u within ∙ length-map term.nest step_of) in
         let met : IsMet (inside_goals program term) (parameters ++ u) =
         goals-met 10 (place ++ Key (codes "inside") ∷ []) (rows_before program term.nest) 0 (inside_goals program term) term.inside (parameters ++ u)
-        (omega (arith, fits.inside, within_rows-few vars path (parameter_point program vars) values)) holds-inside (nest-met program term.nest parameters u formed admitted within) in
+        (omega (arith, fits.inside, domain_rows-few program term.statement vars (parameter_point program vars) values)) holds-inside (nest-met program term.nest parameters u formed admitted within) in
         let front : values_at (parameter_point program vars) (parameters ++ u) ≡ parameters = values-front vars count parameters u (sym admitted.each) (omega arith) in
         let end : values_at values (parameters ++ u) ≡ u = values-end vars count (length term.nest) parameters u (sym admitted.each) wide (omega arith) in
         let in-path : IsWithin path parameters u =
         subst (λ (p : List ℤ). IsWithin path p u) front
         (subst (λ (v : List ℤ). IsWithin path (values_at (parameter_point program vars) (parameters ++ u)) v) end
-        (within_rows-says vars path (parameter_point program vars) values (parameters ++ u) (length-variables vars count (length term.nest) ∙ fits.counted.each) met)) in
+        (domain_rows-says program term.statement vars (parameter_point program vars) values (parameters ++ u) (length-variables vars count (length term.nest) ∙ fits.counted.each) met)) in
         let there : (n : ℕ) × IsAt program parameters n (record { statement = term.statement; values = u }) =
         (domains_executed program parameters (record { statement = term.statement; values = u }) formed).1
         (holds-there (row_path program.tree term.statement) (λ p. IsWithin p parameters u) (way-there program term.statement formed fits.counted.there) in-path) in

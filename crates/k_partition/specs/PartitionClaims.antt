@@ -8,8 +8,8 @@ use Rattle.claims.specs.Claims.{Claim, numbered, counted}
 use Rattle.claims.specs.declared.place.Step.{Step}
 use Rattle.claims.specs.declared.place.Step.TheVariants.{Key, Index}
 use Rattle.reuse_paths.specs.MatrixRows.{matrix_rows}
-use Rattle.affine_form.specs.Rows.{variables_from, within_rows}
-use Rattle.affine_program.specs.Domain.{path_of}
+use Rattle.affine_form.specs.Rows.{variables_from}
+use Rattle.affine_program.specs.Domain.{domain_rows}
 use Rattle.poly_tree.specs.Poly.{Quotient, IsLegal, IsSumOf, size}
 use Rattle.poly_tree.specs.Expansion.{number}
 use Rattle.claims.specs.Shown.{follow_claims, pointless_claims}
@@ -32,7 +32,7 @@ use Rattle.iolb_model.specs.declared.limits.TheConstants.{SUM_MEASURE}
 abbrev pub inside_goals : AffineProgram → PartitionTerm → List AffineForm
 inside_goals program term =
     let vars = length program.parameters + length term.nest in
-    within_rows vars (path_of program term.statement) (parameter_point program vars) (variables_from vars (length program.parameters) (length term.nest))
+    domain_rows program term.statement vars (parameter_point program vars) (variables_from vars (length program.parameters) (length term.nest))
 
 abbrev pub inside_claims : AffineProgram → List Step → PartitionTerm → List Claim
 inside_claims program place term = follow_claims 10 (place ++ Key (codes "inside") ∷ []) (rows_before program term.nest) 0 (inside_goals program term) term.inside

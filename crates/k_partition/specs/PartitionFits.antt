@@ -6,7 +6,7 @@ use Rattle.iolb_model.specs.Bound.{IsAdmitted}
 use Rattle.claims.specs.Claims.{AllHold}
 use Rattle.claims.specs.declared.place.Step.{Step}
 use Rattle.affine_form.specs.Matrix.{HasShape}
-use Rattle.affine_program.specs.Domain.{depth_of}
+use Rattle.affine_program.specs.Domain.{domain_size}
 use Rattle.dep_quast.specs.Tree.{SelectionTree}
 use Rattle.footprint_pieces.specs.DisjointClaims.{pairwise_systems}
 use Rattle.reuse_paths.specs.FamilyFits.{CountedFits, FamilyFits}
@@ -28,7 +28,7 @@ HasApart Sum program trees term = length (pairwise_systems program (pieces_of_fa
 -- each loop, its families fit, and each list has the length called for.
 pub record PartitionFits (program : AffineProgram) (trees : List (List SelectionTree)) (term : PartitionTerm) : Type 0 where
   pub counted : CountedFits program term.statement term.nest term.matrix
-  pub inside : length term.inside ≡ 2 * depth_of program term.statement
+  pub inside : length term.inside ≡ domain_size program term.statement
   pub matrix : HasShape term.matrix.rows term.matrix.columns term.matrix.cells
   pub positive : 1 ≤ term.q
   pub families : AllByRecursion (FamilyFits program trees term.statement term.nest term.matrix (credited_nests term)) term.families

@@ -2,7 +2,7 @@
 #![tactic(auto, using(claims::proofs::Found::in_a_row))]
 
 ghost use Rattle.std.specs.Prelude.{◌≡◌, ◌*◌, ◌≤◌, length, IfOk};
-ghost use Rattle.affine_program.specs.Domain.{depth_of};
+ghost use Rattle.affine_program.specs.Domain.{domain_rows, domain_size};
 ghost use Rattle.affine_program.specs.Parts.{meaning};
 ghost use Rattle.claims.specs.Claims.{Decides};
 ghost use Rattle.k_partition.specs.PartitionClaims.{inside_claims, inside_goals};
@@ -24,7 +24,7 @@ fn goals_of(alloc: Global, program: &Program, term: &Partition) -> Result<Vec<Fo
     requires counted { CountedFits (meaning program.now) term.now.statement term.now.nest term.now.matrix }
     requires few { length term.now.nest ≤ NEST_VARIABLES }
     ensures goals { IfOk result (λ goals. goals.items ≡ inside_goals (meaning program.now) (partition_of term.now)) }
-    ensures many { IfOk result (λ goals. length goals.items ≡ 2 * depth_of (meaning program.now) term.now.statement) }
+    ensures many { IfOk result (λ goals. length goals.items ≡ domain_size (meaning program.now) term.now.statement) }
 {
     let params = program.params().len();
     let size = term.nest.bounds().len();
@@ -42,7 +42,7 @@ pub(crate) fn inside_shown(
 ) -> Result<(), Refused>
     requires counted { CountedFits (meaning program.now) term.now.statement term.now.nest term.now.matrix }
     requires few { length term.now.nest ≤ NEST_VARIABLES }
-    requires each { length term.now.inside.items ≡ 2 * depth_of (meaning program.now) term.now.statement }
+    requires each { length term.now.inside.items ≡ domain_size (meaning program.now) term.now.statement }
     ensures { Decides (inside_claims (meaning program.now) place.now (partition_of term.now)) result }
 {
     let goals = goals_of(alloc, program, term)?;

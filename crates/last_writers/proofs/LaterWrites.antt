@@ -20,9 +20,9 @@ use Rattle.execution_laws.proofs.Orders.{order_by_levels}
 use Rattle.execution_laws.proofs.Ways.{there-holds, within-length}
 use Rattle.affine_form.specs.Substitution.{values_at}
 use Rattle.affine_form.specs.System.{AffineSystem, IsMet}
-use Rattle.affine_form.specs.Rows.{equality_rows, order_rows, step_of, widened, within_rows}
-use Rattle.affine_form.proofs.Meaning.{HasLevel, equality_rows-met, order_rows-met, values-end, values-front, values_at-front, values_at-put_in, widened-stay, within_rows-met}
-use Rattle.affine_program.specs.Domain.{depth_of, path_of}
+use Rattle.affine_form.specs.Rows.{equality_rows, order_rows, step_of, widened}
+use Rattle.affine_form.proofs.Meaning.{HasLevel, equality_rows-met, order_rows-met, values-end, values-front, values_at-front, values_at-put_in, widened-stay}
+use Rattle.affine_program.specs.Domain.{depth_of, path_of, domain_rows}
 use Rattle.dep_quast.specs.Context.{parameter_point}
 use Rattle.dep_quast.specs.Levels.{level_count, levels, writers, writers_from}
 use Rattle.reuse_paths.proofs.NestPoints.{nest-met-before}
@@ -30,6 +30,7 @@ use Rattle.store_terms.specs.Claims.{OutputClaim}
 use Rattle.last_writers.specs.OutputClaims.{later_values, later_write, later_writes, output_system, output_variables, variables_with, write_rows, written_forms}
 use Rattle.last_writers.specs.Fitting.{OutputFits}
 use Rattle.last_writers.specs.Outputs.{output_instance}
+use Rattle.affine_program.proofs.Domains.{domain_rows-met}
 
 -- a statement that writes the array is one of its writers
 Member-writers : (first : ℕ) (statements : List Statement) (array w : ℕ) → w < length statements → (get_or statements w no_statement).writes.array ≡ array
@@ -116,13 +117,13 @@ module _ (program : AffineProgram) (output : OutputClaim) (well : IsWellFormed p
     write-met same =
         let params : List AffineForm = parameter_point program vars in
         let nest : List AffineForm = map (widened vars) (output_system program output).rows in
-        let domain : List AffineForm = within_rows vars (path_of program w) params zs in
+        let domain : List AffineForm = domain_rows program w vars params zs in
         let mine : List AffineForm = written_forms program (output_variables program output) output.statement output.point in
         let its : List AffineForm = written_forms program vars w zs in
         let at_point : AffineForm → Type 0 = λ row. pos 0 ≤ℤ form_value row point in
         let nest_met : IsMet nest point = widened-stay vars (output_system program output).rows point (nest-met-before program output.nest parameters u z well admitted within) in
         let domain_met : IsMet domain point =
-        within_rows-met vars (path_of program w) params zs point
+        domain_rows-met program w vars params zs point
         (subst (λ (q : List ℤ). IsWithin (path_of program w) q (values_at zs point)) (sym (parameters-at vars z (omega arith)))
         (subst (λ (q : List ℤ). IsWithin (path_of program w) parameters q) (sym writer-values) writer-within)) in
         let cell_met : IsMet (equality_rows vars mine its) point =

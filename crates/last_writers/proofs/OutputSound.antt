@@ -22,7 +22,7 @@ use Rattle.execution_laws.proofs.Ways.{holds-there}
 use Rattle.affine_form.specs.Rows.{step_of}
 use Rattle.affine_form.specs.Shown.{HasNoPoint}
 use Rattle.affine_form.specs.System.{AffineSystem, IsMet}
-use Rattle.affine_form.proofs.Meaning.{values-front, within_rows-says}
+use Rattle.affine_form.proofs.Meaning.{values-front}
 use Rattle.affine_program.specs.Domain.{path_of}
 use Rattle.claims.specs.Claims.{AllHold, Claim}
 use Rattle.claims.specs.declared.place.Step.{Step}
@@ -30,7 +30,6 @@ use Rattle.claims.specs.declared.place.Step.TheVariants.{Key}
 use Rattle.claims.proofs.Laws.{AllHold-left, AllHold-right}
 use Rattle.claims.proofs.Systems.{goals-met, none-met}
 use Rattle.dep_quast.specs.Context.{parameter_point}
-use Rattle.dep_quast.proofs.Fits.{length-within_rows}
 use Rattle.domain_count.specs.Points.{points}
 use Rattle.pebble_game.proofs.InputVertices.{slice_get-below}
 use Rattle.reuse_paths.specs.Places.{IsExecuted, place_of}
@@ -46,6 +45,7 @@ use Rattle.last_writers.specs.OutputClaims.{instance_claims, later_writes, outpu
 use Rattle.last_writers.specs.Fitting.{OutputFits}
 use Rattle.last_writers.specs.Outputs.{IsSoundOutput, SoundOutputsAreStored, ValidOutputsAreSound, WritesLast, output_footprint, output_instance}
 use Rattle.last_writers.proofs.LaterWrites.{none-later}
+use Rattle.affine_program.proofs.Domains.{length-domain_rows, domain_rows-says}
 
 -- ---- marks of last writers
 
@@ -130,7 +130,7 @@ module _ (program : AffineProgram) (at : List Step) (output : OutputClaim) (form
     goals : IsMet (output_goals program output) (parameters ++ u)
     goals =
         goals-met 10 (at ++ Key (codes "inside") ∷ []) (output_system program output) 0 (output_goals program output) output.inside (parameters ++ u)
-        (omega (arith, fits.inside, length-within_rows vars (path_of program output.statement) (parameter_point program vars) output.point fits.point))
+        (omega (arith, fits.inside, length-domain_rows program output.statement vars (parameter_point program vars) output.point fits.point))
         (AllHold-left inside inverse holds-two) (nest-met program output.nest parameters u formed admitted within)
 
     executed : IsExecuted program parameters instance
@@ -138,7 +138,7 @@ module _ (program : AffineProgram) (at : List Step) (output : OutputClaim) (form
         let path : List PathStep = path_of program output.statement in
         let inner : IsWithin path parameters instance.values =
         subst (λ (q : List ℤ). IsWithin path q instance.values) (values-front vars (length program.parameters) parameters u (sym admitted.each) (omega arith))
-        (within_rows-says vars path (parameter_point program vars) output.point (parameters ++ u) fits.point goals) in
+        (domain_rows-says program output.statement vars (parameter_point program vars) output.point (parameters ++ u) fits.point goals) in
         let there : (n : ℕ) × IsAt program parameters n instance =
         (domains_executed program parameters instance formed).1
         (holds-there (row_path program.tree output.statement) (λ p. IsWithin p parameters instance.values) (way-there program output.statement formed fits.there) inner) in

@@ -4,7 +4,7 @@ use Rattle.std.specs.Prelude.{◌≡◌, ◌*◌, ◌<◌, ◌≤◌, length}
 use Rattle.std.specs.List.{AllByRecursion}
 use Rattle.iolb_model.specs.Program.{AffineProgram}
 use Rattle.affine_form.specs.Rows.{BoundsFit, IsSmallOver}
-use Rattle.affine_program.specs.Domain.{depth_of}
+use Rattle.affine_program.specs.Domain.{depth_of, domain_size}
 use Rattle.affine_program.specs.Parts.{ProgramParts, meaning}
 use Rattle.domain_count.specs.Claims.{FitsCount}
 use Rattle.iolb_model.specs.declared.limits.TheConstants.{NEST_VARIABLES}
@@ -18,7 +18,7 @@ pub record OutputFits (program : AffineProgram) (output : OutputClaim) : Type 0 
   pub bounds : BoundsFit (length program.parameters) output.nest
   pub point : length output.point ≡ depth_of program output.statement
   pub forms : AllByRecursion (IsSmallOver (output_variables program output)) output.point
-  pub inside : length output.inside ≡ 2 * depth_of program output.statement
+  pub inside : length output.inside ≡ domain_size program output.statement
   pub rows : output.matrix.rows ≡ length output.nest
   pub columns : (1 ≤ output.matrix.rows) → output.matrix.columns ≡ length output.point
   pub scale : 1 ≤ output.scale

@@ -3,9 +3,9 @@ use Rattle.std.specs.Prelude.{ℕ, ◌+◌, List, [], ◌∷◌, ◌++◌, lengt
 use Rattle.iolb_model.specs.Form.{AffineForm}
 use Rattle.iolb_model.specs.Program.{AffineProgram, statement_at}
 use Rattle.iolb_model.specs.Order.{common_loops}
-use Rattle.affine_form.specs.Rows.{equality_rows, order_rows, put_in, variables_from, widened, within_rows}
+use Rattle.affine_form.specs.Rows.{equality_rows, order_rows, put_in, variables_from, widened}
 use Rattle.affine_form.specs.System.{AffineSystem}
-use Rattle.affine_program.specs.Domain.{depth_of, path_of}
+use Rattle.affine_program.specs.Domain.{depth_of, domain_rows}
 use Rattle.claims.specs.Claims.{Claim}
 use Rattle.claims.specs.Shown.{follow_claims, pointless_claims}
 use Rattle.claims.specs.declared.place.Step.{Step}
@@ -28,7 +28,7 @@ output_system program output = rows_before program output.nest
 
 abbrev pub output_goals : AffineProgram → OutputClaim → List AffineForm
 output_goals program output =
-    let vars = output_variables program output in within_rows vars (path_of program output.statement) (parameter_point program vars) output.point
+    let vars = output_variables program output in domain_rows program output.statement vars (parameter_point program vars) output.point
 
 abbrev pub output_inside : AffineProgram → List Step → OutputClaim → List Claim
 output_inside program place output = follow_claims 10 (place ++ Key (codes "inside") ∷ []) (output_system program output) 0 (output_goals program output) output.inside
@@ -57,7 +57,7 @@ abbrev pub write_rows : AffineProgram → OutputClaim → ℕ → List AffineFor
 write_rows program output writer =
     let vars = variables_with program output writer in
     let values = later_values program output writer in
-    map (widened vars) (output_system program output).rows ++ within_rows vars (path_of program writer) (parameter_point program vars) values
+    map (widened vars) (output_system program output).rows ++ domain_rows program writer vars (parameter_point program vars) values
     ++ equality_rows vars (written_forms program (output_variables program output) output.statement output.point) (written_forms program vars writer values)
 
 -- with those which say that it comes after the output's instance at a level

@@ -1,7 +1,7 @@
 -- What is asked of an output: that it fits a program (condition 1), in the order of a walk through its text. A statement that
 -- isn't there counts as one without loops, and nothing writes its array.
 use Rattle.std.specs.Prelude.{ℕ, suc, ◌*◌, nat_lt, if◌then◌else◌, List, [], ◌∷◌, ◌++◌, length, codes}
-use Rattle.affine_program.specs.Domain.{depth_of}
+use Rattle.affine_program.specs.Domain.{depth_of, domain_size}
 use Rattle.certificate_fit.specs.FitClaims.{names, so_many}
 use Rattle.certificate_fit.specs.PartFit.{bounds_fit, forms_fit, matrix_fit, shown_fit, sums_fit}
 use Rattle.claims.specs.Claims.{Claim}
@@ -18,7 +18,7 @@ later_count program output = if nat_lt output.statement (length program.statemen
 -- the members of an output in the order of their keys, up to its nest
 abbrev pub output_front_fit : AffineProgram → List Step → OutputClaim → List Claim
 output_front_fit program place output =
-    shown_fit (2 * depth_of program output.statement) (place ++ Key (codes "inside") ∷ []) output.inside
+    shown_fit (domain_size program output.statement) (place ++ Key (codes "inside") ∷ []) output.inside
     ∷ matrix_fit (length output.nest) (depth_of program output.statement) (place ++ Key (codes "inverse") ∷ Key (codes "matrix") ∷ []) output.matrix
     ++ shown_fit (later_count program output) (place ++ Key (codes "later") ∷ []) output.later ∷ []
 

@@ -14,12 +14,12 @@ use Rattle.iolb_model.specs.Path.{PathStep}
 use Rattle.iolb_model.specs.Program.{AffineProgram}
 use Rattle.affine_form.specs.Form.{IsSmallForm, variables}
 use Rattle.affine_form.specs.Multipliers.{FarkasMultipliers}
-use Rattle.affine_form.specs.Rows.{IsSmallOver, put_in, variable, variables_from, widened, within_rows}
+use Rattle.affine_form.specs.Rows.{IsSmallOver, put_in, variable, variables_from, widened}
 use Rattle.affine_form.specs.Substitution.{substitution, width}
 use Rattle.affine_form.specs.System.{AffineSystem, AllOver}
 use Rattle.affine_form.proofs.RowLemmas.{AllOver-width, length-variables, variables-over}
 use Rattle.affine_form.proofs.SubstitutionLemmas.{length-substitution}
-use Rattle.affine_program.specs.Domain.{depth_of, path_of}
+use Rattle.affine_program.specs.Domain.{depth_of, domain_rows}
 use Rattle.affine_program.specs.Parts.{ProgramParts, IsProgram, meaning, statement_of}
 use Rattle.claims.specs.Shown.{IsFew}
 use Rattle.cold_terms.specs.Outline.{ColdOutline, OutlineFits, outline_in}
@@ -29,7 +29,7 @@ use Rattle.dep_quast.specs.Context.{ReadOf, context, earlier_write, earlier_writ
 use Rattle.dep_quast.specs.Levels.{levels, writers}
 use Rattle.dep_quast.specs.Tree.{SelectionTree, leaf, input}
 use Rattle.dep_quast.specs.Truth.{ReadFits}
-use Rattle.dep_quast.proofs.Fits.{depth-few, length-within_rows}
+use Rattle.dep_quast.proofs.Fits.{depth-few}
 use Rattle.domain_count.specs.Count.{IsCount, IsSumFrom}
 use Rattle.domain_count.specs.Made.{AreMade}
 use Rattle.domain_count.proofs.Claimed.{right-claims-give-one}
@@ -71,6 +71,7 @@ use Rattle.product_bounds.proofs.NamedNests.{nest-along, state_after}
 use Rattle.product_bounds.proofs.Permutations.{order-product, all-named, passing-place, passing-below, passing-pass, passing-rises, order-undone, order_matrix, places, rising-differ}
 use Rattle.product_bounds.proofs.Summation.{sums_below}
 use Rattle.iolb_model.specs.declared.limits.TheConstants.{NUMBER_SIZE, TREE_TESTS}
+use Rattle.affine_program.proofs.Domains.{length-domain_rows}
 
 -- a vector of these items
 abbrev vec_of : {A : Type 0} (alloc : Global) (xs : List A) → length xs < 2 ^ 63 → Vec A
@@ -120,7 +121,7 @@ module _ (program : AffineProgram) (reader : ReadOf) (loops below : List ℕ) (n
   wide = map (widened (variables_at program reader)) program.assumptions
 
   abbrev rows : List AffineForm
-  rows = within_rows (variables_at program reader) (path_of program reader.statement) (variables_from (variables_at program reader) 0 p) (variables_from (variables_at program reader) p d)
+  rows = domain_rows program reader.statement (variables_at program reader) (variables_from (variables_at program reader) 0 p) (variables_from (variables_at program reader) p d)
 
   few : IsFew (length (context program reader []))
   few = long where
@@ -130,7 +131,7 @@ module _ (program : AffineProgram) (reader : ReadOf) (loops below : List ℕ) (n
       length-append (wide ++ rows) [],
       length-append wide rows,
       length-map program.assumptions (widened (variables_at program reader)),
-      length-within_rows (variables_at program reader) (path_of program reader.statement) (variables_from (variables_at program reader) 0 p) (variables_from (variables_at program reader) p d) (length-variables (variables_at program reader) p d),
+      length-domain_rows program reader.statement (variables_at program reader) (variables_from (variables_at program reader) 0 p) (variables_from (variables_at program reader) p d) (length-variables (variables_at program reader) p d),
       room.assumptions,
       room.depth,
     )
@@ -222,7 +223,7 @@ module _ (program : AffineProgram) (reader : ReadOf) (loops below : List ℕ) (n
   -- ---- its term
 
   abbrev goals : List AffineForm
-  goals = within_rows (vars r) (path_of program reader.statement) (variables_from (vars r) 0 p) (values r)
+  goals = domain_rows program reader.statement (vars r) (variables_from (vars r) 0 p) (values r)
 
   shown : (ms : List FarkasMultipliers) × Answers Short (following (system r) goals) ms × (length ms ≡ length (following (system r) goals))
   shown = short-answers (following (system r) goals) (inside-short r)
@@ -232,7 +233,7 @@ module _ (program : AffineProgram) (reader : ReadOf) (loops below : List ℕ) (n
     arith,
     shown.2,
     length-map goals (λ (goal : AffineForm). let question : Question = record { system = system r; goal = goal } in question),
-    length-within_rows (vars r) (path_of program reader.statement) (variables_from (vars r) 0 p) (values r) (values-many r),
+    length-domain_rows program reader.statement (vars r) (variables_from (vars r) 0 p) (values r) (values-many r),
     room.depth,
   )
 

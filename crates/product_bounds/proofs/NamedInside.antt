@@ -12,7 +12,7 @@ use Rattle.affine_form.specs.Rows.{IsSmallOver, step_of, variables_from, widened
 use Rattle.affine_form.proofs.Combination.{form_value-constant}
 use Rattle.affine_form.proofs.Meaning.{form_value-variable}
 use Rattle.affine_form.proofs.RowLemmas.{length-variables}
-use Rattle.affine_program.specs.Domain.{path_of}
+use Rattle.affine_program.specs.Domain.{domain_rows}
 use Rattle.flow_deps.specs.Answers.{HasShortAnswer, Question, following}
 use Rattle.projective.specs.Projective.{Assumes, HoldsOfOne}
 use Rattle.projective.proofs.NestRows.{AreWorth, at, less, parameters-kept, variables-worth, within-each, within-picked, worth-same}
@@ -128,7 +128,7 @@ module _ (r : NamedLoops) where
           back n = omega (arith, ints)
 
   -- that the instances are in their domain has short answers
-  pub inside-short : AllByRecursion HasShortAnswer (following (system r) (within_rows (vars r) (path_of r.program r.statement) (variables_from (vars r) 0 (p r)) (values r)))
+  pub inside-short : AllByRecursion HasShortAnswer (following (system r) (domain_rows r.program r.statement (vars r) (variables_from (vars r) 0 (p r)) (values r)))
   inside-short =
       subst (λ (path : List PathStep). AllByRecursion HasShortAnswer (following (system r) (within_rows (vars r) path (variables_from (vars r) 0 (p r)) (values r)))) r.run.path
       (All-map HasShortAnswer asks (within_rows (vars r) (way r) (variables_from (vars r) 0 (p r)) (values r))

@@ -16,7 +16,7 @@ use Rattle.affine_form.specs.Form.{variables, IsSmall}
 use Rattle.affine_form.specs.System.{AllOver}
 use Rattle.affine_form.specs.Rows.{IsSmallOver, IsSmallWithin, BoundsFit, widened, variable, variables_from, within_rows, equality_rows, put_in, order_rows, step_of}
 use Rattle.affine_form.proofs.RowLemmas.{length-widened, length-variables, variables-over, within_rows-many, within_rows-over, equality_rows-over, put_in-within, order_rows-over}
-use Rattle.affine_program.specs.Domain.{path_of, depth_of, domain_of}
+use Rattle.affine_program.specs.Domain.{path_of, depth_of, domain_of, domain_rows}
 use Rattle.affine_program.specs.declared.statement.Statement.{Statement}
 use Rattle.affine_program.specs.Parts.{ProgramParts, IsProgram, meaning}
 use Rattle.affine_program.proofs.Bounds.{path-is, bounds-fit}
@@ -114,12 +114,12 @@ module _ (parts : ProgramParts) (is : IsProgram parts) (some : 0 < length parts.
   -- ---- rows
 
   pub within-over : (many : ℕ) (before values : List AffineForm) → length before ≡ n → AllByRecursion (IsSmallOver many) before → AllByRecursion (IsSmallOver many) values
-      → AllOver many (within_rows many (path_of program 0) before values)
+      → AllOver many (domain_rows program 0 many before values)
   within-over many before values long p q =
       subst (λ (path : List PathStep). AllOver many (within_rows many path before values)) (sym path-steps)
       (within_rows-over many bounds before values (subst (λ (k : ℕ). BoundsFit k bounds) (sym long) bounds-over) p q)
 
-  pub within-many : (many : ℕ) (before values : List AffineForm) → length values ≡ d → length (within_rows many (path_of program 0) before values) ≡ 2 * d
+  pub within-many : (many : ℕ) (before values : List AffineForm) → length values ≡ d → length (domain_rows program 0 many before values) ≡ 2 * d
   within-many many before values long =
       ap (λ (path : List PathStep). length (within_rows many path before values)) path-steps ∙ within_rows-many many bounds before values (long ∙ sym bounds-many) ∙ ap (λ (k : ℕ). 2 * k) bounds-many
 
@@ -172,7 +172,7 @@ module _ (parts : ProgramParts) (is : IsProgram parts) (some : 0 < length parts.
 
     -- ---- what a source claims of its point
 
-    pub inside-over : (loop : ℕ) → AllOver vars (within_rows vars (path_of program 0) (parameter_point program vars) (turn_before program loop))
+    pub inside-over : (loop : ℕ) → AllOver vars (domain_rows program 0 vars (parameter_point program vars) (turn_before program loop))
     inside-over loop = within-over vars (parameter_point program vars) (turn_before program loop) (length-variables vars 0 n) (variables-over vars 0 n) (turn-fits loop)
 
     pub here-over : (loop : ℕ) → length (turn_before program loop) ≡ d
@@ -191,7 +191,7 @@ module _ (parts : ProgramParts) (is : IsProgram parts) (some : 0 < length parts.
       written = write_rows program reader rows 0
 
       abbrev inside : List AffineForm
-      inside = within_rows wide (path_of program 0) (parameter_point program wide) (writer_values program reader 0 wide)
+      inside = domain_rows program 0 wide (parameter_point program wide) (writer_values program reader 0 wide)
 
       abbrev cells : List AffineForm
       cells = equality_rows wide (put_in (parameter_point program wide ++ writer_values program reader 0 wide) (statement_at program 0).writes.subscripts) (put_in (reader_point program reader wide) (reference_of program reader).subscripts)

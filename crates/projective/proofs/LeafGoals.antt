@@ -12,9 +12,9 @@ use Rattle.iolb_model.specs.Program.{AffineProgram, statement_at}
 use Rattle.affine_form.specs.Form.{variables}
 use Rattle.affine_form.specs.Substitution.{substitution}
 use Rattle.affine_form.specs.System.{AffineSystem, AllOver}
-use Rattle.affine_form.specs.Rows.{variable, within_rows, equality_rows, put_in, order_rows}
+use Rattle.affine_form.specs.Rows.{variable, equality_rows, put_in, order_rows}
 use Rattle.affine_form.proofs.RowLemmas.{length-variables}
-use Rattle.affine_program.specs.Domain.{path_of, depth_of}
+use Rattle.affine_program.specs.Domain.{path_of, depth_of, domain_rows}
 use Rattle.flow_deps.specs.Answers.{Question, HasShortAnswer}
 use Rattle.claims.specs.Shown.{IsFew}
 use Rattle.dep_quast.specs.Context.{ReadOf, reference_of, parameter_point, reader_point, reader_values}
@@ -98,10 +98,10 @@ module _ (program : AffineProgram) (read : ℕ) (facts : NestFacts program) (sam
   abbrev parameters : List AffineForm
   parameters = parameter_point program vars
 
-  pub inside-answered : AllOver vars (within_rows vars (path_of program 0) parameters (turn_before program loop))
-      → AllByRecursion HasShortAnswer (map asks (within_rows vars (path_of program 0) parameters (turn_before program loop)))
+  pub inside-answered : AllOver vars (domain_rows program 0 vars parameters (turn_before program loop))
+      → AllByRecursion HasShortAnswer (map asks (domain_rows program 0 vars parameters (turn_before program loop)))
   inside-answered wide =
-      All-map HasShortAnswer asks (within_rows vars (path_of program 0) parameters (turn_before program loop))
+      All-map HasShortAnswer asks (domain_rows program 0 vars parameters (turn_before program loop))
       (within-each (λ goal. HasShortAnswer (asks goal)) vars n (path_of program 0) parameters (turn_before program loop) ends t facts.runs (parameters-kept vars n (omega arith)) (turn-worth program loop) wide low high)
 
   abbrev here_cells : List AffineForm

@@ -13,10 +13,10 @@ use Rattle.iolb_model.specs.Program.{AffineProgram, statement_at}
 use Rattle.affine_form.specs.Shown.{minus_one}
 use Rattle.affine_form.specs.Substitution.{substitution}
 use Rattle.affine_form.specs.System.{AffineSystem, AllOver}
-use Rattle.affine_form.specs.Rows.{widened, variable, within_rows, equality_rows, put_in, order_rows}
+use Rattle.affine_form.specs.Rows.{widened, variable, equality_rows, put_in, order_rows}
 use Rattle.affine_form.proofs.Combination.{form_value-constant}
 use Rattle.affine_form.proofs.RowLemmas.{length-variables}
-use Rattle.affine_program.specs.Domain.{path_of, depth_of}
+use Rattle.affine_program.specs.Domain.{path_of, depth_of, domain_rows}
 use Rattle.flow_deps.specs.Answers.{HasShortAnswer, pointless}
 use Rattle.claims.specs.Shown.{IsFew}
 use Rattle.dep_quast.specs.Context.{ReadOf, reference_of, parameter_point, reader_point, reader_values, writer_values, write_rows, before_reader}
@@ -74,7 +74,7 @@ module _ (program : AffineProgram) (read : ℕ) (facts : NestFacts program) (sam
   subscripts = (statement_at program 0).writes.subscripts
 
   abbrev inside : List AffineForm
-  inside = within_rows wide (path_of program 0) (parameter_point program wide) (writer_values program reader 0 wide)
+  inside = domain_rows program 0 wide (parameter_point program wide) (writer_values program reader 0 wide)
 
   abbrev cells : List AffineForm
   cells = equality_rows wide (put_in (parameter_point program wide ++ writer_values program reader 0 wide) subscripts) (put_in (reader_point program reader wide) (reference_of program reader).subscripts)

@@ -19,7 +19,7 @@ use Rattle.affine_form.specs.Matrix.{IntegerMatrix, entry}
 use Rattle.affine_form.specs.Rows.{BoundsFit, IsSmallOver, step_of, widened, within_rows}
 use Rattle.affine_form.specs.System.{AllOver}
 use Rattle.affine_form.proofs.RowLemmas.{length-variables, variables-over, within_rows-many}
-use Rattle.affine_program.specs.Domain.{depth_of, path_of}
+use Rattle.affine_program.specs.Domain.{depth_of, path_of, domain_rows}
 use Rattle.dep_quast.specs.Context.{parameter_point, reference_of}
 use Rattle.dep_quast.specs.Tree.{SelectionTree, leaf_count}
 use Rattle.domain_count.specs.Count.{rows_before}
@@ -108,7 +108,7 @@ module _ (program : AffineProgram) (trees : List (List SelectionTree)) (array : 
   context-many rows =
       let v = at.vars program trees array set weight in
       let first = map (widened v) (rows_before program []).rows in
-      let domain = within_rows v (path_of program 0) (parameter_point program v) (region_values (at.walk program trees array set weight) 0) in
+      let domain = domain_rows program 0 v (parameter_point program v) (region_values (at.walk program trees array set weight) 0) in
       let inner : length domain ≡ 2 * length nest =
       ap (λ path. length (within_rows v path (parameter_point program v) (region_values (at.walk program trees array set weight) 0))) g.path
       ∙ within_rows-many v nest (parameter_point program v) (region_values (at.walk program trees array set weight) 0) (length-variables v (p + 0) d ∙ depth) in

@@ -27,7 +27,7 @@ use Rattle.dep_quast.specs.Context.{reference_of, parameter_point}
 use Rattle.dep_quast.specs.Tree.{SelectionTree}
 use Rattle.dep_quast.specs.Truth.{source_at}
 use Rattle.claims.proofs.Systems.{goals-met}
-use Rattle.dep_quast.proofs.Fits.{within_rows-few}
+use Rattle.affine_form.proofs.Meaning.{within_rows-few}
 use Rattle.reuse_paths.specs.EntryClaims.{IsWrittenBy, keeping_claims, label_claims, word_label, credit_goals, going_goals, nest_goals}
 use Rattle.reuse_paths.specs.Families.{CreditedNest, FamilyForms, node_label, label_at}
 use Rattle.reuse_paths.specs.FamilyClaims.{family_setting}

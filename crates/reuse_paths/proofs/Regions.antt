@@ -20,9 +20,9 @@ use Rattle.claims.proofs.Members.{suc-moved}
 use Rattle.affine_form.specs.Multipliers.{FarkasMultipliers}
 use Rattle.affine_form.specs.Substitution.{values_at}
 use Rattle.affine_form.specs.System.{IsMet}
-use Rattle.affine_form.specs.Rows.{widened, variables_from, within_rows, step_of}
-use Rattle.affine_form.proofs.Meaning.{values-end, values-front, widened-stay, within_rows-met}
-use Rattle.affine_program.specs.Domain.{path_of, depth_of}
+use Rattle.affine_form.specs.Rows.{widened, variables_from, step_of}
+use Rattle.affine_form.proofs.Meaning.{values-end, values-front, widened-stay}
+use Rattle.affine_program.specs.Domain.{path_of, depth_of, domain_rows}
 use Rattle.claims.specs.Shown.{follow_claims}
 use Rattle.dep_quast.specs.Context.{parameter_point}
 use Rattle.execution_laws.proofs.Ways.{within-length, there-holds}
@@ -36,6 +36,7 @@ use Rattle.reuse_paths.specs.WalkSettings.{WalkSetting, spot_variables, region_v
 use Rattle.reuse_paths.specs.Walks.{WalkRegion}
 use Rattle.dep_quast.proofs.ChosenLeaves.{forms_at-met, forms_at-values}
 use Rattle.reuse_paths.proofs.NestPoints.{nest-met-before}
+use Rattle.affine_program.proofs.Domains.{domain_rows-met}
 
 pub there-is : (o : Option WalkRegion) → IsSomeAnd o (λ region. Unit {0}) → (region : WalkRegion) × (o ≡ Some region)
 there-is None h = absurd h
@@ -114,10 +115,10 @@ module _ (walk : WalkSetting) (values u : List ℤ) (formed : IsWellFormed walk.
         let vars : ℕ = region_variables walk s in
         let point : List ℤ = (values ++ u) ++ x in
         let nest : List AffineForm = map (widened vars) (rows_before walk.program walk.nest).rows in
-        let domain : List AffineForm = within_rows vars (path_of walk.program s) (parameter_point walk.program vars) (region_values walk s) in
+        let domain : List AffineForm = domain_rows walk.program s vars (parameter_point walk.program vars) (region_values walk s) in
         let nest-rows : IsMet nest point = widened-stay vars (rows_before walk.program walk.nest).rows point (nest-met-before walk.program walk.nest values u x formed admitted within) in
         let domain-rows : IsMet domain point =
-        within_rows-met vars (path_of walk.program s) (parameter_point walk.program vars) (region_values walk s) point
+        domain_rows-met walk.program s vars (parameter_point walk.program vars) (region_values walk s) point
         (subst (λ (ps : List ℤ). IsWithin (path_of walk.program s) ps (values_at (region_values walk s) point)) (sym params-there)
         (subst (λ (ys : List ℤ). IsWithin (path_of walk.program s) values ys) (sym loops-there) in-domain)) in
         All-append (λ (row : AffineForm). pos 0 ≤ℤ form_value row point) (nest ++ domain) rows

@@ -2,8 +2,8 @@
 use Rattle.std.specs.Prelude.{ℕ, ◌+◌, List, [], ◌++◌, map, length, Option, Some, None, slice_index_or}
 use Rattle.iolb_model.specs.Form.{AffineForm}
 use Rattle.iolb_model.specs.Program.{AffineProgram}
-use Rattle.affine_form.specs.Rows.{widened, variables_from, within_rows}
-use Rattle.affine_program.specs.Domain.{path_of, depth_of}
+use Rattle.affine_form.specs.Rows.{widened, variables_from}
+use Rattle.affine_program.specs.Domain.{depth_of, domain_rows}
 use Rattle.dep_quast.specs.Context.{parameter_point}
 use Rattle.dep_quast.specs.Tree.{SelectionTree}
 use Rattle.domain_count.specs.Count.{rows_before}
@@ -58,7 +58,7 @@ abbrev pub region_context : WalkSetting → ℕ → List AffineForm → List Aff
 region_context walk statement rows =
     let vars = region_variables walk statement in
     map (widened vars) (rows_before walk.program walk.nest).rows
-    ++ within_rows vars (path_of walk.program statement) (parameter_point walk.program vars) (region_values walk statement)
+    ++ domain_rows walk.program statement vars (parameter_point walk.program vars) (region_values walk statement)
     ++ rows
 
 -- the region of a statement, where it has one

@@ -20,13 +20,13 @@ use Rattle.claims.specs.declared.place.Step.{Step}
 use Rattle.claims.specs.declared.place.Step.TheVariants.{Key}
 use Rattle.affine_form.specs.System.{IsMet}
 use Rattle.affine_form.specs.Rows.{variables_from, step_of}
-use Rattle.affine_form.proofs.Meaning.{values-front, within_rows-says}
+use Rattle.affine_form.proofs.Meaning.{values-front}
 use Rattle.affine_program.specs.Domain.{path_of}
 use Rattle.dep_quast.specs.Tree.{SelectionTree}
 use Rattle.dep_quast.specs.Truth.{IsTrueTree}
 use Rattle.execution_laws.proofs.Ways.{holds-there}
 use Rattle.claims.proofs.Systems.{goals-met}
-use Rattle.dep_quast.proofs.Fits.{within_rows-few}
+use Rattle.affine_program.proofs.Domains.{domain_rows-few, domain_rows-says}
 use Rattle.domain_count.specs.Points.{points}
 use Rattle.wavefront.specs.Term.{ColdTerm, nest_variables, nest_system, instance_point, inside_goals, cell_forms}
 use Rattle.wavefront.specs.Loads.{ColdFits, ColdTermsAreLoaded, ColdWordsAreLoaded, IsSoundCold, SoundColdsAreLoaded, instance_values, all_instances, footprint_of}
@@ -66,10 +66,10 @@ module _ (program : AffineProgram) (place : List Step) (tree : SelectionTree) (t
       let path : List PathStep = path_of program term.reader.statement in
       let goals : IsMet (inside_goals program term) at =
       goals-met 10 (place ++ Key (codes "inside") ∷ []) (nest_system program term) 0 (inside_goals program term) term.inside at
-      (omega (arith, fits.parts.inside, within_rows-few vars path params term.point)) holds-inside met in
+      (omega (arith, fits.parts.inside, domain_rows-few program term.reader.statement vars params term.point)) holds-inside met in
       let inside : IsWithin path values (instance_values term values u) =
       subst (λ (q : List ℤ). IsWithin path q (instance_values term values u)) (values-front vars (length program.parameters) values u (sym admitted.each) (omega arith))
-      (within_rows-says vars path params term.point at fits.parts.point goals) in
+      (domain_rows-says program term.reader.statement vars params term.point at fits.parts.point goals) in
       let there : (n : ℕ) × IsAt program values n (record { statement = term.reader.statement; values = instance_values term values u }) =
       (domains_executed program values (record { statement = term.reader.statement; values = instance_values term values u }) formed).1
       (holds-there (row_path program.tree term.reader.statement) (λ p. IsWithin p values (instance_values term values u)) (way-there program term.reader.statement formed fits.parts.read.statement) inside) in

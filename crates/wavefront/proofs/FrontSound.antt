@@ -23,7 +23,8 @@ use Rattle.claims.specs.declared.place.Step.TheVariants.{Key}
 use Rattle.claims.proofs.Laws.{AllHold-left, AllHold-right}
 use Rattle.affine_form.specs.System.{IsMet}
 use Rattle.affine_form.specs.Rows.{step_of}
-use Rattle.affine_form.proofs.Meaning.{values-front, within_rows-says}
+use Rattle.affine_form.proofs.Meaning.{values-front}
+use Rattle.affine_program.proofs.Domains.{domain_rows-says}
 use Rattle.affine_program.specs.Domain.{path_of}
 use Rattle.dep_quast.specs.Context.{parameter_point}
 use Rattle.dep_quast.specs.Tree.{SelectionTree, leaf_at}
@@ -115,7 +116,7 @@ module _ (program : AffineProgram) (place : List Step) (trees : List (List Selec
           let values : List ℤ = spot_values spot parameters u in
           let within : IsWithin path parameters values =
           subst (λ (q : List ℤ). IsWithin path q values) (values-front vars (length program.parameters) parameters u (sym admitted.each) (omega arith))
-          (within_rows-says vars path (parameter_point program vars) spot.point (parameters ++ u) fit.point met) in
+          (domain_rows-says program spot.statement vars (parameter_point program vars) spot.point (parameters ++ u) fit.point met) in
           let there : (n : ℕ) × IsAt program parameters n (instance_of spot parameters u) =
           (domains_executed program parameters (instance_of spot parameters u) formed).1
           (holds-there (row_path program.tree spot.statement) (λ p. IsWithin p parameters values) (way-there program spot.statement formed fit.there) within) in

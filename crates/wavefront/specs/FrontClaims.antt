@@ -5,8 +5,8 @@ use Rattle.iolb_model.specs.Form.{AffineForm}
 use Rattle.iolb_model.specs.Program.{AffineProgram}
 use Rattle.affine_form.specs.Multipliers.{FarkasMultipliers}
 use Rattle.affine_form.specs.System.{AffineSystem}
-use Rattle.affine_form.specs.Rows.{within_rows, equality_rows, put_in}
-use Rattle.affine_program.specs.Domain.{path_of}
+use Rattle.affine_form.specs.Rows.{equality_rows, put_in}
+use Rattle.affine_program.specs.Domain.{domain_rows}
 use Rattle.claims.specs.Claims.{Claim, numbered}
 use Rattle.claims.specs.declared.place.Step.{Step}
 use Rattle.claims.specs.declared.place.Step.TheVariants.{Key, Index}
@@ -35,7 +35,7 @@ front_system program term = rows_before program term.nest
 
 abbrev pub spot_goals : AffineProgram → WavefrontTerm → SpotForms → List AffineForm
 spot_goals program term spot =
-    let vars = front_variables program term in within_rows vars (path_of program spot.statement) (parameter_point program vars) spot.point
+    let vars = front_variables program term in domain_rows program spot.statement vars (parameter_point program vars) spot.point
 
 -- those of the word's instance, where it isn't an input
 abbrev pub source_goals : AffineProgram → WavefrontTerm → Option SpotForms → List AffineForm

@@ -13,7 +13,7 @@ use Rattle.pebble_game.specs.Loaded.{AreLoaded}
 use Rattle.claims.specs.declared.place.Step.{Step}
 use Rattle.affine_form.specs.Substitution.{values_at}
 use Rattle.affine_form.specs.Rows.{BoundsFit, IsSmallOver}
-use Rattle.affine_program.specs.Domain.{depth_of}
+use Rattle.affine_program.specs.Domain.{depth_of, domain_size}
 use Rattle.claims.specs.Claims.{AllHold}
 use Rattle.dep_quast.specs.Context.{reference_of, variables_at}
 use Rattle.dep_quast.specs.Tree.{SelectionTree}
@@ -32,7 +32,7 @@ pub record TermFits (program : AffineProgram) (term : ColdTerm) : Type 0 where
   pub bounds : BoundsFit (length program.parameters) term.nest
   pub point : length term.point ≡ depth_of program term.reader.statement
   pub forms : AllByRecursion (IsSmallOver (nest_variables program term)) term.point
-  pub inside : length term.inside ≡ 2 * depth_of program term.reader.statement
+  pub inside : length term.inside ≡ domain_size program term.reader.statement
   pub rows : term.matrix.rows ≡ length term.nest
   pub columns : (1 ≤ term.matrix.rows) → term.matrix.columns ≡ length (reference_of program term.reader).subscripts
   pub scale : 1 ≤ term.scale

@@ -5,8 +5,8 @@ use Rattle.iolb_model.specs.Program.{AffineProgram}
 use Rattle.affine_form.specs.Matrix.{IntegerMatrix}
 use Rattle.affine_form.specs.Multipliers.{FarkasMultipliers}
 use Rattle.affine_form.specs.System.{AffineSystem}
-use Rattle.affine_form.specs.Rows.{variables_from, within_rows, put_in}
-use Rattle.affine_program.specs.Domain.{path_of}
+use Rattle.affine_form.specs.Rows.{variables_from, put_in}
+use Rattle.affine_program.specs.Domain.{domain_rows}
 use Rattle.reuse_paths.specs.LeafClaims.{LeafClaim}
 use Rattle.dep_quast.specs.Context.{ReadOf, reference_of}
 use Rattle.domain_count.specs.Claims.{SumClaims}
@@ -41,7 +41,7 @@ instance_point program term = variables_from (nest_variables program term) 0 (le
 -- the rows which say that the reading instance is in its statement's domain
 abbrev pub inside_goals : AffineProgram → ColdTerm → List AffineForm
 inside_goals program term =
-    within_rows (nest_variables program term) (path_of program term.reader.statement)
+    domain_rows program term.reader.statement (nest_variables program term)
     (variables_from (nest_variables program term) 0 (length program.parameters)) term.point
 
 -- the cell that it reads

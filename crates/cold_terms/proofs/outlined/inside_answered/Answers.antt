@@ -1,9 +1,8 @@
 use Rattle.std.proofs.Common.{◌≡◌, ◌∙◌, ap, subst, ℕ, List, length}
 use Rattle.std.specs.Prelude.{IfOk, MatchOption, OnOk, Result, Ok, Err}
 use Rattle.iolb_model.specs.Form.{AffineForm}
-use Rattle.affine_form.specs.Rows.{within_rows}
 use Rattle.affine_form.specs.System.{AffineSystem}
-use Rattle.affine_program.specs.Domain.{path_of}
+use Rattle.affine_program.specs.Domain.{domain_rows}
 use Rattle.affine_program.specs.Parts.{meaning}
 use Rattle.flow_deps.specs.Answers.{Answers, HasNoShort, following}
 use Rattle.claims.specs.Shown.{IsFew}
@@ -28,8 +27,8 @@ returns-clause-answers c =
     let term : ColdTerm = bare (outline_of c.args.outline.now) in
     let goals : c.as_slice-2.result.now ≡ inside_goals program term =
     c.as_slice-2.ensures.value ∙ c.in_ok-goals.ensures.rows
-    ∙ ap (λ (n : ℕ). within_rows n (path_of program term.reader.statement) (parameter_point program n) c.as_slice.result.now) c.variables-vars.ensures.variables
-    ∙ ap (within_rows (nest_variables program term) (path_of program term.reader.statement) (parameter_point program (nest_variables program term))) c.as_slice.ensures.value in
+    ∙ ap (λ (n : ℕ). domain_rows program term.reader.statement n (parameter_point program n) c.as_slice.result.now) c.variables-vars.ensures.variables
+    ∙ ap (domain_rows program term.reader.statement (nest_variables program term) (parameter_point program (nest_variables program term))) c.as_slice.ensures.value in
     let system : c.in_ok-system.system ≡ nest_system program term = c.in_ok-system.ensures ∙ ap (rows_before program) c.bounds.ensures in
     subst (λ (gs : List AffineForm). IfOk c.goals_answered.result (λ found. MatchOption found (HasNoShort (following (nest_system program term) gs)) (λ shown. Answers c.args.wanted (following (nest_system program term) gs) shown.items))) goals
     (subst (λ (s : AffineSystem). IfOk c.goals_answered.result (λ found. MatchOption found (HasNoShort (following s c.as_slice-2.result.now)) (λ shown. Answers c.args.wanted (following s c.as_slice-2.result.now) shown.items))) system c.goals_answered.ensures)

@@ -1,6 +1,6 @@
 use Rattle.std.proofs.Common.{◌≡◌, ◌∙◌, ap, sym, arith, length, map}
 use Rattle.affine_program.specs.declared.statement.Statement.{Statement}
-use Rattle.affine_program.specs.Domain.{path_of}
+use Rattle.affine_program.specs.Domain.{path_of, domain_rows}
 use Rattle.affine_program.specs.Parts.{meaning}
 use Rattle.affine_program.proofs.Bounds.{read-fit, path-read}
 use Rattle.affine_form.specs.Rows.{within_rows, variables_from, step_of}
@@ -34,7 +34,7 @@ returns-clause-rows c =
     (simp c.from.ensures at c.index-statements-from.is) bounds in
     c.in_ok-rows.ensures.rows
     ∙ ap (λ path. within_rows c.args.vars path c.as_slice.result.now c.args.values.now) (sym path)
-    ∙ ap (λ params. within_rows c.args.vars (path_of (meaning c.args.program.now) c.args.statement) params c.args.values.now)
+    ∙ ap (λ params. domain_rows (meaning c.args.program.now) c.args.statement c.args.vars params c.args.values.now)
     (c.as_slice.ensures.value ∙ c.in_ok-params.ensures.forms ∙ ap (λ n. variables_from c.args.vars 0 n) (ap length c.params.ensures.params))
 
 pub returns-clause-many : goal.returns-clause-many

@@ -1,9 +1,9 @@
 use Rattle.std.proofs.Common.{◌≡◌, ◌∙◌, sym, ap, subst, arith, ℕ, List, ◌++◌, map, length}
 use Rattle.std.specs.List.{AllByRecursion}
 use Rattle.iolb_model.specs.Form.{AffineForm}
-use Rattle.affine_form.specs.Rows.{widened, within_rows, IsSmallOver}
+use Rattle.affine_form.specs.Rows.{widened, IsSmallOver}
 use Rattle.affine_form.specs.System.{AffineSystem, AllOver}
-use Rattle.affine_program.specs.Domain.{path_of}
+use Rattle.affine_program.specs.Domain.{domain_rows}
 use Rattle.claims.proofs.Found.{IfOk-then}
 use Rattle.dep_quast.specs.Context.{parameter_point}
 use Rattle.dep_quast.proofs.Fits.{wide-over, over-append}
@@ -45,13 +45,13 @@ returns-clause-rows c =
     let s : ℕ = c.args.statement in
     let vars : ℕ = region_variables walk s in
     let front : List AffineForm = map (widened vars) (rows_before walk.program walk.nest).rows in
-    let behind : List AffineForm = within_rows vars (path_of walk.program s) (parameter_point walk.program vars) (region_values walk s) in
+    let behind : List AffineForm = domain_rows walk.program s vars (parameter_point walk.program vars) (region_values walk s) in
     let nest : c.in_ok-nest.nest.items ≡ front = c.in_ok-nest.ensures
     ∙ ap (λ (n : ℕ). map (widened n) c.rows.result.now) c.region_variables-vars.ensures.variables
     ∙ ap (map (widened vars)) (c.rows.ensures.rows ∙ ap (λ (system : AffineSystem). system.rows) (c.in_ok-before.ensures ∙ ap (rows_before walk.program) c.bounds.ensures)) in
     let domain : c.as_slice-2.result.now ≡ behind = c.as_slice-2.ensures.value ∙ c.in_ok-domain.ensures.rows
-    ∙ ap (λ (n : ℕ). within_rows n (path_of walk.program s) (parameter_point walk.program n) c.as_slice.result.now) c.region_variables-vars.ensures.variables
-    ∙ ap (within_rows vars (path_of walk.program s) (parameter_point walk.program vars)) (c.as_slice.ensures.value ∙ c.in_ok-values.ensures.values) in
+    ∙ ap (λ (n : ℕ). domain_rows walk.program s n (parameter_point walk.program n) c.as_slice.result.now) c.region_variables-vars.ensures.variables
+    ∙ ap (domain_rows walk.program s vars (parameter_point walk.program vars)) (c.as_slice.ensures.value ∙ c.in_ok-values.ensures.values) in
     IfOk-then c.followed_by-2.result (λ all. all.items ≡ c.in_ok-inside.inside.items ++ c.args.rows.now) (λ all. all.items ≡ front ++ behind ++ c.args.rows.now) c.followed_by-2.ensures
     (λ all e. e ∙ ap (λ (l : List AffineForm). l ++ c.args.rows.now) (c.in_ok-inside.ensures
     ∙ ap (λ (l : List AffineForm). l ++ c.as_slice-2.result.now) nest ∙ ap (λ (l : List AffineForm). front ++ l) domain))
