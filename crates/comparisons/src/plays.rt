@@ -6,18 +6,16 @@ ghost use Rattle.affine_form.specs.Form.{IsSmall};
 ghost use Rattle.affine_program.specs.Parts.{meaning};
 ghost use Rattle.pebble_replay.specs.Order.{HoldsEachOnce};
 ghost use Rattle.pebble_replay.specs.Player.{StandsFor};
-ghost use Rattle.tile_sched.specs.Plays.{GivesGraph};
 ghost use Rattle.tile_sched.specs.Schedules.{IsSchedule};
 ghost use Rattle.iolb_model.specs.declared.limits.TheConstants.{VALUE_SIZE};
 
 use crate::capacity::Capacity;
 use affine_form::Memory;
 use affine_program::Program;
-use loop_graph::{GraphFault, build};
 use pebble_game::Graph;
-use pebble_replay::{Player, ReplayFault};
+use pebble_replay::Player;
 use std::alloc::Global;
-use tile_sched::{PlayFault, Schedule, Unplayed, order};
+use tile_sched::{PlayFault, Schedule, Unplayed, graph_of, order, player_of};
 
 /// What comes of a schedule with so many words of fast memory: what it loads and stores, or why it can't be played.
 #[derive(Clone, Copy, Debug, PartialEq, Eq)]
@@ -49,34 +47,13 @@ fn play_order(alloc: Global, graph: &Graph, order: &[u32], s: u64) -> Result<Pla
     requires each { HoldsEachOnce graph.now order.now }
     requires some { 1 ≤ s }
 {
-    let player = match Player::new(alloc, graph, order, s) {
+    let player = match player_of(alloc, graph, order, s) {
         Ok(player) => player,
-        Err(ReplayFault::OutOfOrder { vertex, source }) => {
-            return Ok(Played::Refused(Unplayed::OutOfOrder { vertex, source }));
-        }
-        Err(ReplayFault::TooSmall { vertex, need }) => {
-            return Ok(Played::Refused(Unplayed::TooSmall { vertex, need }));
-        }
-        Err(ReplayFault::Memory) => return Err(Memory),
+        Err(PlayFault::Refused(unplayed)) => return Ok(Played::Refused(unplayed)),
+        Err(PlayFault::Memory) => return Err(Memory),
     };
     let (loads, stores, _computes) = totals_of(alloc, graph, order, player)?;
     Ok(Played::Totals { loads, stores })
-}
-
-/// The computation graph of a program at sizes.
-fn graph_of(alloc: Global, program: &Program, sizes: &[i64]) -> Result<Graph, PlayFault>
-    requires each { length sizes.now ≡ length program.now.params }
-    requires small { AllByRecursion (IsSmall VALUE_SIZE) sizes.now }
-    ensures { GivesGraph (meaning program.now) sizes.now result }
-{
-    match build(alloc, program, sizes) {
-        Ok(graph) => Ok(graph),
-        Err(GraphFault::OutsideAssumption(number)) => {
-            Err(PlayFault::Refused(Unplayed::Assumption(number)))
-        }
-        Err(GraphFault::TooMany) => Err(PlayFault::Refused(Unplayed::TooMany)),
-        Err(GraphFault::Memory) => Err(PlayFault::Memory),
-    }
 }
 
 /// Plays an order with each of these capacities.

@@ -15,7 +15,7 @@ mod writing;
 pub use error::{SchedError, SchedFault};
 pub use law::{replays_are_one, schedules_are_one};
 pub use ordered::order;
-pub use plays::Play;
+pub use plays::{Play, graph_of, player_of};
 pub use reading::read_schedule;
 pub use schedule::{Key, Schedule};
 pub use unplayed::{PlayFault, Unplayed};

@@ -44,8 +44,12 @@ impl Model for Play {
     ghost invariant = { λ play. IsAtStart play.graph play.order.items (pebbles_of play.player) play.player };
 }
 
-/// The computation graph of a program at sizes.
-fn graph_of(alloc: Global, program: &Program, sizes: &[i64]) -> Result<Graph, PlayFault>
+/// The computation graph of a program at sizes for its parameters.
+///
+/// # Errors
+///
+/// An assumption that is false at the sizes, or a graph out of reach.
+pub fn graph_of(alloc: Global, program: &Program, sizes: &[i64]) -> Result<Graph, PlayFault>
     requires each { length sizes.now ≡ length program.now.params }
     requires small { AllByRecursion (IsSmall VALUE_SIZE) sizes.now }
     ensures { GivesGraph (meaning program.now) sizes.now result }
@@ -60,8 +64,12 @@ fn graph_of(alloc: Global, program: &Program, sizes: &[i64]) -> Result<Graph, Pl
     }
 }
 
-/// A player before the first instance of an order, with `s` red pebbles.
-fn player_of(alloc: Global, graph: &Graph, order: &[u32], s: u64) -> Result<Player, PlayFault>
+/// A player before the first instance of an order that holds each instance once, with `s` red pebbles, at least one.
+///
+/// # Errors
+///
+/// An instance that comes before a source of it, or else one that needs more red pebbles.
+pub fn player_of(alloc: Global, graph: &Graph, order: &[u32], s: u64) -> Result<Player, PlayFault>
     requires each { HoldsEachOnce graph.now order.now }
     requires some { 1 ≤ s }
     ensures { GivesPlayer graph.now order.now s result }
