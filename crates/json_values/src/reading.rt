@@ -9,7 +9,7 @@ ghost use Rattle.json_values.specs.View.{json_data, items_data, members_data};
 ghost use Rattle.json_values.specs.declared.reading.JsonError.TheVariants.{NoJson};
 
 use crate::numbers::number;
-use crate::room::without_spare;
+use crate::room::taken;
 use crate::sorting::members_in_key_order;
 use crate::value::Json;
 use json::{Invalid, Reader, Scratch, Token};
@@ -57,6 +57,13 @@ impl<T: Drop> From<AllocFailed<T>> for JsonError {
     }
 }
 
+/// The members so far of all arrays and objects that are being read, those of the innermost last.
+#[derive(Drop)]
+struct Pending {
+    items: Vec<Json>,
+    members: Vec<(String, Json)>,
+}
+
 /// How deep arrays and objects may nest.
 const DEPTH: usize = 127;
 
@@ -86,7 +93,11 @@ fn whole_value(alloc: Global, text: &str) -> Result<Json, JsonError>
 {
     let mut scratch = Scratch::new(alloc);
     let mut reader = Reader::new(text, &mut scratch)?;
-    let value = next_value(alloc, &mut reader, DEPTH)?;
+    let mut pending = Pending {
+        items: Vec::new(alloc),
+        members: Vec::new(alloc),
+    };
+    let value = next_value(alloc, &mut reader, &mut pending, DEPTH)?;
     if reader.next().is_some() {
         return Err(JsonError::NoJson);
     }
@@ -95,9 +106,17 @@ fn whole_value(alloc: Global, text: &str) -> Result<Json, JsonError>
 
 /// The next value, in which arrays and objects may nest so deep.
 #[cycle(next_value)]
-fn next_value(alloc: Global, reader: &mut Reader<'_>, depth: usize) -> Result<Json, JsonError>
+#[inline(always)]
+fn next_value(
+    alloc: Global,
+    reader: &mut Reader<'_>,
+    pending: &mut Pending,
+    depth: usize,
+) -> Result<Json, JsonError>
     ensures value { IfOk result (λ v. converted of_json (value depth reader.old) ≡ Some (json_data v, reader.new)) }
     ensures shorter { OnOk result (length reader.new < length reader.old) }
+    ensures items_stay { OnOk result (pending.new.items.items ≡ pending.old.items.items) }
+    ensures members_stay { OnOk result (pending.new.members.items ≡ pending.old.members.items) }
     ensures none { result ≡ Err NoJson → converted of_json (value depth reader.old) ≡ None }
 {
     let token = reader.next().ok_or(JsonError::NoJson)?;
@@ -113,13 +132,13 @@ fn next_value(alloc: Global, reader: &mut Reader<'_>, depth: usize) -> Result<Js
             if depth == 0 {
                 return Err(JsonError::NoJson);
             }
-            Ok(Json::Array(next_items(alloc, reader, depth - 1)?))
+            Ok(Json::Array(next_items(alloc, reader, pending, depth - 1)?))
         }
         Token::BeginObject => {
             if depth == 0 {
                 return Err(JsonError::NoJson);
             }
-            Ok(Json::Object(next_members(alloc, reader, depth - 1)?))
+            Ok(Json::Object(next_members(alloc, reader, pending, depth - 1)?))
         }
         Token::EndObject | Token::EndArray | Token::Key(_) | Token::Bad => Err(JsonError::NoJson),
     }
@@ -127,17 +146,24 @@ fn next_value(alloc: Global, reader: &mut Reader<'_>, depth: usize) -> Result<Js
 
 /// The members of an array up to its end.
 #[cycle(next_value)]
-fn next_items(alloc: Global, reader: &mut Reader<'_>, depth: usize) -> Result<Vec<Json>, JsonError>
+fn next_items(
+    alloc: Global,
+    reader: &mut Reader<'_>,
+    pending: &mut Pending,
+    depth: usize,
+) -> Result<Vec<Json>, JsonError>
     ensures value { IfOk result (λ v. converted of_items (items (value depth) (length reader.old) reader.old) ≡ Some (items_data v.items, reader.new)) }
     ensures shorter { OnOk result (length reader.new < length reader.old) }
+    ensures items_stay { OnOk result (pending.new.items.items ≡ pending.old.items.items) }
+    ensures members_stay { OnOk result (pending.new.members.items ≡ pending.old.members.items) }
     ensures none { result ≡ Err NoJson → converted of_items (items (value depth) (length reader.old) reader.old) ≡ None }
 {
-    let mut found = Vec::new(alloc);
+    let first = pending.items.len();
     'items: while !reader.take_end_array() {
-        let item = next_value(alloc, reader, depth)?;
-        found.push(item)?;
+        let item = next_value(alloc, reader, pending, depth)?;
+        pending.items.push(item)?;
     }
-    Ok(without_spare(alloc, found)?)
+    Ok(taken(&mut pending.items, first)?)
 }
 
 /// The members of an object up to its end.
@@ -145,17 +171,21 @@ fn next_items(alloc: Global, reader: &mut Reader<'_>, depth: usize) -> Result<Ve
 fn next_members(
     alloc: Global,
     reader: &mut Reader<'_>,
+    pending: &mut Pending,
     depth: usize,
 ) -> Result<Vec<(String, Json)>, JsonError>
     ensures value { IfOk result (λ v. converted (λ ms. of_members ms no_members) (members (value depth) (length reader.old) reader.old) ≡ Some (members_data v.items, reader.new)) }
     ensures shorter { OnOk result (length reader.new < length reader.old) }
+    ensures items_stay { OnOk result (pending.new.items.items ≡ pending.old.items.items) }
+    ensures members_stay { OnOk result (pending.new.members.items ≡ pending.old.members.items) }
     ensures none { result ≡ Err NoJson → converted (λ ms. of_members ms no_members) (members (value depth) (length reader.old) reader.old) ≡ None }
 {
-    let mut found = Vec::new(alloc);
+    let first = pending.members.len();
     'members: while let Some(name) = reader.next_key()? {
         let name = String::from_str(alloc, name)?;
-        let member = next_value(alloc, reader, depth)?;
-        found.push((name, member))?;
+        let member = next_value(alloc, reader, pending, depth)?;
+        pending.members.push((name, member))?;
     }
+    let found = taken(&mut pending.members, first)?;
     Ok(members_in_key_order(alloc, found)?)
 }

@@ -1,26 +1,27 @@
 //! Room for no more than the members.
 
-ghost use Rattle.std.specs.Prelude.{◌≡◌, IfOk};
+ghost use Rattle.std.specs.Prelude.{◌≡◌, ◌≤◌, IfOk, OnOk, length, take, drop};
 
-use std::alloc::{AllocError, Global};
+use std::alloc::AllocError;
+use std::mem;
 
-/// How many members are moved at most. More stay where they are, and the end of their block is given back: to move them would
-/// take their room twice.
-const FEW: usize = 16;
+/// How many members are copied at most where fewer stand before them.
+const MANY: usize = 4096;
 
-/// The same members, in room for no more. A vector that grew member by member has room for a few at least, and where its
-/// block is cut, what is cut off is too small for other use.
-pub(crate) fn without_spare<T: Drop>(
-    alloc: Global,
-    mut members: Vec<T>,
-) -> Result<Vec<T>, AllocError>
-    ensures { IfOk result (λ exact. exact.items ≡ members.items) }
+/// The members from a place on, in room for no more; those before it stay. Where they are many and most of all, they keep
+/// their block, so that they don't stand in memory twice.
+pub(crate) fn taken<T: Drop>(pending: &mut Vec<T>, first: usize) -> Result<Vec<T>, AllocError>
+    requires within { first ≤ length pending.old.items }
+    ensures taken { IfOk result (λ exact. exact.items ≡ drop first pending.old.items) }
+    ensures stays { OnOk result (pending.new.items ≡ take first pending.old.items) }
 {
-    if members.len() > FEW {
-        members.shrink_to_fit();
-        return Ok(members);
+    let count = pending.len() - first;
+    if count <= MANY || count < first {
+        return pending.split_off(first);
     }
-    let mut exact = Vec::with_capacity(alloc, members.len())?;
-    exact.append(&mut members)?;
-    Ok(exact)
+    pending.rotate_left(first);
+    let before = pending.split_off(count)?;
+    let mut many = mem::replace(pending, before);
+    many.shrink_to_fit();
+    Ok(many)
 }

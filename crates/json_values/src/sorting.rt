@@ -7,7 +7,6 @@ ghost use Rattle.serde_json.specs.Data.{no_members};
 ghost use Rattle.json_values.specs.Puts.{put_all};
 ghost use Rattle.json_values.specs.View.{members_data};
 
-use crate::room::without_spare;
 use crate::value::Json;
 use std::alloc::{AllocError, Global};
 use std::cmp::Ordering;
@@ -21,7 +20,7 @@ pub(crate) fn members_in_key_order(
     ensures { IfOk result (λ ordered. members_data ordered.items ≡ put_all members.items no_members) }
 {
     if are_sorted(members.as_slice()) {
-        return without_spare(alloc, members);
+        return Ok(members);
     }
     members_of_map(alloc, map_of_members(alloc, members)?)
 }

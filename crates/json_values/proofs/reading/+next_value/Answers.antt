@@ -1,5 +1,7 @@
 -- The tokens give what the grammar's functions give, turn by turn.
-use Rattle.std.proofs.Common.{◌≡◌, ◌-◌, ◌<◌, [], ◌∷◌, length, Some, None, string_bytes, sym, ap, ap₂, ◌∙◌, arith, rules}
+use Rattle.std.proofs.Common.{◌≡◌, ◌-◌, ◌<◌, [], ◌∷◌, ◌++◌, length, drop, Some, None, string_bytes, sym, ap, ap₂, ◌∙◌, arith, rules}
+use Rattle.std.proofs.Math.Seq.{drop-append_seam}
+use Rattle.std.proofs.lemmas.List.{append_assoc}
 use Rattle.json.specs.Token.{Token}
 use Rattle.json.specs.Json.{parse_map, after_end_array, read_key, items, members, value}
 use Rattle.json.specs.Reads.{token_of}
@@ -10,7 +12,7 @@ use Rattle.serde_json.specs.View.{number_view}
 use Rattle.json_values.specs.Puts.{put_all}
 use Rattle.json_values.specs.View.{json_data, items_data}
 use Rattle.json_values.specs.declared.value.Json.{String, Number, Bool, Null, the_lemmas}
-use Rattle.json_values.proofs.Members.{data-array, data-object}
+use Rattle.json_values.proofs.Members.{Entry, data-array, data-object}
 use Rattle.json_values.proofs.InOrder.{put-more}
 use Rattle.json_values.proofs.Turns.{array-data, before-none, items-over, items_before, members-over, no-item, no-key, no-member, object-data, one-item, one-member, one-more}
 use Rattle.json_values.proofs.reading.+next_value.Goals as goal
@@ -104,85 +106,93 @@ pub next_items-returns-in_err-item-clause-none : goal.next_items-returns-in_err-
 next_items-returns-in_err-item-clause-none t c refused =
     let p = value c.args.depth in
     let l = c.items in
-    let n = l.invariant.0 in
+    let so_far = l.invariant in
     let going : (after_end_array l.reader ≡ None) × (c.take_end_array.new.self ≡ l.reader) = grind arith in
-    l.invariant.2 ∙ ap (parse_map (items_before l.found.items)) (no-item p n l.reader going.0 (rw (← going.1) (c.next_value.ensures.none (grind arith))))
+    so_far.left ∙ ap (parse_map (items_before so_far.found)) (no-item p so_far.turns l.reader going.0 (rw (← going.1) (c.next_value.ensures.none (grind arith))))
 
 pub next_items-items-preserved : goal.next_items-items-preserved
 next_items-items-preserved t c =
     let p = value c.args.depth in
     let l = c.items in
-    let n = l.invariant.0 in
+    let so_far = l.invariant in
     let going : (after_end_array l.reader ≡ None) × (c.take_end_array.new.self ≡ l.reader) = grind arith in
     let done = c.in_ok-item.ensures in
     let v = c.in_ok-item.item in
     let r = c.next_value.new.reader in
     let less : length r < length l.reader = rw (← going.1) done.shorter in
-    let turn = one-item p n l.reader r (json_data v) (omega (arith, l.invariant.1)) going.0 (rw (← going.1) done.value) in (
-      n - 1,
-      omega (arith, l.invariant.1),
-      l.invariant.2 ∙ ap (parse_map (items_before l.found.items)) turn ∙ one-more l.found.items v _
-          ∙ ap (λ vs. parse_map (items_before vs) (converted of_items (items p (n - 1) r))) (sym c.in_ok-push.ensures.items),
-      omega (arith, l.invariant.3),
-    )
+    let turn = one-item p so_far.turns l.reader r (json_data v) (omega (arith, so_far.enough)) going.0 (rw (← going.1) done.value) in record {
+      turns = so_far.turns - 1;
+      found = so_far.found ++ v ∷ [];
+      enough = omega (arith, so_far.enough);
+      left = so_far.left ∙ ap (parse_map (items_before so_far.found)) turn ∙ one-more so_far.found v (converted of_items (items p (so_far.turns - 1) r));
+      shorter = omega (arith, so_far.shorter);
+      first = so_far.first;
+      items = c.in_ok-push.ensures.items ∙ ap (λ vs. vs ++ v ∷ []) (done.items_stay ∙ so_far.items) ∙ append_assoc c.args.pending.now.items.items so_far.found (v ∷ []);
+      members = done.members_stay ∙ so_far.members;
+    }
 
 pub next_items-returns-clause-value : goal.next_items-returns-clause-value
 next_items-returns-clause-value t c =
     let p = value c.args.depth in
     let l = c.items in
-    let n = l.invariant.0 in
+    let so_far = l.invariant in
     let r = c.take_end_array.new.self in
-    l.invariant.2 ∙ ap (parse_map (items_before l.found.items)) (items-over p n l.reader r l.invariant.1 (grind arith))
-    ∙ ap (λ ds. Some (ds, r)) (before-none l.found.items ∙ ap items_data (sym c.in_ok-without_spare.ensures))
+    let behind : c.in_ok-taken.field-0.items ≡ so_far.found = c.in_ok-taken.ensures.taken ∙ ap₂ drop so_far.first so_far.items ∙ drop-append_seam c.args.pending.now.items.items so_far.found in
+    so_far.left ∙ ap (parse_map (items_before so_far.found)) (items-over p so_far.turns l.reader r so_far.enough (grind arith))
+    ∙ ap (λ ds. Some (ds, r)) (before-none so_far.found ∙ ap items_data (sym behind))
 
 pub next_members-returns-in_err-name-clause-none : goal.next_members-returns-in_err-name-clause-none
 next_members-returns-in_err-name-clause-none t c refused =
     let p = value c.args.depth in
     let l = c.members in
-    let n = l.invariant.0 in
-    let old = put_all l.found.items no_members in
-    l.invariant.2 ∙ no-key p old n l.reader c.in_err-name.ensures.value
+    let so_far = l.invariant in
+    so_far.left ∙ no-key p (put_all so_far.found no_members) so_far.turns l.reader c.in_err-name.ensures.value
 
 pub next_members-returns-in_err-member-clause-none : goal.next_members-returns-in_err-member-clause-none
 next_members-returns-in_err-member-clause-none t c refused =
     let p = value c.args.depth in
     let l = c.members in
-    let n = l.invariant.0 in
-    let old = put_all l.found.items no_members in
+    let so_far = l.invariant in
     let k = c.in-Some.name.now in
     let s = c.next_key.new.self in
     let named : read_key l.reader ≡ Some (Some k, s) = grind arith in
-    l.invariant.2 ∙ no-member p old n k l.reader s named (c.next_value.ensures.none (grind arith))
+    so_far.left ∙ no-member p (put_all so_far.found no_members) so_far.turns k l.reader s named (c.next_value.ensures.none (grind arith))
 
 pub next_members-members-preserved : goal.next_members-members-preserved
 next_members-members-preserved t c =
     let p = value c.args.depth in
     let l = c.members in
-    let n = l.invariant.0 in
-    let old = put_all l.found.items no_members in
+    let so_far = l.invariant in
+    let old = put_all so_far.found no_members in
     let k = c.in-Some.name.now in
     let s = c.next_key.new.self in
     let named : read_key l.reader ≡ Some (Some k, s) = grind arith in
     let done = c.in_ok-member.ensures in
     let v = c.in_ok-member.member in
+    let m : Entry = (c.in_ok-name-2.name, v) in
     let r = c.next_value.new.reader in
     let less = read_key-shorter l.reader (Some k) s named in
     let lesser = done.shorter in
     let copied : string_bytes c.in_ok-name-2.name ≡ k = search rules in
-    let more : put_all c.push.new.self.items no_members ≡ put k (json_data v) old =
-    ap (λ es. put_all es no_members) c.in_ok-push.ensures.items ∙ put-more l.found.items (c.in_ok-name-2.name, v) no_members ∙ ap (λ name. put name (json_data v) old) copied in (
-      n - 1,
-      omega (arith, l.invariant.1),
-      l.invariant.2 ∙ one-member p old n k l.reader s r (json_data v) (omega (arith, l.invariant.1)) named done.value
-          ∙ ap (λ found. converted (λ ms. of_members ms found) (members p (n - 1) r)) (sym more),
-      omega (arith, l.invariant.3),
-    )
+    let more : put_all (so_far.found ++ m ∷ []) no_members ≡ put k (json_data v) old =
+    put-more so_far.found m no_members ∙ ap (λ name. put name (json_data v) old) copied in record {
+      turns = so_far.turns - 1;
+      found = so_far.found ++ m ∷ [];
+      enough = omega (arith, so_far.enough);
+      left = so_far.left ∙ one-member p old so_far.turns k l.reader s r (json_data v) (omega (arith, so_far.enough)) named done.value
+          ∙ ap (λ found. converted (λ ms. of_members ms found) (members p (so_far.turns - 1) r)) (sym more);
+      shorter = omega (arith, so_far.shorter);
+      first = so_far.first;
+      items = done.items_stay ∙ so_far.items;
+      members = c.in_ok-push.ensures.items ∙ ap (λ ms. ms ++ m ∷ []) (done.members_stay ∙ so_far.members) ∙ append_assoc c.args.pending.now.members.items so_far.found (m ∷ []);
+    }
 
 pub next_members-returns-clause-value : goal.next_members-returns-clause-value
 next_members-returns-clause-value t c =
     let p = value c.args.depth in
     let l = c.members in
-    let n = l.invariant.0 in
-    let old = put_all l.found.items no_members in
-    l.invariant.2 ∙ members-over p old n l.reader c.next_key.new.self l.invariant.1 (grind arith)
-    ∙ ap (λ ms. Some (ms, c.next_key.new.self)) (sym c.in_ok-members_in_key_order.ensures)
+    let so_far = l.invariant in
+    let r = c.next_key.new.self in
+    let behind : c.in_ok-found.found.items ≡ so_far.found = c.in_ok-found.ensures.taken ∙ ap₂ drop so_far.first so_far.members ∙ drop-append_seam c.args.pending.now.members.items so_far.found in
+    so_far.left ∙ members-over p (put_all so_far.found no_members) so_far.turns l.reader r so_far.enough (grind arith)
+    ∙ ap (λ ms. Some (ms, r)) (sym (c.in_ok-members_in_key_order.ensures ∙ ap (λ found. put_all found no_members) behind))
