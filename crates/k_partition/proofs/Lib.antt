@@ -1,9 +1,4 @@
-pub mod Held
-pub mod Labels
-pub mod Stretch
-pub mod Cut
-pub mod RunLoads
-pub mod CompletePebblings
+pub mod Joints
 pub mod ReusedWords
 pub mod TermCovers
 pub mod FixedRows

@@ -32,7 +32,8 @@ use Rattle.reuse_paths.proofs.FamilyWords.{StartWord, RegionWord, word-cases, st
 use Rattle.reuse_paths.proofs.NestPoints.{points-within, points-all}
 use Rattle.reuse_paths.proofs.Places.{stands-alone}
 use Rattle.reuse_paths.proofs.ReadSources.{source-read}
-use Rattle.k_partition.specs.Reuse.{ReadsWord, IsSoundFamily as IsSoundReuse}
+use Rattle.k_partition.specs.Reuse.{IsSoundFamily as IsSoundReuse}
+use Rattle.stretch_laws.specs.Reuse.{ReadsWord}
 use Rattle.k_partition.specs.ReusedWords.{instance_at, cell_at, vertex_label, reuse_family, nest_vertices, credited_vertices, reuse_partition, IsSoundTerm}
 use Rattle.k_partition.specs.Term.{PartitionTerm, credited_nests}
 
@@ -103,9 +104,8 @@ module _ (program : AffineProgram) (parameters : List ℤ) (formed : IsWellForme
     -- what a walk takes is a predecessor, and has the label of its vertex
     taken-word : (walk : WalkTree) (n : ℕ) (instance : Instance) (label : List ℤ) (these : List ℕ) → IsAt program parameters n instance
         → TakesWord program credits family parameters label walk n instance → stands_in these (word_of program parameters walk n instance) ≡ true
-        → (has : ℕ → Bool) (start : ℕ → List ℤ) (weight : ℕ)
-        → ReadsWord graph (record { words = these; label = vertex_label program family parameters; start = start; has = has; weight = weight }) n label
-    taken-word walk n instance label these at takes stands has start weight = record {
+        → ReadsWord graph these (vertex_label program family parameters) n label
+    taken-word walk n instance label these at takes stands = record {
       word = word_of program parameters walk n instance;
       read = source-read program parameters (read_from walk parameters instance) n instance.values takes.read at;
       stands = stands;
@@ -201,17 +201,15 @@ module _ (program : AffineProgram) (parameters : List ℤ) (formed : IsWellForme
           let taken = start-takes instance from.1.0 in
           let place : ℕ = place_of program parameters instance in
           let reads = taken-word credits family family.start place instance (values_at family.start_label (parameters ++ instance.values)) words taken.0 taken.1
-          (member-stands words (word_of program parameters family.start place instance) (start-member program term.statement term.nest family parameters instance from.1.0))
-          (stands_in family.set) (reuse_family program term parameters family).start family.weight in
+          (member-stands words (word_of program parameters family.start place instance) (start-member program term.statement term.nest family parameters instance from.1.0)) in
           let same : instance_at program parameters vertex ≡ instance = ap (instance_at program parameters) from.1.1 ∙ instance-is place instance taken.0 in
-          subst (λ (l : List ℤ). ReadsWord graph (reuse_family program term parameters family) vertex l) (ap (λ (i : Instance). values_at family.start_label (parameters ++ i.values)) (sym same))
-          (subst (λ (v : ℕ). ReadsWord graph (reuse_family program term parameters family) v (values_at family.start_label (parameters ++ instance.values))) (sym from.1.1) reads);
+          subst (λ (l : List ℤ). ReadsWord graph words (vertex_label program family parameters) vertex l) (ap (λ (i : Instance). values_at family.start_label (parameters ++ i.values)) (sym same))
+          (subst (λ (v : ℕ). ReadsWord graph words (vertex_label program family parameters) v (values_at family.start_label (parameters ++ instance.values))) (sym from.1.1) reads);
       goes_on = λ vertex stands below free.
           let going : IsGoing vertex = by vertex below free (word-cases program term.statement term.nest family parameters vertex (standing-member words vertex stands)) in
           let taken = region-takes vertex going.0 going.1.0 going.1.1 in
-          let reads = taken-word credits family going.1.1.region.tree vertex going.0 taken.0 words going.1.0 taken.1.1 (member-stands words (word_of program parameters going.1.1.region.tree vertex going.0) (region-member program term.statement term.nest family parameters vertex going.0 going.1.0 going.1.1))
-          (stands_in family.set) (reuse_family program term parameters family).start family.weight in
-          subst (λ (l : List ℤ). ReadsWord graph (reuse_family program term parameters family) vertex l)
+          let reads = taken-word credits family going.1.1.region.tree vertex going.0 taken.0 words going.1.0 taken.1.1 (member-stands words (word_of program parameters going.1.1.region.tree vertex going.0) (region-member program term.statement term.nest family parameters vertex going.0 going.1.0 going.1.1)) in
+          subst (λ (l : List ℤ). ReadsWord graph words (vertex_label program family parameters) vertex l)
           (sym (label-is vertex going.0 going.1.0 below taken.0 taken.1.0)) reads;
     } where
       by : (v : ℕ) → v < length runs → stands_in (credited_vertices program credits parameters) v ≡ false

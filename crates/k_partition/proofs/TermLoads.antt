@@ -10,7 +10,7 @@ use Rattle.iolb_model.specs.Program.{AffineProgram}
 use Rattle.iolb_model.specs.Execution.{Instance}
 use Rattle.iolb_model.specs.Footprint.{ArePairwiseDisjoint}
 use Rattle.iolb_model.specs.Bound.{points_of}
-use Rattle.iolb_model.specs.Game.{first_board, loads_of}
+use Rattle.iolb_model.specs.Game.{first_board, loads_of, stands_in}
 use Rattle.iolb_model.specs.Graph.{computation_graph, distinct}
 use Rattle.domain_count.specs.Points.{points, count}
 use Rattle.reuse_paths.specs.Families.{CreditedNest, FamilyForms}
@@ -20,16 +20,18 @@ use Rattle.uniform_cover.specs.Greatest.{IsGreatest}
 use Rattle.uniform_cover.specs.Products.{product_by}
 use Rattle.k_partition.specs.declared.term.Shape.{Shape}
 use Rattle.k_partition.specs.declared.term.Shape.TheVariants.{Each, Sum}
-use Rattle.k_partition.specs.Laws.{IsGreatestEach, IsGreatestSum, CompletePebblingsAreRuns, DifferentComputationsAreFew, RunsAreLoadedEach, RunsAreLoadedSum, StretchesHoldLabelsEach, StretchesHoldLabelsSum, StretchesHoldPointsEach, StretchesHoldPointsSum}
+use Rattle.k_partition.specs.Laws.{IsGreatestEach, IsGreatestSum, RunsAreLoadedEach, RunsAreLoadedSum, StretchesHoldLabelsEach, StretchesHoldLabelsSum, StretchesHoldPointsEach, StretchesHoldPointsSum}
 use Rattle.k_partition.specs.Reuse.{ReuseFamily, ReusePartition, AreApart, total_weight, words_of}
 use Rattle.k_partition.specs.ReusedWords.{counted_points, credited_vertices, nest_vertices, reuse_family, reuse_partition}
-use Rattle.k_partition.specs.Runs.{computations_of, computed_among, computed_vertices}
 use Rattle.k_partition.specs.Term.{PartitionTerm, credited_nests}
 use Rattle.k_partition.specs.TermLoads.{footprint_in, term_footprint, weight_of, stretch_of, IsGreatestOf, AreApartFor, credited_count, SoundTermsAreLoaded}
 use Rattle.k_partition.specs.TermRuns.{AreLabelsFew, SoundTermsAreLoadedInRuns, SoundTermsSplit, StretchesOfTermsAreSmall, stretch_numbers}
-use Rattle.k_partition.proofs.CompletePebblings.{all-computed}
 use Rattle.k_partition.proofs.TermCovers.{mapped-twice, summed, sound-terms-are-sound}
 use Rattle.k_partition.proofs.TermNumbers.{greatest-of}
+use Rattle.pebble_game.proofs.Marks.{member-stands}
+use Rattle.stretch_laws.specs.Laws.{CompletePebblingsAreRuns, DifferentComputationsAreFew}
+use Rattle.stretch_laws.specs.Runs.{computations_of, computed_among, computed_vertices}
+use Rattle.stretch_laws.proofs.CompletePebblings.{all-left}
 
 distinct-few : {X : Type 0} (same : X → X → Bool) (xs : List X) → length (distinct same xs) ≤ length xs
 distinct-few same [] = omega arith
@@ -120,7 +122,7 @@ terms-loaded loaded different runs program term parameters s u moves formed admi
     omega (
       arith,
       loaded program term parameters s u (count term.nest parameters) (first_board graph).red moves formed admitted sound apart greatest run.0
-          (omega (arith, points-many program parameters term, all-computed (reuse_partition program term parameters) moves (λ v stands. run.2 v (are.there v stands)))),
+          (omega (arith, points-many program parameters term, all-left (stands_in (computed_vertices moves)) (counted_points program term parameters) (λ v m. run.2 v (are.there v (member-stands (counted_points program term parameters) v m))))),
       credited-few program parameters term different moves run.1,
     )
 

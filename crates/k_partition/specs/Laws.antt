@@ -1,17 +1,18 @@
 -- How many points a stretch of moves computes, how many events lie between the computations of points, and so how many loads
 -- a run makes, and a complete pebbling.
-use Rattle.std.specs.Prelude.{◌≡◌, ℕ, ◌+◌, ◌-◌, ◌*◌, ◌/◌, ◌^◌, ◌<◌, ◌≤◌, nat_eq, true, Bool, List, ◌++◌, length, map, sum_by}
+use Rattle.std.specs.Prelude.{◌≡◌, ℕ, ◌+◌, ◌-◌, ◌*◌, ◌/◌, ◌^◌, ◌<◌, ◌≤◌, nat_eq, true, Bool, List, length, map, sum_by}
 use Rattle.std.specs.List.{AllByRecursion, IsDistinct}
 use Rattle.std.specs.Ordering.{int_eq}
 use Rattle.std.specs.Set.{distinct_count}
 use lib.Pointwise.{pointwise}
 use Rattle.iolb_model.specs.declared.game.Move.{Move}
 use Rattle.iolb_model.specs.Graph.{ComputationGraph}
-use Rattle.iolb_model.specs.Game.{IsCompletePebbling, first_board, loads_of, stands_in}
+use Rattle.iolb_model.specs.Game.{IsCompletePebbling, loads_of, stands_in}
 use Rattle.uniform_cover.specs.Greatest.{IsGreatest}
 use Rattle.uniform_cover.specs.Products.{product_by}
 use Rattle.k_partition.specs.Reuse.{ReuseFamily, ReusePartition, AreApart, IsSoundPartition, total_weight, words_of}
-use Rattle.k_partition.specs.Runs.{IsRedRun, computations_of, computed_vertices, events, final_red, points_computed}
+use Rattle.k_partition.specs.Runs.{events, points_computed}
+use Rattle.stretch_laws.specs.Runs.{IsRedRun, computations_of}
 
 -- u is the greatest number of points at k labels for each family
 abbrev pub IsGreatestEach : ℕ → ℕ → ReusePartition → ℕ → Type 0
@@ -25,11 +26,6 @@ IsGreatestSum q k partition u =
 -- how many different labels the starts of a family's walks have, from the points that are computed
 abbrev pub start_label_count : ReusePartition → List Move → ReuseFamily → ℕ
 start_label_count partition moves family = distinct_count (pointwise int_eq) (map family.start (points_computed partition moves))
-
--- A stretch of a red run, which is any part of its moves, is one from the red marks at its start.
-abbrev pub StretchesAreRedRuns : Type 0
-StretchesAreRedRuns = (graph : ComputationGraph) (s : ℕ) (red : List Bool) (before stretch after : List Move)
-    → IsRedRun graph s red (before ++ stretch ++ after) → IsRedRun graph s (final_red red before) stretch
 
 -- A stretch of at most t events has few start labels, whatever is red at its start: at most s + t in each family.
 abbrev pub StretchesHoldLabelsEach : Type 0
@@ -75,16 +71,6 @@ abbrev pub RunsAreLoadedSum : Type 0
 RunsAreLoadedSum = (graph : ComputationGraph) (q s t u n : ℕ) (partition : ReusePartition) (red : List Bool) (moves : List Move)
     → IsSoundPartition graph q partition → AreApart partition → IsGreatestSum q (s + t) partition u → IsRedRun graph s red moves → n ≤ length (points_computed partition moves)
     → t * ((n - 1) / u) ≤ loads_of (words_of partition) moves + computations_of partition.credited moves
-
--- Where no vertex is computed again, a set's vertices are computed at most as often as it has members.
-abbrev pub DifferentComputationsAreFew : Type 0
-DifferentComputationsAreFew = (set : List ℕ) (moves : List Move) → IsDistinct nat_eq (computed_vertices moves) → computations_of set moves ≤ length set
-
--- A complete pebbling is a red run that begins with nothing red and computes each instance, and no vertex again.
-abbrev pub CompletePebblingsAreRuns : Type 0
-CompletePebblingsAreRuns = (graph : ComputationGraph) (s : ℕ) (moves : List Move) → IsCompletePebbling graph s moves
-    → IsRedRun graph s (first_board graph).red moves × IsDistinct nat_eq (computed_vertices moves)
-    × ((v : ℕ) → v < graph.instances → stands_in (computed_vertices moves) v ≡ true)
 
 -- the points are instances, and the credited vertices differ
 pub record AreInstances (graph : ComputationGraph) (partition : ReusePartition) : Type 0 where

@@ -1,10 +1,11 @@
 -- Words that points of a computation graph reuse, along walks from each point back from reader to source. (Reuse paths, as in
 -- Olivry et al. 2020; labels in place of paths.)
-use Rattle.std.specs.Prelude.{◌≡◌, ℕ, ◌<◌, ◌≤◌, Bool, true, false, nat_eq, cond, ℤ, List, flat_map, map, sum_by, Contains, IsTrue}
+use Rattle.std.specs.Prelude.{◌≡◌, ℕ, ◌<◌, ◌≤◌, Bool, true, false, nat_eq, cond, ℤ, List, flat_map, map, sum_by, IsTrue}
 use Rattle.std.specs.List.{AllByRecursion, IsDistinct}
 use Rattle.iolb_model.specs.Graph.{ComputationGraph}
-use Rattle.iolb_model.specs.Game.{predecessors_at, stands_in}
+use Rattle.iolb_model.specs.Game.{stands_in}
 use Rattle.iolb_model.specs.Footprint.{ArePairwiseDisjoint}
+use Rattle.stretch_laws.specs.Reuse.{ReadsWord}
 
 -- A family of walks: the vertices on them past their starts, which are its words; a label of each word; a label of each point
 -- from which a walk starts; and a set of coordinates with its weight.
@@ -31,19 +32,12 @@ words_of partition = flat_map (λ (family : ReuseFamily). family.words) partitio
 abbrev pub total_weight : ReusePartition → ℕ
 total_weight partition = sum_by (λ (family : ReuseFamily). family.weight) partition.families
 
--- one of a vertex's predecessors is a word with this label
-pub record ReadsWord (graph : ComputationGraph) (family : ReuseFamily) (vertex : ℕ) (label : List ℤ) : Type 0 where
-  pub word : ℕ
-  pub read : Contains (predecessors_at graph vertex) word
-  pub stands : stands_in family.words word ≡ true
-  pub same : family.label word ≡ label
-
 -- A family is sound: each point reads a word with the label of its start, and each word that is an instance and isn't
 -- credited reads a word with its own label. So the words of a walk have one label.
 pub record IsSoundFamily (graph : ComputationGraph) (partition : ReusePartition) (family : ReuseFamily) : Type 0 where
-  pub begins : (vertex : ℕ) → stands_in partition.points vertex ≡ true → ReadsWord graph family vertex (family.start vertex)
+  pub begins : (vertex : ℕ) → stands_in partition.points vertex ≡ true → ReadsWord graph family.words family.label vertex (family.start vertex)
   pub goes_on : (vertex : ℕ) → stands_in family.words vertex ≡ true → vertex < graph.instances → stands_in partition.credited vertex ≡ false
-      → ReadsWord graph family vertex (family.label vertex)
+      → ReadsWord graph family.words family.label vertex (family.label vertex)
 
 -- the label of a point's start fixes its coordinates in the family's set
 abbrev pub FixesCoordinates : ReusePartition → ReuseFamily → Type 0

@@ -14,9 +14,10 @@ use Rattle.k_partition.specs.Laws.{start_label_count}
 use Rattle.k_partition.specs.Numbers.{factor_over, factor_under}
 use Rattle.k_partition.specs.Reuse.{ReuseFamily, ReusePartition}
 use Rattle.k_partition.specs.ReusedWords.{IsSoundTerm, counted_points, credited_vertices, reuse_partition}
-use Rattle.k_partition.specs.Runs.{IsRedRun, computations_of, computed_among, computed_vertices, events}
+use Rattle.k_partition.specs.Runs.{events}
 use Rattle.k_partition.specs.Term.{PartitionTerm, credited_nests}
 use Rattle.k_partition.specs.TermLoads.{AreApartFor, AreApartWhere, IsGreatestOf, credited_count, stretch_of, term_footprint, weight_of}
+use Rattle.stretch_laws.specs.Runs.{IsRedRun, computations_of, computed_among, computed_vertices}
 
 -- a term's numbers as those of a bound's term
 abbrev pub stretch_numbers : PartitionTerm → StretchNumbers

@@ -2,7 +2,7 @@
 
 ghost use Rattle.k_partition.specs.Laws.{PartitionsAreLoadedEach, PartitionsAreLoadedSum};
 
-use crate::runs::{complete_pebblings_are_runs, different_computations_are_few, runs_are_loaded};
+use stretch_laws::pebblings::joints_are_loaded;
 
 /// A law: every complete pebbling makes at least t times the quotient of the number of points less 1 by u loads of the
 /// families' words, less the number of credited vertices.
@@ -10,7 +10,5 @@ pub fn partitions_are_loaded()
     ensures each { PartitionsAreLoadedEach }
     ensures sum { PartitionsAreLoadedSum }
 {
-    runs_are_loaded();
-    different_computations_are_few();
-    complete_pebblings_are_runs();
+    joints_are_loaded();
 }

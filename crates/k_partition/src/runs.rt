@@ -1,8 +1,8 @@
-//! What red runs take, and that complete pebblings are such runs.
+//! What red runs take.
 
-ghost use Rattle.k_partition.specs.Laws.{CompletePebblingsAreRuns, DifferentComputationsAreFew, RunsAreLoadedEach, RunsAreLoadedSum};
+ghost use Rattle.k_partition.specs.Laws.{RunsAreLoadedEach, RunsAreLoadedSum};
 
-use crate::stretches::points_take_events;
+use stretch_laws::runs as joint;
 
 /// A law: a red run that computes n points makes at least t times the quotient of n less 1 by u loads of the families' words
 /// and computations of credited vertices together, where u is the greatest number of points that go into a stretch of t events.
@@ -10,15 +10,5 @@ pub fn runs_are_loaded()
     ensures each { RunsAreLoadedEach }
     ensures sum { RunsAreLoadedSum }
 {
-    points_take_events();
+    joint::runs_are_loaded();
 }
-
-/// A law: moves that compute no vertex again compute the vertices of a set at most as often as it has members.
-pub fn different_computations_are_few()
-    ensures { DifferentComputationsAreFew }
-{}
-
-/// A law: a complete pebbling is a red run from nothing red, which computes each instance, and no vertex again.
-pub fn complete_pebblings_are_runs()
-    ensures { CompletePebblingsAreRuns }
-{}

@@ -1,14 +1,8 @@
 //! Stretches of red runs, and what points that are computed take.
 
-ghost use Rattle.k_partition.specs.Laws.{PointsTakeEventsEach, PointsTakeEventsSum, StretchesAreRedRuns, StretchesHoldLabelsEach, StretchesHoldLabelsSum, StretchesHoldPointsEach, StretchesHoldPointsSum};
+ghost use Rattle.k_partition.specs.Laws.{PointsTakeEventsEach, PointsTakeEventsSum, StretchesHoldLabelsEach, StretchesHoldLabelsSum, StretchesHoldPointsEach, StretchesHoldPointsSum};
 
-use pebble_game::sets::disjoint_loads_add_up;
-use uniform_cover::{cover_inequality_each, cover_inequality_sum};
-
-/// A law: any part of the moves of a red run is a red run, from the red marks at its start.
-pub fn stretches_are_red_runs()
-    ensures { StretchesAreRedRuns }
-{}
+use stretch_laws::stretches as joint;
 
 /// A law over any list of moves that computes instances alone, from red predecessors, and never has more than s red
 /// vertices, whichever are red at its start: if it has at most t events, the starts of the points that it computes have at
@@ -21,9 +15,7 @@ pub fn stretches_are_small()
     ensures points_each { StretchesHoldPointsEach }
     ensures points_sum { StretchesHoldPointsSum }
 {
-    cover_inequality_each();
-    cover_inequality_sum();
-    disjoint_loads_add_up();
+    joint::stretches_are_small();
 }
 
 /// A law over any such list of moves, of any number of events: where at most u points go into a stretch of t events, more
@@ -32,5 +24,5 @@ pub fn points_take_events()
     ensures each { PointsTakeEventsEach }
     ensures sum { PointsTakeEventsSum }
 {
-    stretches_are_small();
+    joint::points_take_events();
 }

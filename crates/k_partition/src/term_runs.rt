@@ -2,8 +2,9 @@
 
 ghost use Rattle.k_partition.specs.TermRuns.{SoundTermsAreLoadedInRuns, SoundTermsSplit, StretchesOfTermsAreSmall};
 
-use crate::runs::{different_computations_are_few, runs_are_loaded};
+use crate::runs::runs_are_loaded;
 use crate::stretches::stretches_are_small;
+use stretch_laws::runs::different_computations_are_few;
 
 /// A law: at all admitted parameter values, of any size, a stretch of a red run of the program's computation graph that has
 /// at most a sound term's events has at most as many different start labels as it has events and s words, in each family or,

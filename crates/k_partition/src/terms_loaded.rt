@@ -3,8 +3,8 @@
 ghost use Rattle.k_partition.specs.ReusedWords.{SoundTermsAreSound};
 ghost use Rattle.k_partition.specs.TermLoads.{SoundTermsAreLoaded};
 
-use crate::runs::{complete_pebblings_are_runs, different_computations_are_few};
 use crate::term_runs::terms_are_loaded_in_runs;
+use stretch_laws::runs::{complete_pebblings_are_runs, different_computations_are_few};
 
 /// A law: at all admitted parameter values, of any size, a sound partition term is a sound partition of the computation graph;
 /// and in every complete pebbling it takes at least as many loads of its footprint as a stretch has events, once for each u of

@@ -11,8 +11,8 @@ use Rattle.iolb_model.specs.declared.game.Move.TheVariants.{Load, Store, Compute
 use Rattle.iolb_model.specs.Graph.{ComputationGraph}
 use Rattle.iolb_model.specs.Game.{stands_in}
 use Rattle.iolb_model.specs.Parallel.{IsCompleteParallelPebbling, ParallelBoard, ParallelMove, ceiling, first_parallel_board, moves_by, parallel_board_after}
-use Rattle.k_partition.specs.Runs.{computed_among, computed_vertices}
-use Rattle.k_partition.specs.Laws.{CompletePebblingsAreRuns}
+use Rattle.stretch_laws.specs.Runs.{computed_among, computed_vertices}
+use Rattle.stretch_laws.specs.Laws.{CompletePebblingsAreRuns}
 use Rattle.parallel_bound.specs.Merging.{added_up}
 use Rattle.parallel_bound.specs.Shares.{InstancesAreComputed, ProcessorsMakeRuns, SomeComputesItsShare}
 use Rattle.parallel_bound.proofs.HeldMarks.{is_held}

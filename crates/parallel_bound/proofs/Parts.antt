@@ -13,7 +13,7 @@ use Rattle.iolb_model.specs.Footprint.{CostTheirValues, CostsItsValue, Footprint
 use Rattle.iolb_model.specs.Game.{loads, loads_of, vertices}
 use Rattle.iolb_model.specs.Graph.{computation_graph}
 use Rattle.iolb_model.specs.Parallel.{IsCompleteParallelPebbling, ParallelMove, ceiling, moves_by, own_part, parallel_branch_value, parallel_value, shared_part}
-use Rattle.k_partition.specs.Runs.{computed_among}
+use Rattle.stretch_laws.specs.Runs.{computed_among}
 use Rattle.parallel_bound.specs.Holds.{IsSplit, IsSplitBranch, SplitBranchesHoldInParallel}
 use Rattle.parallel_bound.specs.Merging.{ParallelPebblingsMerge}
 use Rattle.parallel_bound.specs.Shares.{ProcessorsMakeRuns, SomeComputesItsShare}

@@ -4,7 +4,7 @@ use Rattle.std.specs.List.{AllByRecursion, IsDistinct}
 use Rattle.iolb_model.specs.Graph.{ComputationGraph}
 use Rattle.iolb_model.specs.Game.{stands_in, vertices}
 use Rattle.iolb_model.specs.Parallel.{IsCompleteParallelPebbling, ParallelMove, ceiling, moves_by}
-use Rattle.k_partition.specs.Runs.{IsRedRun, computed_among, computed_vertices}
+use Rattle.stretch_laws.specs.Runs.{IsRedRun, computed_among, computed_vertices}
 
 -- In a complete parallel pebbling the moves of each processor are a red run from nothing red, and compute no vertex again.
 abbrev pub ProcessorsMakeRuns : Type 0

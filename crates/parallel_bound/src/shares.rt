@@ -2,7 +2,7 @@
 
 ghost use Rattle.parallel_bound.specs.Shares.{InstancesAreComputed, ProcessorsMakeRuns, SomeComputesItsShare};
 
-use k_partition::runs::complete_pebblings_are_runs;
+use stretch_laws::runs::complete_pebblings_are_runs;
 
 /// A law: in every complete parallel pebbling of any graph the moves of each processor are a red run, which computes no vertex
 /// again; each instance is computed by some processor; and so of any list of instances some processor computes its share,

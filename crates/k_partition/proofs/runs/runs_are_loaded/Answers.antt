@@ -1,8 +1,8 @@
-use Rattle.k_partition.proofs.RunLoads.{runs-loaded-each, runs-loaded-sum}
+use Rattle.k_partition.proofs.Joints.{runs-loaded-each, runs-loaded-sum}
 use Rattle.k_partition.proofs.runs.runs_are_loaded.Goals as goal
 
 pub returns-clause-each : goal.returns-clause-each
-returns-clause-each c = runs-loaded-each c.points_take_events.ensures.each
+returns-clause-each c = runs-loaded-each c.runs_are_loaded.ensures
 
 pub returns-clause-sum : goal.returns-clause-sum
-returns-clause-sum c = runs-loaded-sum c.points_take_events.ensures.sum
+returns-clause-sum c = runs-loaded-sum c.runs_are_loaded.ensures

@@ -1,5 +1,0 @@
-use Rattle.k_partition.proofs.CompletePebblings.{complete-pebblings-are-runs}
-use Rattle.k_partition.proofs.runs.complete_pebblings_are_runs.Goals as goal
-
-pub returns : goal.returns
-returns c = complete-pebblings-are-runs

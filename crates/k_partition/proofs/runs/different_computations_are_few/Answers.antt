@@ -1,5 +1,0 @@
-use Rattle.k_partition.proofs.RunLoads.{different-computations-are-few}
-use Rattle.k_partition.proofs.runs.different_computations_are_few.Goals as goal
-
-pub returns : goal.returns
-returns c = different-computations-are-few
