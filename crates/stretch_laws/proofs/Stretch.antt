@@ -252,7 +252,7 @@ module _ (graph : ComputationGraph) (q s t : ℕ) (partition : JointPartition) (
   products-same (group ∷ groups) =
       product_by-append (λ (f : Family CountedPoint (List ℤ)). length f.labels ^ f.weight) (map family_in group) (flat_map (λ (g : List WalkFamily). map family_in g) groups)
       ∙ ap (λ (n : ℕ). n * product_by (λ (f : Family CountedPoint (List ℤ)). length f.labels ^ f.weight) (flat_map (λ (g : List WalkFamily). map family_in g) groups))
-          (product_by-map (λ (f : Family CountedPoint (List ℤ)). length f.labels ^ f.weight) family_in group)
+      (product_by-map (λ (f : Family CountedPoint (List ℤ)). length f.labels ^ f.weight) family_in group)
       ∙ ap (λ (n : ℕ). product_by (λ (family : WalkFamily). length (labels_in family) ^ family.weight) group * n) (products-same groups)
 
   pub holds-points : DisjointLoadsAddUp → (num den u : ℕ) → IsFactor num den partition → IsGreatestAt q num den (s + t) partition u → events partition moves ≤ t → length points ≤ u
