@@ -1,18 +1,18 @@
 //! The terms of a program.
 
-use crate::colds::{Choice, Outline, cold_choice, cold_term};
-use crate::fronts::wavefronts;
-use crate::partitions::{Coordinates, Proposed, partition, strength};
 use affine_facts::facts::{Facts, facts_of};
 use affine_facts::numbers::short;
 use affine_facts::words::{Words, apart, are_none_of, copied_words};
 use affine_form::{Memory, Multipliers};
 use affine_program::Program;
+use cold_proposals::{Choice, Outline, cold_choice, cold_term};
 use iolb_model::limits;
 use k_partition::Partition;
+use partition_proposals::{Coordinates, Proposed, partition, strength};
 use reuse_paths::Quasts;
 use std::alloc::Global;
 use wavefront::{Cold, Wavefront};
+use wavefront_proposals::wavefronts;
 
 /// A term that is proposed.
 #[derive(Drop)]

@@ -1,9 +1,0 @@
-//! Wavefront terms that are likely to be strong. Nothing is promised of them.
-
-mod claims_shown;
-mod outlines;
-mod terms;
-mod turns;
-mod ways;
-
-pub use terms::{Proposed, wavefronts};
