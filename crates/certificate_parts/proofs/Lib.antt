@@ -12,3 +12,5 @@ pub mod ReadPolynomials
 pub mod ReadReaches
 pub mod ReadRecords
 pub mod ReadTrees
+pub mod Related
+pub mod OnePolynomial

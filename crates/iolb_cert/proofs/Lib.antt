@@ -1,6 +1,5 @@
 pub mod Limits
 pub mod Branches
-pub mod Related
 pub mod OneCertificate
 pub mod Newline
 pub mod Plain

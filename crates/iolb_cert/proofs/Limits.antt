@@ -29,7 +29,7 @@ use Rattle.iolb_cert.specs.PartitionTexts.{partition_fields, partition_parts, me
 use Rattle.iolb_cert.specs.Read.{PartitionClaim, WrittenCold, WrittenPartition, WrittenFront, WrittenTerm, as_cold, as_partition, as_front, WrittenBranch, WrittenCertificate, IsCold, IsPartition, IsFront, IsCreditTerm, IsTerm, IsBranch, IsCertificate}
 use Rattle.iolb_cert.specs.Shapes.{inverse_shape}
 use Rattle.iolb_cert.specs.Terms.{term_shape, branch_shape}
-use Rattle.iolb_cert.proofs.Related.{all_related, as_many}
+use Rattle.certificate_parts.proofs.Related.{all_related, as_many}
 
 read_cold_small : (said : WrittenCold) (cold : Cold) → IsCold said (claim_of_cold cold) cold.sums.sums → cold_shape.IsWithin said → IsSmallCold cold
 unfolding cold_shape inverse_shape

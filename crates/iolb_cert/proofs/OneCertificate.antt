@@ -1,13 +1,11 @@
 -- A text has one certificate, or one fault.
-use Rattle.std.proofs.Common.{◌≡◌, ℕ, ◌≤◌, List, [], ◌∷◌, Ok, Err, inl, inr, refl, sym, subst, ◌∙◌, ap, arith}
-use Rattle.iolb_model.specs.Polynomial.{Polynomial, terms_value}
+use Rattle.std.proofs.Common.{◌≡◌, ℕ, List, Ok, Err, inl, inr, sym, subst, ◌∙◌, ap}
+use Rattle.iolb_model.specs.Polynomial.{Polynomial}
 use Rattle.json_parts.proofs.Texts.{same-value}
 use Rattle.json_parts.specs.Texts.{HasValue}
 use Rattle.claims.specs.declared.place.Step.{Step}
 use Rattle.affine_form.specs.Multipliers.{FarkasMultipliers}
-use Rattle.poly_tree.specs.Poly.{Quotient, SameValues, numerator_at}
-use Rattle.poly_tree.proofs.SameLemmas.{same-polynomial}
-use Rattle.domain_count.proofs.Determined.{crossed}
+use Rattle.poly_tree.specs.Poly.{Quotient}
 use Rattle.dep_quast.specs.Tree.{SelectionTree}
 use Rattle.domain_count.specs.Claims.{SumClaims}
 use Rattle.k_partition.specs.Term.{CreditTerm, PartitionTerm}
@@ -17,8 +15,9 @@ use Rattle.serde_json.specs.Data.{Data}
 use Rattle.json_parts.specs.declared.error.CertFault.{CertFault}
 use Rattle.json_parts.specs.Outcome.{Outcome}
 use Rattle.certificate_parts.specs.Credits.{WrittenCredit}
-use Rattle.json_parts.specs.Related.{AreAll}
 use Rattle.certificate_parts.specs.Polynomials.{IsPolynomial, ArePolynomials}
+use Rattle.certificate_parts.proofs.OnePolynomial.{one-polynomial}
+use Rattle.certificate_parts.proofs.Related.{all-one}
 use Rattle.iolb_cert.specs.Certificates.{reads_certificate}
 use Rattle.iolb_cert.specs.OneCertificate.{HasCertificate, TextsHaveOneCertificate, TextsHaveOneAnswer}
 use Rattle.iolb_cert.specs.Texts.{IsTextOf, IsTextFault}
@@ -35,24 +34,6 @@ says-one bytes v w p q = one (reads_certificate p.value) (reads_certificate q.va
   one r s x y is = cc
 
 -- ---- what is written is one certificate
-
-one-polynomial : (polynomial : Polynomial) (q r : Quotient) → IsPolynomial polynomial q → IsPolynomial polynomial r → q ≡ r
-one-polynomial polynomial q r h g = same-polynomial q r h.legal g.legal values where
-  some : (m n : ℕ) → 1 ≤ m → m ≤ n → 1 ≤ n
-  some m n x y = omega arith
-
-  values : SameValues q r
-  values point =
-      crossed polynomial.denominator q.denominator r.denominator (numerator_at q point) (numerator_at r point) (terms_value polynomial.terms point)
-      (some q.denominator polynomial.denominator h.legal.positive h.within.over) (h.value point) (g.value point)
-
-all-one : {A X : Type 0} (R : A → X → Type 0) → ((a : A) (x y : X) → R a x → R a y → x ≡ y) → (written : List A) (xs ys : List X) → AreAll R written xs → AreAll R written ys → xs ≡ ys
-all-one R one [] [] [] h g = refl
-all-one R one [] [] (y ∷ ys) h g = absurd g
-all-one R one [] (x ∷ xs) ys h g = absurd h
-all-one R one (a ∷ written) [] ys h g = absurd h
-all-one R one (a ∷ written) (x ∷ xs) [] h g = absurd g
-all-one R one (a ∷ written) (x ∷ xs) (y ∷ ys) h g = let first = one a x y h.0 g.0 in let rest = all-one R one written xs ys h.1 g.1 in cc
 
 one-list : (written : List Polynomial) (qs rs : List Quotient) → ArePolynomials written qs → ArePolynomials written rs → qs ≡ rs
 one-list written qs rs h g = all-one IsPolynomial one-polynomial written qs rs h g

@@ -6,3 +6,4 @@ pub mod PiecesOf
 pub mod FitFronts
 pub mod FamilyTargets
 pub mod FitPartitions
+pub mod LegalCounts

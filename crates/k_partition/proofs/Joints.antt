@@ -243,7 +243,7 @@ module _ (graph : ComputationGraph) (q : ℕ) (partition : ReusePartition) (soun
         let v = vertex-of other b in
         ap (λ (p : CountedPoint). coordinate_of p i) u.1.1 ∙ image-at partition u.0 i less
         ∙ fixes u.0 v.0 (member-stands partition.points u.0 u.1.0) (member-stands partition.points v.0 v.1.0)
-            (sym (ap (λ (p : CountedPoint). family.start p.vertex) u.1.1) ∙ e ∙ ap (λ (p : CountedPoint). family.start p.vertex) v.1.1) i less has
+        (sym (ap (λ (p : CountedPoint). family.start p.vertex) u.1.1) ∙ e ∙ ap (λ (p : CountedPoint). family.start p.vertex) v.1.1) i less has
         ∙ sym (image-at partition v.0 i less) ∙ sym (ap (λ (p : CountedPoint). coordinate_of p i) v.1.1)
 
   each-family : (P : ReuseFamily → Type 0) (R : WalkFamily → Type 0) → ((family : ReuseFamily) → P family → R (walk_family family)) → (families : List ReuseFamily)
@@ -313,7 +313,7 @@ few-each partition moves groups held words within (family ∷ families) h =
 
 few-sum : (partition : ReusePartition) (moves : List Move) (groups : List (List WalkFamily)) (held : List WalkFamily → ℕ) (families : List ReuseFamily)
     → AllByRecursion (λ (group : List WalkFamily).
-        AllByRecursion (λ (family : WalkFamily). joint_label_count (joint_of partition groups) moves family ≤ length family.labelings * held group) group) (map alone families)
+    AllByRecursion (λ (family : WalkFamily). joint_label_count (joint_of partition groups) moves family ≤ length family.labelings * held group) group) (map alone families)
     → sum_by (λ (family : ReuseFamily). start_label_count partition moves family) families ≤ sum_by held (map alone families)
 few-sum partition moves groups held [] h = omega arith
 few-sum partition moves groups held (family ∷ families) h =

@@ -10,7 +10,8 @@ use Rattle.iolb_model.specs.Game.{marked, mark_count, vertices}
 use Rattle.iolb_model.specs.Tower.{TowerBoard, HasRoom, IsTowerAllowed, level_at, tower_board_after, first_tower_board}
 use Rattle.iolb_model.specs.declared.tower.TowerMove.{TowerMove}
 use Rattle.iolb_model.specs.declared.tower.TowerMove.TheVariants.{Bring, Send, Compute, Drop}
-use Rattle.memory_levels.proofs.Unions.{count-cons, sum-cons}
+use Rattle.stretch_laws.proofs.CompletePebblings.{count-cons}
+use Rattle.memory_levels.proofs.Unions.{sum-cons}
 
 -- so many levels, each with a place for each vertex, and the fast ones with no more words than they hold
 pub record IsHeld (n : ℕ) (capacities : List ℕ) (levels : List (List Bool)) : Type 0 where

@@ -30,12 +30,6 @@ no-digit false (inr h) told low high = absurd (omega (arith, h, high))
 
 -- ---- numbers
 
--- what a number below 2^32 writes
-pub number-value : (ds : List ℕ) (v : ℕ) → v < 2 ^ 32 → ds ≡ decimal v → AllDigits 10 ds × (digits_value 10 ds ≡ v)
-number-value ds v small e =
-    let is = decimal_is_IsNumeral v (omega (arith, small)) in
-    (subst (λ (l : List ℕ). AllDigits 10 l) (sym e) is.0.1, ap (digits_value 10) e ∙ is.1)
-
 -- digits write it, but for a leading 0
 pub number-is : (ds : List ℕ) → AllDigits 10 ds → 0 < length ds → (get_or ds 0 0 ≡ 48 → length ds ≡ 1) → digits_value 10 ds < 2 ^ 32 → ds ≡ decimal (digits_value 10 ds)
 number-is ds digits some lead small = sym (decimal-digits_value (numerals_by_value _ tells_digits) ds digits some lead (omega (arith, small)))

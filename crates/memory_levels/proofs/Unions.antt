@@ -7,6 +7,7 @@ use Rattle.std.proofs.lemmas.List.Sums.{sum_by-cons}
 use Rattle.std.proofs.Math.Seq.{map-set_same}
 use Rattle.iolb_model.specs.Game.{marked, mark_count}
 use Rattle.iolb_model.specs.Tower.{stands_at_one}
+use Rattle.stretch_laws.proofs.CompletePebblings.{count-cons}
 
 -- where one of two lists has the mark
 unfoldable pub either : List Bool → List Bool → List Bool
@@ -18,9 +19,6 @@ either (a ∷ as_) (b ∷ bs) = (a || b) ∷ either as_ bs
 unfoldable pub union : List (List Bool) → List Bool
 union [] = []
 union (marks ∷ rest) = either marks (union rest)
-
-pub count-cons : (b : Bool) (marks : List Bool) → mark_count (b ∷ marks) ≡ cond b 1 0 + mark_count marks
-count-cons b marks = sum_by-cons (λ (mark : Bool). cond mark 1 0) b marks
 
 pub sum-cons : (n : ℕ) (ns : List ℕ) → sum (n ∷ ns) ≡ n + sum ns
 sum-cons n ns = sum_by-cons (λ (m : ℕ). m) n ns

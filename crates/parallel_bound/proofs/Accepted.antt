@@ -1,17 +1,11 @@
 -- The branches of the bounds of accepted certificates are split.
-use Rattle.std.proofs.Common.{sym, subst, ℕ, List, [], ◌∷◌, map, arith}
+use Rattle.std.proofs.Common.{sym, subst, ℕ, List, [], ◌∷◌, map}
 use Rattle.std.specs.List.{AllByRecursion, AllZip}
-use Rattle.std.proofs.Math.IntN.{ℤ}
-use Rattle.std.proofs.Math.Nat.{one-dvd}
-use Rattle.std.proofs.lemmas.Nat.Gcd.{dvd_antisymm}
-use Rattle.iolb_model.specs.Form.{AffineForm}
 use Rattle.iolb_model.specs.Program.{IsWellFormed}
 use Rattle.iolb_model.specs.Footprint.{CostTheirValues}
 use Rattle.affine_program.specs.Parts.{ProgramParts, meaning}
-use Rattle.poly_tree.specs.Expansion.{number}
 use Rattle.poly_tree.specs.Poly.{IsLegal, Quotient}
 use Rattle.poly_tree.specs.Printed.{TermsHaveTheValue}
-use Rattle.domain_count.specs.Count.{IsSumFrom}
 use Rattle.k_partition.specs.PartitionClaims.{IsCreditsTotal, no_points}
 use Rattle.k_partition.specs.ReusedWords.{counted_points}
 use Rattle.k_partition.specs.Term.{CreditTerm}
@@ -26,18 +20,11 @@ use Rattle.iolb_check.specs.declared.term.Term.TheVariants as terms
 use Rattle.iolb_check.specs.Bounds.{bound_of, term_of, terms_of}
 use Rattle.iolb_check.specs.Claims.{claim_of_branch, claim_of_term}
 use Rattle.iolb_check.specs.Conditions.{AreBranchValues, AreValuesOf, IsValueOf}
+use Rattle.iolb_check.proofs.LegalCounts.{constant-legal, count-legal}
 use Rattle.iolb_check.specs.Sound.{AreCounted, ArePaid, IsCounted, IsPaid, IsSound, IsSoundBranch, term_vertices}
 use Rattle.parallel_bound.specs.Holds.{AcceptedBoundsHoldInParallel, IsSplit, IsSplitBranch, SplitBranchesHoldInParallel}
 
 -- ---- the polynomials of a term's value are in lowest terms
-
-constant-legal : (n : ℤ) → IsLegal (record { tree = number n; denominator = 1 })
-constant-legal n = record { canonical = tt; degrees = tt; positive = omega arith; primitive = λ k divides all. dvd_antisymm divides (one-dvd k) }
-
-count-legal : (var : ℕ) (nest : List (AffineForm × AffineForm)) (sums : List Quotient) (total : Quotient) → IsSumFrom var nest sums total → IsLegal total
-count-legal var [] sums total is = subst IsLegal (sym is) (constant-legal _)
-count-legal var (bounds ∷ nest) [] total is = absurd is
-count-legal var (bounds ∷ nest) (sum ∷ sums) total is = is.1.1.between.less.legal
 
 credits-legal : (parameters : ℕ) (before total : Quotient) (credits : List CreditTerm) → IsLegal before → IsCreditsTotal parameters before credits total → IsLegal total
 credits-legal parameters before total [] legal is = subst IsLegal (sym is) legal

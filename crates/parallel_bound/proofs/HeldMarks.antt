@@ -2,8 +2,8 @@
 use Rattle.std.proofs.Common.{◌≡◌, refl, sym, ◌∙◌, ap, ℕ, zero, suc, ◌+◌, ◌*◌, ◌<◌, ◌≤◌, Bool, true, false, cond, not, List, [], ◌∷◌, length, get_or, set, arith}
 use Rattle.std.specs.Prelude.{◌||◌, ◌&&◌}
 use Rattle.std.specs.List.{AllByRecursion}
-use Rattle.std.proofs.lemmas.List.Sums.{sum_by-cons}
 use Rattle.iolb_model.specs.Game.{marked, mark_count}
+use Rattle.stretch_laws.proofs.CompletePebblings.{count-cons}
 
 -- whether one of the lists has the mark, and whether one does but for the list at a place
 abbrev pub is_held : List (List Bool) → ℕ → Bool
@@ -41,19 +41,6 @@ held-kept lists place marks v there same =
     held-set lists place marks v there ∙ ap (λ b. b || others_hold lists place v) same ∙ sym (held-get lists place v there)
 
 -- ---- how many vertices have marks
-
-count-cons : (b : Bool) (marks : List Bool) → mark_count (b ∷ marks) ≡ cond b 1 0 + mark_count marks
-count-cons b marks = sum_by-cons (λ (mark : Bool). cond mark 1 0) b marks
-
-pub count-again : (marks : List Bool) (v : ℕ) → marked marks v ≡ true → mark_count (set marks v true) ≡ mark_count marks
-count-again [] v h = refl
-count-again (b ∷ marks) zero h = ap (λ (c : Bool). mark_count (c ∷ marks)) (sym h)
-count-again (b ∷ marks) (suc v) h = omega (arith, count-cons b (set marks v true), count-cons b marks, count-again marks v h)
-
-pub count-taken : (marks : List Bool) (v : ℕ) → mark_count (set marks v false) ≤ mark_count marks
-count-taken [] v = omega arith
-count-taken (b ∷ marks) zero = omega (arith, count-cons false marks, count-cons b marks)
-count-taken (b ∷ marks) (suc v) = omega (arith, count-cons b (set marks v false), count-cons b marks, count-taken marks v)
 
 -- the marks that another list hasn't
 without : List Bool → List Bool → List Bool

@@ -11,7 +11,8 @@ use Rattle.iolb_model.specs.Graph.{ComputationGraph}
 use Rattle.iolb_model.specs.Game.{AreAllowed, Board, IsAllowed, board_after, final_board, mark_count, marked, predecessors_at, vertices}
 use Rattle.iolb_model.specs.Parallel.{AreAllowedThere, ParallelBoard, ParallelMove, final_parallel_board, parallel_board_after, view_of}
 use Rattle.pebble_game.proofs.Marks.{count-put, taken-here}
-use Rattle.parallel_bound.proofs.HeldMarks.{AreFew, all-get, all-set, count-again, count-taken, fewer-all, held-count, held-get, held-kept, held-set, is_held, others_hold}
+use Rattle.stretch_laws.proofs.CompletePebblings.{count-again, count-taken}
+use Rattle.parallel_bound.proofs.HeldMarks.{AreFew, all-get, all-set, fewer-all, held-count, held-get, held-kept, held-set, is_held, others_hold}
 
 -- A move as one of the player's, before the rest of them: a drop of a word that another processor still holds is left out.
 abbrev pub kept : List (List Bool) → Move → List Move → List Move

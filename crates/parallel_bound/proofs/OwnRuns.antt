@@ -10,7 +10,7 @@ use Rattle.iolb_model.specs.Graph.{ComputationGraph}
 use Rattle.iolb_model.specs.Game.{Board, IsAllowed, board_after, mark_count, marked, vertices}
 use Rattle.iolb_model.specs.Parallel.{AreAllowedThere, IsCompleteParallelPebbling, ParallelBoard, ParallelMove, first_parallel_board, moves_by, parallel_board_after, view_of}
 use Rattle.stretch_laws.specs.Runs.{ComputesFromRed, IsRedRun, red_after}
-use Rattle.parallel_bound.proofs.HeldMarks.{count-again, count-taken}
+use Rattle.stretch_laws.proofs.CompletePebblings.{count-again, count-taken}
 use Rattle.parallel_bound.proofs.PlayedByOne.{all_moves}
 
 module _ (graph : ComputationGraph) (s : ℕ) where

@@ -4,9 +4,7 @@ use crate::apart::{apart_by_way, is_apart_code, words_by_way};
 use crate::coordinates::Coordinates;
 use crate::drafts::{Draft, all_copied};
 use crate::entries::{Room, Work};
-use crate::families::{
-    Families, anew, choices, cover, families_of, weighted, with_tried,
-};
+use crate::families::{Families, anew, choices, cover, families_of, weighted, with_tried};
 use affine_facts::affine::loops;
 use affine_facts::facts::Facts;
 use affine_facts::nests::{counted, nest_rows};

@@ -36,11 +36,6 @@ named-at f (y ∷ xs) zero x e = ap f (one y x e) where
   one a b h = cc
 named-at f (y ∷ xs) (suc n) x e = named-at f xs n x e
 
-pub named-past : {X Y : Type 0} (f : X → List Y) (xs : List X) (n : ℕ) → slice_get xs n ≡ None → get_or (map f xs) n [] ≡ []
-named-past f [] n e = refl
-named-past f (y ∷ xs) zero e = absurd cc
-named-past f (y ∷ xs) (suc n) e = named-past f xs n e
-
 -- what holds of each member's list, and of the empty list, holds of the list that stands at a place
 at-place : {X Y : Type 0} (f : X → List Y) (P : List Y → Type 0) → P [] → (xs : List X) → AllByRecursion (λ (x : X). P (f x)) xs → (n : ℕ) → P (get_or (map f xs) n [])
 at-place f P none [] h n = none

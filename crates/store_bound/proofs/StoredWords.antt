@@ -2,8 +2,6 @@
 use Rattle.std.proofs.Common.{◌≡◌, refl, sym, ◌∙◌, ap, subst, ℕ, ◌+◌, ◌-◌, ◌*◌, ◌<◌, ◌≤◌, List, [], ◌∷◌, ◌++◌, length, map, sum_by, arith}
 use Rattle.std.specs.Prelude.{ℤ, Option, Some, None, if◌then◌else◌, is_some, option_map, sum}
 use Rattle.std.specs.List.{AllByRecursion, AllZip}
-use Rattle.std.proofs.Math.Nat.{one-dvd}
-use Rattle.std.proofs.lemmas.Nat.Gcd.{dvd_antisymm}
 use Rattle.std.proofs.lemmas.List.Sums.{sum-map, sum_by-append, sum_by-cons}
 use Rattle.std.proofs.lemmas.List.{map-append}
 use Rattle.base_laws.proofs.Lists.{All-map, All-weaken}
@@ -11,17 +9,15 @@ use Rattle.iolb_model.specs.declared.game.Move.{Move}
 use Rattle.iolb_model.specs.Bound.{BoundTerm, IsAdmitted, count_value, term_value, wavefront}
 use Rattle.iolb_model.specs.Execution.{execution}
 use Rattle.iolb_model.specs.Footprint.{ArePairwiseDisjoint, Footprint}
-use Rattle.iolb_model.specs.Form.{AffineForm}
 use Rattle.iolb_model.specs.Game.{IsCompletePebbling, is_store, stores}
 use Rattle.iolb_model.specs.Graph.{ComputationGraph, computation_graph, input_cells, vertex_of}
 use Rattle.iolb_model.specs.Source.{Source}
 use Rattle.affine_program.specs.Parts.{ProgramParts, meaning}
-use Rattle.domain_count.specs.Count.{CountsPoints, IsSumFrom}
+use Rattle.domain_count.specs.Count.{CountsPoints}
 use Rattle.domain_count.specs.Points.{count, points}
 use Rattle.domain_count.proofs.Counted.{counted}
 use Rattle.pebble_game.specs.Loaded.{loaded_among}
 use Rattle.pebble_game.proofs.InputVertices.{slice_get-below}
-use Rattle.poly_tree.specs.Expansion.{number}
 use Rattle.poly_tree.specs.Poly.{IsLegal, Quotient}
 use Rattle.poly_tree.specs.Printed.{TermsHaveTheValue, polynomial_of}
 use Rattle.reuse_paths.specs.Arrival.{instance_of}
@@ -34,6 +30,7 @@ use Rattle.wavefront.proofs.FrontLoads.{front-words-loaded}
 use Rattle.iolb_check.specs.Bounds.{term_of, terms_of}
 use Rattle.iolb_check.specs.Claims.{TermClaim, claim_of_certificate, claim_of_term}
 use Rattle.iolb_check.specs.Conditions.{AreValuesOf}
+use Rattle.iolb_check.proofs.LegalCounts.{count-legal}
 use Rattle.iolb_check.specs.Sound.{IsCounted, IsSound}
 use Rattle.iolb_check.specs.declared.bound.Value.{Value}
 use Rattle.iolb_check.specs.declared.bound.Value.TheVariants as values
@@ -50,16 +47,6 @@ use Rattle.store_bound.specs.Values.{store_value}
 use Rattle.store_bound.proofs.NamedTerms.{named-claims, named-counted, named-sound, named-valued}
 use Rattle.store_terms.specs.Claims.{claim_of_output}
 use Rattle.store_terms.specs.declared.output.Output.{Output}
-
--- ---- the polynomials of a term's value are in lowest terms
-
-constant-legal : (n : ℤ) → IsLegal (record { tree = number n; denominator = 1 })
-constant-legal n = record { canonical = tt; degrees = tt; positive = omega arith; primitive = λ k divides all. dvd_antisymm divides (one-dvd k) }
-
-count-legal : (var : ℕ) (nest : List (AffineForm × AffineForm)) (sums : List Quotient) (total : Quotient) → IsSumFrom var nest sums total → IsLegal total
-count-legal var [] sums total is = subst IsLegal (sym is) (constant-legal _)
-count-legal var (bounds ∷ nest) [] total is = absurd is
-count-legal var (bounds ∷ nest) (sum ∷ sums) total is = is.1.1.between.less.legal
 
 module _ (program : ProgramParts) (value : TermsHaveTheValue) (sizes : List ℤ) (s : ℕ) (moves : List Move) (admitted : IsAdmitted (meaning program) sizes)
     (game : IsCompletePebbling (computation_graph (meaning program) sizes) s moves) where

@@ -1,3 +1,2 @@
-pub mod Related
 pub mod Limits
 pub mod OneReading

@@ -10,7 +10,7 @@ use Rattle.store_terms.specs.declared.output.Output.{Output}
 use Rattle.store_text.specs.Outputs.{OutputMembers, WrittenOutput, inverse_shape, output_fields, output_shape}
 use Rattle.store_text.specs.Read.{IsOutput, IsStores}
 use Rattle.store_text.specs.Stores.{WrittenStores, stores_shape}
-use Rattle.store_text.proofs.Related.{all_related, as_many}
+use Rattle.certificate_parts.proofs.Related.{all_related, as_many}
 
 -- the members of an output with these polynomials
 abbrev members_with : OutputClaim → List Polynomial → OutputMembers

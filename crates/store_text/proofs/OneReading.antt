@@ -1,16 +1,12 @@
 -- A text has one value as stores, or one fault.
-use Rattle.std.proofs.Common.{◌≡◌, ℕ, ◌≤◌, List, Ok, Err, inl, inr, sym, subst, ◌∙◌, ap, arith}
+use Rattle.std.proofs.Common.{◌≡◌, ℕ, List, Ok, Err, inl, inr, sym, subst, ◌∙◌, ap}
 use Rattle.std.specs.Prelude.{Option}
 use Rattle.affine_form.specs.Multipliers.{FarkasMultipliers}
 use Rattle.claims.specs.declared.place.Step.{Step}
-use Rattle.domain_count.proofs.Determined.{crossed}
-use Rattle.iolb_model.specs.Polynomial.{Polynomial, terms_value}
 use Rattle.json_parts.proofs.Texts.{same-value}
 use Rattle.json_parts.specs.Outcome.{Outcome}
 use Rattle.json_parts.specs.Texts.{HasValue}
 use Rattle.json_parts.specs.declared.error.CertFault.{CertFault}
-use Rattle.poly_tree.specs.Poly.{Quotient, SameValues, numerator_at}
-use Rattle.poly_tree.proofs.SameLemmas.{same-polynomial}
 use Rattle.serde_json.specs.Data.{Data}
 use Rattle.certificate_parts.specs.Polynomials.{IsPolynomial}
 use Rattle.store_terms.specs.Claims.{OutputClaim, StoresClaim}
@@ -19,19 +15,10 @@ use Rattle.store_text.specs.Outputs.{WrittenOutput}
 use Rattle.store_text.specs.Read.{IsOutput, IsStores, output_with}
 use Rattle.store_text.specs.Stores.{WrittenStores, reads_stores}
 use Rattle.store_text.specs.Texts.{HasStores, IsTextFault}
-use Rattle.store_text.proofs.Related.{all-one}
+use Rattle.certificate_parts.proofs.OnePolynomial.{one-polynomial}
+use Rattle.certificate_parts.proofs.Related.{all-one}
 
 -- ---- what is written is one
-
-one-polynomial : (polynomial : Polynomial) (q r : Quotient) → IsPolynomial polynomial q → IsPolynomial polynomial r → q ≡ r
-one-polynomial polynomial q r h g = same-polynomial q r h.legal g.legal values where
-  some : (m n : ℕ) → 1 ≤ m → m ≤ n → 1 ≤ n
-  some m n x y = omega arith
-
-  values : SameValues q r
-  values point =
-      crossed polynomial.denominator q.denominator r.denominator (numerator_at q point) (numerator_at r point) (terms_value polynomial.terms point)
-      (some q.denominator polynomial.denominator h.legal.positive h.within.over) (h.value point) (g.value point)
 
 one-output : (written : WrittenOutput) (a b : OutputClaim) → IsOutput written a → IsOutput written b → a ≡ b
 one-output written a b h g =

@@ -18,15 +18,15 @@ use Rattle.pebble_game.proofs.Marks.{count-put, member-stands, unmarked-at, none
 
 -- ---- red pebbles
 
-count-cons : (b : Bool) (marks : List Bool) → mark_count (b ∷ marks) ≡ cond b 1 0 + mark_count marks
+pub count-cons : (b : Bool) (marks : List Bool) → mark_count (b ∷ marks) ≡ cond b 1 0 + mark_count marks
 count-cons b marks = sum_by-cons (λ (mark : Bool). cond mark 1 0) b marks
 
-count-again : (marks : List Bool) (v : ℕ) → marked marks v ≡ true → mark_count (set marks v true) ≡ mark_count marks
+pub count-again : (marks : List Bool) (v : ℕ) → marked marks v ≡ true → mark_count (set marks v true) ≡ mark_count marks
 count-again [] v h = refl
 count-again (b ∷ marks) zero h = ap (λ (c : Bool). mark_count (c ∷ marks)) (sym h)
 count-again (b ∷ marks) (suc v) h = omega (arith, count-cons b (set marks v true), count-cons b marks, count-again marks v h)
 
-count-taken : (marks : List Bool) (v : ℕ) → mark_count (set marks v false) ≤ mark_count marks
+pub count-taken : (marks : List Bool) (v : ℕ) → mark_count (set marks v false) ≤ mark_count marks
 count-taken [] v = omega arith
 count-taken (b ∷ marks) zero = omega (arith, count-cons false marks, count-cons b marks)
 count-taken (b ∷ marks) (suc v) = omega (arith, count-cons b (set marks v false), count-cons b marks, count-taken marks v)

@@ -5,7 +5,7 @@ use Rattle.iolb_cert.specs.PartitionTexts.{partition_fields, partition_made, par
 use Rattle.iolb_cert.specs.Written.{written_partition}
 use Rattle.iolb_cert.specs.Read.{IsCreditTerm}
 use Rattle.k_partition.specs.View.{credit_term_of}
-use Rattle.iolb_cert.proofs.Related.{all-mapped}
+use Rattle.certificate_parts.proofs.Related.{all-mapped}
 use Rattle.iolb_cert.proofs.partition.OfMembersPart.write.Goals as goal
 
 pub returns-clause-read : goal.returns-clause-read
