@@ -1,5 +1,5 @@
 -- A source line, and a caret under a place of it.
-use Rattle.std.specs.Prelude.{ℕ, Bool, ◌==◌, ◌&&◌, ◌||◌, not, nat_lt, bit_and, if◌then◌else◌, List, ◌++◌, Option, Some, None, codes}
+use Rattle.std.specs.Prelude.{ℕ, ◌==◌, ◌&&◌, ◌||◌, not, nat_lt, bit_and, if◌then◌else◌, List, ◌++◌, Option, Some, None, codes}
 use Rattle.std.specs.List.{filter_map}
 use Rattle.plain_pages.specs.Excerpt.{excerpt_after, excerpt_before}
 

@@ -1,6 +1,6 @@
 //! The part of a line round a place.
 
-ghost use Rattle.std.specs.Prelude.{◌≡◌, ◌≤◌, length, take};
+ghost use Rattle.std.specs.Prelude.{◌≡◌, take};
 ghost use Rattle.std.specs.List.{after_last, before_first};
 ghost use Rattle.plain_pages.specs.Excerpt.{excerpt_after, excerpt_before, is_newline, take_last};
 

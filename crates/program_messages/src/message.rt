@@ -1,6 +1,6 @@
 //! Messages.
 
-ghost use Rattle.std.specs.Prelude.{◌≡◌, ◌≤◌, ◌++◌, length, OnOk};
+ghost use Rattle.std.specs.Prelude.{◌≡◌, ◌++◌, OnOk};
 ghost use Rattle.program_messages.specs.Messages.{IsSaid, TellsFault, help_part, name_part, number_part, position_part, wrong_part};
 
 use crate::key::key_of;

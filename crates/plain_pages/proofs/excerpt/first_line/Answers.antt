@@ -1,5 +1,4 @@
 use Rattle.std.proofs.Common.{◌≡◌, sym, ap, arith, ℕ, length, take, get_or, ◌<◌}
-use Rattle.std.proofs.Common.{List}
 use Rattle.plain_pages.proofs.Lines.{position_or_len-newline}
 use Rattle.plain_pages.proofs.excerpt.first_line.Goals as goal
 use Rattle.plain_pages.proofs.excerpt.first_line.Goals.{then-loop-end-test+else-text-end-ne10, else-loop-end-test}
