@@ -1,8 +1,10 @@
 //! The instances of a program at values of its parameters.
 
-ghost use Rattle.std.specs.Prelude.{◌≡◌, length};
+ghost use Rattle.std.specs.Prelude.{◌≡◌, ◌↔◌, drop, length, IfErr, IfOk, IfSome, IsTrue};
 ghost use Rattle.std.specs.List.{AllByRecursion};
 ghost use Rattle.affine_form.specs.Form.{IsSmall};
+ghost use Rattle.affine_program.specs.Parts.{meaning};
+ghost use Rattle.named_vertices.specs.Instances.{AreInstances, IsAt, IsUnlisted};
 ghost use Rattle.iolb_model.specs.declared.limits.TheConstants.{VALUE_SIZE};
 
 use crate::fault::Unnamed;
@@ -19,6 +21,8 @@ pub fn find_instances(
 ) -> Result<Vec<Run>, Unnamed>
     requires each { length values.now ≡ length program.now.params }
     requires small { AllByRecursion (IsSmall VALUE_SIZE) values.now }
+    ensures listed { IfOk result (λ all. AreInstances (meaning program.now) values.now all.items) }
+    ensures refused { IfErr result (IsUnlisted (meaning program.now) values.now) }
 {
     if let Some(number) = first_unmet(program.assumed().rows(), values) {
         return Err(Unnamed::Assumption(number));
@@ -33,10 +37,23 @@ pub fn find_instances(
     Ok(runs(alloc, program, values)?)
 }
 
+/// Whether a run is the instance of a statement at these loop values, behind so many parameters.
+fn is_instance(run: &Run, params: usize, statement: u16, loops: &[i128]) -> bool
+    ensures statement { IsTrue result → run.now.statement ≡ statement }
+    ensures loops { IsTrue result → drop params run.now.point.items ≡ loops.now }
+{
+    match run.point.as_slice().get(params..) {
+        Some(found) => run.statement == statement && found == loops,
+        None => false,
+    }
+}
+
 /// The place of the instance of a statement at these loop values, where there is one.
-pub fn vertex_place(all: &[Run], params: usize, statement: u16, loops: &[i128]) -> Option<usize> {
+pub fn vertex_place(all: &[Run], params: usize, statement: u16, loops: &[i128]) -> Option<usize>
+    ensures { IfSome result (IsAt all.now params statement loops.now) }
+{
     for (place, run) in all.iter().enumerate() {
-        if run.statement == statement && run.point.as_slice().get(params..) == Some(loops) {
+        if is_instance(run, params, statement, loops) {
             return Some(place);
         }
     }

@@ -2,46 +2,9 @@
 
 use crate::vertices::Named;
 use affine_form::{Memory, Name};
-use affine_program::{Item, Program};
+use affine_program::Program;
 use plain_pages::Page;
-use std::alloc::Global;
-
-/// Puts the names of the loops round a statement behind others, where items in a row have it.
-#[cycle(walk)]
-fn put_loops(
-    alloc: Global,
-    items: &[Item],
-    statement: u16,
-    names: &mut Vec<Name>,
-) -> Result<bool, Memory> {
-    for item in items {
-        if put_loops_of(alloc, item, statement, names)? {
-            return Ok(true);
-        }
-    }
-    Ok(false)
-}
-
-/// The same where an item has it.
-#[cycle(walk)]
-fn put_loops_of(
-    alloc: Global,
-    item: &Item,
-    statement: u16,
-    names: &mut Vec<Name>,
-) -> Result<bool, Memory> {
-    match item {
-        Item::Assign(number) => Ok(*number == statement),
-        Item::Loop { name, body, .. } => {
-            names.push(name.try_clone(alloc)?)?;
-            if put_loops(alloc, body, statement, names)? {
-                return Ok(true);
-            }
-            names.pop();
-            Ok(false)
-        }
-    }
-}
+use program_pages::names_at;
 
 /// Writes the values of loops, each behind its name.
 fn write_loops(page: &mut Page, names: &[Name], values: &[i128]) -> Result<(), Memory> {
@@ -70,9 +33,11 @@ pub fn write_named(page: &mut Page, program: &Program, named: &Named) -> Result<
     match named {
         Named::Instance { statement, loops } => {
             page.text(format!(in alloc; "statement {statement}")?.as_str())?;
-            let mut names = Vec::new(alloc);
-            put_loops(alloc, program.tree(), *statement, &mut names)?;
-            write_loops(page, names.as_slice(), loops.as_slice())
+            let names = names_at(alloc, program, *statement)?;
+            match names.as_slice().get(program.params().len()..) {
+                Some(around) => write_loops(page, around, loops.as_slice()),
+                None => write_loops(page, &[], loops.as_slice()),
+            }
         }
         Named::Input { array, subscripts } => {
             page.text("the input ")?;

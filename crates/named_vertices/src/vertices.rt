@@ -1,5 +1,8 @@
 //! What a vertex is.
 
+ghost use Rattle.std.specs.Prelude.{◌≡◌, drop, length, IfOk};
+ghost use Rattle.named_vertices.specs.Instances.{IsVertex};
+
 use crate::cells::{Cell, Cells, cell_at, cell_of};
 use crate::fault::Unnamed;
 use crate::instances::vertex_place;
@@ -71,21 +74,27 @@ fn find_input(
     Ok(None)
 }
 
+/// The values of the loops around a run, behind so many parameters.
+fn loops_of(alloc: Global, run: &Run, params: usize) -> Result<Vec<i128>, Memory>
+    ensures { IfOk result (λ loops. loops.items ≡ drop params run.now.point.items) }
+{
+    match run.point.as_slice().get(params..) {
+        Some(loops) => Ok(Vec::from_slice(alloc, loops)?),
+        None => Ok(Vec::new(alloc)),
+    }
+}
+
 /// What the vertex of this number is, among these instances of a program and their inputs.
 pub fn named_at(
     alloc: Global,
     program: &Program,
     all: &[Run],
     number: usize,
-) -> Result<Named, Unnamed> {
+) -> Result<Named, Unnamed>
+    ensures { IfOk result (IsVertex all.now (length program.now.params) number) }
+{
     if let Some(run) = all.get(number) {
-        let mut loops = Vec::new(alloc);
-        for value in run.point.as_slice().iter().skip(program.params().len()) {
-            match loops.push(*value) {
-                Ok(()) => {}
-                Err(_) => return Err(Unnamed::Memory),
-            }
-        }
+        let loops = loops_of(alloc, run, program.params().len())?;
         let statement = run.statement;
         return Ok(Named::Instance { statement, loops });
     }
@@ -105,7 +114,9 @@ pub fn number_of(
     program: &Program,
     all: &[Run],
     named: &Named,
-) -> Result<usize, Unnamed> {
+) -> Result<usize, Unnamed>
+    ensures { IfOk result (λ number. IsVertex all.now (length program.now.params) number named.now) }
+{
     let found = match named {
         Named::Instance { statement, loops } => {
             vertex_place(all, program.params().len(), *statement, loops.as_slice())

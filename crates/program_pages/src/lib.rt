@@ -3,11 +3,13 @@
 #![tactic(auto)]
 
 mod arrays;
+mod names;
 mod page;
 mod places;
 mod references;
 mod statements;
 
+pub use names::names_at;
 pub use page::write_program;
 pub use places::{Places, StatementPlaces, find_places};
 pub use references::write_reference;
