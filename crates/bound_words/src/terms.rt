@@ -1,5 +1,6 @@
 //! Terms in words.
 
+use crate::leading::{write_greatest, write_worth};
 use crate::reads::Source;
 use affine_form::Memory;
 use iolb_check::{Term, Value};
@@ -40,7 +41,7 @@ impl Source<'_> {
         page.text("    less ")?;
         self.write_poly(page, &bound.credits)?;
         page.line(" credited")?;
-        Ok(())
+        write_worth(page, self.program.params(), bound)
     }
 
     /// Writes what a partition term is worth, and why.
@@ -76,6 +77,9 @@ impl Source<'_> {
         self.write_read(page, front.user.statement, front.read)?;
         page.text(", after ")?;
         self.write_statement(page, front.vertex.statement)?;
+        page.line("")?;
+        page.text("    for great parameters about ")?;
+        write_greatest(page, self.program.params(), pairs)?;
         page.line("")?;
         Ok(())
     }

@@ -5,38 +5,77 @@ use affine_form::Memory;
 use dep_quast::Quast;
 use iolb_check::{Branch, Certificate, Term};
 use plain_pages::Page;
+use reuse_paths::Family;
 
 impl Source<'_> {
-    /// Whether a statement writes an array.
-    fn is_written(self, array: u16) -> bool {
-        for statement in self.program.statements() {
-            if statement.writes.array == array {
+    /// Whether a family has a label for the cells of an array, or for the instances of a statement that writes it.
+    fn has_label(self, family: &Family, array: u16) -> bool {
+        if matches!(
+            family.inputs.as_slice().get(usize::from(array)),
+            Some(Some(_))
+        ) {
+            return true;
+        }
+        for (statement, node) in self
+            .program
+            .statements()
+            .iter()
+            .zip(family.nodes.as_slice())
+        {
+            if statement.writes.array == array && node.is_some() {
                 return true;
             }
         }
         false
     }
 
-    /// Whether a cold term of a branch counts inputs of an array.
-    fn is_counted(self, branch: &Branch, array: u16) -> bool {
-        for term in branch.terms.as_slice() {
-            if let Term::Cold(cold) = term {
-                if self.array_read(cold.statement, cold.read) == Some(array) {
-                    return true;
-                }
+    /// Whether a term counts words of an array: inputs that are read, words of its families, or words that its user reads.
+    fn counts(self, term: &Term, array: u16) -> bool {
+        match term {
+            Term::Cold(cold) => self.array_read(cold.statement, cold.read) == Some(array),
+            Term::Partition(partition) => partition
+                .families
+                .as_slice()
+                .iter()
+                .any(|family| self.has_label(family, array)),
+            Term::Wavefront(front) => {
+                self.array_read(front.user.statement, front.read) == Some(array)
+            }
+        }
+    }
+
+    /// Whether a statement reads an array.
+    fn is_read(self, array: u16) -> bool {
+        for statement in self.program.statements() {
+            if statement
+                .reads
+                .as_slice()
+                .iter()
+                .any(|read| read.array == array)
+            {
+                return true;
             }
         }
         false
     }
 
-    /// Writes the arrays that are only read and whose inputs no term of a branch counts.
+    /// Whether a term of a branch counts words of an array.
+    fn is_counted(self, branch: &Branch, array: u16) -> bool {
+        branch
+            .terms
+            .as_slice()
+            .iter()
+            .any(|term| self.counts(term, array))
+    }
+
+    /// Writes the arrays that are read and of which no term of a branch counts a word.
     pub(crate) fn write_uncounted(self, page: &mut Page, branch: &Branch) -> Result<(), Memory> {
         for place in 0..self.program.arrays().len() {
             let Ok(array) = u16::try_from(place) else {
                 return Ok(());
             };
-            if !self.is_written(array) && !self.is_counted(branch, array) {
-                page.text("  no cold term counts the inputs of ")?;
+            if self.is_read(array) && !self.is_counted(branch, array) {
+                page.text("  no term counts words of ")?;
                 self.write_array(page, Some(array))?;
                 page.line("")?;
             }

@@ -1,0 +1,4 @@
+use Rattle.bound_words.proofs.leading.+common_divisor.Given as goal
+
+abbrev pub decreases-common_divisor : goal.decreases-common_divisor
+decreases-common_divisor l = l.other
