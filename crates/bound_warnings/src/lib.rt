@@ -6,4 +6,4 @@ mod names;
 mod spans;
 mod warnings;
 
-pub use warnings::write_warnings;
+pub use warnings::{write_loop_warnings, write_name_warnings};

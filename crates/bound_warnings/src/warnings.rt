@@ -1,37 +1,35 @@
 //! All warnings of a program.
 
+ghost use Rattle.std.specs.Prelude.{◌≡◌, ◌++◌, OnOk};
+ghost use Rattle.std.specs.List.{flat_map};
+ghost use Rattle.bound_warnings.specs.Names.{name_lines};
+
 use crate::loops::{Scene, warn_items};
-use crate::names::meaning_of;
+use crate::names::warn_name;
 use affine_form::Memory;
 use affine_program::Program;
 use plain_pages::Page;
 use program_pages::Places;
 
-/// Writes the warnings about the names of parameters.
-fn warn_names(page: &mut Page, file: &str, program: &Program) -> Result<(), Memory> {
+/// Writes warnings about the parameters of a program, which the file of this name has, whose names mean something else in bounds.
+pub fn write_name_warnings(page: &mut Page, file: &str, program: &Program) -> Result<(), Memory>
+    ensures { OnOk result (page.new ≡ page.old ++ flat_map (name_lines file.now) program.now.params) }
+{
     for name in program.params() {
-        if let Some(meaning) = meaning_of(name) {
-            page.text(format!(in page.alloc(); "{file}: warning: the parameter `")?.as_str())?;
-            page.write_bytes(name.bytes())?;
-            page.line(format!(in page.alloc();
-                "` has the name that bounds give to {meaning}"
-            )?.as_str())?;
-            page.line("help: give it another name")?;
-        }
+        warn_name(page, file, name)?;
     }
     Ok(())
 }
 
-/// Writes warnings of what keeps bounds of a program from being found or from being read: parameters with names that mean something
-/// else in bounds, loops whose ranges may be less than empty, and loops that look like tiles.
-pub fn write_warnings(
+/// Writes warnings about the loops of a program that keep bounds from being found: loops whose ranges may be less than empty, and loops
+/// that look like tiles.
+pub fn write_loop_warnings(
     page: &mut Page,
     file: &str,
     text: &[u8],
     program: &Program,
     places: &Places,
 ) -> Result<(), Memory> {
-    warn_names(page, file, program)?;
     let alloc = page.alloc();
     let scene = Scene {
         alloc,

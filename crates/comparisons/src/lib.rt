@@ -3,6 +3,7 @@
 #![tactic(auto)]
 
 mod capacity;
+mod choices;
 mod plays;
 mod ratio;
 mod rows;
@@ -10,6 +11,7 @@ mod strings;
 mod tables;
 
 pub use capacity::Capacity;
+pub use choices::{ScheduleText, put_choices};
 pub use plays::{Played, play_schedule};
 pub use rows::Row;
 pub use tables::{Shape, write_head, write_row};

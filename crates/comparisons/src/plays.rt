@@ -1,11 +1,14 @@
 //! Plays of which only the totals are kept.
 
-ghost use Rattle.std.specs.Prelude.{◌≡◌, ◌≤◌, length};
+ghost use Rattle.std.specs.Prelude.{◌≡◌, ◌≤◌, length, IfErr, IfOk};
 ghost use Rattle.std.specs.List.{AllByRecursion};
 ghost use Rattle.affine_form.specs.Form.{IsSmall};
 ghost use Rattle.affine_program.specs.Parts.{meaning};
+ghost use Rattle.comparisons.specs.Outcomes.{AreOutcomes, IsOutcome, IsPlayedOut};
 ghost use Rattle.pebble_replay.specs.Order.{HoldsEachOnce};
-ghost use Rattle.pebble_replay.specs.Player.{StandsFor};
+ghost use Rattle.pebble_replay.specs.Played.{played};
+ghost use Rattle.pebble_replay.specs.Player.{StandsFor, pebbles_of, totals_of};
+ghost use Rattle.tile_sched.specs.Plays.{GivesGraph};
 ghost use Rattle.tile_sched.specs.Schedules.{IsSchedule};
 ghost use Rattle.iolb_model.specs.declared.limits.TheConstants.{VALUE_SIZE};
 
@@ -25,34 +28,31 @@ pub enum Played {
 }
 
 /// Plays on to the end of an order: what was loaded, stored and computed.
-fn totals_of(
+fn play_out(
     alloc: Global,
     graph: &Graph,
     order: &[u32],
     mut player: Player,
 ) -> Result<(u64, u64, u64), Memory>
     requires { StandsFor graph.now order.now player }
+    ensures { IfOk result (λ totals. totals ≡ totals_of (played graph.now (pebbles_of player) order.now)) }
 {
-    'steps: loop {
-        match player.step(alloc, graph, order) {
-            Ok(Some(_moves)) => {}
-            Ok(None) => return Ok(player.totals()),
-            Err(Memory) => return Err(Memory),
-        }
-    }
+    'steps: while let Some(_moves) = player.step(alloc, graph, order)? {}
+    Ok(player.totals())
 }
 
 /// Plays an order with so many words of fast memory.
 fn play_order(alloc: Global, graph: &Graph, order: &[u32], s: u64) -> Result<Played, Memory>
     requires each { HoldsEachOnce graph.now order.now }
     requires some { 1 ≤ s }
+    ensures { IfOk result (λ outcome. IsOutcome graph.now order.now s outcome) }
 {
     let player = match player_of(alloc, graph, order, s) {
         Ok(player) => player,
         Err(PlayFault::Refused(unplayed)) => return Ok(Played::Refused(unplayed)),
         Err(PlayFault::Memory) => return Err(Memory),
     };
-    let (loads, stores, _computes) = totals_of(alloc, graph, order, player)?;
+    let (loads, stores, _computes) = play_out(alloc, graph, order, player)?;
     Ok(Played::Totals { loads, stores })
 }
 
@@ -64,6 +64,7 @@ fn play_all(
     capacities: &[Capacity],
 ) -> Result<Vec<Played>, Memory>
     requires { HoldsEachOnce graph.now order.now }
+    ensures { IfOk result (λ all. AreOutcomes graph.now order.now capacities.now all.items) }
 {
     let mut all = Vec::with_capacity(alloc, capacities.len())?;
     for capacity in capacities {
@@ -87,6 +88,8 @@ pub fn play_schedule(
     requires each { length sizes.now ≡ length program.now.params }
     requires small { AllByRecursion (IsSmall VALUE_SIZE) sizes.now }
     requires schedule { IsSchedule (meaning program.now) schedule.now }
+    ensures plays { IfOk result (λ all. IsPlayedOut (meaning program.now) schedule.now sizes.now capacities.now all.items) }
+    ensures refused { IfErr result (λ fault. GivesGraph (meaning program.now) sizes.now (Err fault)) }
 {
     let graph = graph_of(alloc, program, sizes)?;
     let order = order(alloc, program, sizes, &graph, schedule)?;

@@ -1,5 +1,8 @@
 //! Rows.
 
+ghost use Rattle.std.specs.Prelude.{◌≡◌, ◌++◌, OnOk};
+ghost use Rattle.comparisons.specs.Tables.{fields_line, object_line, outcome_fields, outcome_members};
+
 use crate::plays::Played;
 use crate::ratio::write_ratio;
 use crate::strings::{write_field, write_string};
@@ -13,6 +16,34 @@ pub struct Row<'a> {
     pub bound: u128,
     pub schedule: &'a str,
     pub played: Played,
+}
+
+/// Writes what comes of a schedule, as fields of comma-separated values.
+fn write_outcome_fields(page: &mut Page, bound: u128, played: Played) -> Result<(), AllocError>
+    ensures { OnOk result (page.new ≡ page.old ++ outcome_fields bound played) }
+{
+    match played {
+        Played::Totals { loads, stores } => {
+            page.text(format!(in page.alloc(); "{loads},{stores},")?.as_str())?;
+            write_ratio(page, loads, bound, "")
+        }
+        Played::Refused(_) => page.text(",,"),
+    }
+}
+
+/// Writes what comes of a schedule, as members of an object of JSON.
+fn write_outcome_members(page: &mut Page, bound: u128, played: Played) -> Result<(), AllocError>
+    ensures { OnOk result (page.new ≡ page.old ++ outcome_members bound played) }
+{
+    match played {
+        Played::Totals { loads, stores } => {
+            page.text(format!(in page.alloc();
+                "\"loads\":{loads},\"stores\":{stores},\"over\":"
+            )?.as_str())?;
+            write_ratio(page, loads, bound, "null")
+        }
+        Played::Refused(_) => page.text("\"loads\":null,\"stores\":null,\"over\":null"),
+    }
 }
 
 impl Row<'_> {
@@ -32,36 +63,26 @@ impl Row<'_> {
     }
 
     /// Writes a row of comma-separated values, where a schedule that isn't played has empty fields.
-    pub(crate) fn write_fields(self, page: &mut Page) -> Result<(), AllocError> {
+    pub(crate) fn write_fields(self, page: &mut Page) -> Result<(), AllocError>
+        ensures { OnOk result (page.new ≡ page.old ++ fields_line self.entry) }
+    {
         let (s, bound) = (self.s, self.bound);
         page.text(format!(in page.alloc(); "{s},{bound},")?.as_str())?;
-        match self.played {
-            Played::Totals { loads, stores } => {
-                page.text(format!(in page.alloc(); "{loads},{stores},")?.as_str())?;
-                write_ratio(page, loads, bound, "")?;
-            }
-            Played::Refused(_) => page.text(",,")?,
-        }
+        write_outcome_fields(page, bound, self.played)?;
         page.text(",")?;
         write_field(page, self.schedule)?;
-        page.line("")
+        page.text("\n")
     }
 
     /// Writes a row as an object of JSON, where a schedule that isn't played has `null`.
-    pub(crate) fn write_object(self, page: &mut Page) -> Result<(), AllocError> {
+    pub(crate) fn write_object(self, page: &mut Page) -> Result<(), AllocError>
+        ensures { OnOk result (page.new ≡ page.old ++ object_line self.entry) }
+    {
         let (s, bound) = (self.s, self.bound);
-        page.text(format!(in page.alloc(); "{{\"S\":{s},\"bound\":{bound},\"loads\":")?.as_str())?;
-        match self.played {
-            Played::Totals { loads, stores } => {
-                page.text(format!(in page.alloc();
-                    "{loads},\"stores\":{stores},\"over\":"
-                )?.as_str())?;
-                write_ratio(page, loads, bound, "null")?;
-            }
-            Played::Refused(_) => page.text("null,\"stores\":null,\"over\":null")?,
-        }
+        page.text(format!(in page.alloc(); "{{\"S\":{s},\"bound\":{bound},")?.as_str())?;
+        write_outcome_members(page, bound, self.played)?;
         page.text(",\"schedule\":")?;
         write_string(page, self.schedule)?;
-        page.line("}")
+        page.text("}\n")
     }
 }

@@ -1,18 +1,14 @@
 //! Bounds, explained.
 
-use crate::answer::Answer;
-use crate::programs::fault_answer;
-use crate::refusals::{write_failed, write_unread};
-use crate::status::Status;
+use crate::certificates::Given;
+use crate::programs::program_in;
 use crate::stop::Stop;
-use affine_c::{ProgramError, read_program};
+use crate::tries::write_tries;
 use affine_form::Memory;
 use affine_program::Program;
 use bound_words::write_bound;
-use claims::Refused;
-use find_terms::made;
-use iolb_cert::{CertError, read_certificate};
-use iolb_check::{Bound, Certificate, check};
+use find_terms::{Accepted, made};
+use iolb_check::{Bound, Certificate};
 use plain_pages::Page;
 use program_pages::find_places;
 use std::alloc::Global;
@@ -31,61 +27,30 @@ fn bound_page(
     Ok(page)
 }
 
-/// The answer about the bound that is made for a program.
-fn made_answer(alloc: Global, program: &Program, text: &[u8]) -> Result<Answer, Stop> {
-    let accepted = made(alloc, program)?;
-    let page = bound_page(alloc, program, text, &accepted.certificate, &accepted.bound)?;
-    let status = Status::Done;
-    Ok(Answer { page, status })
-}
-
-/// The answer about the bound that a certificate gives of a program; the file of this name has the certificate's text.
-fn given_answer(
-    alloc: Global,
-    program: &Program,
-    text: &[u8],
-    name: &str,
-    given: &[u8],
-) -> Result<Answer, Stop> {
-    let mut page = Page::new(alloc);
-    let status = Status::Wrong;
-    let certificate = match read_certificate(alloc, given) {
-        Ok(certificate) => certificate,
-        Err(CertError::Fault(fault)) => {
-            write_unread(&mut page, name, given, &fault)?;
-            return Ok(Answer { page, status });
-        }
-        Err(CertError::Memory) => return Err(Stop::Memory),
-    };
-    match check(alloc, program, &certificate) {
-        Ok(bound) => {
-            let page = bound_page(alloc, program, text, &certificate, &bound)?;
-            let status = Status::Done;
-            Ok(Answer { page, status })
-        }
-        Err(Refused::Failed(failed)) => {
-            write_failed(&mut page, name, given, &failed)?;
-            Ok(Answer { page, status })
-        }
-        Err(Refused::Memory) => Err(Stop::Memory),
-    }
-}
-
-/// The answer about the bound of the program with this text, by a certificate's file name and text or, where none is given, by the
-/// certificate that is made for it.
+/// The page about the bound of the program with this text, which the file of this name has: the bound of a certificate or, where
+/// none is given, of the certificate that is made for the program, with what was tried for it.
 pub(crate) fn bound_answer(
     alloc: Global,
     file: &str,
     text: &[u8],
-    given: Option<(&str, &[u8])>,
-) -> Result<Answer, Stop> {
-    let program = match read_program(alloc, text) {
-        Ok(program) => program,
-        Err(ProgramError::Fault(fault)) => return fault_answer(alloc, file, text, fault),
-        Err(ProgramError::Memory) => return Err(Stop::Memory),
-    };
+    given: Option<Given<'_>>,
+) -> Result<Page, Stop> {
+    let program = program_in(alloc, file, text)?;
     match given {
-        Some((name, certificate)) => given_answer(alloc, &program, text, name, certificate),
-        None => made_answer(alloc, &program, text),
+        Some(given) => {
+            let certificate = given.certificate(alloc)?;
+            let bound = given.bound(alloc, &program, &certificate)?;
+            Ok(bound_page(alloc, &program, text, &certificate, &bound)?)
+        }
+        None => {
+            let Accepted {
+                certificate,
+                bound,
+                text: _certificate_text,
+            } = made(alloc, &program)?;
+            let mut page = bound_page(alloc, &program, text, &certificate, &bound)?;
+            write_tries(alloc, &mut page, &program, certificate)?;
+            Ok(page)
+        }
     }
 }

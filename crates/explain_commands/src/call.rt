@@ -1,6 +1,7 @@
 //! The program's call.
 
 ghost use Rattle.std.specs.Prelude.{◌≡◌};
+ghost use Rattle.explain_commands.specs.Calls.{EndsWith};
 
 use crate::files::word_at;
 use crate::requests::answer_to;
@@ -22,37 +23,34 @@ fn file_words(fault: FileFault) -> &'static str {
     }
 }
 
-/// The page that says why a call with these words has no answer.
-fn stop_page(alloc: Global, words: &[String], stop: Stop) -> Result<Page, Memory> {
+/// The page that says why the file that the word at a place after the command names wasn't read.
+fn file_page(
+    alloc: Global,
+    words: &[String],
+    place: usize,
+    fault: FileFault,
+) -> Result<Page, Memory> {
     let mut page = Page::new(alloc);
-    match stop {
-        Stop::Words => page.text(USAGE)?,
-        Stop::Memory => page.line("out of memory")?,
-        Stop::File { place, fault } => {
-            page.text(file_words(fault))?;
-            page.line(word_at(words, place.saturating_add(1)))?;
-        }
-    }
+    page.text(file_words(fault))?;
+    page.line(word_at(words, place.saturating_add(1)))?;
     Ok(page)
 }
 
-/// Says on the standard error why a call with these words has no answer.
-fn report_stop<E: Sink>(alloc: Global, words: &[String], stop: Stop, err: &mut E) -> Status {
-    let status = match stop {
-        Stop::Words => Status::Words,
-        Stop::File { .. } | Stop::Memory => Status::Failed,
-    };
-    let Ok(page) = stop_page(alloc, words, stop) else {
-        return Status::Failed;
-    };
-    match err.put(page.bytes()) {
-        Ok(()) => status,
-        Err(_) => Status::Failed,
+/// Says on the standard error why the file that the word at a place after the command names wasn't read, as far as that can be said.
+fn report_file<E: Sink>(
+    alloc: Global,
+    words: &[String],
+    place: usize,
+    fault: FileFault,
+    err: &mut E,
+) {
+    if let Ok(page) = file_page(alloc, words, place, fault) {
+        let _told = err.put(page.bytes());
     }
 }
 
-/// Answers the words after the program's name: what was asked for is written to the output, and why there is no answer to the
-/// standard error.
+/// Answers the words after the program's name: what was asked for, or what was found wrong, is written to the output, and why there
+/// is no answer to the standard error.
 pub fn run<F: Files, O: Sink, E: Sink>(
     alloc: Global,
     words: &[String],
@@ -61,12 +59,28 @@ pub fn run<F: Files, O: Sink, E: Sink>(
     err: &mut E,
 ) -> Status
     ensures told_stays { F.told files.new ≡ F.told files.old }
+    ensures ends { EndsWith result (O.written out.old) (O.written out.new) (E.written err.old) (E.written err.new) }
 {
     match answer_to(alloc, words, files) {
-        Ok(answer) => match out.put(answer.page.bytes()) {
-            Ok(()) => answer.status,
+        Ok(page) => match out.put(page.bytes()) {
+            Ok(()) => Status::Done,
             Err(_) => Status::Failed,
         },
-        Err(stop) => report_stop(alloc, words, stop, err),
+        Err(Stop::Wrong(page)) => match out.put(page.bytes()) {
+            Ok(()) => Status::Wrong,
+            Err(_) => Status::Failed,
+        },
+        Err(Stop::Words) => match err.put(USAGE.as_bytes()) {
+            Ok(()) => Status::Words,
+            Err(_) => Status::Failed,
+        },
+        Err(Stop::File { place, fault }) => {
+            report_file(alloc, words, place, fault, err);
+            Status::Failed
+        }
+        Err(Stop::Memory) => {
+            let _told = err.put(b"out of memory\n");
+            Status::Failed
+        }
     }
 }

@@ -5,109 +5,82 @@ ghost use Rattle.std.specs.List.{AllByRecursion};
 ghost use Rattle.affine_form.specs.Form.{IsSmall};
 ghost use Rattle.iolb_model.specs.declared.limits.TheConstants.{VALUE_SIZE};
 
-use crate::answer::Answer;
-use crate::programs::fault_answer;
-use crate::refusals::{write_failed, write_unread};
-use crate::schedules::{write_text_fault, write_unplayed};
+use crate::certificates::Given;
+use crate::programs::program_in;
+use crate::schedules::{schedule_in, unplayed_stop, write_unplayed};
 use crate::sizes::sizes_for;
-use crate::status::Status;
-use crate::stop::Stop;
-use affine_c::{ProgramError, read_program};
+use crate::stop::{Stop, wrong};
 use affine_form::Memory;
 use affine_program::Program;
-use claims::Refused;
-use comparisons::{Capacity, Played, Row, Shape, play_schedule, write_head, write_row};
-use iolb_cert::{CertError, read_certificate};
-use iolb_check::{Bound, ValueFault, check};
+use comparisons::{
+    Capacity, Played, Row, ScheduleText, Shape, play_schedule, put_choices, write_head, write_row,
+};
+use iolb_check::{Bound, ValueFault};
 use plain_pages::Page;
 use std::alloc::Global;
-use tile_sched::{PlayFault, SchedError, Unplayed, read_schedule};
+use tile_sched::{PlayFault, Unplayed};
 
-/// What is compared: the names of schedules with their texts, and the capacities of the fast memory.
+/// What is compared: schedules, with capacities of the fast memory, in a table of this shape.
 #[derive(Clone, Copy)]
 pub(crate) struct Compared<'a> {
     pub(crate) shape: Shape,
-    pub(crate) names: &'a [String],
-    pub(crate) texts: &'a [Vec<u8>],
+    pub(crate) schedules: &'a [ScheduleText],
     pub(crate) capacities: &'a [Capacity],
 }
 
-impl Compared<'_> {
-    /// The name of the schedule of this number.
-    fn name(&self, number: usize) -> &str {
-        match self.names.get(number) {
-            Some(name) => name.as_str(),
-            None => "",
+/// The schedules that texts have, each with the divisors that are chosen where it has lists of them.
+pub(crate) fn schedules_in(
+    alloc: Global,
+    names: &[String],
+    texts: &[Vec<u8>],
+) -> Result<Vec<ScheduleText>, Stop> {
+    let mut all = Vec::new(alloc);
+    for (name, text) in names.iter().zip(texts) {
+        if !put_choices(alloc, name.as_str(), text.as_slice(), &mut all)? {
+            return Err(wrong(
+                alloc,
+                name.as_str(),
+                ": error: the lists of divisors have more than 256 choices",
+            ));
         }
     }
+    Ok(all)
 }
 
-/// The answer that something is wrong, which a page says.
-fn wrong_answer(page: Page) -> Result<Answer, Stop> {
-    let status = Status::Wrong;
-    Ok(Answer { page, status })
-}
-
-/// What comes of a schedule with each capacity; the page says why there is nothing.
+/// What comes of a schedule with each capacity.
 fn plays_of(
     alloc: Global,
     program: &Program,
     capacities: &[Capacity],
     sizes: &[i64],
-    name: &str,
-    text: &[u8],
-    page: &mut Page,
-) -> Result<Option<Vec<Played>>, Stop>
+    text: &ScheduleText,
+) -> Result<Vec<Played>, Stop>
     requires each { length sizes.now ≡ length program.now.params }
     requires small { AllByRecursion (IsSmall VALUE_SIZE) sizes.now }
 {
-    let schedule = match read_schedule(alloc, text, program) {
-        Ok(schedule) => schedule,
-        Err(SchedError::Fault(fault)) => {
-            write_text_fault(page, name, &fault)?;
-            return Ok(None);
-        }
-        Err(SchedError::Memory) => return Err(Stop::Memory),
-    };
+    let schedule = schedule_in(alloc, program, text.name.as_str(), text.bytes.as_slice())?;
     match play_schedule(alloc, program, &schedule, sizes, capacities) {
-        Ok(all) => Ok(Some(all)),
-        Err(PlayFault::Refused(unplayed)) => {
-            write_unplayed(alloc, page, program, sizes, unplayed)?;
-            Ok(None)
-        }
+        Ok(all) => Ok(all),
+        Err(PlayFault::Refused(unplayed)) => Err(unplayed_stop(alloc, program, sizes, unplayed)),
         Err(PlayFault::Memory) => Err(Stop::Memory),
     }
 }
 
-/// What comes of each schedule with each capacity; the page says why there is nothing.
+/// What comes of each schedule with each capacity.
 fn all_plays(
     alloc: Global,
     program: &Program,
     compared: Compared<'_>,
     sizes: &[i64],
-    page: &mut Page,
-) -> Result<Option<Vec<Vec<Played>>>, Stop>
+) -> Result<Vec<Vec<Played>>, Stop>
     requires each { length sizes.now ≡ length program.now.params }
     requires small { AllByRecursion (IsSmall VALUE_SIZE) sizes.now }
 {
     let mut all = Vec::new(alloc);
-    for (number, text) in compared.texts.iter().enumerate() {
-        let name = compared.name(number);
-        let capacities = compared.capacities;
-        match plays_of(
-            alloc,
-            program,
-            capacities,
-            sizes,
-            name,
-            text.as_slice(),
-            page,
-        )? {
-            Some(played) => all.push(played)?,
-            None => return Ok(None),
-        }
+    for text in compared.schedules {
+        all.push(plays_of(alloc, program, compared.capacities, sizes, text)?)?;
     }
-    Ok(Some(all))
+    Ok(all)
 }
 
 /// Writes the rows of the capacity of this number, one for each schedule.
@@ -119,12 +92,12 @@ fn write_rows(
     capacity: Capacity,
     bound: u128,
 ) -> Result<(), Memory> {
-    for (place, played) in all.iter().enumerate() {
+    for (schedule, played) in compared.schedules.iter().zip(all) {
         if let Some(played) = played.as_slice().get(number) {
             let row = Row {
                 s: capacity.words,
                 bound,
-                schedule: compared.name(place),
+                schedule: schedule.name.as_str(),
                 played: *played,
             };
             write_row(page, compared.shape, row)?;
@@ -140,7 +113,7 @@ fn table(
     bound: &Bound,
     sizes: &[i64],
     all: &[Vec<Played>],
-) -> Result<Answer, Stop>
+) -> Result<Page, Stop>
     requires each { length sizes.now ≡ bound.now.assumed.vars }
     requires small { AllByRecursion (IsSmall VALUE_SIZE) sizes.now }
 {
@@ -151,14 +124,15 @@ fn table(
         match bound.value(sizes, capacity.words) {
             Ok(value) => write_rows(&mut page, compared, all, number, capacity, value)?,
             Err(ValueFault::OutsideAssumption(_) | ValueFault::Wide) => {
-                let mut page = Page::new(alloc);
-                page.line("the bound has no value below 2^128 at these sizes")?;
-                return wrong_answer(page);
+                return Err(wrong(
+                    alloc,
+                    "the bound has no value below 2^128 at these sizes",
+                    "",
+                ));
             }
         }
     }
-    let status = Status::Done;
-    Ok(Answer { page, status })
+    Ok(page)
 }
 
 /// Why a schedule isn't played with the first of its capacities with which it isn't.
@@ -183,9 +157,9 @@ fn write_reasons(
     requires each { length sizes.now ≡ length program.now.params }
     requires small { AllByRecursion (IsSmall VALUE_SIZE) sizes.now }
 {
-    for (place, played) in all.iter().enumerate() {
+    for (schedule, played) in compared.schedules.iter().zip(all) {
         if let Some(unplayed) = first_refused(played.as_slice()) {
-            page.text(compared.name(place))?;
+            page.text(schedule.name.as_str())?;
             page.text(": ")?;
             write_unplayed(alloc, page, program, sizes, unplayed)?;
         }
@@ -193,24 +167,22 @@ fn write_reasons(
     Ok(())
 }
 
-/// The answer for a bound of a program.
+/// The table for a bound of a program. Where some schedule isn't played with some capacity, it is what was found wrong.
 fn answer_for(
     alloc: Global,
     program: &Program,
     bound: &Bound,
     compared: Compared<'_>,
     sizes: &[i64],
-) -> Result<Answer, Stop>
+) -> Result<Page, Stop>
     requires assumed { bound.now.assumed ≡ program.now.assumed }
     requires each { length sizes.now ≡ length program.now.params }
     requires small { AllByRecursion (IsSmall VALUE_SIZE) sizes.now }
 {
     let _params = program.params();
+    let all = all_plays(alloc, program, compared, sizes)?;
+    let mut page = table(alloc, compared, bound, sizes, all.as_slice())?;
     let mut reasons = Page::new(alloc);
-    let Some(all) = all_plays(alloc, program, compared, sizes, &mut reasons)? else {
-        return wrong_answer(reasons);
-    };
-    let mut answer = table(alloc, compared, bound, sizes, all.as_slice())?;
     write_reasons(
         alloc,
         &mut reasons,
@@ -219,66 +191,29 @@ fn answer_for(
         sizes,
         all.as_slice(),
     )?;
-    if !reasons.is_empty() {
-        answer.status = Status::Wrong;
-        if compared.shape == Shape::Text {
-            answer.page.write_bytes(reasons.bytes())?;
-        }
+    if reasons.is_empty() {
+        return Ok(page);
     }
-    Ok(answer)
+    if compared.shape == Shape::Text {
+        page.write_bytes(reasons.bytes())?;
+    }
+    Err(Stop::Wrong(page))
 }
 
-/// The answer for a program at sizes, by the text of a certificate, which the file of this name has.
-fn certified_answer(
-    alloc: Global,
-    program: &Program,
-    name: &str,
-    text: &[u8],
-    compared: Compared<'_>,
-    sizes: &[i64],
-) -> Result<Answer, Stop>
-    requires each { length sizes.now ≡ length program.now.params }
-    requires small { AllByRecursion (IsSmall VALUE_SIZE) sizes.now }
-{
-    let mut page = Page::new(alloc);
-    let certificate = match read_certificate(alloc, text) {
-        Ok(certificate) => certificate,
-        Err(CertError::Fault(fault)) => {
-            write_unread(&mut page, name, text, &fault)?;
-            return wrong_answer(page);
-        }
-        Err(CertError::Memory) => return Err(Stop::Memory),
-    };
-    match check(alloc, program, &certificate) {
-        Ok(bound) => answer_for(alloc, program, &bound, compared, sizes),
-        Err(Refused::Failed(failed)) => {
-            write_failed(&mut page, name, text, &failed)?;
-            wrong_answer(page)
-        }
-        Err(Refused::Memory) => Err(Stop::Memory),
-    }
-}
-
-/// The answer by the texts of a program and a certificate, which the files of these names have, and words that give sizes.
+/// The answer by the texts of a program, which the file of this name has, and of a certificate, and words that give sizes.
 pub(crate) fn compare_answer(
     alloc: Global,
-    names: (&str, &str),
+    file: &str,
     text: &[u8],
-    certificate: &[u8],
+    certificate: Given<'_>,
     compared: Compared<'_>,
     given: &[String],
-) -> Result<Answer, Stop> {
-    let (file, name) = names;
-    let program = match read_program(alloc, text) {
-        Ok(program) => program,
-        Err(ProgramError::Fault(fault)) => return fault_answer(alloc, file, text, fault),
-        Err(ProgramError::Memory) => return Err(Stop::Memory),
+) -> Result<Page, Stop> {
+    let program = program_in(alloc, file, text)?;
+    let Some(sizes) = sizes_for(alloc, program.params(), given)? else {
+        return Err(Stop::Words);
     };
-    match sizes_for(alloc, program.params(), given)? {
-        Some(sizes) => {
-            let sizes = sizes.as_slice();
-            certified_answer(alloc, &program, name, certificate, compared, sizes)
-        }
-        None => Err(Stop::Words),
-    }
+    let stated = certificate.certificate(alloc)?;
+    let bound = certificate.bound(alloc, &program, &stated)?;
+    answer_for(alloc, &program, &bound, compared, sizes.as_slice())
 }

@@ -1,7 +1,5 @@
 //! Help.
 
-use crate::answer::Answer;
-use crate::status::Status;
 use crate::stop::Stop;
 use help_pages::{Topic, USAGE, command_help, condition_of, fault_of};
 use plain_pages::Page;
@@ -11,15 +9,14 @@ use std::alloc::Global;
 const VERSION: &str = "iolb-explain 1";
 
 /// The answer that is this text.
-fn answer_of(alloc: Global, text: &str) -> Result<Answer, Stop> {
+fn answer_of(alloc: Global, text: &str) -> Result<Page, Stop> {
     let mut page = Page::new(alloc);
     page.text(text)?;
-    let status = Status::Done;
-    Ok(Answer { page, status })
+    Ok(page)
 }
 
 /// What is said of a fault of this number.
-fn fault_help(alloc: Global, word: &str) -> Result<Answer, Stop> {
+fn fault_help(alloc: Global, word: &str) -> Result<Page, Stop> {
     let Ok(number) = word.parse::<u64>() else {
         return Err(Stop::Words);
     };
@@ -36,7 +33,7 @@ fn fault_help(alloc: Global, word: &str) -> Result<Answer, Stop> {
 }
 
 /// What is said of a condition of this number.
-fn condition_help(alloc: Global, word: &str) -> Result<Answer, Stop> {
+fn condition_help(alloc: Global, word: &str) -> Result<Page, Stop> {
     let Ok(number) = word.parse::<u64>() else {
         return Err(Stop::Words);
     };
@@ -53,7 +50,7 @@ fn condition_help(alloc: Global, word: &str) -> Result<Answer, Stop> {
 }
 
 /// What is said of what words after `help` name.
-pub(crate) fn help_answer(alloc: Global, words: &[String]) -> Result<Answer, Stop> {
+pub(crate) fn help_answer(alloc: Global, words: &[String]) -> Result<Page, Stop> {
     match words {
         [] => answer_of(alloc, USAGE),
         [word] => match Topic::of(word.as_str()) {
@@ -70,9 +67,8 @@ pub(crate) fn help_answer(alloc: Global, words: &[String]) -> Result<Answer, Sto
 }
 
 /// The program's name and version.
-pub(crate) fn version_answer(alloc: Global) -> Result<Answer, Stop> {
+pub(crate) fn version_answer(alloc: Global) -> Result<Page, Stop> {
     let mut page = Page::new(alloc);
     page.line(VERSION)?;
-    let status = Status::Done;
-    Ok(Answer { page, status })
+    Ok(page)
 }

@@ -1,9 +1,9 @@
 //! What `iolb-explain` does when it is called: it says in words what `iolb` answers by numbers.
 #![tactic(auto)]
 
-mod answer;
 mod bounding;
 mod call;
+mod certificates;
 mod comparing;
 mod files;
 mod helping;
@@ -15,6 +15,7 @@ mod sizes;
 mod status;
 mod stop;
 mod system;
+mod tries;
 mod vertices;
 
 pub use call::run;

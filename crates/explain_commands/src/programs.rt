@@ -1,49 +1,40 @@
 //! Programs, explained.
 
-use crate::answer::Answer;
-use crate::status::Status;
 use crate::stop::Stop;
 use affine_c::{ProgramError, ProgramFault, read_program};
-use affine_form::Memory;
 use affine_program::Program;
-use bound_warnings::write_warnings;
+use bound_warnings::{write_loop_warnings, write_name_warnings};
 use plain_pages::Page;
 use program_messages::fault_message;
 use program_pages::{find_places, write_program};
 use std::alloc::Global;
 
-/// The answer that a text has a fault.
-pub(crate) fn fault_answer(
-    alloc: Global,
-    file: &str,
-    text: &[u8],
-    fault: ProgramFault,
-) -> Result<Answer, Stop> {
+/// The stop where the text of a program, which the file of this name has, has a fault.
+fn fault_stop(alloc: Global, file: &str, text: &[u8], fault: ProgramFault) -> Stop {
     let mut page = Page::new(alloc);
     let place = usize::try_from(fault.place).unwrap_or(text.len());
-    fault_message(&mut page, file, text, fault.number, place)?;
-    let status = Status::Wrong;
-    Ok(Answer { page, status })
+    match fault_message(&mut page, file, text, fault.number, place) {
+        Ok(()) => Stop::Wrong(page),
+        Err(_) => Stop::Memory,
+    }
 }
 
-/// The page of a program.
-fn program_page(alloc: Global, file: &str, text: &[u8], program: &Program) -> Result<Page, Memory> {
-    let mut page = Page::new(alloc);
-    let places = find_places(alloc, text, program.arrays())?;
-    write_program(&mut page, file, text, program, &places)?;
-    write_warnings(&mut page, file, text, program, &places)?;
-    Ok(page)
-}
-
-/// The answer about the text of a program, which the file of this name has.
-pub(crate) fn program_answer(alloc: Global, file: &str, text: &[u8]) -> Result<Answer, Stop> {
+/// The program that the file of this name has as its text.
+pub(crate) fn program_in(alloc: Global, file: &str, text: &[u8]) -> Result<Program, Stop> {
     match read_program(alloc, text) {
-        Ok(program) => {
-            let page = program_page(alloc, file, text, &program)?;
-            let status = Status::Done;
-            Ok(Answer { page, status })
-        }
-        Err(ProgramError::Fault(fault)) => fault_answer(alloc, file, text, fault),
+        Ok(program) => Ok(program),
+        Err(ProgramError::Fault(fault)) => Err(fault_stop(alloc, file, text, fault)),
         Err(ProgramError::Memory) => Err(Stop::Memory),
     }
+}
+
+/// The page about the text of a program, which the file of this name has.
+pub(crate) fn program_answer(alloc: Global, file: &str, text: &[u8]) -> Result<Page, Stop> {
+    let program = program_in(alloc, file, text)?;
+    let mut page = Page::new(alloc);
+    let places = find_places(alloc, text, program.arrays())?;
+    write_program(&mut page, file, text, &program, &places)?;
+    write_name_warnings(&mut page, file, &program)?;
+    write_loop_warnings(&mut page, file, text, &program, &places)?;
+    Ok(page)
 }

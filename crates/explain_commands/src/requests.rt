@@ -2,9 +2,9 @@
 
 ghost use Rattle.std.specs.Prelude.{◌≡◌};
 
-use crate::answer::Answer;
 use crate::bounding::bound_answer;
-use crate::comparing::{Compared, compare_answer};
+use crate::certificates::Given;
+use crate::comparing::{Compared, compare_answer, schedules_in};
 use crate::files::read_at;
 use crate::helping::{help_answer, version_answer};
 use crate::programs::program_answer;
@@ -16,10 +16,11 @@ use affine_form::Memory;
 use comparisons::{Capacity, Shape};
 use iolb_host::Files;
 use iolb_model::limits::{CERTIFICATE_BYTES, PROGRAM_BYTES, SCHEDULE_BYTES};
+use plain_pages::Page;
 use std::alloc::Global;
 
 /// The answer to `program` with these words after it.
-fn program_request<F: Files>(alloc: Global, words: &[String], files: &mut F) -> Result<Answer, Stop>
+fn program_request<F: Files>(alloc: Global, words: &[String], files: &mut F) -> Result<Page, Stop>
     ensures told_stays { F.told files.new ≡ F.told files.old }
 {
     let [file] = words else {
@@ -30,7 +31,7 @@ fn program_request<F: Files>(alloc: Global, words: &[String], files: &mut F) -> 
 }
 
 /// The answer to `vertex` with these words after it.
-fn vertex_request<F: Files>(alloc: Global, words: &[String], files: &mut F) -> Result<Answer, Stop>
+fn vertex_request<F: Files>(alloc: Global, words: &[String], files: &mut F) -> Result<Page, Stop>
     ensures told_stays { F.told files.new ≡ F.told files.old }
 {
     if words.len() < 2 {
@@ -41,11 +42,7 @@ fn vertex_request<F: Files>(alloc: Global, words: &[String], files: &mut F) -> R
 }
 
 /// The answer to `schedule` with these words after it.
-fn schedule_request<F: Files>(
-    alloc: Global,
-    words: &[String],
-    files: &mut F,
-) -> Result<Answer, Stop>
+fn schedule_request<F: Files>(alloc: Global, words: &[String], files: &mut F) -> Result<Page, Stop>
     ensures told_stays { F.told files.new ≡ F.told files.old }
 {
     if words.len() < 2 {
@@ -71,10 +68,19 @@ fn capacities_in(alloc: Global, word: &str) -> Result<Option<Vec<Capacity>>, Mem
     Ok(Some(all))
 }
 
-/// The words in front of the first that lists numbers of words, and those from it on.
+/// Whether a word has digits and commas alone, and a digit in front.
+fn is_list(word: &str) -> bool {
+    let bytes = word.as_bytes();
+    matches!(bytes.first().copied(), Some(b'0'..=b'9'))
+        && bytes
+            .iter()
+            .all(|byte| byte.is_ascii_digit() || *byte == b',')
+}
+
+/// The words in front of the first that lists numbers, and those from it on.
 fn split_at_list(words: &[String]) -> (&[String], &[String]) {
     for (place, word) in words.iter().enumerate() {
-        if matches!(word.as_str().as_bytes().first().copied(), Some(b'0'..=b'9')) {
+        if is_list(word.as_str()) {
             return words.split_at(place);
         }
     }
@@ -111,7 +117,7 @@ fn read_schedules<F: Files>(
 }
 
 /// The answer to `compare` with these words after it.
-fn compare_request<F: Files>(alloc: Global, words: &[String], files: &mut F) -> Result<Answer, Stop>
+fn compare_request<F: Files>(alloc: Global, words: &[String], files: &mut F) -> Result<Page, Stop>
     ensures told_stays { F.told files.new ≡ F.told files.old }
 {
     let (shape, skipped) = shape_in(words);
@@ -129,25 +135,28 @@ fn compare_request<F: Files>(alloc: Global, words: &[String], files: &mut F) -> 
     let text = read_at(words, skipped, PROGRAM_BYTES, files)?;
     let certificate = read_at(words, skipped.saturating_add(1), CERTIFICATE_BYTES, files)?;
     let texts = read_schedules(alloc, words, skipped.saturating_add(2), names.len(), files)?;
+    let schedules = schedules_in(alloc, names, texts.as_slice())?;
     let compared = Compared {
         shape,
-        names,
-        texts: texts.as_slice(),
+        schedules: schedules.as_slice(),
         capacities: capacities.as_slice(),
     };
-    let named = (file.as_str(), name.as_str());
+    let stated = Given {
+        name: name.as_str(),
+        text: certificate.as_slice(),
+    };
     compare_answer(
         alloc,
-        named,
+        file.as_str(),
         text.as_slice(),
-        certificate.as_slice(),
+        stated,
         compared,
         given,
     )
 }
 
 /// The answer to `refusal` with these words after it.
-fn refusal_request<F: Files>(alloc: Global, words: &[String], files: &mut F) -> Result<Answer, Stop>
+fn refusal_request<F: Files>(alloc: Global, words: &[String], files: &mut F) -> Result<Page, Stop>
     ensures told_stays { F.told files.new ≡ F.told files.old }
 {
     let [file, name] = words else {
@@ -155,12 +164,15 @@ fn refusal_request<F: Files>(alloc: Global, words: &[String], files: &mut F) -> 
     };
     let text = read_at(words, 0, PROGRAM_BYTES, files)?;
     let certificate = read_at(words, 1, CERTIFICATE_BYTES, files)?;
-    let names = (file.as_str(), name.as_str());
-    refusal_answer(alloc, names, text.as_slice(), certificate.as_slice())
+    let given = Given {
+        name: name.as_str(),
+        text: certificate.as_slice(),
+    };
+    refusal_answer(alloc, file.as_str(), text.as_slice(), given)
 }
 
 /// The answer to `bound` with these words after it.
-fn bound_request<F: Files>(alloc: Global, words: &[String], files: &mut F) -> Result<Answer, Stop>
+fn bound_request<F: Files>(alloc: Global, words: &[String], files: &mut F) -> Result<Page, Stop>
     ensures told_stays { F.told files.new ≡ F.told files.old }
 {
     match words {
@@ -171,8 +183,11 @@ fn bound_request<F: Files>(alloc: Global, words: &[String], files: &mut F) -> Re
         [file, name] => {
             let text = read_at(words, 0, PROGRAM_BYTES, files)?;
             let certificate = read_at(words, 1, CERTIFICATE_BYTES, files)?;
-            let given = Some((name.as_str(), certificate.as_slice()));
-            bound_answer(alloc, file.as_str(), text.as_slice(), given)
+            let given = Given {
+                name: name.as_str(),
+                text: certificate.as_slice(),
+            };
+            bound_answer(alloc, file.as_str(), text.as_slice(), Some(given))
         }
         _ => Err(Stop::Words),
     }
@@ -183,7 +198,7 @@ pub(crate) fn answer_to<F: Files>(
     alloc: Global,
     words: &[String],
     files: &mut F,
-) -> Result<Answer, Stop>
+) -> Result<Page, Stop>
     ensures told_stays { F.told files.new ≡ F.told files.old }
 {
     let Some((command, rest)) = words.split_first() else {

@@ -1,43 +1,68 @@
 //! Schedules, explained.
 
-ghost use Rattle.std.specs.Prelude.{◌≡◌, length};
+ghost use Rattle.std.specs.Prelude.{◌≡◌, length, IfOk};
 ghost use Rattle.std.specs.List.{AllByRecursion};
 ghost use Rattle.affine_form.specs.Form.{IsSmall};
+ghost use Rattle.affine_program.specs.Parts.{meaning};
+ghost use Rattle.tile_sched.specs.Schedules.{IsSchedule};
 ghost use Rattle.iolb_model.specs.declared.limits.TheConstants.{VALUE_SIZE};
 
-use crate::answer::Answer;
-use crate::programs::fault_answer;
+use crate::programs::program_in;
 use crate::sizes::sizes_for;
-use crate::status::Status;
 use crate::stop::Stop;
-use affine_c::{ProgramError, read_program};
 use affine_form::Memory;
 use affine_program::Program;
 use comparisons::{Capacity, Played, play_schedule};
 use loop_graph::{Run, values_of};
 use named_vertices::{Unnamed, find_instances, named_at, write_named};
 use plain_pages::Page;
+use refusal_words::write_unread;
 use std::alloc::Global;
 use tile_sched::{PlayFault, SchedError, SchedFault, Schedule, Unplayed, read_schedule};
 
 /// So many words that no instance needs more.
 const ENOUGH: Capacity = Capacity { words: 1 << 40 };
 
-/// The page that a schedule's text has a fault.
-pub(crate) fn write_text_fault(
-    page: &mut Page,
-    file: &str,
-    fault: &SchedFault,
-) -> Result<(), Memory> {
-    let number = fault.number;
-    let said = match number {
+/// What is said of the fault of this number of a schedule's text.
+fn fault_words(number: u8) -> &'static str {
+    match number {
         1 => "the text isn't JSON",
         2 =>
             "the text has another shape than a schedule: `{\"keys\":[[[F, divisor], ..], ..]}`, a list for each statement",
         _ => "a limit is passed: 8 keys, divisors from 1 to 2^20, numbers of size below 2^20",
-    };
-    page.line(format!(in page.alloc(); "{file}: error: {said} [fault {number}]")?.as_str())?;
-    Ok(())
+    }
+}
+
+/// The stop where the text of a schedule, which the file of this name has, has a fault.
+fn text_stop(alloc: Global, name: &str, text: &[u8], fault: &SchedFault) -> Stop {
+    let mut page = Page::new(alloc);
+    match write_unread(
+        &mut page,
+        name,
+        text,
+        fault.number,
+        fault_words(fault.number),
+        &fault.place,
+    ) {
+        Ok(()) => Stop::Wrong(page),
+        Err(_) => Stop::Memory,
+    }
+}
+
+/// The schedule of a program that the file of this name has as its text.
+pub(crate) fn schedule_in(
+    alloc: Global,
+    program: &Program,
+    name: &str,
+    text: &[u8],
+) -> Result<Schedule, Stop>
+    ensures { IfOk result (λ schedule. IsSchedule (meaning program.now) schedule) }
+{
+    match read_schedule(alloc, text, program) {
+        Ok(schedule) => Ok(schedule),
+        Err(SchedError::Fault(fault)) => Err(text_stop(alloc, name, text, &fault)),
+        Err(SchedError::Memory) => Err(Stop::Memory),
+    }
 }
 
 /// Writes a vertex by its number and its name.
@@ -102,82 +127,70 @@ pub(crate) fn write_unplayed(
     }
 }
 
-/// The answer about a schedule of a program at these sizes.
-fn order_answer(
+/// The stop where a schedule isn't played at these sizes.
+pub(crate) fn unplayed_stop(
     alloc: Global,
     program: &Program,
     sizes: &[i64],
-    file: &str,
-    text: &[u8],
-) -> Result<Answer, Stop>
+    unplayed: Unplayed,
+) -> Stop
     requires each { length sizes.now ≡ length program.now.params }
     requires small { AllByRecursion (IsSmall VALUE_SIZE) sizes.now }
 {
     let mut page = Page::new(alloc);
-    let schedule = match read_schedule(alloc, text, program) {
-        Ok(schedule) => schedule,
-        Err(SchedError::Fault(fault)) => {
-            write_text_fault(&mut page, file, &fault)?;
-            return Ok(Answer {
-                page,
-                status: Status::Wrong,
-            });
-        }
-        Err(SchedError::Memory) => return Err(Stop::Memory),
-    };
-    let outcome = match play_schedule(alloc, program, &schedule, sizes, &[ENOUGH]) {
+    match write_unplayed(alloc, &mut page, program, sizes, unplayed) {
+        Ok(()) => Stop::Wrong(page),
+        Err(Memory) => Stop::Memory,
+    }
+}
+
+/// The page of a schedule that loads and stores so many words with room for all.
+fn totals_page(alloc: Global, loads: u64, stores: u64) -> Result<Page, Memory> {
+    let mut page = Page::new(alloc);
+    page.line("each instance comes after those whose values it reads")?;
+    page.line(format!(in alloc;
+        "with room for all words it loads {loads} and stores {stores}"
+    )?.as_str())?;
+    Ok(page)
+}
+
+/// The page about a schedule of a program at these sizes.
+fn order_answer(
+    alloc: Global,
+    program: &Program,
+    schedule: &Schedule,
+    sizes: &[i64],
+) -> Result<Page, Stop>
+    requires each { length sizes.now ≡ length program.now.params }
+    requires small { AllByRecursion (IsSmall VALUE_SIZE) sizes.now }
+    requires schedule { IsSchedule (meaning program.now) schedule.now }
+{
+    let outcome = match play_schedule(alloc, program, schedule, sizes, &[ENOUGH]) {
         Ok(all) => all.as_slice().first().copied(),
         Err(PlayFault::Refused(unplayed)) => Some(Played::Refused(unplayed)),
         Err(PlayFault::Memory) => return Err(Stop::Memory),
     };
-    let status = write_outcome(alloc, &mut page, program, sizes, outcome)?;
-    Ok(Answer { page, status })
-}
-
-/// Writes what comes of a schedule with words for everything: the status of it.
-fn write_outcome(
-    alloc: Global,
-    page: &mut Page,
-    program: &Program,
-    sizes: &[i64],
-    outcome: Option<Played>,
-) -> Result<Status, Memory>
-    requires each { length sizes.now ≡ length program.now.params }
-    requires small { AllByRecursion (IsSmall VALUE_SIZE) sizes.now }
-{
     match outcome {
-        Some(Played::Refused(unplayed)) => {
-            write_unplayed(alloc, page, program, sizes, unplayed)?;
-            Ok(Status::Wrong)
-        }
-        Some(Played::Totals { loads, stores }) => {
-            page.line("each instance comes after those whose values it reads")?;
-            page.line(format!(in alloc;
-                "with room for all words it loads {loads} and stores {stores}"
-            )?.as_str())?;
-            Ok(Status::Done)
-        }
-        None => Ok(Status::Done),
+        Some(Played::Refused(unplayed)) => Err(unplayed_stop(alloc, program, sizes, unplayed)),
+        Some(Played::Totals { loads, stores }) => Ok(totals_page(alloc, loads, stores)?),
+        None => Ok(Page::new(alloc)),
     }
 }
 
-/// The answer about a schedule, by words: the names of the program's file and of the schedule's, and sizes.
+/// The page about a schedule, by words: the names of the program's file and of the schedule's, and sizes.
 pub(crate) fn schedule_answer(
     alloc: Global,
     words: &[String],
     text: &[u8],
     schedule: &[u8],
-) -> Result<Answer, Stop> {
+) -> Result<Page, Stop> {
     let [file, name, given @ ..] = words else {
         return Err(Stop::Words);
     };
-    let program = match read_program(alloc, text) {
-        Ok(program) => program,
-        Err(ProgramError::Fault(fault)) => return fault_answer(alloc, file.as_str(), text, fault),
-        Err(ProgramError::Memory) => return Err(Stop::Memory),
+    let program = program_in(alloc, file.as_str(), text)?;
+    let Some(sizes) = sizes_for(alloc, program.params(), given)? else {
+        return Err(Stop::Words);
     };
-    match sizes_for(alloc, program.params(), given)? {
-        Some(sizes) => order_answer(alloc, &program, sizes.as_slice(), name.as_str(), schedule),
-        None => Err(Stop::Words),
-    }
+    let schedule = schedule_in(alloc, &program, name.as_str(), schedule)?;
+    order_answer(alloc, &program, &schedule, sizes.as_slice())
 }

@@ -5,12 +5,10 @@ ghost use Rattle.std.specs.List.{AllByRecursion};
 ghost use Rattle.affine_form.specs.Form.{IsSmall};
 ghost use Rattle.iolb_model.specs.declared.limits.TheConstants.{VALUE_SIZE};
 
-use crate::answer::Answer;
-use crate::programs::fault_answer;
+use crate::programs::program_in;
 use crate::sizes::sizes_for;
-use crate::status::Status;
-use crate::stop::Stop;
-use affine_c::{ProgramError, read_program};
+use crate::stop::{Stop, wrong};
+use affine_form::Memory;
 use affine_program::Program;
 use loop_graph::values_of;
 use named_vertices::{
@@ -19,36 +17,40 @@ use named_vertices::{
 use plain_pages::Page;
 use std::alloc::Global;
 
-/// The answer that a vertex has this number and is this.
-fn named_answer(
+/// The page that a vertex has this number and is this.
+fn named_page(
     alloc: Global,
     program: &Program,
     number: usize,
     named: &Named,
-) -> Result<Answer, Stop> {
+) -> Result<Page, Memory> {
     let mut page = Page::new(alloc);
     page.text(format!(in alloc; "vertex {number} is ")?.as_str())?;
     write_named(&mut page, program, named)?;
     page.line("")?;
-    let status = Status::Done;
-    Ok(Answer { page, status })
+    Ok(page)
 }
 
-/// The answer that no vertex is named.
-pub(crate) fn unnamed_answer(alloc: Global, unnamed: Unnamed) -> Result<Answer, Stop> {
-    let mut page = Page::new(alloc);
+/// The stop where no vertex is named.
+fn unnamed_stop(alloc: Global, unnamed: Unnamed) -> Stop {
     match unnamed {
-        Unnamed::Assumption(number) => page.line(format!(in alloc;
-            "assumption {number}, counted from 0, is false at these sizes"
-        )?.as_str())?,
-        Unnamed::TooMany => {
-            page.line("there are more than 2097152 instances at these sizes")?;
-        }
-        Unnamed::Absent => page.line("there is no such vertex at these sizes")?,
-        Unnamed::Memory => return Err(Stop::Memory),
+        Unnamed::Assumption(number) => assumption_stop(alloc, number),
+        Unnamed::TooMany => wrong(
+            alloc,
+            "there are more than 2097152 instances at these sizes",
+            "",
+        ),
+        Unnamed::Absent => wrong(alloc, "there is no such vertex at these sizes", ""),
+        Unnamed::Memory => Stop::Memory,
     }
-    let status = Status::Wrong;
-    Ok(Answer { page, status })
+}
+
+/// The stop where the assumption of this number is false.
+fn assumption_stop(alloc: Global, number: u16) -> Stop {
+    match format!(in alloc; "assumption {number}, counted from 0, is false at these sizes") {
+        Ok(text) => wrong(alloc, text.as_str(), ""),
+        Err(_) => Stop::Memory,
+    }
 }
 
 /// The vertex that is meant at these sizes of the parameters: its number, and what it is.
@@ -75,31 +77,20 @@ fn find_vertex(
     }
 }
 
-/// The answer about a vertex of a program, by words that name it and its sizes.
-fn answer_in(alloc: Global, program: &Program, words: &[String]) -> Result<Answer, Stop> {
-    let Some((word, given)) = words.split_first() else {
+/// The page about a vertex of the program with this text, by words: the file's name, the vertex, and sizes.
+pub(crate) fn vertex_answer(alloc: Global, words: &[String], text: &[u8]) -> Result<Page, Stop> {
+    let [file, word, given @ ..] = words else {
         return Err(Stop::Words);
     };
+    let program = program_in(alloc, file.as_str(), text)?;
     let Some(sizes) = sizes_for(alloc, program.params(), given)? else {
         return Err(Stop::Words);
     };
-    let Some(spot) = spot_of(alloc, program, word.as_str())? else {
+    let Some(spot) = spot_of(alloc, &program, word.as_str())? else {
         return Err(Stop::Words);
     };
-    match find_vertex(alloc, program, sizes.as_slice(), spot) {
-        Ok((number, named)) => named_answer(alloc, program, number, &named),
-        Err(unnamed) => unnamed_answer(alloc, unnamed),
-    }
-}
-
-/// The answer about a vertex of the program with this text, by words: the file's name, the vertex, and sizes.
-pub(crate) fn vertex_answer(alloc: Global, words: &[String], text: &[u8]) -> Result<Answer, Stop> {
-    let Some((file, rest)) = words.split_first() else {
-        return Err(Stop::Words);
-    };
-    match read_program(alloc, text) {
-        Ok(program) => answer_in(alloc, &program, rest),
-        Err(ProgramError::Fault(fault)) => fault_answer(alloc, file.as_str(), text, fault),
-        Err(ProgramError::Memory) => Err(Stop::Memory),
+    match find_vertex(alloc, &program, sizes.as_slice(), spot) {
+        Ok((number, named)) => Ok(named_page(alloc, &program, number, &named)?),
+        Err(unnamed) => Err(unnamed_stop(alloc, unnamed)),
     }
 }

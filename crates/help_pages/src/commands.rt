@@ -59,19 +59,23 @@ const SCHEDULE: &str = "iolb-explain schedule FILE SCHEDULE NAME=NUMBER...
 const COMPARE: &str =
     "iolb-explain compare [csv | json] FILE CERTIFICATE SCHEDULE... S,S,... NAME=NUMBER...
     prints a table with a row for each number S of words of fast memory and each schedule: the bound, the loads and the stores of
-    the schedule, and the loads over the bound. A schedule that can't be played has no numbers, and the reason stands below the
-    table. `csv` prints comma-separated values, `json` a line of JSON for each row.
+    the schedule, and the loads over the bound. Where a schedule has a list in the place of a divisor, as in `[F, [4,8,16]]`, each of
+    its numbers is played, with all choices of other lists, at most 256; the divisors stand behind the schedule's name. A schedule
+    that can't be played has no numbers, and the reason stands below the table. `csv` prints comma-separated values, `json` a line of
+    JSON for each row.
 ";
 
 const REFUSAL: &str = "iolb-explain refusal FILE CERTIFICATE
     prints whether a certificate meets the conditions, and else which it fails, in a sentence, with the line and column of the
-    place in the certificate's text.
+    place in the certificate's text; for a list how long it is and has to be; and for multipliers of a source tree, of a nest's
+    ranges and of instances the variables, the rows with what each says, the goal, what they sum to, and what is missing.
 ";
 
 const BOUND: &str = "iolb-explain bound FILE [CERTIFICATE]
     prints the bound that a certificate gives, or the one that is made for the program, branch by branch and term by term: what is
-    counted, the read and the statement with their places, and what the term is worth; arrays whose inputs no cold term counts; and
-    reads without a source tree.
+    counted, the read and the statement with their places, what the term is worth, and its leading term; arrays that are read and of
+    which no term counts a word; and reads without a source tree. Of a bound that is made of cold terms alone, or of none, it says
+    what else was tried, and which condition wasn't shown.
 ";
 
 /// The page of help on a topic.

@@ -1,0 +1,7 @@
+use Rattle.std.proofs.Common.{◌≡◌, ◌++◌, take}
+use Rattle.std.specs.List.{flat_map}
+use Rattle.comparisons.specs.Tables.{quoted}
+use Rattle.comparisons.proofs.strings.write_all_quoted.Given as goal
+
+abbrev pub invariant-loop-byte : goal.invariant-loop-byte
+invariant-loop-byte l = l.page ≡ l.initial.page ++ flat_map quoted (take l.byte-index l.name)
