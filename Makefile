@@ -25,9 +25,11 @@ bin/iolb bin/iolb-explain &: $(sources)
 test:
 	rt ci
 
-# The pages' commands print what the pages say, and the schemas of the package hold of the shipped texts.
+# The pages' commands print what the pages say, the gallery is what the programs say, and the schemas of the package hold of the
+# shipped texts.
 docs: bin/iolb
 	bench/pages bin/iolb
+	bench/gallery bin
 	bench/schemas bin/iolb
 
 share := $(DESTDIR)$(PREFIX)/share
