@@ -46,6 +46,7 @@ install: bin/iolb bin/iolb-explain
 	install -D -m 644 package/_iolb-explain $(share)/zsh/site-functions/_iolb-explain
 	install -d $(share)/iolb/schemas
 	install -m 644 package/schemas/*.json $(share)/iolb/schemas
+	install -m 644 package/problem-matcher.json $(share)/iolb
 
 uninstall:
 	rm -f $(installed)
