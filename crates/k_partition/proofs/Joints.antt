@@ -1,7 +1,7 @@
 -- A partition is a joint partition with an image for each point and one labeling for each family: families that may share words
 -- are one group, and families that don't are a group each.
 use Rattle.std.proofs.Common.{◌≡◌, refl, sym, ◌∙◌, ap, subst, inl, inr, ℕ, zero, suc, ◌+◌, ◌-◌, ◌*◌, ◌/◌, ◌^◌, ◌<◌, ◌≤◌, Bool, true, false, cond, List, [], ◌∷◌, ◌++◌, length, map, sum_by, arith, zero-add}
-use Rattle.std.specs.Prelude.{◌⊎◌, ℤ, pos, nat_eq, filter, flat_map, Contains, IsTrue}
+use Rattle.std.specs.Prelude.{ℤ, pos, nat_eq, filter, flat_map, Contains}
 use Rattle.std.specs.List.{AllByRecursion, IsDistinct, range_with_len}
 use Rattle.std.specs.Set.{distinct_count}
 use Rattle.std.proofs.Math.Nat.{pow-suc}
@@ -9,9 +9,8 @@ use Rattle.std.proofs.lemmas.Bool.{false≢true, eq-eqb}
 use Rattle.std.proofs.lemmas.List.{append-nil, length-map}
 use Rattle.std.proofs.lemmas.List.FromFn.{get_or-map-range_with_len, length-map-range_with_len}
 use Rattle.std.proofs.lemmas.List.Sums.{sum_by-cons}
-use Rattle.base_laws.proofs.Lists.{All-map}
 use Rattle.execution_laws.proofs.Members.{Member, Contains-member}
-use Rattle.execution_laws.proofs.Ordered.{All-member, Member-map_from}
+use Rattle.execution_laws.proofs.Ordered.{Member-map_from}
 use Rattle.iolb_model.specs.declared.game.Move.{Move}
 use Rattle.iolb_model.specs.Footprint.{ArePairwiseDisjoint}
 use Rattle.iolb_model.specs.Game.{loads_of, stands_in}
@@ -23,7 +22,7 @@ use Rattle.uniform_cover.specs.Projection.{same_point}
 use Rattle.uniform_cover.proofs.Powers.{self_pow_pos}
 use Rattle.uniform_cover.proofs.ProjectionLemmas.{point_decides}
 use Rattle.stretch_laws.specs.Laws.{HoldsWords, IsGreatestAt, JointsAreLoaded, PointsTakeEvents, RunsAreLoaded, StretchesHoldPoints, StretchesHoldWords, events as joint_events, points_computed as joint_computed, start_label_count as joint_label_count}
-use Rattle.stretch_laws.specs.Reuse.{BeginsWalk, CountedPoint, IsFactor, IsSoundJoint, JointPartition, Labeling, WalkFamily, coordinate_of, group_weight, group_words, joint_weight, joint_words, labelings_factor, weight_at, weight_factor, words_in, IsSoundFamily as IsSoundWalks, FixesCoordinates as FixesImages}
+use Rattle.stretch_laws.specs.Reuse.{BeginsWalk, CountedPoint, IsFactor, IsSoundJoint, JointPartition, WalkFamily, coordinate_of, group_weight, group_words, joint_weight, joint_words, labelings_factor, weight_factor, IsSoundFamily as IsSoundWalks, FixesCoordinates as FixesImages}
 use Rattle.stretch_laws.specs.Runs.{computations_of, computed_vertices, count_events}
 use Rattle.stretch_laws.proofs.Points.{images, member-of}
 use Rattle.k_partition.specs.Laws.{AreInstances, IsGreatestEach, IsGreatestSum, PartitionsAreLoadedEach, PartitionsAreLoadedSum, PointsTakeEventsEach, PointsTakeEventsSum, RunsAreLoadedEach, RunsAreLoadedSum, StretchesHoldLabelsEach, StretchesHoldLabelsSum, StretchesHoldPointsEach, StretchesHoldPointsSum, start_label_count}

@@ -1,7 +1,7 @@
 -- A sound partition term is a sound partition of the computation graph.
 use Rattle.std.proofs.Common.{◌≡◌, refl, sym, ◌∙◌, ap, subst, inl, inr, ℕ, zero, suc, ◌+◌, ◌-◌, ◌<◌, ◌≤◌, Bool, true, false, if◌then◌else◌, List, [], ◌∷◌, ◌++◌, length, map, arith}
 use Rattle.std.specs.Prelude.{◌⊎◌, nat_eq, nat_lt, Option, Some, None, option_map, slice_index_or, flat_map}
-use Rattle.std.specs.List.{position_or_len}
+use Rattle.std.specs.List.{AllByRecursion, position_or_len}
 use Rattle.std.specs.Option.{unwrap_or}
 use Rattle.std.proofs.Math.IntN.{ℤ}
 use Rattle.std.proofs.lemmas.Bool.{eqb-true, lt-ltb, ltb-true}
@@ -133,30 +133,30 @@ module _ (program : AffineProgram) (parameters : List ℤ) (formed : IsWellForme
       (Member-distinct nat_eq eqb-true (place_of program parameters instance) (flat_map (nest_vertices program parameters) credits)
       (Member-flat_map (nest_vertices program parameters) nest credits (place_of program parameters instance) (Member-slice_get credits by.number nest by.is) vertex)))
 
-  module _ (term : PartitionTerm) (admitted : IsAdmitted program parameters) (sound : IsSoundTerm program term) (family : FamilyForms)
-      (family-sound : IsSoundFamily program term.statement term.nest (credited_nests term) family) where
-    abbrev credits : List CreditedNest
-    credits = credited_nests term
+  -- ---- what the walks of a family from the points of a nest read
 
+  module _ (statement : ℕ) (nest : List (AffineForm × AffineForm)) (credits : List CreditedNest) (admitted : IsAdmitted program parameters)
+      (executed : AllByRecursion (IsExecuted program parameters) (instances_in statement nest parameters)) (family : FamilyForms)
+      (family-sound : IsSoundFamily program statement nest credits family) where
     abbrev words : List ℕ
-    words = family_footprint program term.statement term.nest family parameters
+    words = family_footprint program statement nest family parameters
 
     abbrev counted : List Instance
-    counted = instances_in term.statement term.nest parameters
+    counted = instances_in statement nest parameters
 
     -- what the start walk takes from a counted instance
     start-takes : (instance : Instance) → Member instance counted
         → IsAt program parameters (place_of program parameters instance) instance
         × TakesWord program credits family parameters (values_at family.start_label (parameters ++ instance.values)) family.start (place_of program parameters instance) instance
     start-takes instance member =
-        let there : IsExecuted program parameters instance = All-member (IsExecuted program parameters) counted instance (sound.instances parameters admitted) member in
-        let from = Member-map_from (λ (values : List ℤ). record { statement = term.statement; values = values }) instance (points term.nest parameters) member in
-        let within : IsWithin (map step_of term.nest) parameters from.0 = All-member (λ (u : List ℤ). IsWithin (map step_of term.nest) parameters u) (points term.nest parameters) from.0 (points-within term.nest parameters) from.1.0 in
-        let same : record { statement = term.statement; values = from.0 } ≡ instance = sym from.1.1 in (
+        let there : IsExecuted program parameters instance = All-member (IsExecuted program parameters) counted instance executed member in
+        let from = Member-map_from (λ (values : List ℤ). record { statement = statement; values = values }) instance (points nest parameters) member in
+        let within : IsWithin (map step_of nest) parameters from.0 = All-member (λ (u : List ℤ). IsWithin (map step_of nest) parameters u) (points nest parameters) from.0 (points-within nest parameters) from.1.0 in
+        let same : record { statement = statement; values = from.0 } ≡ instance = sym from.1.1 in (
           there,
           subst (λ (i : Instance). IsAt program parameters (place_of program parameters i) i
               → TakesWord program credits family parameters (values_at family.start_label (parameters ++ i.values)) family.start (place_of program parameters i) i) same
-              (λ at. family-sound.begins parameters from.0 (place_of program parameters (record { statement = term.statement; values = from.0 })) admitted within at) there,
+              (λ at. family-sound.begins parameters from.0 (place_of program parameters (record { statement = statement; values = from.0 })) admitted within at) there,
         )
 
     -- what the walk of a region takes from an instance in it
@@ -182,7 +182,7 @@ module _ (program : AffineProgram) (parameters : List ℤ) (formed : IsWellForme
           by at (inl credited) = absurd (let yes : stands_in (credited_vertices program credits parameters) v ≡ true = credited-stands credits v word.0 at credited in cc)
           by at (inr inside) = (word.0, (at, inside))
 
-    start-going : (v : ℕ) → StartWord program term.statement term.nest family parameters v → v < length runs → stands_in (credited_vertices program credits parameters) v ≡ false → IsGoing v
+    start-going : (v : ℕ) → StartWord program statement nest family parameters v → v < length runs → stands_in (credited_vertices program credits parameters) v ≡ false → IsGoing v
     start-going v from below free =
         let taken = start-takes from.0 from.1.0 in
         word-going (values_at family.start_label (parameters ++ from.0.values)) (source_from program parameters family.start (place_of program parameters from.0) from.0) v from.1.1 below free taken.1.word
@@ -192,33 +192,51 @@ module _ (program : AffineProgram) (parameters : List ℤ) (formed : IsWellForme
         let taken = region-takes from.place from.instance from.at from.inside in
         word-going taken.0 (source_from program parameters from.inside.region.tree from.place from.instance) v from.is below free taken.1.1.word
 
-    -- the family is sound
-    pub family-reuses : IsSoundReuse graph (reuse_partition program term parameters) (reuse_family program term parameters family)
-    family-reuses = record {
-      begins = λ vertex stands.
-          let from = Member-map_from (place_of program parameters) vertex counted (standing-member (nest_vertices program parameters (record { statement = term.statement; nest = term.nest })) vertex stands) in
-          let instance : Instance = from.0 in
-          let taken = start-takes instance from.1.0 in
-          let place : ℕ = place_of program parameters instance in
-          let reads = taken-word credits family family.start place instance (values_at family.start_label (parameters ++ instance.values)) words taken.0 taken.1
-          (member-stands words (word_of program parameters family.start place instance) (start-member program term.statement term.nest family parameters instance from.1.0)) in
-          let same : instance_at program parameters vertex ≡ instance = ap (instance_at program parameters) from.1.1 ∙ instance-is place instance taken.0 in
-          subst (λ (l : List ℤ). ReadsWord graph words (vertex_label program family parameters) vertex l) (ap (λ (i : Instance). values_at family.start_label (parameters ++ i.values)) (sym same))
-          (subst (λ (v : ℕ). ReadsWord graph words (vertex_label program family parameters) v (values_at family.start_label (parameters ++ instance.values))) (sym from.1.1) reads);
-      goes_on = λ vertex stands below free.
-          let going : IsGoing vertex = by vertex below free (word-cases program term.statement term.nest family parameters vertex (standing-member words vertex stands)) in
-          let taken = region-takes vertex going.0 going.1.0 going.1.1 in
-          let reads = taken-word credits family going.1.1.region.tree vertex going.0 taken.0 words going.1.0 taken.1.1 (member-stands words (word_of program parameters going.1.1.region.tree vertex going.0) (region-member program term.statement term.nest family parameters vertex going.0 going.1.0 going.1.1)) in
-          subst (λ (l : List ℤ). ReadsWord graph words (vertex_label program family parameters) vertex l)
-          (sym (label-is vertex going.0 going.1.0 below taken.0 taken.1.0)) reads;
-    } where
-      by : (v : ℕ) → v < length runs → stands_in (credited_vertices program credits parameters) v ≡ false
-          → StartWord program term.statement term.nest family parameters v ⊎ RegionWord program family parameters v → IsGoing v
-      by v below free (inl m) = start-going v m below free
-      by v below free (inr m) = region-going v m below free
+    -- a counted instance reads a word with its start label
+    pub start-reads : (instance : Instance) → Member instance counted
+        → ReadsWord graph words (vertex_label program family parameters) (place_of program parameters instance) (values_at family.start_label (parameters ++ instance.values))
+    start-reads instance member =
+        let taken = start-takes instance member in
+        let place : ℕ = place_of program parameters instance in
+        taken-word credits family family.start place instance (values_at family.start_label (parameters ++ instance.values)) words taken.0 taken.1
+        (member-stands words (word_of program parameters family.start place instance) (start-member program statement nest family parameters instance member))
 
-      label-is : (v : ℕ) (instance : Instance) → IsAt program parameters v instance → v < length runs → (label : List ℤ) → label_of_instance family parameters instance ≡ Some label
-          → vertex_label program family parameters v ≡ label
-      label-is v instance at below label has =
-          ap (λ (b : Bool). if b then unwrap_or (label_of_instance family parameters (instance_at program parameters v)) [] else unwrap_or (label_of_cell family parameters (cell_at program parameters v)) []) (lt-ltb v (length runs) below)
-          ∙ some-label credits family (label_of_instance family parameters (instance_at program parameters v)) label (ap (label_of_instance family parameters) (instance-is v instance at) ∙ has)
+    -- and a word that is an instance and isn't credited one with its own label
+    pub word-reads : (vertex : ℕ) → stands_in words vertex ≡ true → vertex < length runs → stands_in (credited_vertices program credits parameters) vertex ≡ false
+        → ReadsWord graph words (vertex_label program family parameters) vertex (vertex_label program family parameters vertex)
+    word-reads vertex stands below free =
+        let going : IsGoing vertex = by vertex below free (word-cases program statement nest family parameters vertex (standing-member words vertex stands)) in
+        let taken = region-takes vertex going.0 going.1.0 going.1.1 in
+        let reads = taken-word credits family going.1.1.region.tree vertex going.0 taken.0 words going.1.0 taken.1.1 (member-stands words (word_of program parameters going.1.1.region.tree vertex going.0) (region-member program statement nest family parameters vertex going.0 going.1.0 going.1.1)) in
+        subst (λ (l : List ℤ). ReadsWord graph words (vertex_label program family parameters) vertex l)
+        (sym (label-is vertex going.0 going.1.0 below taken.0 taken.1.0)) reads where
+          by : (v : ℕ) → v < length runs → stands_in (credited_vertices program credits parameters) v ≡ false
+              → StartWord program statement nest family parameters v ⊎ RegionWord program family parameters v → IsGoing v
+          by v below free (inl m) = start-going v m below free
+          by v below free (inr m) = region-going v m below free
+
+          label-is : (v : ℕ) (instance : Instance) → IsAt program parameters v instance → v < length runs → (label : List ℤ) → label_of_instance family parameters instance ≡ Some label
+              → vertex_label program family parameters v ≡ label
+          label-is v instance at below label has =
+              ap (λ (b : Bool). if b then unwrap_or (label_of_instance family parameters (instance_at program parameters v)) [] else unwrap_or (label_of_cell family parameters (cell_at program parameters v)) []) (lt-ltb v (length runs) below)
+              ∙ some-label credits family (label_of_instance family parameters (instance_at program parameters v)) label (ap (label_of_instance family parameters) (instance-is v instance at) ∙ has)
+
+  -- the family of a term is sound
+  pub family-reuses : (term : PartitionTerm) → IsAdmitted program parameters → IsSoundTerm program term → (family : FamilyForms)
+      → IsSoundFamily program term.statement term.nest (credited_nests term) family → IsSoundReuse graph (reuse_partition program term parameters) (reuse_family program term parameters family)
+  family-reuses term admitted sound family family-sound = record {
+    begins = λ vertex stands.
+        let from = Member-map_from (place_of program parameters) vertex (instances_in term.statement term.nest parameters)
+        (standing-member (nest_vertices program parameters (record { statement = term.statement; nest = term.nest })) vertex stands) in
+        let instance : Instance = from.0 in
+        let executed = sound.instances parameters admitted in
+        let reads = start-reads term.statement term.nest (credited_nests term) admitted executed family family-sound instance from.1.0 in
+        let there : IsAt program parameters (place_of program parameters instance) instance =
+        All-member (IsExecuted program parameters) (instances_in term.statement term.nest parameters) instance executed from.1.0 in
+        let same : instance_at program parameters vertex ≡ instance = ap (instance_at program parameters) from.1.1 ∙ instance-is (place_of program parameters instance) instance there in
+        subst (λ (l : List ℤ). ReadsWord graph (reuse_family program term parameters family).words (vertex_label program family parameters) vertex l)
+        (ap (λ (i : Instance). values_at family.start_label (parameters ++ i.values)) (sym same))
+        (subst (λ (v : ℕ). ReadsWord graph (reuse_family program term parameters family).words (vertex_label program family parameters) v (values_at family.start_label (parameters ++ instance.values)))
+        (sym from.1.1) reads);
+    goes_on = λ vertex stands below free. word-reads term.statement term.nest (credited_nests term) admitted (sound.instances parameters admitted) family family-sound vertex stands below free;
+  }

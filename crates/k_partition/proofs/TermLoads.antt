@@ -52,7 +52,7 @@ module _ (program : AffineProgram) (parameters : List ℤ) where
         vertices-many credits,
       )
 
-  credits-few : (credits : List CreditedNest) → length (credited_vertices program credits parameters) ≤ sum_by (λ (credit : CreditedNest). count credit.nest parameters) credits
+  pub credits-few : (credits : List CreditedNest) → length (credited_vertices program credits parameters) ≤ sum_by (λ (credit : CreditedNest). count credit.nest parameters) credits
   credits-few credits = omega (arith, distinct-few nat_eq (flat_map (nest_vertices program parameters) credits), vertices-many credits)
 
   module _ (term : PartitionTerm) where

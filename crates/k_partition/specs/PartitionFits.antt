@@ -1,5 +1,5 @@
 -- What makes a partition term fit a program, and what follows from its claims.
-use Rattle.std.specs.Prelude.{◌≡◌, ◌*◌, ◌≤◌, ⊤, ℤ, List, length}
+use Rattle.std.specs.Prelude.{◌≡◌, ◌≤◌, ⊤, ℤ, List, length}
 use Rattle.std.specs.List.{AllByRecursion}
 use Rattle.iolb_model.specs.Program.{AffineProgram, IsWellFormed}
 use Rattle.iolb_model.specs.Bound.{IsAdmitted}

@@ -1,6 +1,6 @@
 -- The pieces of a family whose claims hold cover its footprint.
 use Rattle.std.proofs.Common.{◌≡◌, refl, sym, ◌∙◌, ap, subst, inl, inr, ℕ, zero, suc, ◌+◌, true, false, List, [], ◌∷◌, ◌++◌, length, map, zero-add}
-use Rattle.std.specs.Prelude.{◌⊎◌, Option, Some, None, slice_get, IsSomeAnd}
+use Rattle.std.specs.Prelude.{◌⊎◌, Option, Some, None, slice_get, IsSomeAnd, codes}
 use Rattle.std.specs.List.{AllByRecursion}
 use Rattle.std.proofs.Math.IntN.{ℤ}
 use Rattle.std.proofs.Math.Nat.{add-zero}
@@ -15,7 +15,7 @@ use Rattle.execution_laws.proofs.Members.{Member, Member-append_left, Member-app
 use Rattle.execution_laws.proofs.Ordered.{All-member, Member-map_from}
 use Rattle.pebble_game.proofs.InputVertices.{Member-input_cells}
 use Rattle.pebble_game.proofs.Marks.{standing-member}
-use Rattle.claims.specs.Claims.{AllHold}
+use Rattle.claims.specs.Claims.{AllHold, numbered}
 use Rattle.claims.specs.declared.place.Step.{Step}
 use Rattle.claims.proofs.Members.{suc-moved}
 use Rattle.affine_form.specs.Rows.{step_of}
@@ -32,10 +32,10 @@ use Rattle.footprint_pieces.specs.declared.piece.Target.TheVariants.{Cell, Insta
 use Rattle.affine_form.specs.Matrix.{IntegerMatrix}
 use Rattle.reuse_paths.specs.EntryClaims.{keeping_claims}
 use Rattle.reuse_paths.specs.Families.{CreditedNest, FamilyForms, node_label, node_region}
-use Rattle.reuse_paths.specs.FamilyClaims.{family_setting, start_rows, family_claims}
-use Rattle.reuse_paths.specs.FamilyFits.{FamilyFits}
+use Rattle.reuse_paths.specs.FamilyClaims.{family_setting, node_walk, start_rows, start_tree}
+use Rattle.reuse_paths.specs.FamilyFits.{WalksFit}
 use Rattle.reuse_paths.specs.FamilyFootprint.{instances_in, word_of, family_footprint}
-use Rattle.reuse_paths.specs.FamilyPieces.{family_pieces, regions_pieces, region_pieces, FamilyPiecesCover}
+use Rattle.reuse_paths.specs.FamilyPieces.{family_pieces, regions_pieces, region_pieces, FamilyPiecesCover, WalkPiecesCover}
 use Rattle.reuse_paths.specs.LeafClaims.{LeafClaim, no_point, stops, is_credited, goes_on, arrives}
 use Rattle.dep_quast.specs.OpenLeaves.{LeafOrigin, written, as_input, unknown, OpenLeaf, form_at}
 use Rattle.footprint_pieces.specs.Pieces.{FootprintPiece, IsVertexOf, IsInPiece, IsInPieces}
@@ -47,7 +47,8 @@ use Rattle.reuse_paths.specs.WalkPieces.{word_pieces, entry_pieces, leaves_piece
 use Rattle.reuse_paths.specs.WalkSettings.{KeptLabels, WalkSetting, region_variables, reading_point, region_context, region_at}
 use Rattle.reuse_paths.specs.Walks.{WalkTree, take, test, WalkRegion}
 use Rattle.dep_quast.proofs.ChosenLeaves.{forms_at-values}
-use Rattle.reuse_paths.proofs.FamilyWalks.{in-front, start-taken, region-taken}
+use Rattle.reuse_paths.proofs.FamilyWalks.{in-front, start-taken, region-taken, holds-nodes-of, holds-start-of, walks-fit}
+use Rattle.claims.specs.declared.place.Step.TheVariants.{Key}
 use Rattle.reuse_paths.proofs.FamilyWords.{StartWord, RegionWord, word-cases}
 use Rattle.reuse_paths.proofs.NestPoints.{points-within}
 use Rattle.footprint_pieces.proofs.PieceVertices.{cell-vertex, in-pieces}
@@ -202,9 +203,10 @@ module _ (program : AffineProgram) (trees : List (List SelectionTree)) (credits 
       (record { reader = reader; instances = map node_label family.nodes; cells = family.inputs; credits = credits }) taken.place taken.origin taken.says taken.entry taken.hold in
       in-pieces program values all found.0 (vertex_of (length (execution program values)) (input_cells program values) (source_at program values (read_of s read) n x)) (taken.pieces found.0 found.1.0) found.1.1
 
-module _ (program : AffineProgram) (trees : List (List SelectionTree)) (statement : ℕ) (nest : List (AffineForm × AffineForm)) (matrix : IntegerMatrix) (credits : List CreditedNest) (family : FamilyForms)
-    (place : List Step) (formed : IsWellFormed program) (trees-fit : RowsFit program 0 trees) (trees-true : RowsAreTrue program 0 trees)
-    (fits : FamilyFits program trees statement nest matrix credits family) (holds : AllHold (family_claims program trees statement nest matrix credits family place))
+module _ (program : AffineProgram) (trees : List (List SelectionTree)) (statement : ℕ) (nest : List (AffineForm × AffineForm)) (credits : List CreditedNest) (family : FamilyForms) (size : ℕ)
+    (start-place nodes-place : List Step) (formed : IsWellFormed program) (trees-fit : RowsFit program 0 trees) (trees-true : RowsAreTrue program 0 trees)
+    (fits : WalksFit program trees statement credits family size) (holds-start : AllHold (start_tree program trees statement nest credits family start-place))
+    (holds-nodes : AllHold (numbered (node_walk program trees credits family nodes-place) 0 family.nodes))
     (values : List ℤ) (admitted : IsAdmitted program values) (executed : AllByRecursion (IsExecuted program values) (instances_in statement nest values)) where
   abbrev plain : WalkSetting
   plain = family_setting program trees [] family family.start_label
@@ -230,7 +232,7 @@ module _ (program : AffineProgram) (trees : List (List SelectionTree)) (statemen
       let there : IsExecuted program values from.0 = All-member (IsExecuted program values) counted from.0 executed from.1.0 in
       let instance : Instance = record { statement = statement; values = x } in
       let here : IsAt program values (place_of program values instance) instance = subst (λ (i : Instance). IsAt program values (place_of program values i) i) point.1.1 there in
-      let taken = start-taken program trees statement nest matrix credits family place formed trees-fit trees-true fits holds values admitted x (place_of program values instance) within here in
+      let taken = start-taken program trees statement nest credits family size start-place nodes-place formed trees-fit trees-true fits holds-start holds-nodes values admitted x (place_of program values instance) within here in
       let inside : IsInPieces program values (walk_pieces (family_setting program trees credits family family.start_label) statement (region_context plain statement (start_rows plain statement nest)) family.start)
       (vertex_of (length (execution program values)) (input_cells program values) (source_at program values (read_of statement (read_taken family.start ((values ++ []) ++ x))) (place_of program values instance) x)) =
       taken-in program trees credits family family.start_label values formed admitted trees-fit trees-true (place_of program values instance) statement x here (read_taken family.start ((values ++ []) ++ x)) _ taken in
@@ -249,7 +251,7 @@ module _ (program : AffineProgram) (trees : List (List SelectionTree)) (statemen
       let s : ℕ = instance.statement in
       let x : List ℤ = instance.values in
       let tree : WalkTree = inside.region.tree in
-      let region = region-taken program trees statement nest matrix credits family place formed trees-fit trees-true fits holds values admitted n instance here inside in
+      let region = region-taken program trees statement nest credits family size start-place nodes-place formed trees-fit trees-true fits holds-start holds-nodes values admitted n instance here inside in
       let rows : List AffineForm = region_context plain s inside.region.rows in
       let inside-pieces : IsInPieces program values (walk_pieces (family_setting program trees credits family region.label) s rows tree)
       (vertex_of (length (execution program values)) (input_cells program values) (source_at program values (read_of s (read_taken tree ((values ++ []) ++ x))) n x)) =
@@ -269,7 +271,14 @@ module _ (program : AffineProgram) (trees : List (List SelectionTree)) (statemen
   footprint-in vertex (inl from) = start-in vertex from
   footprint-in vertex (inr from) = subst (IsInPieces program values all) (sym from.is) (region-in from.place from.instance from.at from.inside)
 
-pub family-covered : FamilyPiecesCover
-family-covered program trees statement nest matrix credits family place formed trees-fit trees-true fits holds executed values vertex admitted stands =
-    footprint-in program trees statement nest matrix credits family place formed trees-fit trees-true fits holds values admitted (executed values admitted) vertex
+-- so the pieces of walks cover their footprint, wherever their trees stand
+pub walks-covered : WalkPiecesCover
+walks-covered program trees statement nest credits family size start-place nodes-place formed trees-fit trees-true fits holds-start holds-nodes executed values vertex admitted stands =
+    footprint-in program trees statement nest credits family size start-place nodes-place formed trees-fit trees-true fits holds-start holds-nodes values admitted (executed values admitted) vertex
     (word-cases program statement nest family values vertex (standing-member (family_footprint program statement nest family values) vertex stands))
+
+pub family-covered : FamilyPiecesCover
+family-covered program trees statement nest matrix credits family place formed trees-fit trees-true fits holds =
+    walks-covered program trees statement nest credits family (length family.set) (place ++ Key (codes "start") ∷ Key (codes "tree") ∷ []) (place ++ Key (codes "nodes") ∷ []) formed trees-fit trees-true
+    (walks-fit program trees statement nest matrix credits family place fits holds) (holds-start-of program trees statement nest matrix credits family place fits holds)
+    (holds-nodes-of program trees statement nest matrix credits family place fits holds)

@@ -24,9 +24,9 @@ use Rattle.dep_quast.specs.Context.{parameter_point}
 use Rattle.dep_quast.specs.Tree.{SelectionTree}
 use Rattle.dep_quast.specs.Truth.{ReadFits, source_at}
 use Rattle.reuse_paths.specs.Families.{CreditedNest, NodeForms, FamilyForms, node_label, node_region, label_at}
-use Rattle.reuse_paths.specs.FamilyClaims.{family_setting, start_rows, start_walk, label_rows, region_walk, node_walk, family_claims}
-use Rattle.reuse_paths.specs.FamilyFits.{FamilyFits, NodesFit}
-use Rattle.reuse_paths.specs.SoundFamilies.{read_taken, IsInside, IsWord, TakesWord, IsSoundFamily, FamiliesAreSound}
+use Rattle.reuse_paths.specs.FamilyClaims.{family_setting, start_rows, start_tree, start_walk, label_rows, region_walk, node_walk, family_claims}
+use Rattle.reuse_paths.specs.FamilyFits.{FamilyFits, NodesFit, WalksFit}
+use Rattle.reuse_paths.specs.SoundFamilies.{read_taken, IsInside, IsWord, TakesWord, IsSoundFamily, FamiliesAreSound, WalksAreSound}
 use Rattle.dep_quast.specs.Trees.{read_of, RowsFit, RowsAreTrue}
 use Rattle.reuse_paths.specs.WalkClaims.{walk_claims}
 use Rattle.reuse_paths.specs.WalkPieces.{walk_pieces}
@@ -69,26 +69,12 @@ module _ (program : AffineProgram) (trees : List (List SelectionTree)) (credits 
       node-there place (suc first) s nodes region e fits.1 (AllHold-right (node_walk program trees credits family place first node) (numbered (node_walk program trees credits family place) (suc first) nodes) h) in
       subst (λ (k : ℕ). IsNode place k region (node ∷ nodes) (suc s)) (suc-moved first s) (record { label = later.label; is = later.is; fits = later.fits; hold = later.hold })
 
-module _ (program : AffineProgram) (trees : List (List SelectionTree)) (statement : ℕ) (nest : List (AffineForm × AffineForm)) (matrix : IntegerMatrix) (credits : List CreditedNest) (family : FamilyForms)
-    (place : List Step) (formed : IsWellFormed program) (trees-fit : RowsFit program 0 trees) (trees-true : RowsAreTrue program 0 trees)
-    (fits : FamilyFits program trees statement nest matrix credits family) (holds : AllHold (family_claims program trees statement nest matrix credits family place)) where
+module _ (program : AffineProgram) (trees : List (List SelectionTree)) (statement : ℕ) (nest : List (AffineForm × AffineForm)) (credits : List CreditedNest) (family : FamilyForms) (size : ℕ)
+    (start-place nodes-place : List Step) (formed : IsWellFormed program) (trees-fit : RowsFit program 0 trees) (trees-true : RowsAreTrue program 0 trees)
+    (fits : WalksFit program trees statement credits family size) (holds-start : AllHold (start_tree program trees statement nest credits family start-place))
+    (holds-nodes : AllHold (numbered (node_walk program trees credits family nodes-place) 0 family.nodes)) where
   abbrev pub setting : List AffineForm → WalkSetting
   setting reader = family_setting program trees credits family reader
-
-  abbrev start : List Claim
-  start = start_walk program trees statement nest credits family place
-
-  abbrev nodes : List Claim
-  nodes = numbered (node_walk program trees credits family (place ++ Key (codes "nodes") ∷ [])) 0 family.nodes
-
-  abbrev labels : List Claim
-  labels = label_rows matrix family.scale (length program.parameters) (depth_of program statement) (place ++ Key (codes "start") ∷ Key (codes "label") ∷ []) 0 family.set family.start_label
-
-  holds-start : AllHold start
-  holds-start = AllHold-right labels start (AllHold-left (labels ++ start) nodes holds)
-
-  holds-nodes : AllHold nodes
-  holds-nodes = AllHold-right (labels ++ start) nodes holds
 
   module _ (values : List ℤ) (admitted : IsAdmitted program values) where
     -- what the walk of readers with a label takes from an instance, of these pieces
@@ -109,7 +95,7 @@ module _ (program : AffineProgram) (trees : List (List SelectionTree)) (statemen
         let walk : WalkSetting = setting family.start_label in
         let vars : ℕ = region_variables walk statement in
         let point : List ℤ = (values ++ []) ++ x in
-        taken family.start_label n statement x here (place ++ Key (codes "start") ∷ Key (codes "tree") ∷ []) (start_rows walk statement nest) family.start
+        taken family.start_label n statement x here start-place (start_rows walk statement nest) family.start
         (within_rows-met vars (map step_of nest) (parameter_point program vars) (region_values walk statement) point
         (subst (λ (ps : List ℤ). IsWithin (map step_of nest) ps (values_at (region_values walk statement) point)) (sym (params-there walk values [] formed admitted tt n statement x here))
         (subst (λ (ys : List ℤ). IsWithin (map step_of nest) values ys) (sym (loops-there walk values [] formed admitted tt n statement x here)) within)))
@@ -124,28 +110,27 @@ module _ (program : AffineProgram) (trees : List (List SelectionTree)) (statemen
     pub region-taken : (n : ℕ) (instance : Instance) (here : IsAt program values n instance) (inside : IsInside family values instance) → RegionTaken n instance here inside.region
     region-taken n instance here inside =
         let s : ℕ = instance.statement in
-        let at : List Step = place ++ Key (codes "nodes") ∷ [] in
-        let node : IsNode program trees credits family at (0 + s) inside.region family.nodes s =
-        node-there program trees credits family at 0 s family.nodes inside.region inside.is fits.regions holds-nodes in
+        let node : IsNode program trees credits family nodes-place (0 + s) inside.region family.nodes s =
+        node-there program trees credits family nodes-place 0 s family.nodes inside.region inside.is fits.regions holds-nodes in
         let walk : WalkSetting = setting node.label in
         let region-fits : RegionFits walk s (Some inside.region) = subst (λ (k : ℕ). RegionFits walk k (Some inside.region)) (zero-add s) node.fits in
-        let hold : AllHold (region_walk walk at s (Some inside.region)) = subst (λ (k : ℕ). AllHold (region_walk walk at k (Some inside.region))) (zero-add s) node.hold in record {
+        let hold : AllHold (region_walk walk nodes-place s (Some inside.region)) = subst (λ (k : ℕ). AllHold (region_walk walk nodes-place k (Some inside.region))) (zero-add s) node.hold in record {
           label = node.label;
           is = node.is;
-          takes = taken node.label n s instance.values here (at ++ Index s ∷ Key (codes "region") ∷ Key (codes "tree") ∷ []) inside.region.rows inside.region.tree
+          takes = taken node.label n s instance.values here (nodes-place ++ Index s ∷ Key (codes "region") ∷ Key (codes "tree") ∷ []) inside.region.rows inside.region.tree
               (subst (IsMet inside.region.rows) (sym (in-front values instance.values)) inside.met) region-fits.1 hold;
         }
 
     -- it is a word with the reader's label
     word-of-taken : (reader : List AffineForm) (n s : ℕ) (x : List ℤ) (here : IsAt program values n (record { statement = s; values = x })) (tree : WalkTree) (rows : List AffineForm)
-        → length reader ≡ length family.set → Taken reader n s x here tree rows
+        → length reader ≡ size → Taken reader n s x here tree rows
         → TakesWord program credits family values (values_at reader (values ++ x)) tree n (record { statement = s; values = x })
     word-of-taken reader n s x here tree rows many takes =
         let read : ℕ = read_taken tree ((values ++ []) ++ x) in
-        let labels-fit : LabelsFit program (length family.set) (record { reader = reader; instances = map node_label family.nodes; cells = family.inputs; credits = credits }) =
+        let labels-fit : LabelsFit program (size) (record { reader = reader; instances = map node_label family.nodes; cells = family.inputs; credits = credits }) =
         record { instances = fits.labels.instances; each = fits.labels.each; cells = fits.labels.cells; credits = fits.labels.credits } in
         let word : IsWord program credits family values (values_at reader ((values ++ []) ++ x)) (source_at program values (read_of s read) n x) =
-        kept-word program trees credits family reader values formed admitted (length family.set) many labels-fit n s x here read takes.rows takes.place takes.met takes.origin takes.says takes.entry takes.fits takes.hold in
+        kept-word program trees credits family reader values formed admitted (size) many labels-fit n s x here read takes.rows takes.place takes.met takes.origin takes.says takes.entry takes.fits takes.hold in
         subst (λ (p : List ℤ). ReadFits program (read_of s (read_taken tree p)) × IsWord program credits family values (values_at reader p) (source_at program values (read_of s (read_taken tree p)) n x)
         → TakesWord program credits family values (values_at reader (values ++ x)) tree n (record { statement = s; values = x })) (sym (in-front values x))
         (λ both. record { read = both.0; word = both.1 }) (takes.read_fits, word)
@@ -153,10 +138,10 @@ module _ (program : AffineProgram) (trees : List (List SelectionTree)) (statemen
   sound : IsSoundFamily program statement nest credits family
   sound = record {
     begins = λ values x n admitted within here.
-        word-of-taken values admitted family.start_label n statement x here family.start (start_rows (setting family.start_label) statement nest) fits.start_label.each (start-taken values admitted x n within here);
+        word-of-taken values admitted family.start_label n statement x here family.start (start_rows (setting family.start_label) statement nest) fits.start_label (start-taken values admitted x n within here);
     goes_on = λ values n instance admitted here inside label is.
         let region : RegionTaken values admitted n instance here inside.region = region-taken values admitted n instance here inside in
-        let many : length region.label ≡ length family.set = instance-label-many program (length family.set) 0 instance.statement (map node_label family.nodes) region.label fits.labels.instances region.is in
+        let many : length region.label ≡ size = instance-label-many program (size) 0 instance.statement (map node_label family.nodes) region.label fits.labels.instances region.is in
         subst (λ (l : List ℤ). TakesWord program credits family values l inside.region.tree n instance)
         (same (values_at region.label (values ++ instance.values)) label (sym (ap (option_map (λ (l : List AffineForm). values_at l (values ++ instance.values))) region.is) ∙ is))
         (word-of-taken values admitted region.label n instance.statement instance.values here inside.region.tree inside.region.rows many region.takes);
@@ -164,6 +149,34 @@ module _ (program : AffineProgram) (trees : List (List SelectionTree)) (statemen
     same : (a b : List ℤ) → Some a ≡ Some b → a ≡ b
     same a b p = cc
 
+-- so the walks of a family are sound wherever their trees stand
+pub walks-sound : WalksAreSound
+walks-sound program trees statement nest credits family size start-place nodes-place formed trees-fit trees-true fits holds-start holds-nodes =
+    sound program trees statement nest credits family size start-place nodes-place formed trees-fit trees-true fits holds-start holds-nodes
+
+-- and those of a family whose claims hold
+module _ (program : AffineProgram) (trees : List (List SelectionTree)) (statement : ℕ) (nest : List (AffineForm × AffineForm)) (matrix : IntegerMatrix) (credits : List CreditedNest) (family : FamilyForms)
+    (place : List Step) (fits : FamilyFits program trees statement nest matrix credits family) (holds : AllHold (family_claims program trees statement nest matrix credits family place)) where
+  abbrev start : List Claim
+  start = start_walk program trees statement nest credits family place
+
+  abbrev nodes : List Claim
+  nodes = numbered (node_walk program trees credits family (place ++ Key (codes "nodes") ∷ [])) 0 family.nodes
+
+  abbrev labels : List Claim
+  labels = label_rows matrix family.scale (length program.parameters) (depth_of program statement) (place ++ Key (codes "start") ∷ Key (codes "label") ∷ []) 0 family.set family.start_label
+
+  pub holds-start-of : AllHold start
+  holds-start-of = AllHold-right labels start (AllHold-left (labels ++ start) nodes holds)
+
+  pub holds-nodes-of : AllHold nodes
+  holds-nodes-of = AllHold-right (labels ++ start) nodes holds
+
+  pub walks-fit : WalksFit program trees statement credits family (length family.set)
+  walks-fit = record { start_label = fits.start_label.each; labels = fits.labels; start = fits.start; regions = fits.regions }
+
 pub families-sound : FamiliesAreSound
 families-sound program trees statement nest matrix credits family place formed trees-fit trees-true fits holds =
-    sound program trees statement nest matrix credits family place formed trees-fit trees-true fits holds
+    walks-sound program trees statement nest credits family (length family.set) (place ++ Key (codes "start") ∷ Key (codes "tree") ∷ []) (place ++ Key (codes "nodes") ∷ []) formed trees-fit trees-true
+    (walks-fit program trees statement nest matrix credits family place fits holds) (holds-start-of program trees statement nest matrix credits family place fits holds)
+    (holds-nodes-of program trees statement nest matrix credits family place fits holds)

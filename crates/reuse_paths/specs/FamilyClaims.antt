@@ -49,11 +49,15 @@ abbrev pub start_rows : WalkSetting → ℕ → List (AffineForm × AffineForm) 
 start_rows walk statement nest =
     let vars = region_variables walk statement in within_rows vars (map step_of nest) (parameter_point walk.program vars) (region_values walk statement)
 
--- the walk from the instances that are counted
+-- the walk from the instances that are counted, whose tree stands at this place
+abbrev pub start_tree : AffineProgram → List (List SelectionTree) → ℕ → List (AffineForm × AffineForm) → List CreditedNest → FamilyForms → List Step → List Claim
+start_tree program trees statement nest credits family place =
+    let walk = family_setting program trees credits family family.start_label in
+    walk_claims 15 walk statement place (region_context walk statement (start_rows walk statement nest)) family.start
+
 abbrev pub start_walk : AffineProgram → List (List SelectionTree) → ℕ → List (AffineForm × AffineForm) → List CreditedNest → FamilyForms → List Step → List Claim
 start_walk program trees statement nest credits family place =
-    let walk = family_setting program trees credits family family.start_label in
-    walk_claims 15 walk statement (place ++ Key (codes "start") ∷ Key (codes "tree") ∷ []) (region_context walk statement (start_rows walk statement nest)) family.start
+    start_tree program trees statement nest credits family (place ++ Key (codes "start") ∷ Key (codes "tree") ∷ [])
 
 -- those from the instances of a region, whose label is this, and of a node
 abbrev pub region_walk : WalkSetting → List Step → ℕ → Option WalkRegion → List Claim

@@ -42,3 +42,10 @@ pub record FamilyFits (program : AffineProgram) (trees : List (List SelectionTre
       (record { reader = family.start_label; instances = map node_label family.nodes; cells = family.inputs; credits = credits })
   pub start : WalkFits (family_setting program trees credits family family.start_label) statement family.start
   pub regions : NodesFit program trees credits family 0 family.nodes
+
+-- The walks of a family fit, whatever its start label is to fix: each label has so many forms, and its walks fit.
+pub record WalksFit (program : AffineProgram) (trees : List (List SelectionTree)) (statement : ℕ) (credits : List CreditedNest) (family : FamilyForms) (size : ℕ) : Type 0 where
+  pub start_label : length family.start_label ≡ size
+  pub labels : LabelsFit program size (record { reader = family.start_label; instances = map node_label family.nodes; cells = family.inputs; credits = credits })
+  pub start : WalkFits (family_setting program trees credits family family.start_label) statement family.start
+  pub regions : NodesFit program trees credits family 0 family.nodes

@@ -4,13 +4,13 @@ use Rattle.std.specs.List.{AllByRecursion}
 use Rattle.iolb_model.specs.Form.{AffineForm}
 use Rattle.iolb_model.specs.Program.{AffineProgram, IsWellFormed}
 use Rattle.iolb_model.specs.Bound.{IsAdmitted}
-use Rattle.claims.specs.Claims.{AllHold}
+use Rattle.claims.specs.Claims.{AllHold, numbered}
 use Rattle.claims.specs.declared.place.Step.{Step}
 use Rattle.affine_form.specs.Matrix.{IntegerMatrix}
 use Rattle.dep_quast.specs.Tree.{SelectionTree}
 use Rattle.reuse_paths.specs.Families.{CreditedNest, FamilyForms}
-use Rattle.reuse_paths.specs.FamilyClaims.{family_setting, start_rows, family_claims}
-use Rattle.reuse_paths.specs.FamilyFits.{FamilyFits}
+use Rattle.reuse_paths.specs.FamilyClaims.{family_setting, start_rows, start_tree, node_walk, family_claims}
+use Rattle.reuse_paths.specs.FamilyFits.{FamilyFits, WalksFit}
 use Rattle.reuse_paths.specs.FamilyFootprint.{instances_in, family_footprint}
 use Rattle.reuse_paths.specs.Places.{IsExecuted}
 use Rattle.footprint_pieces.specs.Pieces.{FootprintPiece, AreCovered}
@@ -40,5 +40,14 @@ abbrev pub FamilyPiecesCover : Type 0
 FamilyPiecesCover = (program : AffineProgram) (trees : List (List SelectionTree)) (statement : ℕ) (nest : List (AffineForm × AffineForm)) (matrix : IntegerMatrix)
     (credits : List CreditedNest) (family : FamilyForms) (place : List Step) → IsWellFormed program → RowsFit program 0 trees → RowsAreTrue program 0 trees
     → FamilyFits program trees statement nest matrix credits family → AllHold (family_claims program trees statement nest matrix credits family place)
+    → ((parameters : List ℤ) → IsAdmitted program parameters → AllByRecursion (IsExecuted program parameters) (instances_in statement nest parameters))
+    → AreCovered program (family_footprint program statement nest family) (family_pieces program trees statement nest family)
+
+-- So do those of walks whose claims hold, wherever their trees stand.
+abbrev pub WalkPiecesCover : Type 0
+WalkPiecesCover = (program : AffineProgram) (trees : List (List SelectionTree)) (statement : ℕ) (nest : List (AffineForm × AffineForm)) (credits : List CreditedNest) (family : FamilyForms)
+    (size : ℕ) (start_place nodes_place : List Step) → IsWellFormed program → RowsFit program 0 trees → RowsAreTrue program 0 trees
+    → WalksFit program trees statement credits family size → AllHold (start_tree program trees statement nest credits family start_place)
+    → AllHold (numbered (node_walk program trees credits family nodes_place) 0 family.nodes)
     → ((parameters : List ℤ) → IsAdmitted program parameters → AllByRecursion (IsExecuted program parameters) (instances_in statement nest parameters))
     → AreCovered program (family_footprint program statement nest family) (family_pieces program trees statement nest family)

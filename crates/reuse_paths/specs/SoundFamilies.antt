@@ -12,14 +12,14 @@ use Rattle.affine_form.specs.Matrix.{IntegerMatrix}
 use Rattle.affine_form.specs.Rows.{step_of}
 use Rattle.affine_form.specs.Substitution.{values_at}
 use Rattle.affine_form.specs.System.{IsMet}
-use Rattle.claims.specs.Claims.{AllHold}
+use Rattle.claims.specs.Claims.{AllHold, numbered}
 use Rattle.claims.specs.declared.place.Step.{Step}
 use Rattle.dep_quast.specs.Context.{ReadOf}
 use Rattle.dep_quast.specs.Tree.{SelectionTree}
 use Rattle.dep_quast.specs.Truth.{ReadFits, source_at}
 use Rattle.reuse_paths.specs.Families.{CreditedNest, FamilyForms, node_label, node_region, label_at}
-use Rattle.reuse_paths.specs.FamilyClaims.{family_claims}
-use Rattle.reuse_paths.specs.FamilyFits.{FamilyFits}
+use Rattle.reuse_paths.specs.FamilyClaims.{family_claims, node_walk, start_tree}
+use Rattle.reuse_paths.specs.FamilyFits.{FamilyFits, WalksFit}
 use Rattle.dep_quast.specs.Trees.{read_of, RowsFit, RowsAreTrue}
 use Rattle.reuse_paths.specs.WalkSettings.{region_at}
 use Rattle.reuse_paths.specs.Walks.{WalkTree, take, test, WalkRegion}
@@ -89,3 +89,10 @@ FamiliesAreSound = (program : AffineProgram) (trees : List (List SelectionTree))
     (credits : List CreditedNest) (family : FamilyForms) (place : List Step) → IsWellFormed program → RowsFit program 0 trees → RowsAreTrue program 0 trees
     → FamilyFits program trees statement nest matrix credits family → AllHold (family_claims program trees statement nest matrix credits family place)
     → IsSoundFamily program statement nest credits family
+
+-- So is one whose walks' claims hold, wherever their trees stand, and whatever its start label fixes.
+abbrev pub WalksAreSound : Type 0
+WalksAreSound = (program : AffineProgram) (trees : List (List SelectionTree)) (statement : ℕ) (nest : List (AffineForm × AffineForm)) (credits : List CreditedNest) (family : FamilyForms)
+    (size : ℕ) (start_place nodes_place : List Step) → IsWellFormed program → RowsFit program 0 trees → RowsAreTrue program 0 trees
+    → WalksFit program trees statement credits family size → AllHold (start_tree program trees statement nest credits family start_place)
+    → AllHold (numbered (node_walk program trees credits family nodes_place) 0 family.nodes) → IsSoundFamily program statement nest credits family

@@ -1,9 +1,9 @@
 //! What reaches say.
 
 ghost use Rattle.reuse_paths.specs.Arrival.{ReachesArrive};
-ghost use Rattle.reuse_paths.specs.FamilyPieces.{FamilyPiecesCover};
+ghost use Rattle.reuse_paths.specs.FamilyPieces.{FamilyPiecesCover, WalkPiecesCover};
 ghost use Rattle.reuse_paths.specs.FewContexts.{ContextsAreFew};
-ghost use Rattle.reuse_paths.specs.SoundFamilies.{FamiliesAreSound};
+ghost use Rattle.reuse_paths.specs.SoundFamilies.{FamiliesAreSound, WalksAreSound};
 
 /// A law: where the claims of a reach hold, over true source trees, then at all admitted parameter values, of any size, and
 /// at each point of the nest at which the first spot is an instance of the execution, the second is that instance or is
@@ -20,10 +20,20 @@ pub fn families_are_sound()
     ensures { FamiliesAreSound }
 {}
 
+/// A law: so is a family whose walks' claims hold, wherever their trees stand, and whatever its start label fixes.
+pub fn walks_are_sound()
+    ensures { WalksAreSound }
+{}
+
 /// A law: where the claims of a family hold, over true source trees, and the points of its nest are instances, each vertex of
 /// its footprint is in one of its pieces.
 pub fn family_pieces_cover()
     ensures { FamilyPiecesCover }
+{}
+
+/// A law: so is each vertex of the footprint of walks whose claims hold, wherever their trees stand.
+pub fn walk_pieces_cover()
+    ensures { WalkPiecesCover }
 {}
 
 /// A law: where the claims of a family hold, the rows of each of its contexts are few, so its pieces are told.

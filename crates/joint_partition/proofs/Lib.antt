@@ -1,0 +1,12 @@
+pub mod SplitEnds
+pub mod Images
+pub mod PartWalks
+pub mod JointReuse
+pub mod GroupSums
+pub mod JointSound
+pub mod JointLoads
+pub mod PartsSound
+pub mod MovedClaims
+pub mod FamiliesSound
+pub mod GroupsApart
+pub mod ClaimsCost
