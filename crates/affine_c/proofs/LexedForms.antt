@@ -6,13 +6,13 @@ use Rattle.std.proofs.lemmas.Bool.Decides.{nat_tests}
 use Rattle.std.proofs.lemmas.Bool.{and_parts}
 use Rattle.base_laws.proofs.Lists.{All-append}
 use Rattle.iolb_model.specs.Form.{AffineForm}
-use Rattle.iolb_model.specs.Program.{Access, Statement, Item, assign, loop, Row, done, next, Array, AffineProgram, statement_at}
+use Rattle.iolb_model.specs.Program.{Direction, upward, downward, Access, Statement, Item, assign, loop, Row, done, next, Array, AffineProgram, statement_at}
 use Rattle.iolb_model.specs.Printed.{is_below_zero, size_text, later_terms_text, terms_text, form_text}
 use Rattle.c_tokens.specs.Bytes.{is_name_byte, is_digit}
 use Rattle.c_tokens.specs.declared.token.TokenKind.{TokenKind}
 use Rattle.c_tokens.specs.declared.token.TokenKind.TheVariants as token
 use Rattle.c_tokens.specs.Names.{IsName}
-use Rattle.c_grammar.specs.Words.{Word, a_name, a_number, a_symbol}
+use Rattle.c_grammar.specs.Words.{Word, a_keyword, a_name, a_number, a_symbol}
 use Rattle.c_grammar.specs.Affine.{affine_words, sums_words, term_words, subscripts_words, reference_words}
 use Rattle.c_grammar.specs.Value.{value_words, arguments_words}
 use Rattle.c_grammar.specs.Item.{assign_words, header_words, item_words, items_words}
@@ -209,37 +209,51 @@ module _ (p : AffineProgram) (is : HasRoles p) where
         let reads = space_then (reads_lex (access_seen seen statement.writes) statement.reads fits.accesses.1 close) in
         lexes_as (access_lexes seen statement.writes fits.accesses.0 (space_then (word_then token.Symbol (codes "=") (single_fits 61 (32 ∷ _) refl refl) reads.lexes))) (simp append_assoc) (simp append_assoc)
 
+    -- the beginning of a header, up to its first bound
+    begun : {last : TokenKind} {inside : Bool} {text : List ℕ} {ws : List Word} (name : List ℕ) (first : AffineForm) → IsName name → IsSmallForm (length p.parameters) (length around) first → Lexes last true text ws
+        → Lexes last inside (codes "for (" ++ name ++ codes " = " ++ form_text (p.parameters ++ around) first ++ codes "; " ++ text)
+        (a_keyword (codes "for") ∷ a_symbol (codes "(") ∷ a_name name ∷ a_symbol (codes "=") ∷ (affine_words (form_tree (p.parameters ++ around) first) ++ (a_symbol (codes ";") ∷ ws)))
+    begun name first is_name small behind =
+        let bound = space_then (form_lexes first are small (symbol_then 59 (plain_fits 59 _ refl refl refl) refl (space_then behind).lexes)) in
+        let named = name_lexes name is_name (space_then (word_then token.Symbol (codes "=") (single_fits 61 (32 ∷ _) refl refl) bound.lexes)) in
+        lexes_as (word_then token.Word (codes "for") (record { begins = refl; in_line = refl; long = λ region. refl; token = λ region place. refl })
+        (space_then (word_then token.Symbol (codes "(") (plain_fits 40 _ refl refl refl) named)).lexes) (simp append_assoc) refl
+
     -- a header, and the bracket behind it
-    header_lexes : {last : TokenKind} {inside : Bool} {text : List ℕ} {ws : List Word} (name : List ℕ) (lower upper : AffineForm) → last ≡ token.End → IsReadableHeader p around name lower upper → Lexes last false text ws
-        → Lexes last inside (header_text (p.parameters ++ around) name lower upper ++ text) (header_words (header_tree (p.parameters ++ around) name lower upper) ++ (a_symbol (codes "{") ∷ ws))
-    header_lexes name lower upper program fits l =
+    header_lexes : {last : TokenKind} {inside : Bool} {text : List ℕ} {ws : List Word} (name : List ℕ) (direction : Direction) (lower upper : AffineForm) → last ≡ token.End → IsReadableHeader p around name lower upper → Lexes last false text ws
+        → Lexes last inside (header_text (p.parameters ++ around) name direction lower upper ++ text) (header_words (header_tree (p.parameters ++ around) name direction lower upper) ++ (a_symbol (codes "{") ∷ ws))
+    header_lexes name upward lower upper program fits l =
         let brace = space_then (symbol_then 123 (plain_fits 123 _ refl refl refl) refl (newline_then program l)).lexes in
         let close = symbol_then 41 (plain_fits 41 _ refl refl refl) refl brace.lexes in
         let plus = word_then token.Symbol (codes "++") (record { begins = refl; in_line = refl; long = λ region. refl; token = λ region place. refl }) close.lexes in
         let step = space_then (word_then token.Name name (name_fits name _ fits.is_name refl) plus) in
         let high = space_then (form_lexes upper are fits.upper_small (symbol_then 59 (plain_fits 59 _ refl refl refl) refl step.lexes)) in
         let compare = space_then (word_then token.Symbol (codes "<=") (record { begins = refl; in_line = refl; long = λ region. refl; token = λ region place. refl }) high.lexes) in
-        let behind = space_then (name_lexes name fits.is_name compare) in
-        let low = space_then (form_lexes lower are fits.lower_small (symbol_then 59 (plain_fits 59 _ refl refl refl) refl behind.lexes)) in
-        let named = name_lexes name fits.is_name (space_then (word_then token.Symbol (codes "=") (single_fits 61 (32 ∷ _) refl refl) low.lexes)) in
-        lexes_as (word_then token.Word (codes "for") (record { begins = refl; in_line = refl; long = λ region. refl; token = λ region place. refl })
-        (space_then (word_then token.Symbol (codes "(") (plain_fits 40 _ refl refl refl) named)).lexes) (simp append_assoc) (simp append_assoc)
+        lexes_as (begun name lower fits.is_name fits.lower_small (name_lexes name fits.is_name compare)) (simp append_assoc) (simp append_assoc)
+    header_lexes name downward lower upper program fits l =
+        let brace = space_then (symbol_then 123 (plain_fits 123 _ refl refl refl) refl (newline_then program l)).lexes in
+        let close = symbol_then 41 (plain_fits 41 _ refl refl refl) refl brace.lexes in
+        let minus = word_then token.Symbol (codes "--") (record { begins = refl; in_line = refl; long = λ region. refl; token = λ region place. refl }) close.lexes in
+        let step = space_then (word_then token.Name name (name_fits name _ fits.is_name refl) minus) in
+        let low = space_then (form_lexes lower are fits.lower_small (symbol_then 59 (plain_fits 59 _ refl refl refl) refl step.lexes)) in
+        let compare = space_then (word_then token.Symbol (codes ">=") (record { begins = refl; in_line = refl; long = λ region. refl; token = λ region place. refl }) low.lexes) in
+        lexes_as (begun name upper fits.is_name fits.upper_small (name_lexes name fits.is_name compare)) (simp append_assoc) (simp append_assoc)
 
   mutual
     -- an item
     item_lexes : {last : TokenKind} {text : List ℕ} {ws : List Word} (around : List (List ℕ)) (are : AreVariables p.parameters around) (seen : ℕ) (item : Item) → last ≡ token.End → IsReadableItem p around seen item → Lexes last false text ws
         → Lexes last false (item_text p (p.parameters ++ around) item ++ text) (item_words (item_tree p (p.parameters ++ around) item) ++ ws)
     item_lexes around are seen (assign number) program fits l = statement_lexes around are seen (statement_at p number) program fits l
-    item_lexes {last} {text} {ws} around are seen (loop name lower upper body) program fits l =
+    item_lexes {last} {text} {ws} around are seen (loop name direction lower upper body) program fits l =
         let inner : AreVariables p.parameters (around ++ name ∷ []) = are_variables (around ++ name ∷ []) (All-append IsName around (name ∷ []) are.loop_names (fits.0.is_name, tt)) (omega (arith, fits.0.depth, length-append around (name ∷ []))) in
         let close = word_then token.Symbol (codes "}") (plain_fits 125 _ refl refl refl) (newline_then program l) in
         let rows = row_lexes (around ++ name ∷ []) inner seen body program fits.1 close in
         let again = subst (λ names. Lexes last false (row_text p names body ++ (codes "}\n" ++ text)) (items_words (row_tree p names body) ++ (a_symbol (codes "}") ∷ ws))) (sym (append_assoc p.parameters around (name ∷ []))) rows in
-        let head : List ℕ = header_text (p.parameters ++ around) name lower upper in
+        let head : List ℕ = header_text (p.parameters ++ around) name direction lower upper in
         let inside : List ℕ = row_text p ((p.parameters ++ around) ++ name ∷ []) body in
-        let head_words : List Word = header_words (header_tree (p.parameters ++ around) name lower upper) in
+        let head_words : List Word = header_words (header_tree (p.parameters ++ around) name direction lower upper) in
         let words : List Word = items_words (row_tree p ((p.parameters ++ around) ++ name ∷ []) body) in
-        lexes_as (header_lexes around are name lower upper program fits.0 again) (sym (append_assoc (head ++ inside) (codes "}\n") text ∙ append_assoc head inside (codes "}\n" ++ text)))
+        lexes_as (header_lexes around are name direction lower upper program fits.0 again) (sym (append_assoc (head ++ inside) (codes "}\n") text ∙ append_assoc head inside (codes "}\n" ++ text)))
         (ap (λ (l : List Word). head_words ++ (a_symbol (codes "{") ∷ l)) (sym (append_assoc words (a_symbol (codes "}") ∷ []) ws)) ∙ sym (append_assoc head_words (a_symbol (codes "{") ∷ (words ++ a_symbol (codes "}") ∷ [])) ws))
 
     -- a row

@@ -4,10 +4,10 @@ use Rattle.std.specs.Prelude.{Option, Some, IsSomeAnd, ◌==◌, if◌then◌els
 use Rattle.std.specs.List.{AllByRecursion, enumerate_from}
 use Rattle.std.proofs.lemmas.List.{length-map}
 use Rattle.iolb_model.specs.Form.{AffineForm}
-use Rattle.iolb_model.specs.Path.{PathStep, rises, first_of, item_path, row_path}
+use Rattle.iolb_model.specs.Path.{PathStep, bounded, first_of, item_path, row_path}
 use Rattle.affine_form.specs.Form.{IsSmallForm}
 use Rattle.affine_form.specs.Rows.{step_of}
-use Rattle.affine_c.specs.Built.{IsSmallStep, IsShortWay, HasShortWays, AreRowsOver, StandsIn, ArePlaced}
+use Rattle.affine_c.specs.Built.{IsSmallStep, IsShortWay, HasShortWays, AreRowsOver, StandsIn, RunsIn, ArePlaced}
 use Rattle.iolb_model.specs.declared.limits.TheConstants.{LOOPS, NUMBER_SIZE, ARRAYS, PARAMETERS, SUBSCRIPTS}
 use Rattle.iolb_model.specs.Program.{Item, assign, loop, Row, done, next, AffineProgram, Statement as ModelStatement, IsWellFormed}
 use Rattle.execution_laws.proofs.Domains.{way-there}
@@ -38,9 +38,11 @@ pub rows_there : (reading : Reading) (depth : ℕ) (accesses : List Access) → 
 rows_there reading depth accesses h = All-weaken (IsAccessIn reading depth) (AreRowsOver (length (parameters_of reading)) depth) accesses (λ a is. is.rows) h
 
 -- a statement more stands in the tree
-pub placed_more : (tree : Row) (made new : List Statement) (one : Statement) → ArePlaced tree made → new ≡ made ++ one ∷ [] → StandsIn tree (length made, one) → IsStatementWithinLimits one → ArePlaced tree new
-placed_more tree made new one h grown stands within = subst (ArePlaced tree) (sym grown) (record {
+pub placed_more : (tree : Row) (made new : List Statement) (one : Statement) → ArePlaced tree made → new ≡ made ++ one ∷ [] → StandsIn tree (length made, one) → RunsIn tree (length made, one) → IsStatementWithinLimits one
+    → ArePlaced tree new
+placed_more tree made new one h grown stands runs within = subst (ArePlaced tree) (sym grown) (record {
   bounds = placed_push (StandsIn tree) 0 made one h.bounds (subst (λ (n : ℕ). StandsIn tree (n, one)) (omega arith) stands);
+  directions = placed_push (RunsIn tree) 0 made one h.directions (subst (λ (n : ℕ). RunsIn tree (n, one)) (omega arith) runs);
   limits = All-push IsStatementWithinLimits made one h.limits within;
 })
 
@@ -72,14 +74,14 @@ mutual
     at_statement : (b : Bool) → IsSomeAnd {T = List PathStep} (if b then Some [] else None) (λ path. Unit {0}) → IsSomeAnd {T = List PathStep} (if b then Some [] else None) (IsShortFrom (length around))
     at_statement true h = (omega (arith, inner), tt)
     at_statement false h = absurd h
-  item_short p around (loop name lower upper body) s inner fits h =
+  item_short p around (loop name direction lower upper body) s inner fits h =
       let more : length (around ++ name ∷ []) ≡ suc (length around) = omega (arith, length-append around (name ∷ [])) in
       longer more (row_path body s) (row_short p (around ++ name ∷ []) body s (omega (arith, more, fits.0.depth)) fits.1 (inside (row_path body s) h)) where
-        inside : (o : Option (List PathStep)) → IsSomeAnd (option_map (λ path. rises lower upper ∷ path) o) (λ path. Unit {0}) → IsSomeAnd o (λ path. Unit {0})
+        inside : (o : Option (List PathStep)) → IsSomeAnd (option_map (λ path. bounded lower upper ∷ path) o) (λ path. Unit {0}) → IsSomeAnd o (λ path. Unit {0})
         inside None h = h
         inside (Some path) h = h
 
-        longer : length (around ++ name ∷ []) ≡ suc (length around) → (o : Option (List PathStep)) → IsSomeAnd o (IsShortFrom (length (around ++ name ∷ []))) → IsSomeAnd (option_map (λ path. rises lower upper ∷ path) o) (IsShortFrom (length around))
+        longer : length (around ++ name ∷ []) ≡ suc (length around) → (o : Option (List PathStep)) → IsSomeAnd o (IsShortFrom (length (around ++ name ∷ []))) → IsSomeAnd (option_map (λ path. bounded lower upper ∷ path) o) (IsShortFrom (length around))
         longer e None h = h
         longer e (Some path) h = (omega (arith, h.0, e), ((fits.0.lower_small, fits.0.upper_small), h.1))
 
@@ -147,6 +149,7 @@ made_program r parts well made =
       printable = fits.1;
       assumed = ap (λ (s : AffineSystem). s.vars) made.assumed ∙ ap (λ (ns : List (List ℕ)). length ns) (sym made.params);
       bounds = made.placed.bounds;
+      directions = made.placed.directions;
       limits = record {
         parameters = subst (λ (ns : List (List ℕ)). length ns ≤ PARAMETERS) (sym made.params) well.parameters;
         assumptions = omega (arith, rows_many, well.few_assumptions);

@@ -1,9 +1,9 @@
 -- What the trees of printed loops and rows mean: themselves.
-use Rattle.std.proofs.Common.{◌≡◌, refl, sym, ap, subst, ◌∙◌, ℕ, zero, suc, ◌+◌, ◌-◌, ◌≤◌, true, false, List, [], ◌∷◌, ◌++◌, append_assoc, append-nil, length, map, arith, length-append, ⊎_elim, ℤ, take, drop}
+use Rattle.std.proofs.Common.{◌≡◌, pos, refl, sym, ap, subst, ◌∙◌, ℕ, zero, suc, ◌+◌, ◌-◌, ◌≤◌, Bool, true, false, List, [], ◌∷◌, ◌++◌, append_assoc, append-nil, length, map, arith, length-append, ⊎_elim, ℤ, take, drop}
 use Rattle.std.specs.Prelude.{bytes_eq, Some, slice_index_or}
 use Rattle.std.specs.List.{AllByRecursion, list_any, range_with_len}
 use Rattle.iolb_model.specs.Form.{AffineForm}
-use Rattle.iolb_model.specs.Program.{Item, assign, loop, Row, done, next, AffineProgram, statement_at, IsOver, AccessFits, ItemFits, RowFits, item_statements, row_statements}
+use Rattle.iolb_model.specs.Program.{Direction, upward, downward, Item, assign, loop, Row, done, next, AffineProgram, statement_at, IsOver, AccessFits, ItemFits, RowFits, item_statements, row_statements}
 use Rattle.c_reading.specs.declared.named.Kind.TheVariants.{OpenLoop, ClosedLoop}
 use Rattle.c_reading.specs.declared.tree.Header.{Header as ReadHeader}
 use Rattle.c_reading.specs.Tree as read
@@ -11,16 +11,17 @@ use Rattle.c_reading.specs.Tree.{Item as ReadItem, Items as ReadItems, with_item
 use Rattle.c_reading.specs.Affine.{with_name}
 use Rattle.c_reading.specs.Compare.{most_brackets}
 use Rattle.c_reading.specs.Items.{most_statements}
-use Rattle.c_reading.specs.Numbers.{most_parameters, most_loops, width, is_small}
+use Rattle.c_reading.specs.Numbers.{most_parameters, most_loops, width, is_small, combined, zeros}
 use Rattle.c_reading.specs.Refs.{with_kind}
 use Rattle.c_grammar.specs.Meaning as mean
 use Rattle.c_grammar.specs.Meaning.{Names, affine_means, header_means, loop_by, item_means, items_means, begin, end, statement_means}
+use Rattle.affine_form.specs.Rows.{direction_of}
 use Rattle.affine_program.specs.Tree.{row_from}
 use Rattle.c_grammar.specs.Well.{item_count, statement_count}
 use Rattle.c_grammar.specs.Program.{narrowed, narrowed_statement, statements_in_item, statements_in, item_meant, items_meant}
 use Rattle.c_grammar.proofs.Kept.{count_more}
 use Rattle.affine_c.specs.Tree.{header_tree, item_tree, row_tree}
-use Rattle.affine_c.proofs.Roles.{padded, widened, widened_statement, IsSmall, HasRoles, IsReadableHeader, IsReadableItem, IsReadableRow, item_seen, row_seen, statement_seen, other, role}
+use Rattle.affine_c.proofs.Roles.{padded, widened, widened_statement, IsSmall, HasRoles, IsReadableHeader, IsSmallForm, IsReadableItem, IsReadableRow, item_seen, row_seen, statement_seen, other, role}
 use Rattle.c_tokens.specs.Names.{IsName}
 use Rattle.base_laws.proofs.Lists.{All-append, All-weaken}
 use Rattle.affine_c.proofs.RowForms.{small_is, form_back, form_statement_back, length-padded}
@@ -43,6 +44,15 @@ length-widened parameters depth form =
     omega (arith, length-append first second, length-padded most_parameters (take parameters form.coefficients), length-padded most_loops (take depth (drop parameters form.coefficients)))
 
 -- ---- headers
+
+-- whether a loop that goes so runs downward
+abbrev falls : Direction → Bool
+falls upward = false
+falls downward = true
+
+falls_back : (direction : Direction) → direction_of (falls direction) ≡ direction
+falls_back upward = refl
+falls_back downward = refl
 
 -- what is known behind a loop's name
 pub record IsLoopNamed (p : AffineProgram) (around : List (List ℕ)) (seen count : ℕ) (i : Names) (name : List ℕ) (number : ℕ) (j : Names) : Type 0 where
@@ -77,22 +87,42 @@ module _ (p : AffineProgram) (around : List (List ℕ)) (is : HasRoles p) (loops
       ))
       (knows.0.other_names name is_other apart)
 
+  -- a bound that isn't excluded is its form
+  kept_form : (form : AffineForm) → IsSmallForm (length p.parameters) (length around) form
+      → combined (pos 1) (pos 0) zeros (widened (length p.parameters) (length around) form) ≡ Some (widened (length p.parameters) (length around) form)
+  kept_form form small =
+      let wide : List ℤ = widened (length p.parameters) (length around) form in
+      combined_kept wide (record { few = omega (arith, length-widened (length p.parameters) (length around) form); small = All-weaken IsSmall (λ n. is_small n ≡ true) wide small_is small })
+
   -- a printed header means its loop
-  header_meant : (brackets seen count : ℕ) (i : Names) (name : List ℕ) (lower upper : AffineForm) → Knows p (length p.parameters) around seen count i → IsReadableHeader p around name lower upper
-      → (number : ℕ) × Means (header_means brackets (header_tree (p.parameters ++ around) name lower upper) i) (record { name = number; lower = widened (length p.parameters) (length around) lower; upper = widened (length p.parameters) (length around) upper }) (IsLoopNamed p around seen count i name number)
+  header_meant : (brackets seen count : ℕ) (i : Names) (name : List ℕ) (direction : Direction) (lower upper : AffineForm) → Knows p (length p.parameters) around seen count i → IsReadableHeader p around name lower upper
+      → (number : ℕ) × Means (header_means brackets (header_tree (p.parameters ++ around) name direction lower upper) i) (record { name = number; down = falls direction; lower = widened (length p.parameters) (length around) lower; upper = widened (length p.parameters) (length around) upper }) (IsLoopNamed p around seen count i name number)
   unfolding header_means
-  header_meant brackets seen count i name lower upper knows fits =
+  header_meant brackets seen count i name upward lower upper knows fits =
       let first = loop_named seen count i name knows fits.is_name fits.is_other fits.is_new in
       let j : Names = first.1.names in
       let variables : KnowsVariables j p.parameters around = knows-variables p around seen j is loops first.1.so.knows.0 in
       let low = form_means brackets j p.parameters around lower variables fits.lower_small in
-      let high = form_means brackets j p.parameters around upper variables fits.upper_small in
-      let wide : List ℤ = widened (length p.parameters) (length around) upper in (
+      let high = form_means brackets j p.parameters around upper variables fits.upper_small in (
         first.0,
         record {
           names = j;
           is = means_then (mean.loop_name name i) _ first.1.is (means_then (affine_means brackets _ j) _ low.1 (means_then (affine_means brackets _ j) _ high.1
-              (means_given _ _ j (combined_kept wide (record { few = omega (arith, length-widened (length p.parameters) (length around) upper); small = All-weaken IsSmall (λ n. is_small n ≡ true) wide small_is fits.upper_small })) refl)));
+              (means_given _ _ j (kept_form upper fits.upper_small) refl)));
+          so = first.1.so;
+        },
+      )
+  header_meant brackets seen count i name downward lower upper knows fits =
+      let first = loop_named seen count i name knows fits.is_name fits.is_other fits.is_new in
+      let j : Names = first.1.names in
+      let variables : KnowsVariables j p.parameters around = knows-variables p around seen j is loops first.1.so.knows.0 in
+      let low = form_means brackets j p.parameters around lower variables fits.lower_small in
+      let high = form_means brackets j p.parameters around upper variables fits.upper_small in (
+        first.0,
+        record {
+          names = j;
+          is = means_then (mean.loop_name name i) _ first.1.is (means_then (affine_means brackets _ j) _ high.1 (means_then (affine_means brackets _ j) _ low.1
+              (means_given _ _ j (kept_form lower fits.lower_small) refl)));
           so = first.1.so;
         },
       )
@@ -185,19 +215,19 @@ module _ (p : AffineProgram) (is : HasRoles p) where
             };
           },
         )
-    item_is_meant (loop name lower upper body) around loops zero brackets seen first before i depth nested knows few fits over numbered = absurd (omega (arith, fits.0.depth))
-    item_is_meant (loop name lower upper body) around loops (suc more) zero seen first before i depth nested knows few fits over numbered = absurd (omega (arith, fits.0.depth))
-    item_is_meant (loop name lower upper body) around loops (suc more) (suc brackets) seen first before i depth nested knows few fits over numbered =
+    item_is_meant (loop name direction lower upper body) around loops zero brackets seen first before i depth nested knows few fits over numbered = absurd (omega (arith, fits.0.depth))
+    item_is_meant (loop name direction lower upper body) around loops (suc more) zero seen first before i depth nested knows few fits over numbered = absurd (omega (arith, fits.0.depth))
+    item_is_meant (loop name direction lower upper body) around loops (suc more) (suc brackets) seen first before i depth nested knows few fits over numbered =
         let P : ℕ = length p.parameters in
         let D : ℕ = length around in
         let inner : List (List ℕ) = around ++ name ∷ [] in
         let count : ℕ = first + length (row_statements body) in
         let deeper : length inner ≡ suc D = omega (arith, length-append around (name ∷ [])) in
         let inner_loops : AreLoops p inner = loops_more around name lower upper loops fits.0 in
-        let head = header_meant p around is loops brackets seen first i name lower upper knows fits.0 in
+        let head = header_meant p around is loops brackets seen first i name direction lower upper knows fits.0 in
         let j : Names = head.1.names in
         let known = head.1.so in
-        let l : ReadHeader = record { name = head.0; lower = widened P D lower; upper = widened P D upper } in
+        let l : ReadHeader = record { name = head.0; down = falls direction; lower = widened P D lower; upper = widened P D upper } in
         let second : Names = changed l.name (OpenLoop D) j in
         let knows_second : Knows p (length p.parameters) inner seen first second = (knows_opened p is around name fits.0.is_other fits.0.is_new seen j.names j.kinds l.name known.knows.0 known.there known.closed, known.knows.1, known.knows.2, known.knows.3) in
         let at_depth : most_loops - 1 - more ≡ D = omega arith in
@@ -214,7 +244,7 @@ module _ (p : AffineProgram) (is : HasRoles p) where
           with_item before t,
           record {
             names = last;
-            is = means_then (header_means brackets (header_tree (p.parameters ++ around) name lower upper) i) _ head.1.is
+            is = means_then (header_means brackets (header_tree (p.parameters ++ around) name direction lower upper) i) _ head.1.is
                 (ap (λ d. mean.then_in (items_means more brackets read.done body_tree (changed l.name (OpenLoop d) j)) (λ all. λ s. mean.then_in (end l.name s) (λ _. mean.pure (with_item before (read.loop l all))))) at_depth ∙ means_then (items_means more brackets read.done body_tree second) _ body_is refl);
             so = record {
               knows = knows_last;
@@ -228,10 +258,11 @@ module _ (p : AffineProgram) (is : HasRoles p) where
                   let none : first + 0 ≡ first = omega arith in
                   let inside : items_meant longer P (suc D) (start + statement_count before) rows.0 ≡ row_list body = ap (λ n. items_meant longer P (suc D) n rows.0) e ∙ ap (λ d. items_meant longer P d first rows.0) (sym deeper) ∙ rows.1.so.same longer first extends none in
                   meant_more longer P D start before t
-                  ∙ ap (λ n. items_meant longer P D start before ++ loop n (narrowed P D (widened P D lower)) (narrowed P D (widened P D upper)) (row_from (items_meant longer P (suc D) (start + statement_count before) rows.0)) ∷ []) name_is
-                  ∙ ap (λ f. items_meant longer P D start before ++ loop name f (narrowed P D (widened P D upper)) (row_from (items_meant longer P (suc D) (start + statement_count before) rows.0)) ∷ []) low
-                  ∙ ap (λ f. items_meant longer P D start before ++ loop name lower f (row_from (items_meant longer P (suc D) (start + statement_count before) rows.0)) ∷ []) high
-                  ∙ ap (λ r. items_meant longer P D start before ++ loop name lower upper r ∷ []) (ap row_from inside ∙ row_back body);
+                  ∙ ap (λ n. items_meant longer P D start before ++ loop n (direction_of (falls direction)) (narrowed P D (widened P D lower)) (narrowed P D (widened P D upper)) (row_from (items_meant longer P (suc D) (start + statement_count before) rows.0)) ∷ []) name_is
+                  ∙ ap (λ f. items_meant longer P D start before ++ loop name (direction_of (falls direction)) f (narrowed P D (widened P D upper)) (row_from (items_meant longer P (suc D) (start + statement_count before) rows.0)) ∷ []) low
+                  ∙ ap (λ f. items_meant longer P D start before ++ loop name (direction_of (falls direction)) lower f (row_from (items_meant longer P (suc D) (start + statement_count before) rows.0)) ∷ []) high
+                  ∙ ap (λ r. items_meant longer P D start before ++ loop name (direction_of (falls direction)) lower upper r ∷ []) (ap row_from inside ∙ row_back body)
+                  ∙ ap (λ d. items_meant longer P D start before ++ loop name d lower upper body ∷ []) (falls_back direction);
               table = statements_more P D before t ∙ ap (λ ss. statements_in P D before ++ ss) (ap (λ d. statements_in P d rows.0) (sym deeper) ∙ rows.1.so.table);
             };
           },

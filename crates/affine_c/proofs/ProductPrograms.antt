@@ -10,15 +10,16 @@ use Rattle.std.proofs.lemmas.List.FromFn.{length-range_with_len, get_or-map-rang
 use Rattle.std.proofs.lemmas.Grind.{flat_map-append}
 use Rattle.std.proofs.lemmas.Slice.Eq.{bytes_eq-Decides}
 use Rattle.base_laws.proofs.Lists.{All-weaken}
+use Rattle.iolb_model.specs.Order.{row_common}
 use Rattle.iolb_model.specs.Path.{row_path}
-use Rattle.iolb_model.specs.Program.{Array, Statement as ModelStatement, AffineProgram, IsWellFormed, AccessFits, StatementFits, RowFits, row_statements, no_statement, statement_at}
+use Rattle.iolb_model.specs.Program.{upward, Array, Statement as ModelStatement, AffineProgram, IsWellFormed, AccessFits, StatementFits, RowFits, row_statements, no_statement, statement_at}
 use Rattle.iolb_model.specs.Form.{AffineForm}
 use Rattle.iolb_model.specs.declared.limits.TheConstants.{NUMBER_SIZE, SUBSCRIPTS}
 use Rattle.affine_form.specs.Form.{IsSmallForm}
 use Rattle.c_tokens.specs.Bytes.{is_name_byte}
 use Rattle.affine_program.specs.declared.statement.Statement.{Statement}
 use Rattle.affine_program.specs.Limits.{IsStatementWithinLimits}
-use Rattle.affine_form.specs.Rows.{step_of, variable}
+use Rattle.affine_form.specs.Rows.{direction_of, step_of, variable}
 use Rattle.affine_program.specs.Parts.{ProgramParts, IsProgram, meaning, array_of, statement_of}
 use Rattle.affine_program.specs.Printable.{IsPrintable, IsPrintableRow, IsArrayName, AreDifferentArrays, IsOrdered, next_seen, is_array_name, statement_numbers}
 use Rattle.affine_program.specs.Tree.{item_of, row_from}
@@ -61,6 +62,21 @@ placed : (n : ℕ) (a : ℕ) (statements : List Statement) → AllByRecursion Is
 placed n a [] h few = tt
 placed n a (s ∷ statements) h few =
     (ways 0 n a (omega arith) (omega arith) ∙ ap (λ (bounds : List _). Some (map step_of bounds)) (sym h.0.bounds), placed n (a + 1) statements h.1 (omega arith))
+
+-- and the directions of the loops around it
+directions : (a n q : ℕ) → a ≤ q → q < a + n → row_common (row_from (map product_nest (range_with_len a n))) q q ≡ upward ∷ upward ∷ upward ∷ []
+directions a zero q least most = absurd (omega arith)
+directions a (suc n) q least most = by (cases_eq a q) (λ apart. directions (a + 1) n q (omega (arith, least, apart)) (omega (arith, most))) where
+  by : (a ≡ q) ⊎ (a ≡ q → ⊥) → ((a ≡ q → ⊥) → row_common (row_from (map product_nest (range_with_len (a + 1) n))) q q ≡ upward ∷ upward ∷ upward ∷ [])
+      → row_common (row_from (map product_nest (range_with_len a (suc n)))) q q ≡ upward ∷ upward ∷ upward ∷ []
+  by (inl e) rest = let here : (a == q) ≡ true = same-test a q e in rw here refl
+  by (inr apart) rest = let here : (a == q) ≡ false = apart-test a q apart in rw here (rest apart)
+
+running : (n : ℕ) (a : ℕ) (statements : List Statement) → AllByRecursion IsInProductNest statements → a + length statements ≤ n
+    → AllByRecursion (λ (placed : ℕ × Statement). row_common (row_from (map product_nest (range_with_len 0 n))) placed.0 placed.0 ≡ map direction_of placed.1.down.items) (enumerate_from a statements)
+running n a [] h few = tt
+running n a (s ∷ statements) h few =
+    (directions 0 n a (omega arith) (omega arith) ∙ ap (map direction_of) (sym h.0.down), running n (a + 1) statements h.1 (omega arith))
 
 -- ---- arrays
 
@@ -284,6 +300,8 @@ products-are-programs n parts few are =
       assumed = ap (λ s. s.vars) are.assumed ∙ ap length (sym are.params);
       bounds = subst (λ (nests : List _). AllByRecursion (λ (placed : ℕ × Statement). row_path (row_from nests) placed.0 ≡ Some (map step_of placed.1.bounds.items)) (enumerate_from 0 parts.statements)) (sym are.tree)
           (placed n 0 parts.statements are.nests (omega arith));
+      directions = subst (λ (nests : List _). AllByRecursion (λ (placed : ℕ × Statement). row_common (row_from nests) placed.0 placed.0 ≡ map direction_of placed.1.down.items) (enumerate_from 0 parts.statements)) (sym are.tree)
+          (running n 0 parts.statements are.nests (omega arith));
       limits = record {
         parameters = omega (arith, ap length are.params);
         assumptions = omega (arith, ap (λ s. length s.rows) are.assumed);

@@ -8,7 +8,7 @@ use Rattle.std.proofs.lemmas.List.FromFn.{length-range_with_len}
 use Rattle.std.proofs.lemmas.Option.{slice_get-map}
 use Rattle.base_laws.proofs.Lists.{All-append, All-map, All-weaken, All-take, All-drop}
 use Rattle.iolb_model.specs.Form.{AffineForm}
-use Rattle.iolb_model.specs.Program.{Item, assign, loop, Row, done, next, AffineProgram, statement_at, no_statement, AccessFits, ItemFits, RowFits, item_statements, row_statements}
+use Rattle.iolb_model.specs.Program.{Direction, Item, assign, loop, Row, done, next, AffineProgram, statement_at, no_statement, AccessFits, ItemFits, RowFits, item_statements, row_statements}
 use Rattle.iolb_model.specs.Program as program
 use Rattle.iolb_model.specs.declared.limits.TheConstants.{READS, SUBSCRIPTS, NUMBER_SIZE}
 use Rattle.c_tokens.specs.Names.{IsName}
@@ -147,7 +147,7 @@ module _ (parts : ProgramParts) (is : IsProgram parts) where
         let one : suc first ≡ first + 1 = omega arith in
         let split = accesses_readable whole (length around) (s.writes ∷ s.reads) seen last (statement_numbers (drop (suc first) whole.statements)) (fits.writes, fits.reads) (small.writes, small.reads) (subst (λ ss. IsOrdered seen (statement_numbers ss) last) front order) in
         (record { accesses = split.0; few = small.few }, subst (λ n. IsOrderedFrom (statement_seen seen s) n last) one split.1)
-    item_readable (loop name lower upper body) around seen first last printable fits numbered order =
+    item_readable (loop name direction lower upper body) around seen first last printable fits numbered order =
         let more : length (around ++ name ∷ []) ≡ suc (length around) = omega (arith, length-append around (name ∷ [])) in
         let variables : suc (length whole.parameters + length around) ≡ length whole.parameters + length (around ++ name ∷ []) = omega arith in
         let rows = row_readable body (around ++ name ∷ []) seen first last printable.1 (subst (λ n. RowFits whole n body) variables fits.2) numbered order in

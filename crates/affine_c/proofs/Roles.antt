@@ -103,7 +103,7 @@ abbrev mutual
   -- behind an item
   pub item_seen : AffineProgram → ℕ → Item → ℕ
   item_seen p seen (assign number) = statement_seen seen (statement_at p number)
-  item_seen p seen (loop name lower upper body) = row_seen p seen body
+  item_seen p seen (loop name direction lower upper body) = row_seen p seen body
 
   -- behind a row
   pub row_seen : AffineProgram → ℕ → Row → ℕ
@@ -124,7 +124,7 @@ abbrev mutual
   -- an item
   pub IsReadableItem : AffineProgram → List (List ℕ) → ℕ → Item → Type 0
   IsReadableItem p around seen (assign number) = IsReadableStatement p (length around) seen (statement_at p number)
-  IsReadableItem p around seen (loop name lower upper body) =
+  IsReadableItem p around seen (loop name direction lower upper body) =
       IsReadableHeader p around name lower upper × IsReadableRow p (around ++ name ∷ []) seen body
 
   -- a row

@@ -1,13 +1,14 @@
 -- What statements that are being built hold.
 use Rattle.std.specs.Prelude.{◌≡◌, ℕ, ◌<◌, ◌≤◌, List, length, map, IsSomeAnd, Some}
 use Rattle.std.specs.List.{AllByRecursion, enumerate_from}
-use Rattle.iolb_model.specs.Path.{PathStep, rises, row_path}
+use Rattle.iolb_model.specs.Order.{row_common}
+use Rattle.iolb_model.specs.Path.{PathStep, bounded, row_path}
 use Rattle.iolb_model.specs.Program.{Row}
 use Rattle.c_reading.specs.Access.{Access as ReadAccess}
 use Rattle.c_reading.specs.Text.{Reading}
 use Rattle.c_grammar.specs.Well.{IsRowOver, parameters_of, statement_count}
 use Rattle.affine_form.specs.Form.{IsSmallForm}
-use Rattle.affine_form.specs.Rows.{step_of}
+use Rattle.affine_form.specs.Rows.{direction_of, step_of}
 use Rattle.affine_program.specs.declared.statement.Statement.{Statement}
 use Rattle.affine_program.specs.Limits.{IsStatementWithinLimits}
 use Rattle.iolb_model.specs.declared.limits.TheConstants.{LOOPS, PARAMETERS, STATEMENTS, NUMBER_SIZE}
@@ -18,7 +19,7 @@ AreRowsOver parameters depth access = AllByRecursion (IsRowOver parameters depth
 
 -- a way into loops within the limit whose bounds have small numbers
 abbrev pub IsSmallStep : PathStep → Type 0
-IsSmallStep (rises lower upper) = IsSmallForm NUMBER_SIZE lower × IsSmallForm NUMBER_SIZE upper
+IsSmallStep (bounded lower upper) = IsSmallForm NUMBER_SIZE lower × IsSmallForm NUMBER_SIZE upper
 
 abbrev pub IsShortWay : List PathStep → Type 0
 IsShortWay path = (length path ≤ LOOPS) × AllByRecursion IsSmallStep path
@@ -38,7 +39,12 @@ pub record IsTreeOf (r : Reading) (parameters : ℕ) (tree : Row) : Type 0 where
 abbrev pub StandsIn : Row → ℕ × Statement → Type 0
 StandsIn tree placed = row_path tree placed.0 ≡ Some (map step_of placed.1.bounds.items)
 
--- statements within the limits, each with its bounds in the tree
+-- a statement's directions are those of the loops around it in the tree
+abbrev pub RunsIn : Row → ℕ × Statement → Type 0
+RunsIn tree placed = row_common tree placed.0 placed.0 ≡ map direction_of placed.1.down.items
+
+-- statements within the limits, each with its bounds and its directions in the tree
 pub record ArePlaced (tree : Row) (statements : List Statement) : Type 0 where
   pub bounds : AllByRecursion (StandsIn tree) (enumerate_from 0 statements)
+  pub directions : AllByRecursion (RunsIn tree) (enumerate_from 0 statements)
   pub limits : AllByRecursion IsStatementWithinLimits statements

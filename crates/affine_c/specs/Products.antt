@@ -1,8 +1,8 @@
 -- The program of so many matrix products, each of matrices of its own.
-use Rattle.std.specs.Prelude.{◌≡◌, ℕ, ◌+◌, ◌*◌, pos, negsuc, List, [], ◌∷◌, ◌++◌, map, flat_map, replicate, codes, decimal}
+use Rattle.std.specs.Prelude.{◌≡◌, false, ℕ, ◌+◌, ◌*◌, pos, negsuc, List, [], ◌∷◌, ◌++◌, map, flat_map, replicate, codes, decimal}
 use Rattle.std.specs.List.{AllByRecursion, range_with_len}
 use Rattle.iolb_model.specs.Form.{AffineForm}
-use Rattle.iolb_model.specs.Program.{Access, Statement as ModelStatement, Item as ModelItem, assign, loop, done, next, AffineProgram}
+use Rattle.iolb_model.specs.Program.{upward, Access, Statement as ModelStatement, Item as ModelItem, assign, loop, done, next, AffineProgram}
 use Rattle.affine_form.specs.Rows.{variable}
 use Rattle.affine_program.specs.declared.statement.Statement.{Statement}
 use Rattle.affine_program.specs.Limits.{IsStatementWithinLimits}
@@ -35,11 +35,11 @@ product_statement product = record {
   reads = matrix_cell (3 * product) 1 2 ∷ matrix_cell (3 * product + 1) 1 3 ∷ matrix_cell (3 * product + 2) 3 2 ∷ [];
 }
 
--- the loops i, j and k around a product's statement, each from 0 to N - 1
+-- the loops i, j and k around a product's statement, each from 0 to N - 1, upward
 abbrev pub product_nest : ℕ → ModelItem
 product_nest product =
-    loop (codes "i") (first_value 0) (last_value 0)
-    (next (loop (codes "j") (first_value 1) (last_value 1) (next (loop (codes "k") (first_value 2) (last_value 2) (next (assign product) done)) done)) done)
+    loop (codes "i") upward (first_value 0) (last_value 0)
+    (next (loop (codes "j") upward (first_value 1) (last_value 1) (next (loop (codes "k") upward (first_value 2) (last_value 2) (next (assign product) done)) done)) done)
 
 -- so many products: the parameter is N, at least 1
 abbrev pub product_program : ℕ → AffineProgram
@@ -57,9 +57,10 @@ product_program products = record {
 abbrev pub product_bounds : List (AffineForm × AffineForm)
 product_bounds = (first_value 0, last_value 0) ∷ (first_value 1, last_value 1) ∷ (first_value 2, last_value 2) ∷ []
 
--- a statement in these loops, within the limits
+-- a statement in these loops, which run upward, within the limits
 pub record IsInProductNest (statement : Statement) : Type 0 where
   pub bounds : statement.bounds.items ≡ product_bounds
+  pub down : statement.down.items ≡ false ∷ false ∷ false ∷ []
   pub limits : IsStatementWithinLimits statement
 
 -- parts that are so many products

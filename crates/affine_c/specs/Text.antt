@@ -2,7 +2,7 @@
 use Rattle.std.specs.Prelude.{ℕ, List, [], ◌∷◌, ◌++◌, flat_map, slice_index_or, codes}
 use Rattle.std.specs.List.{join_by}
 use Rattle.iolb_model.specs.Form.{AffineForm}
-use Rattle.iolb_model.specs.Program.{Access, Statement, Item, assign, loop, Row, done, next, AffineProgram, statement_at}
+use Rattle.iolb_model.specs.Program.{Direction, upward, downward, Access, Statement, Item, assign, loop, Row, done, next, AffineProgram, statement_at}
 use Rattle.iolb_model.specs.Printed.{form_text}
 
 -- a subscript in brackets
@@ -27,17 +27,20 @@ abbrev pub statement_text : AffineProgram → List (List ℕ) → Statement → 
 statement_text program names statement =
     access_text program names statement.writes ++ codes " = " ++ reads_text program names statement.reads ++ codes ";\n"
 
--- a loop's header, on a line
-abbrev pub header_text : List (List ℕ) → List ℕ → AffineForm → AffineForm → List ℕ
-header_text names name lower upper =
+-- a loop's header, on a line: a loop that runs downward begins with its upper bound
+abbrev pub header_text : List (List ℕ) → List ℕ → Direction → AffineForm → AffineForm → List ℕ
+header_text names name upward lower upper =
     codes "for (" ++ name ++ codes " = " ++ form_text names lower ++ codes "; " ++ name ++ codes " <= " ++ form_text names upper
     ++ codes "; " ++ name ++ codes "++) {\n"
+header_text names name downward lower upper =
+    codes "for (" ++ name ++ codes " = " ++ form_text names upper ++ codes "; " ++ name ++ codes " >= " ++ form_text names lower
+    ++ codes "; " ++ name ++ codes "--) {\n"
 
 -- an item and a row, where the parameters and the loops around have these names
 abbrev mutual
   pub item_text : AffineProgram → List (List ℕ) → Item → List ℕ
   item_text program names (assign number) = statement_text program names (statement_at program number)
-  item_text program names (loop name lower upper body) = header_text names name lower upper ++ row_text program (names ++ name ∷ []) body ++ codes "}\n"
+  item_text program names (loop name direction lower upper body) = header_text names name direction lower upper ++ row_text program (names ++ name ∷ []) body ++ codes "}\n"
 
   pub row_text : AffineProgram → List (List ℕ) → Row → List ℕ
   row_text program names done = []

@@ -1,7 +1,7 @@
 -- The syntax tree of a printed program.
 use Rattle.std.specs.Prelude.{ℕ, ◌==◌, if◌then◌else◌, ℤ, unsigned_abs, Bool, true, false, List, [], ◌∷◌, ◌++◌, codes, decimal, zip}
 use Rattle.iolb_model.specs.Form.{AffineForm}
-use Rattle.iolb_model.specs.Program.{Access, Statement, Item, assign, loop, Row, done, next, AffineProgram, statement_at}
+use Rattle.iolb_model.specs.Program.{Direction, upward, downward, Access, Statement, Item, assign, loop, Row, done, next, AffineProgram, statement_at}
 use Rattle.iolb_model.specs.Printed.{is_below_zero, nonzero}
 use Rattle.c_grammar.specs.Affine.{Affine, sum, Sums, sum_end, plus, minus, Term, product, product_end, times, Factor, integer, negative, at_least, Subscripts, subscript_end, subscript, Reference}
 use Rattle.c_grammar.specs.Affine as affine
@@ -73,13 +73,23 @@ abbrev pub statement_tree : AffineProgram → List (List ℕ) → Statement → 
 statement_tree program names s = record { target = access_tree program names s.writes; assigner = item.sets; value = reads_tree program names s.reads }
 
 -- a loop's header
-abbrev pub header_tree : List (List ℕ) → List ℕ → AffineForm → AffineForm → item.Header
-header_tree names name lower upper = record {
+abbrev pub header_tree : List (List ℕ) → List ℕ → Direction → AffineForm → AffineForm → item.Header
+header_tree names name upward lower upper = record {
   has_int = false;
   name = name;
-  lower = form_tree names lower;
+  falls = false;
+  first = form_tree names lower;
   excludes = false;
-  upper = form_tree names upper;
+  last = form_tree names upper;
+  step = item.name_plus_plus;
+}
+header_tree names name downward lower upper = record {
+  has_int = false;
+  name = name;
+  falls = true;
+  first = form_tree names upper;
+  excludes = false;
+  last = form_tree names lower;
   step = item.name_plus_plus;
 }
 
@@ -87,7 +97,7 @@ header_tree names name lower upper = record {
 abbrev mutual
   pub item_tree : AffineProgram → List (List ℕ) → Item → item.Item
   item_tree program names (assign number) = item.statement (statement_tree program names (statement_at program number))
-  item_tree program names (loop name lower upper body) = item.loop (header_tree names name lower upper) (item.block (row_tree program (names ++ name ∷ []) body))
+  item_tree program names (loop name direction lower upper body) = item.loop (header_tree names name direction lower upper) (item.block (row_tree program (names ++ name ∷ []) body))
 
   pub row_tree : AffineProgram → List (List ℕ) → Row → item.Items
   row_tree program names done = item.item_end

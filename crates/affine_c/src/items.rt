@@ -1,8 +1,9 @@
 //! Items, printed.
 
-ghost use Rattle.std.specs.Prelude.{◌≡◌, ◌++◌, length, OnOk};
+ghost use Rattle.std.specs.Prelude.{◌≡◌, ◌++◌, codes, length, OnOk};
 ghost use Rattle.iolb_model.specs.Printed.{form_text};
 ghost use Rattle.iolb_model.specs.Program.{IsOver, ItemFits, RowFits};
+ghost use Rattle.affine_form.specs.Rows.{direction_of};
 ghost use Rattle.affine_program.specs.Parts.{meaning};
 ghost use Rattle.affine_program.specs.Tree.{item_of, row_of};
 ghost use Rattle.affine_c.specs.Text.{header_text, item_text, row_text};
@@ -48,9 +49,10 @@ fn push_item(
             name,
             lower,
             upper,
+            down,
             body,
         } => {
-            push_header(alloc, text, names, name, lower, upper)?;
+            push_header(alloc, text, names, name, *down, lower, upper)?;
             let inner = with_name(alloc, names, name)?;
             push_items(alloc, text, program, inner.as_slice(), body)?;
             text.extend_from_slice(b"}\n")?;
@@ -59,24 +61,38 @@ fn push_item(
     }
 }
 
-/// A loop's header, written on a line at the end.
+/// The header of a loop that runs downward or not, with its lower and its upper bound, written on a line at the end.
 fn push_header(
     alloc: Global,
     text: &mut Vec<u8>,
     names: &[Name],
     name: &Name,
+    down: bool,
     lower: &Form,
     upper: &Form,
 ) -> Result<(), Memory>
     requires lower_over { IsOver (length names.now) lower.now }
     requires upper_over { IsOver (length names.now) upper.now }
-    ensures { OnOk result (text.new.items ≡ text.old.items ++ header_text names.now name.now lower.now upper.now) }
+    ensures { OnOk result (text.new.items ≡ text.old.items ++ header_text names.now name.now (direction_of down) lower.now upper.now) }
 {
-    push_bound(alloc, text, b"for (", names, name, b" = ", lower)?;
-    push_bound(alloc, text, b"; ", names, name, b" <= ", upper)?;
+    if down {
+        push_bound(alloc, text, b"for (", names, name, b" = ", upper)?;
+        push_bound(alloc, text, b"; ", names, name, b" >= ", lower)?;
+        push_step(text, name, b"--) {\n")
+    } else {
+        push_bound(alloc, text, b"for (", names, name, b" = ", lower)?;
+        push_bound(alloc, text, b"; ", names, name, b" <= ", upper)?;
+        push_step(text, name, b"++) {\n")
+    }
+}
+
+/// A loop's name and its step behind a header's bounds, written at the end.
+fn push_step(text: &mut Vec<u8>, name: &Name, step: &[u8]) -> Result<(), Memory>
+    ensures { OnOk result (text.new.items ≡ text.old.items ++ codes "; " ++ name.now ++ step.now) }
+{
     text.extend_from_slice(b"; ")?;
     text.extend_from_slice(name.bytes())?;
-    text.extend_from_slice(b"++) {\n")?;
+    text.extend_from_slice(step)?;
     Ok(())
 }
 

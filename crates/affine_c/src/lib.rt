@@ -1,7 +1,6 @@
 //! The affine programs that C texts mean, read and printed.
 #![tactic(auto)]
 
-mod bounds;
 mod fault;
 mod forms;
 mod items;
@@ -14,6 +13,7 @@ mod read;
 mod references;
 mod statements;
 mod tree;
+mod ways;
 
 pub use affine_program::{Item, Program, Reference, Statement};
 pub use fault::{ProgramError, ProgramFault};

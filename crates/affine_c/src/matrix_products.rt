@@ -2,7 +2,7 @@
 
 ghost use Rattle.std.specs.Prelude.{◌≡◌, ◌≤◌, ◌<◌, ◌+◌, ◌*◌, ◌++◌, ◌∷◌, [], pos, ℕ, List, length, map, codes, decimal, IfOk, OnOk};
 ghost use Rattle.std.specs.List.{AllByRecursion};
-ghost use Rattle.iolb_model.specs.Program.{loop, next, done};
+ghost use Rattle.iolb_model.specs.Program.{upward, loop, next, done};
 ghost use Rattle.iolb_model.specs.declared.limits.TheConstants.{PRODUCTS};
 ghost use Rattle.affine_form.specs.Rows.{variable};
 ghost use Rattle.affine_program.specs.Limits.{IsSmallReference};
@@ -140,6 +140,7 @@ fn product_statement(alloc: Global, product: u8) -> Result<Statement, Memory>
     reads.push(matrix_cell(alloc, first + 2, 3, 2)?)?;
     Ok(Statement {
         bounds: product_bounds(alloc)?,
+        down: vec![in alloc; false; 3]?,
         writes: matrix_cell(alloc, first, 1, 2)?,
         reads,
     })
@@ -154,11 +155,11 @@ fn product_nest(alloc: Global, product: u8) -> Result<Item, Memory>
     loop_around(alloc, b"i", 0, middle)
 }
 
-/// A loop from 0 to N - 1, inside so many loops, around an item.
+/// A loop upward from 0 to N - 1, inside so many loops, around an item.
 fn loop_around(alloc: Global, name: &[u8], loops: usize, item: Item) -> Result<Item, Memory>
     requires name { length name.now ≡ 1 }
     requires loops { loops ≤ 2 }
-    ensures { IfOk result (λ made. item_of made ≡ loop name.now (first_value loops) (last_value loops) (next (item_of item) done)) }
+    ensures { IfOk result (λ made. item_of made ≡ loop name.now upward (first_value loops) (last_value loops) (next (item_of item) done)) }
 {
     let mut body = Vec::new(alloc);
     body.push(item)?;
@@ -166,6 +167,7 @@ fn loop_around(alloc: Global, name: &[u8], loops: usize, item: Item) -> Result<I
         name: name_of(alloc, name)?,
         lower: first_value(alloc, loops)?,
         upper: last_value(alloc, loops)?,
+        down: false,
         body,
     })
 }

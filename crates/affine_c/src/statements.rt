@@ -2,19 +2,20 @@
 
 ghost use Rattle.std.specs.Prelude.{◌≡◌, ◌≤◌, ◌+◌, ◌++◌, length, map, IfOk, OnOk, IsSomeAnd, Some};
 ghost use Rattle.std.specs.List.{AllByRecursion};
+ghost use Rattle.iolb_model.specs.Order.{row_common};
 ghost use Rattle.iolb_model.specs.Path.{row_path};
 ghost use Rattle.c_reading.specs.Tree as read;
 ghost use Rattle.c_grammar.specs.Well.{IsRowOver, IsItemIn, AreItemsIn, item_count, statement_count};
 ghost use Rattle.affine_program.specs.Limits.{IsSmallReference, IsStatementWithinLimits};
-ghost use Rattle.affine_form.specs.Rows.{step_of};
+ghost use Rattle.affine_form.specs.Rows.{direction_of, step_of};
 ghost use Rattle.affine_program.specs.Parts.{access_of, statement_of};
 ghost use Rattle.affine_program.specs.Tree.{row_of};
 ghost use Rattle.c_grammar.specs.Program.{narrowed_access, narrowed_statement, statements_in_item, statements_in};
 ghost use Rattle.affine_c.specs.Built.{AreRowsOver, IsShortWay, IsTreeOf, ArePlaced};
 ghost use Rattle.iolb_model.specs.declared.limits.TheConstants.{LOOPS, PARAMETERS, READS};
 
-use crate::bounds::bounds_in;
 use crate::forms::forms_of;
+use crate::ways::{Way, way_in};
 use affine_form::Memory;
 use affine_program::{Item, Reference, Statement};
 use c_reading::{Access, Item as ReadItem, Reading, Statement as ReadStatement};
@@ -60,7 +61,7 @@ fn references_of(
     Ok(references)
 }
 
-/// The statement of this number that was read, with the bounds of the loops around it in the tree.
+/// The statement of this number that was read, with the bounds and the directions of the loops around it in the tree.
 fn statement_at(
     alloc: Global,
     statement: &ReadStatement,
@@ -77,21 +78,25 @@ fn statement_at(
     requires short { IsSomeAnd (row_path (row_of tree.now) number) IsShortWay }
     ensures statement { IfOk result (λ made. statement_of made ≡ narrowed_statement parameters depth statement.now) }
     ensures bounds { IfOk result (λ made. row_path (row_of tree.now) number ≡ Some (map step_of made.bounds.items)) }
+    ensures directions { IfOk result (λ made. row_common (row_of tree.now) number number ≡ map direction_of made.down.items) }
     ensures limits { IfOk result IsStatementWithinLimits }
 {
     let writes = reference_of(alloc, statement.writes(), parameters, depth)?;
     let reads = references_of(alloc, statement.reads(), parameters, depth)?;
-    let Some(bounds) = bounds_in(alloc, tree, number)? else {
+    let Some(way) = way_in(alloc, tree, number)? else {
         unreachable!();
     };
+    let Way { bounds, down } = way;
     Ok(Statement {
         bounds,
+        down,
         writes,
         reads,
     })
 }
 
-/// The statements of an item inside so many loops, put at the end, each with the bounds of the loops around it in the tree.
+/// The statements of an item inside so many loops, put at the end, each with the bounds and the directions of the loops
+/// around it in the tree.
 #[cycle(placing)]
 fn place_item(
     alloc: Global,
@@ -158,7 +163,8 @@ fn place_items(
     Ok(())
 }
 
-/// The statements of a reading, in the order of the text, with the bounds of the loops around them in the tree.
+/// The statements of a reading, in the order of the text, with the bounds and the directions of the loops around them in
+/// the tree.
 pub(crate) fn statements_of(
     alloc: Global,
     reading: &Reading,

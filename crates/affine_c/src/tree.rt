@@ -2,6 +2,7 @@
 
 ghost use Rattle.std.specs.Prelude.{◌≡◌, ◌≤◌, ◌+◌, length, map, IfOk, OnOk};
 ghost use Rattle.iolb_model.specs.Program.{loop};
+ghost use Rattle.affine_form.specs.Rows.{direction_of};
 ghost use Rattle.iolb_model.specs.declared.limits.TheConstants.{LOOPS, PARAMETERS, STATEMENTS};
 ghost use Rattle.affine_program.specs.Tree.{item_of, row_of};
 ghost use Rattle.c_reading.specs.Tree as read;
@@ -15,13 +16,14 @@ use c_reading::{Item as ReadItem, Reading};
 use std::alloc::Global;
 
 /// A loop around a row of items.
-fn loop_item(name: Name, lower: Form, upper: Form, body: Vec<Item>) -> Item
-    ensures { item_of result ≡ loop name lower upper (row_of body.items) }
+fn loop_item(name: Name, lower: Form, upper: Form, down: bool, body: Vec<Item>) -> Item
+    ensures { item_of result ≡ loop name (direction_of down) lower upper (row_of body.items) }
 {
     Item::Loop {
         name,
         lower,
         upper,
+        down,
         body,
     }
 }
@@ -63,7 +65,7 @@ fn item_in(
                 number,
                 body.as_slice(),
             )?;
-            Ok(loop_item(name, lower, upper, body))
+            Ok(loop_item(name, lower, upper, header.down, body))
         }
     }
 }

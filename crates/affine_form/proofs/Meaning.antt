@@ -8,15 +8,15 @@ use Rattle.std.proofs.lemmas.Int.{ints}
 use Rattle.std.proofs.lemmas.List.{get_or_at, length-append, append-nil, append_assoc, map-append}
 use Rattle.base_laws.proofs.Ring.{zero-mul, one-mul, sub-mul}
 use Rattle.iolb_model.specs.Form.{AffineForm, dot, form_value}
-use Rattle.iolb_model.specs.Path.{PathStep, rises}
-use Rattle.iolb_model.specs.Program.{IsOver}
+use Rattle.iolb_model.specs.Path.{PathStep, bounded}
+use Rattle.iolb_model.specs.Program.{Direction, upward, downward, IsOver}
 use Rattle.iolb_model.specs.Domain.{IsWithin}
-use Rattle.iolb_model.specs.Order.{Direction, upward, Precedes}
+use Rattle.iolb_model.specs.Order.{GoesBefore, Precedes}
 use Rattle.affine_form.specs.Substitution.{substitution, values_at}
 use Rattle.affine_form.specs.System.{IsMet}
 use Rattle.affine_form.proofs.Combination.{dot-add_lists, dot-zeros}
 use Rattle.affine_form.proofs.SubstitutionLemmas.{form_value-substitution}
-use Rattle.affine_form.specs.Rows.{IsSmallOver, widened, variable, variables_from, difference, within_rows, equality_rows, put_in, order_rows}
+use Rattle.affine_form.specs.Rows.{IsSmallOver, widened, variable, variables_from, difference, within_rows, equality_rows, put_in, earlier_row, order_rows}
 
 -- zeros at the end add nothing
 dot-end : (cs : List ℤ) (n : ℕ) (point : List ℤ) → dot (cs ++ replicate n (pos 0)) point ≡ dot cs point
@@ -91,8 +91,8 @@ pub within_rows-says : (vars : ℕ) (path : List PathStep) (before values : List
     → IsMet (within_rows vars path before values) point → IsWithin path (values_at before point) (values_at values point)
 within_rows-says vars [] before [] point same met = tt
 within_rows-says vars [] before (v ∷ vs) point same met = absurd (omega arith)
-within_rows-says vars (rises lower upper ∷ path) before [] point same met = absurd (omega arith)
-within_rows-says vars (rises lower upper ∷ path) before (v ∷ vs) point same met =
+within_rows-says vars (bounded lower upper ∷ path) before [] point same met = absurd (omega arith)
+within_rows-says vars (bounded lower upper ∷ path) before (v ∷ vs) point same met =
     let least = form_value-difference vars v (substitution lower before) (pos 0) point ∙ ap (λ (z : ℤ). (form_value v point -ℤ z) +ℤ pos 0) (form_value-substitution lower before point) in
     let greatest = form_value-difference vars (substitution upper before) v (pos 0) point ∙ ap (λ (z : ℤ). (z -ℤ form_value v point) +ℤ pos 0) (form_value-substitution upper before point) in (
       at_least (form_value v point) (form_value lower (values_at before point)) (form_value (difference vars v (substitution lower before) (pos 0)) point) least met.0,
@@ -104,8 +104,8 @@ within_rows-says vars (rises lower upper ∷ path) before (v ∷ vs) point same 
 pub within_rows-met : (vars : ℕ) (path : List PathStep) (before values : List AffineForm) (point : List ℤ)
     → IsWithin path (values_at before point) (values_at values point) → IsMet (within_rows vars path before values) point
 within_rows-met vars [] before values point h = tt
-within_rows-met vars (rises lower upper ∷ path) before [] point h = absurd h
-within_rows-met vars (rises lower upper ∷ path) before (v ∷ vs) point h =
+within_rows-met vars (bounded lower upper ∷ path) before [] point h = absurd h
+within_rows-met vars (bounded lower upper ∷ path) before (v ∷ vs) point h =
     let least = form_value-difference vars v (substitution lower before) (pos 0) point ∙ ap (λ (z : ℤ). (form_value v point -ℤ z) +ℤ pos 0) (form_value-substitution lower before point) in
     let greatest = form_value-difference vars (substitution upper before) v (pos 0) point ∙ ap (λ (z : ℤ). (z -ℤ form_value v point) +ℤ pos 0) (form_value-substitution upper before point) in (
       at_least-from (form_value v point) (form_value lower (values_at before point)) (form_value (difference vars v (substitution lower before) (pos 0)) point) least h.0,
@@ -119,14 +119,14 @@ within_rows-met vars (rises lower upper ∷ path) before (v ∷ vs) point h =
 -- they are two for each step of the way
 pub length-within_rows : (vars : ℕ) (path : List PathStep) (before values : List AffineForm) → length values ≡ length path → length (within_rows vars path before values) ≡ 2 * length path
 length-within_rows vars [] before values e = refl
-length-within_rows vars (rises lower upper ∷ path) before [] e = absurd (omega arith)
-length-within_rows vars (rises lower upper ∷ path) before (v ∷ values) e = omega (arith, length-within_rows vars path (before ++ v ∷ []) values (omega arith))
+length-within_rows vars (bounded lower upper ∷ path) before [] e = absurd (omega arith)
+length-within_rows vars (bounded lower upper ∷ path) before (v ∷ values) e = omega (arith, length-within_rows vars path (before ++ v ∷ []) values (omega arith))
 
 -- and at most so many for any values
 pub within_rows-few : (vars : ℕ) (path : List PathStep) (before values : List AffineForm) → length (within_rows vars path before values) ≤ 2 * length path
 within_rows-few vars [] before values = omega arith
-within_rows-few vars (rises lower upper ∷ path) before [] = omega arith
-within_rows-few vars (rises lower upper ∷ path) before (v ∷ values) = omega (arith, within_rows-few vars path (before ++ v ∷ []) values)
+within_rows-few vars (bounded lower upper ∷ path) before [] = omega arith
+within_rows-few vars (bounded lower upper ∷ path) before (v ∷ values) = omega (arith, within_rows-few vars path (before ++ v ∷ []) values)
 
 equal-from : (a b d e : ℤ) → d ≡ (a -ℤ b) +ℤ pos 0 → e ≡ (b -ℤ a) +ℤ pos 0 → pos 0 ≤ℤ d → pos 0 ≤ℤ e → a ≡ b
 equal-from a b d e p q h k = omega (arith, ints)
@@ -167,6 +167,21 @@ above-one a b d e h = omega (arith, ints)
 above-one-from : (a b d : ℤ) → d ≡ (a -ℤ b) +ℤ negsuc 0 → b <ℤ a → pos 0 ≤ℤ d
 above-one-from a b d e h = omega (arith, ints)
 
+-- the row of a loop is met where the one value comes before the other
+earlier_row-says : (vars : ℕ) (direction : Direction) (y x : AffineForm) (point : List ℤ) → pos 0 ≤ℤ form_value (earlier_row vars direction y x) point
+    → GoesBefore direction (form_value y point) (form_value x point)
+earlier_row-says vars upward y x point met =
+    above-one (form_value x point) (form_value y point) (form_value (difference vars x y (negsuc 0)) point) (form_value-difference vars x y (negsuc 0) point) met
+earlier_row-says vars downward y x point met =
+    above-one (form_value y point) (form_value x point) (form_value (difference vars y x (negsuc 0)) point) (form_value-difference vars y x (negsuc 0) point) met
+
+earlier_row-met : (vars : ℕ) (direction : Direction) (y x : AffineForm) (point : List ℤ) → GoesBefore direction (form_value y point) (form_value x point)
+    → pos 0 ≤ℤ form_value (earlier_row vars direction y x) point
+earlier_row-met vars upward y x point h =
+    above-one-from (form_value x point) (form_value y point) (form_value (difference vars x y (negsuc 0)) point) (form_value-difference vars x y (negsuc 0) point) h
+earlier_row-met vars downward y x point h =
+    above-one-from (form_value y point) (form_value x point) (form_value (difference vars y x (negsuc 0)) point) (form_value-difference vars y x (negsuc 0) point) h
+
 -- two statements have a level of the loops around both: one for each loop, and one more where the first stands earlier
 abbrev pub HasLevel : List Direction → ℕ → ℕ → ℕ → Type 0
 HasLevel [] zero t s = t < s
@@ -181,8 +196,7 @@ order_rows-say vars [] zero t s ys xs point has p q met = has
 order_rows-say vars [] (suc level) t s ys xs point has p q met = has
 order_rows-say vars (d ∷ loops) level t s [] xs point has p q met = absurd (omega arith)
 order_rows-say vars (d ∷ loops) level t s (y ∷ ys) [] point has p q met = absurd (omega arith)
-order_rows-say vars (upward ∷ loops) zero t s (y ∷ ys) (x ∷ xs) point has p q met =
-    above-one (form_value x point) (form_value y point) (form_value (difference vars x y (negsuc 0)) point) (form_value-difference vars x y (negsuc 0) point) met.0
+order_rows-say vars (d ∷ loops) zero t s (y ∷ ys) (x ∷ xs) point has p q met = earlier_row-says vars d y x point met.0
 order_rows-say vars (d ∷ loops) (suc level) t s (y ∷ ys) (x ∷ xs) point has p q met = (
   equal-from (form_value y point) (form_value x point) (form_value (difference vars y x (pos 0)) point) (form_value (difference vars x y (pos 0)) point)
       (form_value-difference vars y x (pos 0) point) (form_value-difference vars x y (pos 0) point) met.0 met.1.0,
@@ -195,8 +209,7 @@ order_rows-met vars [] zero t s ys xs point h = (h, tt)
 order_rows-met vars [] (suc level) t s ys xs point h = absurd h
 order_rows-met vars (d ∷ loops) level t s [] xs point h = absurd h
 order_rows-met vars (d ∷ loops) level t s (y ∷ ys) [] point h = absurd h
-order_rows-met vars (upward ∷ loops) zero t s (y ∷ ys) (x ∷ xs) point h =
-    (tt, (above-one-from (form_value x point) (form_value y point) (form_value (difference vars x y (negsuc 0)) point) (form_value-difference vars x y (negsuc 0) point) h, tt))
+order_rows-met vars (d ∷ loops) zero t s (y ∷ ys) (x ∷ xs) point h = (tt, (earlier_row-met vars d y x point h, tt))
 order_rows-met vars (d ∷ loops) (suc level) t s (y ∷ ys) (x ∷ xs) point h =
     let same : form_value y point ≡ form_value x point = h.0 in
     let rest = order_rows-met vars loops level t s ys xs point h.1 in (

@@ -14,8 +14,8 @@ use Rattle.affine_form.specs.System.{AllOver}
 use Rattle.affine_form.proofs.Combination.{get_or-add_lists, length-add_lists}
 use Rattle.affine_form.proofs.Sizes.{size-add, product-below}
 use Rattle.affine_form.proofs.SubstitutionLemmas.{length-substitution}
-use Rattle.iolb_model.specs.Order.{Direction, upward}
-use Rattle.affine_form.specs.Rows.{widened, variable, variables_from, difference, within_rows, equality_rows, put_in, order_rows, IsSmallOver, IsSmallWithin, BoundsFit, step_of}
+use Rattle.iolb_model.specs.Program.{Direction, upward, downward}
+use Rattle.affine_form.specs.Rows.{widened, variable, variables_from, difference, within_rows, equality_rows, put_in, earlier_row, order_rows, IsSmallOver, IsSmallWithin, BoundsFit, step_of}
 use Rattle.iolb_model.specs.declared.limits.TheConstants.{NUMBER_SIZE, PUT_SIZE}
 
 -- a form read over more variables has them
@@ -186,11 +186,15 @@ pub put_in-within : (vars : ℕ) (point forms : List AffineForm) → AllByRecurs
 put_in-within vars point [] p q = tt
 put_in-within vars point (f ∷ fs) p q = (variables-substitution f point vars (sym q.0.over) p, put_in-within vars point fs p q.1)
 
+earlier_row-over : (vars : ℕ) (direction : Direction) (y x : AffineForm) → IsSmallWithin vars y → IsSmallWithin vars x → variables (earlier_row vars direction y x) ≡ vars
+earlier_row-over vars upward y x p q = length-difference vars x y (negsuc 0) q.within p.within
+earlier_row-over vars downward y x p q = length-difference vars y x (negsuc 0) p.within q.within
+
 pub order_rows-over : (vars : ℕ) (loops : List Direction) (level : ℕ) (ys xs : List AffineForm) → AllByRecursion (IsSmallWithin vars) ys → AllByRecursion (IsSmallWithin vars) xs
     → AllOver vars (order_rows vars loops level ys xs)
 order_rows-over vars [] level ys xs p q = tt
 order_rows-over vars (d ∷ loops) level [] xs p q = tt
 order_rows-over vars (d ∷ loops) level (y ∷ ys) [] p q = tt
-order_rows-over vars (upward ∷ loops) zero (y ∷ ys) (x ∷ xs) p q = (length-difference vars x y (negsuc 0) q.0.within p.0.within, tt)
+order_rows-over vars (d ∷ loops) zero (y ∷ ys) (x ∷ xs) p q = (earlier_row-over vars d y x p.0 q.0, tt)
 order_rows-over vars (d ∷ loops) (suc level) (y ∷ ys) (x ∷ xs) p q =
     (length-difference vars y x (pos 0) p.0.within q.0.within, (length-difference vars x y (pos 0) q.0.within p.0.within, order_rows-over vars loops level ys xs p.1 q.1))

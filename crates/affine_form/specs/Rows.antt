@@ -1,8 +1,8 @@
 -- Rows of systems, made of forms. Forms over fewer variables are read as forms over all of them.
-use Rattle.std.specs.Prelude.{◌≡◌, ℕ, zero, suc, ◌-◌, ◌≤◌, ℤ, pos, negsuc, ◌+ℤ◌, ◌-ℤ◌, ⊤, List, [], ◌∷◌, ◌++◌, map, length, replicate, slice_set}
+use Rattle.std.specs.Prelude.{◌≡◌, Bool, true, false, ℕ, zero, suc, ◌-◌, ◌≤◌, ℤ, pos, negsuc, ◌+ℤ◌, ◌-ℤ◌, ⊤, List, [], ◌∷◌, ◌++◌, map, length, replicate, slice_set}
 use Rattle.iolb_model.specs.Form.{AffineForm}
-use Rattle.iolb_model.specs.Path.{PathStep, rises}
-use Rattle.iolb_model.specs.Order.{Direction, upward}
+use Rattle.iolb_model.specs.Path.{PathStep, bounded}
+use Rattle.iolb_model.specs.Program.{Direction, upward, downward}
 use Rattle.affine_form.specs.Form.{variables, IsSmallForm}
 use Rattle.affine_form.specs.Combination.{add_lists}
 use Rattle.affine_form.specs.Substitution.{substitution}
@@ -32,8 +32,8 @@ difference vars f g number = record {
 -- the loops around: `value - lower` and `upper - value` for each loop.
 abbrev pub within_rows : ℕ → List PathStep → List AffineForm → List AffineForm → List AffineForm
 within_rows vars [] before values = []
-within_rows vars (rises lower upper ∷ path) before [] = []
-within_rows vars (rises lower upper ∷ path) before (value ∷ values) =
+within_rows vars (bounded lower upper ∷ path) before [] = []
+within_rows vars (bounded lower upper ∷ path) before (value ∷ values) =
     difference vars value (substitution lower before) (pos 0) ∷ difference vars (substitution upper before) value (pos 0)
     ∷ within_rows vars path (before ++ value ∷ []) values
 
@@ -47,13 +47,24 @@ equality_rows vars (f ∷ fs) (g ∷ gs) = difference vars f g (pos 0) ∷ diffe
 abbrev pub put_in : List AffineForm → List AffineForm → List AffineForm
 put_in point forms = map (λ form. substitution form point) forms
 
+-- how a loop's values go, by whether it runs downward
+abbrev pub direction_of : Bool → Direction
+direction_of false = upward
+direction_of true = downward
+
+-- The row which says that the value y of a loop comes before the value x: `x - y - 1` where the loop runs upward, and
+-- `y - x - 1` where it runs downward.
+abbrev pub earlier_row : ℕ → Direction → AffineForm → AffineForm → AffineForm
+earlier_row vars upward y x = difference vars x y (negsuc 0)
+earlier_row vars downward y x = difference vars y x (negsuc 0)
+
 -- The rows which say that loop values ys come before loop values xs at a level of the loops around both: equalities in
--- as many loops as the level says, and `x - y - 1` in the next, which runs upward. The last level has no more rows.
+-- as many loops as the level says, and that y comes before x in the next. The last level has no more rows.
 abbrev pub order_rows : ℕ → List Direction → ℕ → List AffineForm → List AffineForm → List AffineForm
 order_rows vars [] level ys xs = []
 order_rows vars (direction ∷ loops) level [] xs = []
 order_rows vars (direction ∷ loops) level (y ∷ ys) [] = []
-order_rows vars (upward ∷ loops) zero (y ∷ ys) (x ∷ xs) = difference vars x y (negsuc 0) ∷ []
+order_rows vars (direction ∷ loops) zero (y ∷ ys) (x ∷ xs) = earlier_row vars direction y x ∷ []
 order_rows vars (direction ∷ loops) (suc level) (y ∷ ys) (x ∷ xs) =
     difference vars y x (pos 0) ∷ difference vars x y (pos 0) ∷ order_rows vars loops level ys xs
 
@@ -74,4 +85,4 @@ BoundsFit vars (bounds ∷ others) = (IsSmallOver vars bounds.0 × IsSmallOver v
 
 -- a loop around a statement, by its lower and its upper bound
 abbrev pub step_of : AffineForm × AffineForm → PathStep
-step_of bounds = rises bounds.0 bounds.1
+step_of bounds = bounded bounds.0 bounds.1

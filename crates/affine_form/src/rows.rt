@@ -2,11 +2,10 @@
 
 ghost use Rattle.std.specs.Prelude.{◌≡◌, ◌≤◌, ◌+◌, ◌*◌, ◌∷◌, ◌++◌, [], pos, length, map, replicate, IfOk, OnOk};
 ghost use Rattle.std.specs.List.{AllByRecursion};
-ghost use Rattle.iolb_model.specs.Order.{upward};
 ghost use Rattle.affine_form.specs.Form.{variables, IsSmallForm};
 ghost use Rattle.affine_form.specs.Substitution.{substitution};
 ghost use Rattle.affine_form.specs.System.{AllOver};
-ghost use Rattle.affine_form.specs.Rows.{within_rows, equality_rows, put_in, order_rows, difference, IsSmallOver, IsSmallWithin, BoundsFit, step_of};
+ghost use Rattle.affine_form.specs.Rows.{within_rows, equality_rows, put_in, earlier_row, direction_of, order_rows, difference, IsSmallOver, IsSmallWithin, BoundsFit, step_of};
 ghost use Rattle.iolb_model.specs.declared.limits.TheConstants.{PUT_SIZE, VARIABLES};
 
 use crate::differences::difference;
@@ -152,31 +151,51 @@ pub fn push_equal(
     Ok(())
 }
 
-/// The rows which say that the loop values ys come before the loop values xs at a level of so many loops around both,
-/// which run upward.
+/// The row which says that one value of a loop comes before another, in a loop that runs downward or not.
+fn earlier_row(
+    alloc: Global,
+    vars: usize,
+    down: bool,
+    earlier: &Form,
+    later: &Form,
+) -> Result<Form, Memory>
+    requires few { vars ≤ VARIABLES }
+    requires earlier_within { IsSmallWithin vars earlier.now }
+    requires later_within { IsSmallWithin vars later.now }
+    ensures { IfOk result (λ row. row ≡ earlier_row vars (direction_of down) earlier.now later.now) }
+{
+    if down {
+        difference(alloc, vars, earlier, later, -1)
+    } else {
+        difference(alloc, vars, later, earlier, -1)
+    }
+}
+
+/// The rows which say that the loop values ys come before the loop values xs at a level of the loops around both, of each of
+/// which it is said whether it runs downward.
 pub fn order_rows(
     alloc: Global,
     vars: usize,
-    common: usize,
+    down: &[bool],
     level: usize,
     ys: &[Form],
     xs: &[Form],
 ) -> Result<Vec<Form>, Memory>
     requires few { vars ≤ VARIABLES }
-    requires level_in { level ≤ common }
-    requires ys_enough { common ≤ length ys.now }
-    requires xs_enough { common ≤ length xs.now }
+    requires level_in { level ≤ length down.now }
+    requires ys_enough { length down.now ≤ length ys.now }
+    requires xs_enough { length down.now ≤ length xs.now }
     requires ys_within { AllByRecursion (IsSmallWithin vars) ys.now }
     requires xs_within { AllByRecursion (IsSmallWithin vars) xs.now }
-    ensures rows { IfOk result (λ rows. rows.items ≡ order_rows vars (replicate common upward) level ys.now xs.now) }
+    ensures rows { IfOk result (λ rows. rows.items ≡ order_rows vars (map direction_of down.now) level ys.now xs.now) }
     ensures over { IfOk result (λ rows. AllOver vars rows.items) }
 {
     let mut rows = Vec::new(alloc);
     for i in 0..level {
         push_equal(alloc, vars, &ys[i], &xs[i], &mut rows)?;
     }
-    if level < common {
-        rows.push(difference(alloc, vars, &xs[level], &ys[level], -1)?)?;
+    if level < down.len() {
+        rows.push(earlier_row(alloc, vars, down[level], &ys[level], &xs[level])?)?;
     }
     Ok(rows)
 }

@@ -1,20 +1,20 @@
 -- The bounds of the loops around a statement.
-use Rattle.std.proofs.Common.{◌≡◌, refl, sym, ◌∙◌, ap, subst, inl, inr, ℕ, zero, suc, ◌+◌, ◌<◌, ◌≤◌, Bool, true, false, List, [], ◌∷◌, length, map, get_or, arith}
+use Rattle.std.proofs.Common.{◌≡◌, refl, sym, ◌∙◌, ap, subst, inl, inr, ℕ, zero, suc, ◌+◌, ◌<◌, ◌≤◌, Bool, true, false, List, [], ◌∷◌, length, map, get_or, take, arith}
 use Rattle.iolb_model.specs.declared.limits.TheConstants.{LOOPS}
 use Rattle.std.specs.Prelude.{◌⊎◌, ◌==◌, if◌then◌else◌, ⊤, Option, Some, None, IsSomeAnd, option_map, unwrap_or, is_some}
 use Rattle.std.specs.List.{AllByRecursion, enumerate_from}
 use Rattle.std.proofs.lemmas.Bool.{eqb-true}
-use Rattle.std.proofs.lemmas.List.{length-map}
+use Rattle.std.proofs.lemmas.List.{length-map, take-map}
 use Rattle.base_laws.proofs.Lists.{All-at, there}
 use Rattle.iolb_model.specs.Form.{AffineForm}
-use Rattle.iolb_model.specs.Path.{PathStep, rises, first_of, item_path, row_path}
+use Rattle.iolb_model.specs.Path.{PathStep, bounded, first_of, item_path, row_path}
 use Rattle.iolb_model.specs.Program.{Item, assign, loop, Row, done, next, AffineProgram, IsOver, StatementFits, ItemFits, RowFits}
 use Rattle.iolb_model.specs.Order.{common_loops, row_common}
 use Rattle.execution_laws.proofs.Domains.{statements-rise}
-use Rattle.execution_laws.proofs.Orders.{row_common-within}
+use Rattle.execution_laws.proofs.Orders.{row_common-front, row_common-within}
 use Rattle.affine_form.specs.Form.{IsSmallForm}
 use Rattle.affine_form.specs.System.{AffineSystem}
-use Rattle.affine_form.specs.Rows.{BoundsFit, variables_from, within_rows, step_of}
+use Rattle.affine_form.specs.Rows.{BoundsFit, direction_of, variables_from, within_rows, step_of}
 use Rattle.affine_program.specs.declared.statement.Statement.{Statement}
 use Rattle.affine_program.specs.declared.item.Item.{Item as CodeItem}
 use Rattle.affine_program.specs.Tree.{row_of}
@@ -48,7 +48,7 @@ path-is parts statement at is below read = ap (λ (o : Option (List PathStep)). 
 -- the bounds on a way are over so many variables, and one more for each loop
 abbrev pub WayFits : ℕ → List PathStep → Type 0
 WayFits vars [] = ⊤
-WayFits vars (rises lower upper ∷ path) = (IsOver vars lower × IsOver vars upper) × WayFits (suc vars) path
+WayFits vars (bounded lower upper ∷ path) = (IsOver vars lower × IsOver vars upper) × WayFits (suc vars) path
 
 -- what the tree says of a statement on the way to it
 abbrev pub StandsAt : AffineProgram → ℕ → ℕ → List PathStep → Type 0
@@ -66,13 +66,13 @@ mutual
   item-stands : (program : AffineProgram) (vars : ℕ) (item : Item) (s : ℕ) → ItemFits program vars item → IsSomeAnd (item_path item s) (λ path. Unit {0})
       → IsSomeAnd (item_path item s) (StandsAt program vars s)
   item-stands program vars (assign number) s fits h = assign-stands program vars number s (number == s) refl fits h
-  item-stands program vars (loop name lower upper body) s fits h =
+  item-stands program vars (loop name direction lower upper body) s fits h =
       longer (row_path body s) (row-stands program (suc vars) body s fits.2 (inside (row_path body s) h)) where
-        inside : (o : Option (List PathStep)) → IsSomeAnd (option_map (λ path. rises lower upper ∷ path) o) (λ path. Unit {0}) → IsSomeAnd o (λ path. Unit {0})
+        inside : (o : Option (List PathStep)) → IsSomeAnd (option_map (λ path. bounded lower upper ∷ path) o) (λ path. Unit {0}) → IsSomeAnd o (λ path. Unit {0})
         inside None h = h
         inside (Some path) h = tt
 
-        longer : (o : Option (List PathStep)) → IsSomeAnd o (StandsAt program (suc vars) s) → IsSomeAnd (option_map (λ path. rises lower upper ∷ path) o) (StandsAt program vars s)
+        longer : (o : Option (List PathStep)) → IsSomeAnd o (StandsAt program (suc vars) s) → IsSomeAnd (option_map (λ path. bounded lower upper ∷ path) o) (StandsAt program vars s)
         longer None h = h
         longer (Some path) h = (((fits.0, fits.1), h.0), subst (λ (n : ℕ). StatementFits program n s) (moved (length path)) h.1) where
           moved : (n : ℕ) → suc vars + n ≡ vars + suc n
@@ -135,6 +135,23 @@ common-within parts t s at is below read =
     (row_common-within (row_of parts.tree) t s (statements-rise (meaning parts) is.well_formed)
     (subst (λ (o : Option (List PathStep)). IsSomeAnd o (λ path. Unit {0})) (sym way) tt)) in
     omega (arith, length-map at.bounds.items step_of)
+
+-- the directions of the loops around a statement
+pub directions-are : (parts : ProgramParts) (statement : ℕ) (at : Statement) → IsProgram parts → statement < length parts.statements → at ≡ get_or parts.statements statement at
+    → common_loops (meaning parts) statement statement ≡ map direction_of at.down.items
+directions-are parts statement at is below read =
+    subst (λ (n : ℕ). row_common (row_of parts.tree) n n ≡ map direction_of at.down.items) (none statement)
+    (subst (λ (x : Statement). row_common (row_of parts.tree) (0 + statement) (0 + statement) ≡ map direction_of x.down.items) (sym read)
+    (All-placed (λ (placed : ℕ × Statement). row_common (row_of parts.tree) placed.0 placed.0 ≡ map direction_of placed.1.down.items) 0 parts.statements statement at is.directions below)) where
+      none : (n : ℕ) → 0 + n ≡ n
+      none n = omega arith
+
+-- the loops that a statement has in common with another are the first of those around it
+pub common-front : (parts : ProgramParts) (t s : ℕ) (at : Statement) → IsProgram parts → t < length parts.statements → at ≡ get_or parts.statements t at
+    → common_loops (meaning parts) t s ≡ map direction_of (take (length (common_loops (meaning parts) t s)) at.down.items)
+common-front parts t s at is below read =
+    let n : ℕ = length (common_loops (meaning parts) t s) in
+    row_common-front (row_of parts.tree) t s (statements-rise (meaning parts) is.well_formed) ∙ ap (take n) (directions-are parts t at is below read) ∙ take-map direction_of n at.down.items
 
 -- the loops that two statements have in common are within the limit
 pub common-few : (parts : ProgramParts) (tree : List CodeItem) (t s : ℕ) → tree ≡ parts.tree → IsProgram parts → t < length parts.statements

@@ -63,7 +63,7 @@ pub record IsPrintableHeader (p : AffineProgram) (around : List (List ℕ)) (nam
 abbrev mutual
   pub IsPrintableItem : AffineProgram → List (List ℕ) → Item → Type 0
   IsPrintableItem p around (assign number) = ⊤
-  IsPrintableItem p around (loop name lower upper body) = IsPrintableHeader p around name lower upper × IsPrintableRow p (around ++ name ∷ []) body
+  IsPrintableItem p around (loop name direction lower upper body) = IsPrintableHeader p around name lower upper × IsPrintableRow p (around ++ name ∷ []) body
 
   pub IsPrintableRow : AffineProgram → List (List ℕ) → Row → Type 0
   IsPrintableRow p around done = ⊤

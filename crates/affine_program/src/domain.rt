@@ -1,6 +1,7 @@
 //! Domains of statements, and the loops that two have in common.
 
-ghost use Rattle.std.specs.Prelude.{◌≡◌, ◌<◌, ◌≤◌, length, is_some, IfOk};
+ghost use Rattle.std.specs.Prelude.{◌≡◌, ◌<◌, ◌≤◌, length, map, is_some, IfOk};
+ghost use Rattle.affine_form.specs.Rows.{direction_of};
 ghost use Rattle.iolb_model.specs.Path.{item_path, row_path};
 ghost use Rattle.iolb_model.specs.Order.{row_common, common_loops};
 ghost use Rattle.affine_program.specs.Parts.{meaning};
@@ -37,6 +38,16 @@ impl Program {
         ensures { result ≡ length (common_loops (meaning self.now) t s) }
     {
         common_in(self.tree(), t, s)
+    }
+
+    /// Whether the loops around both of two statements run downward, outermost first.
+    pub fn common_down(&self, t: u16, s: u16) -> &[bool]
+        requires t_there { t < length self.now.statements }
+        requires s_there { s < length self.now.statements }
+        ensures { map direction_of result.now ≡ common_loops (meaning self.now) t s }
+    {
+        let common = self.common(t, s);
+        &self.statements()[usize::from(t)].down.as_slice()[..common]
     }
 }
 

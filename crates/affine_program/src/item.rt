@@ -5,11 +5,12 @@ use affine_form::{Form, Name};
 /// An item of a program's tree. The forms of a loop are over the parameters and the loops around it.
 #[derive(Debug, Drop)]
 pub enum Item {
-    /// A loop: its name, its lower and upper bound, both included, and its body.
+    /// A loop: its name, its lower and upper bound, both included, whether it runs downward, and its body.
     Loop {
         name: Name,
         lower: Form,
         upper: Form,
+        down: bool,
         body: Vec<Item>,
     },
     /// A statement, by its number in the order of the text.

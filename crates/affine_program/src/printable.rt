@@ -113,6 +113,7 @@ fn is_item_printable(
             lower,
             upper,
             body,
+            ..
         } => {
             if !is_header_printable(draft, around, name, lower, upper) {
                 return Ok(false);

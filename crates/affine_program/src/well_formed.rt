@@ -2,10 +2,11 @@
 
 ghost use Rattle.std.specs.Prelude.{◌≡◌, ◌↔◌, IsTrue, ℕ, map, Some, ◌++◌, length, OnOk, IfOk, ◌≤◌};
 ghost use Rattle.std.specs.List.{AllByRecursion, enumerate_from, range_with_len};
+ghost use Rattle.iolb_model.specs.Order.{row_common};
 ghost use Rattle.iolb_model.specs.Path.{row_path};
 ghost use Rattle.iolb_model.specs.Program.{IsOver, AccessFits, StatementFits, ItemFits, RowFits, item_statements, row_statements, IsWellFormed};
 ghost use Rattle.affine_program.specs.Draft.{parts_of};
-ghost use Rattle.affine_form.specs.Rows.{step_of};
+ghost use Rattle.affine_form.specs.Rows.{direction_of, step_of};
 ghost use Rattle.affine_program.specs.Parts.{meaning, access_of, IsProgram};
 ghost use Rattle.affine_program.specs.Tree.{item_of, row_of};
 ghost use Rattle.affine_program.specs.declared.statement.Statement.{Statement};
@@ -179,6 +180,39 @@ fn all_stand(draft: &Draft) -> bool
     true
 }
 
+/// Whether these of the loops around a statement in a row of items run downward, outermost first.
+fn runs(items: &[Item], number: u16, down: &[bool]) -> bool
+    ensures { IsTrue result ↔ (row_common (row_of items.now) number number ≡ map direction_of down.now) }
+{
+    for item in items {
+        if has(item, number) {
+            return match item {
+                Item::Loop {
+                    down: falls,
+                    body,
+                    ..
+                } => !down.is_empty() && *falls == down[0] && runs(body, number, &down[1..]),
+                Item::Assign(_) => down.is_empty(),
+            };
+        }
+    }
+    down.is_empty()
+}
+
+/// Whether each statement has the directions of the loops around it.
+fn all_run(draft: &Draft) -> bool
+    requires { length draft.now.statements.items ≤ STATEMENTS }
+    ensures { IsTrue result ↔ AllByRecursion (λ (placed : ℕ × Statement). row_common (row_of draft.now.tree.items) placed.0 placed.0 ≡ map direction_of placed.1.down.items) (enumerate_from 0 draft.now.statements.items) }
+{
+    let tree = draft.tree.as_slice();
+    for (number, statement) in draft.statements.as_slice().iter().enumerate() {
+        if !runs(tree, number as u16, statement.down.as_slice()) {
+            return false;
+        }
+    }
+    true
+}
+
 /// Whether the statements are numbered in the order of the text, and each stands in the tree once.
 fn are_numbered(alloc: Global, draft: &Draft) -> Result<bool, Memory>
     ensures { IfOk result (λ yes. IsTrue yes ↔ (row_statements (row_of draft.now.tree.items) ≡ range_with_len 0 (length draft.now.statements.items))) }
@@ -202,7 +236,7 @@ fn is_well_formed(alloc: Global, draft: &Draft) -> Result<bool, Memory>
 }
 
 /// Whether the parts make a program: they are within their limits and well formed, the assumptions are over the
-/// parameters, each statement has the bounds of the loops around it, and some text means it.
+/// parameters, each statement has the bounds and the directions of the loops around it, and some text means it.
 pub(crate) fn is_program(alloc: Global, draft: &Draft) -> Result<bool, Memory>
     ensures { IfOk result (λ yes. IsTrue yes ↔ IsProgram (parts_of draft.now)) }
 {
@@ -212,6 +246,7 @@ pub(crate) fn is_program(alloc: Global, draft: &Draft) -> Result<bool, Memory>
         well && printable
             && draft.assumed.vars() == draft.params.as_slice().len()
             && are_parts_within_limits(draft)
-            && all_stand(draft),
+            && all_stand(draft)
+            && all_run(draft),
     )
 }

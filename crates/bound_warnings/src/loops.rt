@@ -211,6 +211,7 @@ fn warn_item(
             lower,
             upper,
             body,
+            ..
         } => {
             if have_statement(body) {
                 scene.warn_loop(page, *seen, name, (lower, upper), around)?;

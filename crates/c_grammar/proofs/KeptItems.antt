@@ -14,7 +14,7 @@ use Rattle.c_reading.specs.declared.tree.Header.{Header}
 use Rattle.c_reading.specs.Tree.{Item, assign, loop, Items, done, with_item}
 use Rattle.c_reading.specs.Access.{Access}
 use Rattle.c_reading.specs.Affine.{kind_of, number_of, with_name, is_short}
-use Rattle.c_reading.specs.Items.{first_reads, is_array, most_statements}
+use Rattle.c_reading.specs.Items.{first_reads, header_by, is_array, most_statements}
 use Rattle.c_reading.specs.Numbers.{most_loops, zeros}
 use Rattle.c_reading.specs.Refs.{with_kind}
 use Rattle.c_grammar.specs.Words.{Word, a_name, a_symbol}
@@ -143,21 +143,22 @@ loop_by_closed depth name (Some ClosedLoop) i e w s =
 loop_by_closed depth name (Some _) i e w s = nothing
 
 -- a header names a loop that isn't open, and its bounds are rows
-header_in : {depth : ℕ} (b : ℕ) (h : item.Header) (i : Names) → IsWord h.name → AreNamed (affine_words h.lower) → AreNamed (affine_words h.upper) → State depth i → Gives (header_means b h i) (HeaderIn depth i)
+header_in : {depth : ℕ} (b : ℕ) (h : item.Header) (i : Names) → IsWord h.name → AreNamed (affine_words h.first) → AreNamed (affine_words h.last) → State depth i → Gives (header_means b h i) (HeaderIn depth i)
 unfolding header_means mean.loop_name
-header_in {depth} b h i w lower upper s =
+header_in {depth} b h i w first last s =
     chained (loop_by h.name (kind_of h.name i) i) (loop_by_closed depth h.name (kind_of h.name i) i refl w s) (λ at j q.
-    chained (affine_means b h.lower j) (affine_form b h.lower j lower q.state) (λ low k r.
-    chained (affine_means b h.upper k) (affine_form b h.upper k upper r.state) (λ high l t.
-    bounded at low.numbers l (mean.upper_bound h.excludes high.numbers) (combined_row (pos 1) (mean.excluded h.excludes) zeros high.numbers (zeros_row l.parameters depth) t.value)
+    chained (affine_means b h.first j) (affine_form b h.first j first q.state) (λ start k r.
+    chained (affine_means b h.last k) (affine_form b h.last k last r.state) (λ end l t.
+    bounded at h.falls start.numbers l (mean.last_bound h.falls h.excludes end.numbers) (combined_row (pos 1) (mean.excluded h.falls h.excludes) zeros end.numbers (zeros_row l.parameters depth) t.value)
     t.state (kept-trans q.kept (kept-trans r.kept t.kept)) (closed_stays (grown-trans r.kept.grown t.kept.grown) at q.value) (row-grown t.kept.grown r.value)))) where
       closed_stays : {j l : Names} → Grown j l → (at : ℕ) → slice_get j.kinds at ≡ Some ClosedLoop → slice_get l.kinds at ≡ Some ClosedLoop
       closed_stays {j} {l} g at e = ap (λ ks. slice_get ks at) g.kinds ∙ get-append j.kinds g.more at ClosedLoop e
 
-      bounded : (at : ℕ) (low : List ℤ) (l : Names) (o : Option (List ℤ)) → IsWhereSome (IsRow l.parameters depth) o → State depth l → Kept i [] l → slice_get l.kinds at ≡ Some ClosedLoop → IsRow l.parameters depth low
-          → Gives (then_in (mean.given o l) (λ numbers. mean.pure (record { name = at; lower = low; upper = numbers }))) (HeaderIn depth i)
-      bounded at low l None g t k c r = nothing
-      bounded at low l (Some row) g t k c r = ok (record { state = t; kept = k; closed = c; lower = r; upper = g })
+      bounded : (at : ℕ) (falls : Bool) (start : List ℤ) (l : Names) (o : Option (List ℤ)) → IsWhereSome (IsRow l.parameters depth) o → State depth l → Kept i [] l → slice_get l.kinds at ≡ Some ClosedLoop → IsRow l.parameters depth start
+          → Gives (then_in (mean.given o l) (λ numbers. mean.pure (header_by at falls start numbers))) (HeaderIn depth i)
+      bounded at falls start l None g t k c r = nothing
+      bounded at false start l (Some row) g t k c r = ok (record { state = t; kept = k; closed = c; lower = r; upper = g })
+      bounded at true start l (Some row) g t k c r = ok (record { state = t; kept = k; closed = c; lower = g; upper = r })
 
 -- ---- loops
 
@@ -244,12 +245,12 @@ module _ (depth : ℕ) (h : Header) (body : Items) (i j l : Names) (few : depth 
   }
 
 -- the names of a header
-header_named : (h : item.Header) (ws : List Word) → AreNamed (header_words h ++ ws) → IsWord h.name × AreNamed (affine_words h.lower) × AreNamed (affine_words h.upper)
+header_named : (h : item.Header) (ws : List Word) → AreNamed (header_words h ++ ws) → IsWord h.name × AreNamed (affine_words h.first) × AreNamed (affine_words h.last)
 header_named h ws n =
     let whole = first_named (header_words h) ws n in
     let tail = second_named (int_words h.has_int) (a_name h.name ∷ bounds_words h) whole.1.1 in
-    let bounds = second_named (affine_words h.lower) _ tail.1.1 in
-    (tail.0 refl, first_named (affine_words h.lower) _ tail.1.1, first_named (affine_words h.upper) _ bounds.1.1.1)
+    let bounds = second_named (affine_words h.first) _ tail.1.1 in
+    (tail.0 refl, first_named (affine_words h.first) _ tail.1.1, first_named (affine_words h.last) _ bounds.1.1.1)
 
 mutual
   unfolding item_means items_means begin end with_kind

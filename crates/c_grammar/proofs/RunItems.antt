@@ -5,14 +5,14 @@ use Rattle.base_laws.proofs.Lists.{All-left}
 use Rattle.c_tokens.specs.declared.token.TokenKind.TheVariants as token
 use Rattle.c_reading.specs.declared.named.Kind.{Kind}
 use Rattle.c_reading.specs.declared.named.Kind.TheVariants.{OpenLoop, ClosedLoop}
-use Rattle.c_reading.specs.Input.{Input, spelling, next, sees, place, Outcome, kind, left}
+use Rattle.c_reading.specs.Input.{Input, and_then, spelling, next, sees, place, Outcome, kind, left}
 use Rattle.c_reading.specs.Numbers.{combined, zeros, most_loops}
 use Rattle.c_reading.specs.Affine.{kind_of, number_of, with_name, affine, slot}
 use Rattle.c_reading.specs.Items as rule
 use Rattle.c_grammar.specs.Words.{Word, a_name, a_symbol, word_of, line_end, program_end}
 use Rattle.c_grammar.specs.Affine.{affine_words, reference_words, compare_words}
 use Rattle.c_grammar.specs.Item as tree
-use Rattle.c_grammar.specs.Item.{step_words, int_words, bound_word, bounds_words, header_words, assigner_word, assign_words, item_words, items_words}
+use Rattle.c_grammar.specs.Item.{twice_word, updating_word, sign_word, step_words, int_words, bound_word, bounds_words, header_words, assigner_word, assign_words, item_words, items_words}
 use Rattle.c_grammar.specs.Meaning as mean
 use Rattle.c_grammar.specs.Meaning.{Names, affine_means, header_means, reference_means, value_means, assign_means, statement_means, item_means, items_means, compare_means, parameters_mean, compares_mean, lines_mean, whole_means, text_means}
 use Rattle.c_grammar.proofs.Steps.{one_less, bare, spelled_kind, first, AreLexical, IsSpelled, all_spelled}
@@ -54,49 +54,72 @@ unfolding mean.loop_name kind_of rule.loop_name
 loop_name_run i name rest at = at_name (λ n. mean.loop_by n (kind_of n (bare i)) (bare i)) at (λ named. rw (at_kind at) (loop_by_run i (kind_of (spelling i) i) rest named))
 
 -- a bound's comparison is read
-comparison_run : (excludes : Bool) (i : Input) (ws : List Word) → At i (bound_word excludes ∷ ws) → rule.comparison i ≡ Ok (mean.excluded excludes, next i)
+comparison_run : (falls excludes : Bool) (i : Input) (ws : List Word) → At i (bound_word falls excludes ∷ ws) → rule.comparison i ≡ Ok (record { down = falls; less = mean.excluded falls excludes }, next i)
 unfolding rule.comparison
-comparison_run true i ws at = rw (at_sees (codes "<") at) refl
-comparison_run false i ws at = rw (at_sees (codes "<") at, at_sees (codes "<=") at) refl
+comparison_run false true i ws at = rw (at_sees (codes "<") at) refl
+comparison_run false false i ws at = rw (at_sees (codes "<") at, at_sees (codes "<=") at) refl
+comparison_run true true i ws at = rw (at_sees (codes "<") at, at_sees (codes "<=") at, at_sees (codes ">") at) refl
+comparison_run true false i ws at = rw (at_sees (codes "<") at, at_sees (codes "<=") at, at_sees (codes ">") at, at_sees (codes ">=") at) refl
 
 -- a word of a step is taken
 in_step_run : (start : ℕ) (word : List ℕ) (i : Input) → sees word i ≡ true → rule.expect_in_step start word i ≡ Ok (tt, next i)
 unfolding rule.expect_in_step
 in_step_run start word i seen = rw seen refl
 
+-- the symbol of a step by one is seen, and no name there
+twice_seen : (falls : Bool) (i : Input) (ws : List Word) → At i (twice_word falls ∷ ws) → sees (rule.twice falls) i ≡ true
+twice_seen false i ws at = at_sees (codes "++") at
+twice_seen true i ws at = at_sees (codes "--") at
+
+twice_not_name : (falls : Bool) (name : List ℕ) (i : Input) (ws : List Word) → token.Name ≡ spelled_kind name → At i (twice_word falls ∷ ws) → sees name i ≡ false
+unfolding spelled_kind
+twice_not_name false name i ws named at = at_sees name at ∙ other_bytes (codes "++") name token.Symbol refl (λ e. let no : token.Symbol ≡ token.Name = e ∙ sym named in absurd cc)
+twice_not_name true name i ws named at = at_sees name at ∙ other_bytes (codes "--") name token.Symbol refl (λ e. let no : token.Symbol ≡ token.Name = e ∙ sym named in absurd cc)
+
+-- that of a step by the number behind it
+updating_seen : (falls : Bool) (i : Input) (ws : List Word) → At i (updating_word falls ∷ ws) → (sees (rule.twice falls) i ≡ false) × (sees (rule.updating falls) i ≡ true)
+updating_seen false i ws at = (at_sees (codes "++") at, at_sees (codes "+=") at)
+updating_seen true i ws at = (at_sees (codes "--") at, at_sees (codes "-=") at)
+
+-- that of a step that names the loop again
+setting_seen : (falls : Bool) (i : Input) (ws : List Word) → At i (a_symbol (codes "=") ∷ ws) → (sees (rule.twice falls) i ≡ false) × (sees (rule.updating falls) i ≡ false)
+setting_seen false i ws at = (at_sees (codes "++") at, at_sees (codes "+=") at)
+setting_seen true i ws at = (at_sees (codes "--") at, at_sees (codes "-=") at)
+
+-- its sign
+sign_seen : (falls : Bool) (i : Input) (ws : List Word) → At i (sign_word falls ∷ ws) → sees (rule.sign falls) i ≡ true
+sign_seen false i ws at = at_sees (codes "+") at
+sign_seen true i ws at = at_sees (codes "-") at
+
 -- the name that a step begins with is taken
-step_behind : (name : List ℕ) (i : Input) → sees name i ≡ true → rule.step name i ≡ rule.step_behind_name (place i) name (next i)
+step_behind : (falls : Bool) (name : List ℕ) (i : Input) → sees name i ≡ true → rule.step falls name i ≡ rule.step_behind_name (place i) falls name (next i)
 unfolding rule.step
-step_behind name i seen = rw seen refl
+step_behind falls name i seen = rw seen refl
 
 -- a step is read
-step_run : (name : List ℕ) (s : tree.Step) (rest : List Word) (i : Input) → token.Name ≡ spelled_kind name → At i (step_words name s ++ rest) → (q : Unit {0} × Input) × (rule.step name i ≡ Ok q) × At q.1 rest × (bare q.1 ≡ bare i)
-unfolding rule.step rule.step_behind_name next spelled_kind
-step_run name tree.name_plus_plus rest i named at =
+step_run : (falls : Bool) (name : List ℕ) (s : tree.Step) (rest : List Word) (i : Input) → token.Name ≡ spelled_kind name → At i (step_words falls name s ++ rest)
+    → (q : Unit {0} × Input) × (rule.step falls name i ≡ Ok q) × At q.1 rest × (bare q.1 ≡ bare i)
+unfolding rule.step rule.step_behind_name next
+step_run falls name tree.name_plus_plus rest i named at =
     let one = at_next at in
-    let a : sees (codes "++") (next i) ≡ true = at_sees (codes "++") one in
-    ((tt, next (next i)), step_behind name i (same_seen at) ∙ rw a refl, at_next one, refl)
-step_run name tree.plus_plus_name rest i named at =
+    ((tt, next (next i)), step_behind falls name i (same_seen at) ∙ rw (twice_seen falls (next i) _ one) refl, at_next one, refl)
+step_run falls name tree.plus_plus_name rest i named at =
     let one = at_next at in
-    let other : sees name i ≡ false = at_sees name at ∙ other_bytes (codes "++") name token.Symbol refl (λ e. let no : token.Symbol ≡ token.Name = e ∙ sym named in absurd cc) in
-    let a : sees (codes "++") i ≡ true = at_sees (codes "++") at in
-    ((tt, next (next i)), rw (other, a) (in_step_run (place i) name (next i) (same_seen one)), at_next one, refl)
-step_run name tree.name_plus_one rest i named at =
+    ((tt, next (next i)), rw (twice_not_name falls name i _ named at, twice_seen falls i _ at) (in_step_run (place i) name (next i) (same_seen one)), at_next one, refl)
+step_run falls name tree.name_plus_one rest i named at =
     let one = at_next at in
     let two = at_next one in
-    let a : sees (codes "++") (next i) ≡ false = at_sees (codes "++") one in
-    let b : sees (codes "+=") (next i) ≡ true = at_sees (codes "+=") one in
-    ((tt, next (next (next i))), step_behind name i (same_seen at) ∙ rw (a, b) (in_step_run (place i) (codes "1") (next (next i)) (at_sees (codes "1") two)), at_next two, refl)
-step_run name tree.name_is_name_plus_one rest i named at =
+    let seen = updating_seen falls (next i) _ one in
+    ((tt, next (next (next i))), step_behind falls name i (same_seen at) ∙ rw (seen.0, seen.1) (in_step_run (place i) (codes "1") (next (next i)) (at_sees (codes "1") two)), at_next two, refl)
+step_run falls name tree.name_is_name_plus_one rest i named at =
     let one = at_next at in
     let two = at_next one in
     let three = at_next two in
     let four = at_next three in
-    let a : sees (codes "++") (next i) ≡ false = at_sees (codes "++") one in
-    let b : sees (codes "+=") (next i) ≡ false = at_sees (codes "+=") one in
+    let seen = setting_seen falls (next i) _ one in
     let c : sees (codes "=") (next i) ≡ true = at_sees (codes "=") one in (
       (tt, next (next (next (next (next i))))),
-      step_behind name i (same_seen at) ∙ rw (a, b, c) (then_ok _ _ (then_ok _ _ (in_step_run (place i) name (next (next i)) (same_seen two)) (in_step_run (place i) (codes "+") (next (next (next i))) (at_sees (codes "+") three)))
+      step_behind falls name i (same_seen at) ∙ rw (seen.0, seen.1, c) (then_ok _ _ (then_ok _ _ (in_step_run (place i) name (next (next i)) (same_seen two)) (in_step_run (place i) (rule.sign falls) (next (next (next i))) (sign_seen falls _ _ three)))
           (in_step_run (place i) (codes "1") (next (next (next (next i)))) (at_sees (codes "1") four))),
       at_next four,
       refl,
@@ -109,21 +132,21 @@ bound_is start less numbers out e = rw e refl
 
 -- what stands behind a header's bracket is read
 header_of_run : (b : ℕ) (h : tree.Header) (rest : List Word) (i : Input) → At i (a_name h.name ∷ (bounds_words h ++ rest)) → Runs (λ a. a) (rule.header_of b h.name i) rest (header_means b h (bare i))
-unfolding rule.header_of rule.lower_bound rule.upper_bound rule.upper_from header_means next
+unfolding rule.header_of rule.first_bound rule.header_from rule.last_from header_means next
 header_of_run b h rest i at =
-    let upper_part : List Word = a_symbol (codes ";") ∷ (step_words h.name h.step ++ (a_symbol (codes ")") ∷ [])) in
-    let lower_part : List Word = a_symbol (codes ";") ∷ a_name h.name ∷ bound_word h.excludes ∷ (affine_words h.upper ++ upper_part) in
+    let last_part : List Word = a_symbol (codes ";") ∷ (step_words h.falls h.name h.step ++ (a_symbol (codes ")") ∷ [])) in
+    let first_part : List Word = a_symbol (codes ";") ∷ a_name h.name ∷ bound_word h.falls h.excludes ∷ (affine_words h.last ++ last_part) in
     runs_then (rule.loop_name i) _ (mean.loop_name h.name (bare i)) _ (loop_name_run i h.name (bounds_words h ++ rest) at) (λ n at1.
     rw (expect_run (codes "=") n.1 (at_sees (codes "=") at1)) (runs_inside (affine b None (next n.1)) _ _ (
-    runs_then (affine b None (next n.1)) _ (affine_means b h.lower (bare n.1)) _ (affine_read b h.lower (lower_part ++ rest) (next n.1) (at_assoc (affine_words h.lower) lower_part rest (at_next at1)) (record { times = refl; plus = refl; minus = refl })) (λ l at2.
+    runs_then (affine b None (next n.1)) _ (affine_means b h.first (bare n.1)) _ (affine_read b h.first (first_part ++ rest) (next n.1) (at_assoc (affine_words h.first) first_part rest (at_next at1)) (record { times = refl; plus = refl; minus = refl })) (λ l at2.
     let named = at_next at2 in
     let compared = at_next named in
-    rw (closed_by_run (codes ";") l.0 l.1 (at_sees (codes ";") at2), expect_run h.name (next l.1) (same_seen named), comparison_run h.excludes (next (next l.1)) _ compared) (runs_inside (affine b None (next (next (next l.1)))) _ _ (
-    runs_then (affine b None (next (next (next l.1)))) _ (affine_means b h.upper (bare l.1)) _ (affine_read b h.upper (upper_part ++ rest) (next (next (next l.1))) (at_assoc (affine_words h.upper) upper_part rest (at_next compared)) (record { times = refl; plus = refl; minus = refl })) (λ u at3.
-    runs_given (mean.upper_bound h.excludes u.0.numbers) (bare u.1) _ (λ numbers e.
-    let s = step_run h.name h.step (a_symbol (codes ")") ∷ rest) (next u.1) at.spelled.0 (at_assoc (step_words h.name h.step) (a_symbol (codes ")") ∷ []) rest (at_next at3)) in
-    rw (bound_is (place (next (next (next l.1)))) (mean.excluded h.excludes) u.0.numbers numbers e, closed_by_run (codes ";") u.0 u.1 (at_sees (codes ";") at3), s.1, expect_run (codes ")") s.0.1 (at_sees (codes ")") s.2)) (
-    runs_end (at_next s.2) (ap (λ (names : Names). Some (record { name = n.0; lower = l.0.numbers; upper = numbers }, names)) (sym s.3)))))))))))
+    rw (closed_by_run (codes ";") l.0 l.1 (at_sees (codes ";") at2), expect_run h.name (next l.1) (same_seen named), comparison_run h.falls h.excludes (next (next l.1)) _ compared) (runs_inside (and_then (affine b None (next (next (next l.1)))) _) _ _ (runs_inside (affine b None (next (next (next l.1)))) _ _ (
+    runs_then (affine b None (next (next (next l.1)))) _ (affine_means b h.last (bare l.1)) _ (affine_read b h.last (last_part ++ rest) (next (next (next l.1))) (at_assoc (affine_words h.last) last_part rest (at_next compared)) (record { times = refl; plus = refl; minus = refl })) (λ u at3.
+    runs_given (mean.last_bound h.falls h.excludes u.0.numbers) (bare u.1) _ (λ numbers e.
+    let s = step_run h.falls h.name h.step (a_symbol (codes ")") ∷ rest) (next u.1) at.spelled.0 (at_assoc (step_words h.falls h.name h.step) (a_symbol (codes ")") ∷ []) rest (at_next at3)) in
+    rw (bound_is (place (next (next (next l.1)))) (mean.excluded h.falls h.excludes) u.0.numbers numbers e, closed_by_run (codes ";") u.0 u.1 (at_sees (codes ";") at3), s.1, expect_run (codes ")") s.0.1 (at_sees (codes ")") s.2)) (
+    runs_end (at_next s.2) (ap (λ (names : Names). Some (rule.header_by n.0 h.falls l.0.numbers numbers, names)) (sym s.3))))))))))))
 
 -- `int` is passed over
 skip_run : (has_int : Bool) (name : List ℕ) (ws : List Word) (i : Input) → At i (int_words has_int ++ (a_name name ∷ ws)) → At (rule.skip_int i) (a_name name ∷ ws) × (bare (rule.skip_int i) ≡ bare i)

@@ -1,6 +1,6 @@
 -- Headers of loops, statements, blocks and whole texts that are read spell the grammar, and mean what was read.
 use Rattle.std.proofs.Common.{◌≡◌, ℕ, suc, ◌-◌, Bool, true, false, List, [], ◌∷◌, ◌++◌, refl, sym, ap, ◌∙◌, Option, Some, None, subst, zero, ◌+◌, map}
-use Rattle.std.specs.Prelude.{◌||◌, ℤ, pos, Ok, codes, nat_le, Err, option_map}
+use Rattle.std.specs.Prelude.{ℤ, pos, Ok, codes, nat_le, Err, option_map}
 use Rattle.c_tokens.specs.declared.token.TokenKind.{TokenKind}
 use Rattle.c_tokens.specs.declared.token.TokenKind.TheVariants as token
 use Rattle.c_reading.specs.declared.named.Kind.{Kind}
@@ -16,7 +16,7 @@ use Rattle.c_grammar.specs.Words.{Word, a_name, a_number, a_symbol, a_keyword, p
 use Rattle.c_grammar.specs.Affine.{affine_words}
 use Rattle.c_grammar.specs.Affine as affine_tree
 use Rattle.c_grammar.specs.Item as tree
-use Rattle.c_grammar.specs.Item.{step_words, bound_word, bounds_words, header_words, assigner_word, assign_words, item_words, items_words}
+use Rattle.c_grammar.specs.Item.{twice_word, updating_word, sign_word, step_words, bound_word, bounds_words, header_words, assigner_word, assign_words, item_words, items_words}
 use Rattle.c_grammar.specs.Meaning as mean
 use Rattle.c_grammar.specs.Meaning.{Names, Form, affine_means, header_means, assign_means, statement_means, item_means, items_means, parameters_mean, compares_mean, lines_mean, whole_means, text_means}
 use Rattle.c_grammar.proofs.Steps.{Passed, one_less, words, bare, spelled_kind, AreLexical, Took, is_plain, took_then, took_symbol, took_word, took_name, took_as, kind_spelled, Reads, fails, gives, gives_if, reads_map, reads_then, reads_given, reads_if, bool_cases, means_then, means_given, class, Spells, SpellsUpTo, took_none, name_kind_is, kind_is, end_is, end_words, same_ok, took_line_end, took_kind, parameters_is, assumptions_is, NamedAs}
@@ -55,47 +55,65 @@ unfolding rule.loop_name mean.loop_name kind_of
 loop_name_sound i g = reads_if (is_name_kind (kind i)) (λ is. reads_map (loop_name_by_sound i (kind_of (spelling i) i) g is) (λ q n. (n.0, n.1, is))) (λ _. fails)
 
 -- a bound's comparison that was read is spelled
-comparison_sound : (i : Input) → AreLexical (words i) → Reads (rule.comparison i) (Passed (λ (x : Bool). bound_word x ∷ []) mean.excluded i)
+comparison_sound : (i : Input) → AreLexical (words i)
+    → Reads (rule.comparison i) (λ q. (falls : Bool) × (excludes : Bool) × Took i (bound_word falls excludes ∷ []) q.1 × (bare q.1 ≡ bare i) × (q.0.down ≡ falls) × (q.0.less ≡ mean.excluded falls excludes))
 unfolding rule.comparison next spelled_kind
 comparison_sound i g =
-    reads_if (sees (codes "<") i) (λ is. gives (true, took_symbol (codes "<") refl i g is, refl, refl)) (λ _.
-    reads_if (sees (codes "<=") i) (λ is. gives (false, took_symbol (codes "<=") refl i g is, refl, refl)) (λ _.
-    reads_if (sees (codes ">") i || sees (codes ">=") i) (λ _. fails) (λ _. fails)))
+    reads_if (sees (codes "<") i) (λ is. gives (false, true, took_symbol (codes "<") refl i g is, refl, refl, refl)) (λ _.
+    reads_if (sees (codes "<=") i) (λ is. gives (false, false, took_symbol (codes "<=") refl i g is, refl, refl, refl)) (λ _.
+    reads_if (sees (codes ">") i) (λ is. gives (true, true, took_symbol (codes ">") refl i g is, refl, refl, refl)) (λ _.
+    reads_if (sees (codes ">=") i) (λ is. gives (true, false, took_symbol (codes ">=") refl i g is, refl, refl, refl)) (λ _. fails))))
 
 -- a word of a step is spelled
 in_step_sound : (start : ℕ) (k : TokenKind) → is_plain k ≡ true → (word : List ℕ) → spelled_kind word ≡ class k → (i : Input) → AreLexical (words i) → Reads (rule.expect_in_step start word i) (WordSound k word i)
 unfolding rule.expect_in_step next
 in_step_sound start k plain word is i g = gives_if _ _ _ (λ seen. (took_word word k plain is i g seen, refl))
 
+-- the symbols of a step are spelled
+twice_sound : (falls : Bool) (i : Input) → AreLexical (words i) → sees (rule.twice falls) i ≡ true → Took i (twice_word falls ∷ []) (next i)
+unfolding spelled_kind
+twice_sound false i g is = took_symbol (codes "++") refl i g is
+twice_sound true i g is = took_symbol (codes "--") refl i g is
+
+updating_sound : (falls : Bool) (i : Input) → AreLexical (words i) → sees (rule.updating falls) i ≡ true → Took i (updating_word falls ∷ []) (next i)
+unfolding spelled_kind
+updating_sound false i g is = took_symbol (codes "+=") refl i g is
+updating_sound true i g is = took_symbol (codes "-=") refl i g is
+
+sign_sound : (falls : Bool) (start : ℕ) (i : Input) → AreLexical (words i) → Reads (rule.expect_in_step start (rule.sign falls) i) (λ q. Took i (sign_word falls ∷ []) q.1 × (bare q.1 ≡ bare i))
+unfolding spelled_kind
+sign_sound false start i g = in_step_sound start token.Symbol refl (codes "+") refl i g
+sign_sound true start i g = in_step_sound start token.Symbol refl (codes "-") refl i g
+
 -- what stands behind a step's name is spelled
-behind_name_sound : (start : ℕ) (name : List ℕ) (i : Input) → spelled_kind name ≡ token.Name → AreLexical (words i)
-    → Reads (rule.step_behind_name start name i) (λ q. (s : tree.Step) × (ws : List Word) × (step_words name s ≡ a_name name ∷ ws) × Took i ws q.1 × (bare q.1 ≡ bare i))
+behind_name_sound : (start : ℕ) (falls : Bool) (name : List ℕ) (i : Input) → spelled_kind name ≡ token.Name → AreLexical (words i)
+    → Reads (rule.step_behind_name start falls name i) (λ q. (s : tree.Step) × (ws : List Word) × (step_words falls name s ≡ a_name name ∷ ws) × Took i ws q.1 × (bare q.1 ≡ bare i))
 unfolding rule.step_behind_name next spelled_kind
-behind_name_sound start name i named g =
-    reads_if (sees (codes "++") i) (λ is. gives (tree.name_plus_plus, a_symbol (codes "++") ∷ [], refl, took_symbol (codes "++") refl i g is, refl)) (λ _.
-    reads_if (sees (codes "+=") i) (λ is.
-    let t = took_symbol (codes "+=") refl i g is in
-    reads_map (in_step_sound start token.Number refl (codes "1") refl (next i) t.lexical) (λ q o. (tree.name_plus_one, a_symbol (codes "+=") ∷ a_number (codes "1") ∷ [], refl, took_then t o.0, o.1))) (λ _.
+behind_name_sound start falls name i named g =
+    reads_if (sees (rule.twice falls) i) (λ is. gives (tree.name_plus_plus, twice_word falls ∷ [], refl, twice_sound falls i g is, refl)) (λ _.
+    reads_if (sees (rule.updating falls) i) (λ is.
+    let t = updating_sound falls i g is in
+    reads_map (in_step_sound start token.Number refl (codes "1") refl (next i) t.lexical) (λ q o. (tree.name_plus_one, updating_word falls ∷ a_number (codes "1") ∷ [], refl, took_then t o.0, o.1))) (λ _.
     reads_if (sees (codes "=") i) (λ is.
     let t = took_symbol (codes "=") refl i g is in
-    reads_then (and_then (rule.expect_in_step start name (next i)) (λ _. rule.expect_in_step start (codes "+"))) _ {Q = λ (p : Unit {0} × Input). Took (next i) (a_name name ∷ a_symbol (codes "+") ∷ []) p.1 × (bare p.1 ≡ bare i)}
+    reads_then (and_then (rule.expect_in_step start name (next i)) (λ _. rule.expect_in_step start (rule.sign falls))) _ {Q = λ (p : Unit {0} × Input). Took (next i) (a_name name ∷ sign_word falls ∷ []) p.1 × (bare p.1 ≡ bare i)}
     (reads_then (rule.expect_in_step start name (next i)) _ (in_step_sound start token.Name refl name named (next i) t.lexical) (λ r n.
-    reads_map (in_step_sound start token.Symbol refl (codes "+") refl r.1 n.0.lexical) (λ p s. (took_then n.0 s.0, s.1 ∙ n.1)))) (λ p s.
+    reads_map (sign_sound falls start r.1 n.0.lexical) (λ p s. (took_then n.0 s.0, s.1 ∙ n.1)))) (λ p s.
     reads_map (in_step_sound start token.Number refl (codes "1") refl p.1 s.0.lexical) (λ q o.
-    (tree.name_is_name_plus_one, a_symbol (codes "=") ∷ a_name name ∷ a_symbol (codes "+") ∷ a_number (codes "1") ∷ [], refl, took_then t (took_then s.0 o.0), o.1 ∙ s.1))))
+    (tree.name_is_name_plus_one, a_symbol (codes "=") ∷ a_name name ∷ sign_word falls ∷ a_number (codes "1") ∷ [], refl, took_then t (took_then s.0 o.0), o.1 ∙ s.1))))
     (λ _. fails)))
 
 -- a step that was read is spelled
-step_sound : (name : List ℕ) (i : Input) → spelled_kind name ≡ token.Name → AreLexical (words i)
-    → Reads (rule.step name i) (λ q. (s : tree.Step) × Took i (step_words name s) q.1 × (bare q.1 ≡ bare i))
+step_sound : (falls : Bool) (name : List ℕ) (i : Input) → spelled_kind name ≡ token.Name → AreLexical (words i)
+    → Reads (rule.step falls name i) (λ q. (s : tree.Step) × Took i (step_words falls name s) q.1 × (bare q.1 ≡ bare i))
 unfolding rule.step next spelled_kind
-step_sound name i named g = reads_if (sees name i)
+step_sound falls name i named g = reads_if (sees name i)
     (λ is.
     let t = took_word name token.Name refl named i g is in
-    reads_map (behind_name_sound (place i) name (next i) named t.lexical) (λ q s. (s.0, subst (λ (ws : List Word). Took i ws q.1) (sym s.2) (took_then t s.3), s.4)))
-    (λ _. reads_if (sees (codes "++") i)
+    reads_map (behind_name_sound (place i) falls name (next i) named t.lexical) (λ q s. (s.0, subst (λ (ws : List Word). Took i ws q.1) (sym s.2) (took_then t s.3), s.4)))
+    (λ _. reads_if (sees (rule.twice falls) i)
     (λ is.
-    let t = took_symbol (codes "++") refl i g is in
+    let t = twice_sound falls i g is in
     reads_map (in_step_sound (place i) token.Name refl name named (next i) t.lexical) (λ q n. (tree.plus_plus_name, took_then t n.0, n.1)))
     (λ _. fails))
 
@@ -108,10 +126,10 @@ bound_sound start (Some ns) numbers e = cc
 BoundSound : ℕ → List Word → (List ℤ → List ℤ → Type 0) → Input → List ℤ × Input → Type 0
 BoundSound b ws gives i q = (a : affine_tree.Affine) × (f : Form) × Took i (ws ++ (affine_words a ++ (a_symbol (codes ";") ∷ []))) q.1 × (affine_means b a (bare i) ≡ Some (f, bare q.1)) × gives f.numbers q.0
 
--- a lower bound that was read is spelled
-lower_sound : (b : ℕ) (i : Input) → AreLexical (words i) → Reads (rule.lower_bound b i) (BoundSound b (a_symbol (codes "=") ∷ []) (λ ns row. ns ≡ row) i)
-unfolding rule.lower_bound BoundSound spelled_kind
-lower_sound b i g =
+-- a first bound that was read is spelled
+first_sound : (b : ℕ) (i : Input) → AreLexical (words i) → Reads (rule.first_bound b i) (BoundSound b (a_symbol (codes "=") ∷ []) (λ ns row. ns ≡ row) i)
+unfolding rule.first_bound BoundSound spelled_kind
+first_sound b i g =
     reads_then (expect (codes "=") i) _ (word_sound token.Symbol refl (codes "=") refl i g) (λ x s.
     reads_then (affine b None x.1) _ (affine_sound b None x.1 s.0.lexical) (λ p a.
     reads_then (closed_by (codes ";") p.0 p.1) _ (closed_by_sound (codes ";") p.0 p.1 refl a.1.lexical) (λ r c. gives (
@@ -122,18 +140,43 @@ lower_sound b i g =
       ap (λ (f : Form). f.numbers) (sym c.1),
     ))))
 
--- an upper bound that was read is spelled
-upper_sound : (b : ℕ) (name : List ℕ) (i : Input) → spelled_kind name ≡ token.Name → AreLexical (words i)
-    → Reads (rule.upper_bound b name i) (λ q. (x : Bool) × BoundSound b (a_name name ∷ bound_word x ∷ []) (λ ns row. mean.upper_bound x ns ≡ Some row) i q)
-unfolding rule.upper_bound rule.upper_from rule.bound BoundSound spelled_kind
-upper_sound b name i named g =
+-- a bound behind its comparison that was read is spelled
+last_sound : (b : ℕ) (less : ℤ) (i : Input) → AreLexical (words i) → Reads (rule.last_from b (place i) less i) (BoundSound b [] (λ ns row. combined (pos 1) less zeros ns ≡ Some row) i)
+unfolding rule.last_from rule.bound BoundSound spelled_kind
+last_sound b less i g =
+    reads_then (affine b None i) _ (affine_sound b None i g) (λ p a.
+    reads_given (rule.bound (place i) less p.0.numbers) _ p.1 (λ numbers e.
+    reads_then (closed_by (codes ";") p.0 p.1) _ (closed_by_sound (codes ";") p.0 p.1 refl a.1.lexical) (λ k d.
+    gives (a.0, form_of p.0, took_then a.1 d.0, a.2 ∙ ap (λ (s : Names). Some (form_of p.0, s)) (sym d.2), bound_sound (place i) _ numbers e))))
+
+-- the rest of a header was taken behind its first bound
+RestSound : ℕ → List ℕ → ℕ → List ℤ → Input → Header × Input → Type 0
+RestSound b name at first i q =
+    (falls : Bool) × (excludes : Bool) × (step : tree.Step) × (a : affine_tree.Affine) × (f : Form) × (row : List ℤ)
+    × Took i (a_name name ∷ bound_word falls excludes ∷ (affine_words a ++ (a_symbol (codes ";") ∷ step_words falls name step))) q.1
+    × (affine_means b a (bare i) ≡ Some (f, bare q.1)) × (mean.last_bound falls excludes f.numbers ≡ Some row) × (q.0 ≡ rule.header_by at falls first row)
+
+-- the rest of a header that was read is spelled
+rest_sound : (b : ℕ) (name : List ℕ) (at : ℕ) (first : List ℤ) (i : Input) → spelled_kind name ≡ token.Name → AreLexical (words i) → Reads (rule.header_from b name at first i) (RestSound b name at first i)
+unfolding rule.header_from RestSound BoundSound
+rest_sound b name at first i named g =
     reads_then (expect name i) _ (word_sound token.Name refl name named i g) (λ n s.
     reads_then (rule.comparison n.1) _ (comparison_sound n.1 s.0.lexical) (λ r c.
-    reads_then (affine b None r.1) _ (affine_sound b None r.1 c.1.lexical) (λ p a.
-    reads_given (rule.bound (place r.1) r.0 p.0.numbers) _ p.1 (λ numbers e.
-    reads_then (closed_by (codes ";") p.0 p.1) _ (closed_by_sound (codes ";") p.0 p.1 refl a.1.lexical) (λ k d.
-    let given_is : mean.upper_bound c.0 p.0.numbers ≡ Some numbers = ap (λ (z : ℤ). combined (pos 1) z zeros p.0.numbers) (sym c.3) ∙ bound_sound (place r.1) _ numbers e in
-    gives (c.0, (a.0, form_of p.0, took_then (took_then s.0 c.1) (took_then a.1 d.0), ap (affine_means b a.0) (sym s.1 ∙ sym c.2) ∙ a.2 ∙ ap (λ (s : Names). Some (form_of p.0, s)) (sym d.2), given_is)))))))
+    reads_then (rule.last_from b (place r.1) r.0.less r.1) _ (last_sound b r.0.less r.1 c.2.lexical) (λ last l.
+    reads_then (rule.step r.0.down name last.1) _ (step_sound r.0.down name last.1 named l.2.lexical) (λ q t. gives (
+      c.0,
+      c.1,
+      t.0,
+      l.0,
+      l.1,
+      last.0,
+      subst (λ (falls : Bool). Took i (a_name name ∷ bound_word c.0 c.1 ∷ (affine_words l.0 ++ (a_symbol (codes ";") ∷ step_words falls name t.0))) q.1) c.4
+          (subst (λ (ws : List Word). Took i (a_name name ∷ bound_word c.0 c.1 ∷ ws) q.1) (append_assoc (affine_words l.0) (a_symbol (codes ";") ∷ []) (step_words r.0.down name t.0))
+          (took_then (took_then s.0 c.2) (took_then l.2 t.1))),
+      ap (affine_means b l.0) (sym s.1 ∙ sym c.3) ∙ l.3 ∙ ap (λ (s : Names). Some (l.1, s)) (sym t.2),
+      ap (λ (z : ℤ). combined (pos 1) z zeros l.1.numbers) (sym c.5) ∙ l.4,
+      ap (λ (falls : Bool). rule.header_by at falls first last.0) c.4,
+    )))))
 
 -- a header was taken behind its bracket and its `int`
 HeaderOfSound : ℕ → Bool → Input → Header × Input → Type 0
@@ -141,21 +184,21 @@ HeaderOfSound b has_int i q = (h : tree.Header) × (h.has_int ≡ has_int) × To
 
 -- a header that was read is spelled, behind its bracket and its `int`
 header_of_sound : (b : ℕ) (has_int : Bool) (i : Input) → AreLexical (words i) → Reads (rule.header_of b (spelling i) i) (HeaderOfSound b has_int i)
-unfolding rule.header_of BoundSound HeaderOfSound header_means spelled_kind
+unfolding rule.header_of BoundSound RestSound HeaderOfSound header_means spelled_kind
 header_of_sound b has_int i g =
     reads_then (rule.loop_name i) _ (loop_name_sound i g) (λ p n.
     let named : spelled_kind (spelling i) ≡ token.Name = sym (kind_spelled i g) ∙ ap class (name_kind_is (kind i) n.2) in
-    reads_then (rule.lower_bound b p.1) _ (lower_sound b p.1 n.0.lexical) (λ lower l.
-    reads_then (rule.upper_bound b (spelling i) lower.1) _ (upper_sound b (spelling i) lower.1 named l.2.lexical) (λ upper u.
-    reads_then (rule.step (spelling i) upper.1) _ (step_sound (spelling i) upper.1 named u.1.2.lexical) (λ r s.
-    reads_then (expect (codes ")") r.1) _ (word_sound token.Symbol refl (codes ")") refl r.1 s.1.lexical) (λ c x. gives (
-      record { has_int = has_int; name = spelling i; lower = l.0; excludes = u.0; upper = u.1.0; step = s.0 },
+    reads_then (rule.first_bound b p.1) _ (first_sound b p.1 n.0.lexical) (λ first l.
+    reads_then (rule.header_from b (spelling i) p.0 first.0 first.1) _ (rest_sound b (spelling i) p.0 first.0 first.1 named l.2.lexical) (λ rest u.
+    reads_then (expect (codes ")") rest.1) _ (word_sound token.Symbol refl (codes ")") refl rest.1 u.6.lexical) (λ c x. gives (
+      record { has_int = has_int; name = spelling i; falls = u.0; first = l.0; excludes = u.1; last = u.3; step = u.2 },
       refl,
-      subst (λ (ws : List Word). Took i ws c.1) (simp append_assoc) (took_then n.0 (took_then l.2 (took_then u.1.2 (took_then s.1 x.0)))),
-      means_then _ _ n.1 (means_then _ _ l.3 (means_then _ _ u.1.3 (means_given _ _ _ u.1.4
-          (ap (λ (ns : List ℤ). Some (record { name = p.0; lower = ns; upper = upper.0 }, bare upper.1)) l.4
-          ∙ ap (λ (s : Names). Some (record { name = p.0; lower = lower.0; upper = upper.0 }, s)) (sym (x.1 ∙ s.2)))))),
-    ))))))
+      subst (λ (ws : List Word). Took i ws c.1) (simp append_assoc) (took_then n.0 (took_then l.2 (took_then u.6 x.0))),
+      means_then _ _ n.1 (means_then _ _ l.3 (means_then _ _ u.7 (means_given _ _ _ u.8
+          (ap (λ (ns : List ℤ). Some (rule.header_by p.0 u.0 ns u.5, bare rest.1)) l.4
+          ∙ ap (λ (h : Header). Some (h, bare rest.1)) (sym u.9)
+          ∙ ap (λ (s : Names). Some (rest.0, s)) (sym x.1))))),
+    )))))
 
 -- a header was taken that means this loop, where one bracket more could be opened
 unfoldable pub HeaderSound : ℕ → Input → Header × Input → Type 0

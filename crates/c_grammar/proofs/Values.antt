@@ -14,8 +14,8 @@ use Rattle.c_reading.specs.Affine.{kind_of, with_name, is_short, sign_of, number
 use Rattle.c_reading.specs.Numbers.{plus_times, combined, single, zeros, width, constant_of, value_from, is_integer, most_parameters}
 use Rattle.c_grammar.specs.Affine as tree
 use Rattle.c_grammar.specs.Meaning as mean
-use Rattle.c_grammar.specs.Meaning.{Names, Form, form, then_in, given, slot_by, slot, affine_means, sums_means, term_means, products_means, factor_means, row_behind, with_row, with_compare, row_count, if_rows, compare_means, loop_again, loop_by, loop_name, excluded, upper_bound, header_means}
-use Rattle.c_grammar.specs.Points.{Point, digits_value, affine_value, sums_value, term_value, products_value, factor_value, row_value, AreNumbersAt, HaveKinds, RowsHaveValues, Compares, Holds, IsBelow, IsTaken, RowsHoldSo, LoopsTakeValues}
+use Rattle.c_grammar.specs.Meaning.{Names, Form, form, then_in, given, slot_by, slot, affine_means, sums_means, term_means, products_means, factor_means, row_behind, with_row, with_compare, row_count, if_rows, compare_means, loop_again, loop_by, loop_name, excluded, last_bound, header_means}
+use Rattle.c_grammar.specs.Points.{Point, digits_value, affine_value, sums_value, term_value, products_value, factor_value, row_value, AreNumbersAt, HaveKinds, RowsHaveValues, Compares, Holds, Takes, IsTaken, RowsHoldSo, LoopsTakeValues}
 use Rattle.c_grammar.proofs.Spelled.{then_some, given_some, given_last, same_some, some_if}
 use Rattle.c_grammar.proofs.Forms.{front_is}
 use Rattle.c_grammar.proofs.NameKinds.{kind_of-lookup, lookup-other, lookup-new, bytes_are}
@@ -24,6 +24,7 @@ use Rattle.c_grammar.proofs.Steps.{bool_cases}
 use Rattle.std.specs.List.{AllByRecursion}
 use Rattle.c_reading.specs.declared.tree.Header.{Header as ReadHeader}
 use Rattle.c_reading.specs.Compare.{Rows, most_brackets, most_rows}
+use Rattle.c_reading.specs.Items.{header_by}
 
 -- ---- sums of rows
 
@@ -364,27 +365,35 @@ named_kinds name (Some ClosedLoop) s x k e = again (number_of name s) e where
   again (Some at) f = subst (λ (y : ℕ × Names). HaveKinds y.1) (same_some f) k
 named_kinds name (Some _) s x k e = cc
 
--- a value is at most an upper bound
-bounded_so : (excludes : Bool) (value u up : ℤ) → up ≡ u -ℤ excluded excludes → (value ≤ℤ up) ↔ IsBelow excludes value u
-bounded_so true value u up is = (λ h. omega (arith, ints), λ h. omega (arith, ints))
-bounded_so false value u up is = (λ h. omega (arith, ints), λ h. omega (arith, ints))
+-- a loop falls where it was read so
+falls_so : (name : ℕ) (falls : Bool) (first last : List ℤ) → (header_by name falls first last).down ≡ falls
+falls_so name false first last = refl
+falls_so name true first last = refl
+
+-- a loop takes a value exactly where that is within the bounds that were read
+taken_so : (name : ℕ) (falls excludes : Bool) (first last ns : List ℤ) (start end value : ℤ) → row_value first ns ≡ start → row_value last ns ≡ end -ℤ excluded falls excludes
+    → ((row_value (header_by name falls first last).lower ns ≤ℤ value) × (value ≤ℤ row_value (header_by name falls first last).upper ns)) ↔ Takes falls excludes start end value
+taken_so name false true first last ns start end value a b = (λ h. (omega (arith, ints, h.0), omega (arith, ints, h.1)), λ h. (omega (arith, ints, h.0), omega (arith, ints, h.1)))
+taken_so name false false first last ns start end value a b = (λ h. (omega (arith, ints, h.0), omega (arith, ints, h.1)), λ h. (omega (arith, ints, h.0), omega (arith, ints, h.1)))
+taken_so name true true first last ns start end value a b = (λ h. (omega (arith, ints, h.1), omega (arith, ints, h.0)), λ h. (omega (arith, ints, h.1), omega (arith, ints, h.0)))
+taken_so name true false first last ns start end value a b = (λ h. (omega (arith, ints, h.1), omega (arith, ints, h.0)), λ h. (omega (arith, ints, h.1), omega (arith, ints, h.0)))
 
 -- the values of a loop are exactly those from its first value on for which its comparison holds
 pub loops_take_values : LoopsTakeValues
 unfolding header_means loop_name
 loops_take_values b h s r l k e =
-    then_some (λ n i. then_in (affine_means b h.lower i) (λ low j. then_in (affine_means b h.upper j) (λ high m. then_in (given (upper_bound h.excludes high.numbers) m) (λ numbers. mean.pure (record { name = n; lower = low.numbers; upper = numbers })))))
+    then_some (λ n i. then_in (affine_means b h.first i) (λ first j. then_in (affine_means b h.last j) (λ last m. then_in (given (last_bound h.falls h.excludes last.numbers) m) (λ numbers. mean.pure (header_by n h.falls first.numbers numbers)))))
     (loop_by h.name (kind_of h.name s) s) e (λ x f g.
     let kinds = named_kinds h.name (kind_of h.name s) s x k f in
-    then_some (λ low j. then_in (affine_means b h.upper j) (λ high m. then_in (given (upper_bound h.excludes high.numbers) m) (λ numbers. mean.pure (record { name = x.0; lower = low.numbers; upper = numbers })))) (affine_means b h.lower x.1) g (λ y f2 g2.
-    let low = affine_valued b h.lower x.1 y.1 y.0 kinds f2 in
-    then_some (λ high m. then_in (given (upper_bound h.excludes high.numbers) m) (λ numbers. mean.pure (record { name = x.0; lower = y.0.numbers; upper = numbers }))) (affine_means b h.upper y.1) g2 (λ z f3 g3.
-    let high = affine_valued b h.upper y.1 z.1 z.0 low.kinds f3 in
-    given_some (upper_bound h.excludes z.0.numbers) (λ numbers. mean.pure (record { name = x.0; lower = y.0.numbers; upper = numbers })) z.1 g3 (λ numbers f4 g4.
-    subst (λ (w : ReadHeader × Names). (at : Point) (ns : List ℤ) → AreNumbersAt w.1 at ns → (value : ℤ) → ((row_value w.0.lower ns ≤ℤ value) × (value ≤ℤ row_value w.0.upper ns)) ↔ IsTaken at h value) (same_some g4) (λ at ns m value.
-    let first = low.is at ns (high.back at ns m) in
-    let last = high.is at ns m in
-    let sum = combined_sum (pos 1) (excluded h.excludes) zeros z.0.numbers numbers refl high.size f4 in
-    let least : (row_value y.0.numbers ns ≤ℤ value) ↔ (affine_value at h.lower ≤ℤ value) = (λ g. omega (arith, ints), λ g. omega (arith, ints)) in
-    let most = bounded_so h.excludes value (affine_value at h.upper) (row_value numbers ns) (sum.value ns ∙ omega (arith, ints, zeros_value ns, one-mul (row_value z.0.numbers ns), last)) in
-    (λ t. (least.0 t.0, most.0 t.1), λ t. (least.1 t.0, most.1 t.1)))))))
+    then_some (λ first j. then_in (affine_means b h.last j) (λ last m. then_in (given (last_bound h.falls h.excludes last.numbers) m) (λ numbers. mean.pure (header_by x.0 h.falls first.numbers numbers)))) (affine_means b h.first x.1) g (λ y f2 g2.
+    let first = affine_valued b h.first x.1 y.1 y.0 kinds f2 in
+    then_some (λ last m. then_in (given (last_bound h.falls h.excludes last.numbers) m) (λ numbers. mean.pure (header_by x.0 h.falls y.0.numbers numbers))) (affine_means b h.last y.1) g2 (λ z f3 g3.
+    let last = affine_valued b h.last y.1 z.1 z.0 first.kinds f3 in
+    given_some (last_bound h.falls h.excludes z.0.numbers) (λ numbers. mean.pure (header_by x.0 h.falls y.0.numbers numbers)) z.1 g3 (λ numbers f4 g4.
+    subst (λ (w : ReadHeader × Names). (w.0.down ≡ h.falls) × ((at : Point) (ns : List ℤ) → AreNumbersAt w.1 at ns → (value : ℤ) → ((row_value w.0.lower ns ≤ℤ value) × (value ≤ℤ row_value w.0.upper ns)) ↔ IsTaken at h value)) (same_some g4) (
+      falls_so x.0 h.falls y.0.numbers numbers,
+      (λ at ns m value.
+          let sum = combined_sum (pos 1) (excluded h.falls h.excludes) zeros z.0.numbers numbers refl last.size f4 in
+          taken_so x.0 h.falls h.excludes y.0.numbers numbers ns (affine_value at h.first) (affine_value at h.last) value (first.is at ns (last.back at ns m))
+          (sum.value ns ∙ omega (arith, ints, zeros_value ns, one-mul (row_value z.0.numbers ns), last.is at ns m))),
+    )))))

@@ -29,27 +29,43 @@ abbrev pub assign_words : Assign → List Word
 assign_words a = reference_words a.target ++ (assigner_word a.assigner ∷ value_words a.value)
 
 -- step := name '++' | '++' name | name '+=' '1' | name '=' name '+' '1'
+-- of a loop that falls with `-` in the place of each `+`
 pub data Step : Type 0 where
   name_plus_plus : Step
   plus_plus_name : Step
   name_plus_one : Step
   name_is_name_plus_one : Step
 
--- its words, with the loop's name
-abbrev pub step_words : List ℕ → Step → List Word
-step_words name name_plus_plus = a_name name ∷ a_symbol (codes "++") ∷ []
-step_words name plus_plus_name = a_symbol (codes "++") ∷ a_name name ∷ []
-step_words name name_plus_one = a_name name ∷ a_symbol (codes "+=") ∷ a_number (codes "1") ∷ []
-step_words name name_is_name_plus_one = a_name name ∷ a_symbol (codes "=") ∷ a_name name ∷ a_symbol (codes "+") ∷ a_number (codes "1") ∷ []
+-- its symbols, by whether the loop falls
+abbrev pub twice_word : Bool → Word
+twice_word false = a_symbol (codes "++")
+twice_word true = a_symbol (codes "--")
 
--- The header of a loop, 'for' '(' ['int'] name '=' affine ';' name ('<' | '<=') affine ';' step ')', of which all names are
--- one: whether it has 'int', and whether the upper bound is excluded.
+abbrev pub updating_word : Bool → Word
+updating_word false = a_symbol (codes "+=")
+updating_word true = a_symbol (codes "-=")
+
+abbrev pub sign_word : Bool → Word
+sign_word false = a_symbol (codes "+")
+sign_word true = a_symbol (codes "-")
+
+-- its words, with the loop's name
+abbrev pub step_words : Bool → List ℕ → Step → List Word
+step_words falls name name_plus_plus = a_name name ∷ twice_word falls ∷ []
+step_words falls name plus_plus_name = twice_word falls ∷ a_name name ∷ []
+step_words falls name name_plus_one = a_name name ∷ updating_word falls ∷ a_number (codes "1") ∷ []
+step_words falls name name_is_name_plus_one = a_name name ∷ a_symbol (codes "=") ∷ a_name name ∷ sign_word falls ∷ a_number (codes "1") ∷ []
+
+-- The header of a loop, 'for' '(' ['int'] name '=' affine ';' name ('<' | '<=' | '>' | '>=') affine ';' step ')', of which all
+-- names are one: whether it has 'int', and whether the loop falls, which the comparison says, with whether the bound behind
+-- it is excluded.
 pub record Header : Type 0 where
   pub has_int : Bool
   pub name : List ℕ
-  pub lower : Affine
+  pub falls : Bool
+  pub first : Affine
   pub excludes : Bool
-  pub upper : Affine
+  pub last : Affine
   pub step : Step
 
 -- its words
@@ -57,16 +73,18 @@ abbrev pub int_words : Bool → List Word
 int_words true = a_keyword (codes "int") ∷ []
 int_words false = []
 
-abbrev pub bound_word : Bool → Word
-bound_word true = a_symbol (codes "<")
-bound_word false = a_symbol (codes "<=")
+abbrev pub bound_word : Bool → Bool → Word
+bound_word false true = a_symbol (codes "<")
+bound_word false false = a_symbol (codes "<=")
+bound_word true true = a_symbol (codes ">")
+bound_word true false = a_symbol (codes ">=")
 
 -- those behind the name that it begins with
 abbrev pub bounds_words : Header → List Word
 bounds_words h =
-    a_symbol (codes "=") ∷ (affine_words h.lower
-    ++ (a_symbol (codes ";") ∷ a_name h.name ∷ bound_word h.excludes ∷ (affine_words h.upper
-    ++ (a_symbol (codes ";") ∷ (step_words h.name h.step ++ (a_symbol (codes ")") ∷ []))))))
+    a_symbol (codes "=") ∷ (affine_words h.first
+    ++ (a_symbol (codes ";") ∷ a_name h.name ∷ bound_word h.falls h.excludes ∷ (affine_words h.last
+    ++ (a_symbol (codes ";") ∷ (step_words h.falls h.name h.step ++ (a_symbol (codes ")") ∷ []))))))
 
 -- all its words
 abbrev pub header_words : Header → List Word

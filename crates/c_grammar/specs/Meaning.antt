@@ -13,7 +13,7 @@ use Rattle.c_reading.specs.Compare.{Rows, most_brackets, most_rows}
 use Rattle.c_reading.specs.Head.{Head}
 use Rattle.c_reading.specs.Refs.{most_arrays, most_subscripts, with_kind}
 use Rattle.c_reading.specs.Values.{Accesses, most_reads}
-use Rattle.c_reading.specs.Items.{most_statements, first_reads, is_array}
+use Rattle.c_reading.specs.Items.{most_statements, first_reads, is_array, header_by}
 use Rattle.c_reading.specs.Text.{Reading, assumptions_of, start_of}
 use Rattle.c_grammar.specs.Affine as tree
 use Rattle.c_grammar.specs.Value as value
@@ -300,20 +300,21 @@ loop_by name (Some (kind.Array number subscripts)) s = None
 unfoldable pub loop_name : List ℕ → Meaning ℕ
 loop_name name s = loop_by name (kind_of name s) s
 
--- how much less than its expression an upper bound is
-abbrev pub excluded : Bool → ℤ
-excluded true = pos 1
-excluded false = pos 0
+-- how much less than its expression the bound behind a comparison is, by whether the loop falls
+abbrev pub excluded : Bool → Bool → ℤ
+excluded false true = pos 1
+excluded true true = negsuc 0
+excluded _ false = pos 0
 
--- an upper bound
-abbrev pub upper_bound : Bool → List ℤ → Option (List ℤ)
-upper_bound excludes numbers = combined (pos 1) (excluded excludes) zeros numbers
+-- that bound
+abbrev pub last_bound : Bool → Bool → List ℤ → Option (List ℤ)
+last_bound falls excludes numbers = combined (pos 1) (excluded falls excludes) zeros numbers
 
 -- a header, in whose bracket so many more may be opened
 unfoldable pub header_means : ℕ → item.Header → Meaning Header
 header_means brackets h =
-    loop_name h.name >>= (λ at. affine_means brackets h.lower >>= (λ lower. affine_means brackets h.upper >>= (λ upper.
-    given (upper_bound h.excludes upper.numbers) >>= (λ numbers. pure (record { name = at; lower = lower.numbers; upper = numbers })))))
+    loop_name h.name >>= (λ at. affine_means brackets h.first >>= (λ first. affine_means brackets h.last >>= (λ last.
+    given (last_bound h.falls h.excludes last.numbers) >>= (λ numbers. pure (header_by at h.falls first.numbers numbers)))))
 
 -- the loop of this name begins at this depth
 unfoldable pub begin : ℕ → ℕ → Meaning (Unit {0})

@@ -56,14 +56,19 @@ Compares equal a b = a ≡ b
 abbrev pub Holds : Point → Compare → Type 0
 Holds at c = Compares c.comparison (affine_value at c.left) (affine_value at c.right)
 
--- a value is below a loop's upper bound, or at most it
+-- a value is below a bound, or at most it
 abbrev pub IsBelow : Bool → ℤ → ℤ → Type 0
 IsBelow true value upper = value <ℤ upper
 IsBelow false value upper = value ≤ℤ upper
 
--- a loop that steps upward by one from its first value takes this one, as long as its comparison holds
+-- a loop that steps by one from this value, down where it falls, takes that one, as long as its comparison holds
+abbrev pub Takes : Bool → Bool → ℤ → ℤ → ℤ → Type 0
+Takes false excludes first last value = (first ≤ℤ value) × IsBelow excludes value last
+Takes true excludes first last value = (value ≤ℤ first) × IsBelow excludes last value
+
+-- a loop takes this value
 abbrev pub IsTaken : Point → Header → ℤ → Type 0
-IsTaken at h value = (affine_value at h.lower ≤ℤ value) × IsBelow h.excludes value (affine_value at h.upper)
+IsTaken at h value = Takes h.falls h.excludes (affine_value at h.first) (affine_value at h.last) value
 
 -- ---- rows at a point
 
@@ -93,7 +98,8 @@ abbrev pub RowsHoldSo : Type 0
 RowsHoldSo = (c : Compare) (s r : Names) (rows all : Rows) → HaveKinds s → compare_means rows c s ≡ Some (all, r)
     → (more : Rows) × (all ≡ rows ++ more) × ((at : Point) (numbers : List ℤ) → AreNumbersAt r at numbers → AllByRecursion (λ row. pos 0 ≤ℤ row_value row numbers) more ↔ Holds at c)
 
--- the values of a loop are exactly those from its first value on for which its comparison holds
+-- a loop falls where it was read so, and its values are exactly those from its first value on for which its comparison holds
 abbrev pub LoopsTakeValues : Type 0
-LoopsTakeValues = (brackets : ℕ) (h : Header) (s r : Names) (l : ReadHeader) → HaveKinds s → header_means brackets h s ≡ Some (l, r) → (at : Point) (numbers : List ℤ) → AreNumbersAt r at numbers
-    → (value : ℤ) → ((row_value l.lower numbers ≤ℤ value) × (value ≤ℤ row_value l.upper numbers)) ↔ IsTaken at h value
+LoopsTakeValues = (brackets : ℕ) (h : Header) (s r : Names) (l : ReadHeader) → HaveKinds s → header_means brackets h s ≡ Some (l, r)
+    → (l.down ≡ h.falls)
+    × ((at : Point) (numbers : List ℤ) → AreNumbersAt r at numbers → (value : ℤ) → ((row_value l.lower numbers ≤ℤ value) × (value ≤ℤ row_value l.upper numbers)) ↔ IsTaken at h value)

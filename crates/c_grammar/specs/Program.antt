@@ -8,6 +8,7 @@ use Rattle.c_reading.specs.Tree.{Item as ReadItem, Items as ReadItems}
 use Rattle.iolb_model.specs.declared.limits.TheConstants.{PARAMETERS}
 use Rattle.c_reading.specs.Numbers.{constant_of}
 use Rattle.c_reading.specs.Text.{Reading}
+use Rattle.affine_form.specs.Rows.{direction_of}
 use Rattle.affine_program.specs.Parts.{array_of}
 use Rattle.affine_program.specs.Tree.{row_from}
 use Rattle.c_grammar.specs.Words.{words_of}
@@ -44,7 +45,7 @@ abbrev mutual
   pub item_meant : List (List ℕ) → ℕ → ℕ → ℕ → ReadItem → Item
   item_meant names parameters depth number (read.assign s) = assign number
   item_meant names parameters depth number (read.loop h body) =
-      loop (slice_index_or names h.name []) (narrowed parameters depth h.lower) (narrowed parameters depth h.upper)
+      loop (slice_index_or names h.name []) (direction_of h.down) (narrowed parameters depth h.lower) (narrowed parameters depth h.upper)
       (row_from (items_meant names parameters (suc depth) number body))
 
   pub items_meant : List (List ℕ) → ℕ → ℕ → ℕ → ReadItems → List Item

@@ -31,7 +31,8 @@ pub fn rows_hold_so()
     ensures { RowsHoldSo }
 {}
 
-/// The values of a loop are exactly those from its first value on for which its comparison holds.
+/// A loop runs downward where its comparison and its step say so, and its values are exactly those from its first value on
+/// for which its comparison holds.
 pub fn loops_take_values()
     ensures { LoopsTakeValues }
 {}

@@ -1,9 +1,10 @@
 -- Items: statements, loops and blocks.
-use Rattle.std.specs.Prelude.{ℕ, zero, suc, ◌+◌, ◌-◌, ◌||◌, nat_le, Bool, true, false, not, if◌then◌else◌, ℤ, pos, List, [], ◌∷◌, length, Option, Some, None, Result, Ok, Err, codes}
+use Rattle.std.specs.Prelude.{ℕ, zero, suc, ◌+◌, ◌-◌, ◌||◌, nat_le, Bool, true, false, not, if◌then◌else◌, ℤ, pos, negsuc, List, [], ◌∷◌, length, Option, Some, None, Result, Ok, Err, codes}
 use Rattle.c_tokens.specs.declared.token.TokenKind.{TokenKind}
 use Rattle.c_tokens.specs.declared.token.TokenKind.TheVariants as token
 use Rattle.c_reading.specs.declared.named.Kind.{Kind}
 use Rattle.c_reading.specs.declared.named.Kind.TheVariants as kind
+use Rattle.c_reading.specs.declared.header.Limit.{Limit}
 use Rattle.c_reading.specs.declared.tree.Header.{Header}
 use Rattle.c_reading.specs.declared.error.ReadFault.{ReadFault}
 use Rattle.c_reading.specs.Access.{Access, Statement}
@@ -90,13 +91,14 @@ unfoldable pub loop_name : Rule ℕ
 loop_name i =
     if is_name_kind (input.kind i) then loop_name_by (number_of (spelling i) i) (kind_of (spelling i) i) i else refuse i
 
--- how much less than the expression the bound is
-unfoldable pub comparison : Rule ℤ
+-- what the comparison says of the loop: whether it runs downward, and how much less than the expression the bound is
+unfoldable pub comparison : Rule Limit
 comparison i =
-    if sees (codes "<") i then Ok (pos 1, next i)
-    else (if sees (codes "<=") i then Ok (pos 0, next i)
-    else (if sees (codes ">") i || sees (codes ">=") i then fault 5 i
-    else refuse i))
+    if sees (codes "<") i then Ok (record { down = false; less = pos 1 }, next i)
+    else (if sees (codes "<=") i then Ok (record { down = false; less = pos 0 }, next i)
+    else (if sees (codes ">") i then Ok (record { down = true; less = negsuc 0 }, next i)
+    else (if sees (codes ">=") i then Ok (record { down = true; less = pos 0 }, next i)
+    else refuse i)))
 
 abbrev pub bound_of : ℕ → Option (List ℤ) → Result (List ℤ) ReadFault
 bound_of start None = Err (record { number = 11; place = start })
@@ -118,55 +120,75 @@ refusal_in_step start i = step_fault start (input.kind i) (place i)
 unfoldable pub expect_in_step : ℕ → List ℕ → Rule (Unit {0})
 expect_in_step start word i = if sees word i then Ok (tt, next i) else Err (refusal_in_step start i)
 
+-- the symbols of a step, by whether the loop runs downward: of a step by one, by the number behind it, and its sign
+abbrev pub twice : Bool → List ℕ
+twice false = codes "++"
+twice true = codes "--"
+
+abbrev pub updating : Bool → List ℕ
+updating false = codes "+="
+updating true = codes "-="
+
+abbrev pub sign : Bool → List ℕ
+sign false = codes "+"
+sign true = codes "-"
+
 -- a step by one behind the loop's name
-unfoldable pub step_behind_name : ℕ → List ℕ → Rule (Unit {0})
-step_behind_name start name i =
-    if sees (codes "++") i then Ok (tt, next i)
-    else (if sees (codes "+=") i then expect_in_step start (codes "1") (next i)
-    else (if sees (codes "=") i then (expect_in_step start name >> expect_in_step start (codes "+") >> expect_in_step start (codes "1")) (next i)
+unfoldable pub step_behind_name : ℕ → Bool → List ℕ → Rule (Unit {0})
+step_behind_name start down name i =
+    if sees (twice down) i then Ok (tt, next i)
+    else (if sees (updating down) i then expect_in_step start (codes "1") (next i)
+    else (if sees (codes "=") i then (expect_in_step start name >> expect_in_step start (sign down) >> expect_in_step start (codes "1")) (next i)
     else Err (refusal_in_step start i)))
 
 -- a step by one
-unfoldable pub step : List ℕ → Rule (Unit {0})
-step name i =
-    if sees name i then step_behind_name (place i) name (next i)
-    else (if sees (codes "++") i then expect_in_step (place i) name (next i)
+unfoldable pub step : Bool → List ℕ → Rule (Unit {0})
+step down name i =
+    if sees name i then step_behind_name (place i) down name (next i)
+    else (if sees (twice down) i then expect_in_step (place i) name (next i)
     else Err (refusal_in_step (place i) i))
 
 unfoldable pub skip_int : Input → Input
 skip_int i = if sees (codes "int") i then next i else i
 
--- the lower bound behind a loop's name
-unfoldable pub lower_bound : ℕ → Rule (List ℤ)
-lower_bound brackets = do
+-- the first bound, behind a loop's name
+unfoldable pub first_bound : ℕ → Rule (List ℤ)
+first_bound brackets = do
   expect (codes "=")
   a ← affine brackets None
   b ← closed_by (codes ";") a
   pure b.numbers
 
-unfoldable pub upper_from : ℕ → ℕ → ℤ → Rule (List ℤ)
-upper_from brackets start less = do
+-- the bound behind its comparison
+unfoldable pub last_from : ℕ → ℕ → ℤ → Rule (List ℤ)
+last_from brackets start less = do
   a ← affine brackets None
   numbers ← given (bound start less a.numbers)
   closed_by (codes ";") a
   pure numbers
 
--- the upper bound of the loop of this name
-unfoldable pub upper_bound : ℕ → List ℕ → Rule (List ℤ)
-upper_bound brackets name = do
+-- the header of a loop whose bounds stand in this order: one that runs downward begins with its upper bound
+abbrev pub header_by : ℕ → Bool → List ℤ → List ℤ → Header
+header_by name false first last = record { name = name; down = false; lower = first; upper = last }
+header_by name true first last = record { name = name; down = true; lower = last; upper = first }
+
+-- the rest of a header behind its first bound
+unfoldable pub header_from : ℕ → List ℕ → ℕ → List ℤ → Rule Header
+header_from brackets name at first = do
   expect name
-  less ← comparison
-  λ i. upper_from brackets (place i) less i
+  limit ← comparison
+  last ← λ i. last_from brackets (place i) limit.less i
+  step limit.down name
+  pure (header_by at limit.down first last)
 
 -- a header behind its bracket, of the loop of this name
 unfoldable pub header_of : ℕ → List ℕ → Rule Header
 header_of brackets name = do
   at ← loop_name
-  lower ← lower_bound brackets
-  upper ← upper_bound brackets name
-  step name
+  first ← first_bound brackets
+  h ← header_from brackets name at first
   expect (codes ")")
-  pure (record { name = at; lower = lower; upper = upper })
+  pure h
 
 -- `for`, and the bracket behind it
 unfoldable pub for_bracket : ℕ → Rule (Unit {0})

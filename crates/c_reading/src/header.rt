@@ -14,6 +14,13 @@ use crate::tree::Header;
 use c_tokens::TokenKind;
 use std::alloc::Global;
 
+/// What a comparison says: whether the loop runs downward, and how much less than the expression the bound is.
+#[derive(Clone, Copy)]
+struct Limit {
+    down: bool,
+    less: i32,
+}
+
 /// The expression less this much, where its numbers are small.
 #[tactic(auto, unfolding(crate::specs::Items::bound))]
 fn bound(alloc: Global, start: usize, less: i32, numbers: &[i32]) -> Result<Row, ReadError>
@@ -27,6 +34,48 @@ fn bound(alloc: Global, start: usize, less: i32, numbers: &[i32]) -> Result<Row,
             place: start,
         })),
     }
+}
+
+/// The header of a loop whose bounds stand in this order.
+fn header(name: usize, down: bool, first: Row, last: Row) -> Header
+    ensures { result ≡ spec.header_by name down first last }
+{
+    if down {
+        Header {
+            name,
+            down,
+            lower: last,
+            upper: first,
+        }
+    } else {
+        Header {
+            name,
+            down,
+            lower: first,
+            upper: last,
+        }
+    }
+}
+
+/// The symbol that steps by one.
+fn twice(down: bool) -> &'static [u8]
+    ensures { result.now ≡ spec.twice down }
+{
+    if down { b"--" } else { b"++" }
+}
+
+/// The symbol that steps by the number behind it.
+fn updating(down: bool) -> &'static [u8]
+    ensures { result.now ≡ spec.updating down }
+{
+    if down { b"-=" } else { b"+=" }
+}
+
+/// The sign of a step.
+fn sign(down: bool) -> &'static [u8]
+    ensures { result.now ≡ spec.sign down }
+{
+    if down { b"-" } else { b"+" }
 }
 
 /// Why no step goes on with a token of this kind there.
@@ -86,19 +135,34 @@ impl<'a> Reader<'a> {
         Ok(at)
     }
 
-    /// How much less than the expression the bound is.
+    /// What the comparison says of the loop.
     #[tactic(auto, unfolding(crate::specs::Items::comparison))]
-    fn less(&mut self) -> Result<i32, ReadError>
+    fn limit(&mut self) -> Result<Limit, ReadError>
         ensures { Reads (spec.comparison self.old) result self.new }
     {
         if self.takes(b"<") {
-            return Ok(1);
+            return Ok(Limit {
+                down: false,
+                less: 1,
+            });
         }
         if self.takes(b"<=") {
-            return Ok(0);
+            return Ok(Limit {
+                down: false,
+                less: 0,
+            });
         }
-        if self.sees(b">") || self.sees(b">=") {
-            return Err(self.fault(5));
+        if self.takes(b">") {
+            return Ok(Limit {
+                down: true,
+                less: -1,
+            });
+        }
+        if self.takes(b">=") {
+            return Ok(Limit {
+                down: true,
+                less: 0,
+            });
         }
         Err(ReadError::Fault(self.refusal()))
     }
@@ -123,51 +187,51 @@ impl<'a> Reader<'a> {
         }
     }
 
-    /// The loop's name, and one more, behind a `=` in a step.
-    fn name_and_one(&mut self, start: usize, name: &[u8]) -> Result<(), ReadError>
-        ensures { Reads (and_then (and_then (spec.expect_in_step start name.now self.old) (λ _. spec.expect_in_step start (codes "+"))) (λ _. spec.expect_in_step start (codes "1"))) result self.new }
+    /// The loop's name, and one more or less, behind a `=` in a step.
+    fn name_and_one(&mut self, start: usize, down: bool, name: &[u8]) -> Result<(), ReadError>
+        ensures { Reads (and_then (and_then (spec.expect_in_step start name.now self.old) (λ _. spec.expect_in_step start (spec.sign down))) (λ _. spec.expect_in_step start (codes "1"))) result self.new }
     {
         self.expect_in_step(start, name)?;
-        self.expect_in_step(start, b"+")?;
+        self.expect_in_step(start, sign(down))?;
         self.expect_in_step(start, b"1")
     }
 
     /// A step by one behind the loop's name.
     #[tactic(auto, unfolding(crate::specs::Items::step_behind_name))]
-    fn step_behind_name(&mut self, start: usize, name: &[u8]) -> Result<(), ReadError>
-        ensures { Reads (spec.step_behind_name start name.now self.old) result self.new }
+    fn step_behind_name(&mut self, start: usize, down: bool, name: &[u8]) -> Result<(), ReadError>
+        ensures { Reads (spec.step_behind_name start down name.now self.old) result self.new }
     {
-        if self.takes(b"++") {
+        if self.takes(twice(down)) {
             return Ok(());
         }
-        if self.takes(b"+=") {
+        if self.takes(updating(down)) {
             return self.expect_in_step(start, b"1");
         }
         if self.takes(b"=") {
-            return self.name_and_one(start, name);
+            return self.name_and_one(start, down, name);
         }
         Err(ReadError::Fault(self.refusal_in_step(start)))
     }
 
     /// A step by one.
     #[tactic(auto, unfolding(crate::specs::Items::step))]
-    fn step(&mut self, name: &[u8]) -> Result<(), ReadError>
-        ensures { Reads (spec.step name.now self.old) result self.new }
+    fn step(&mut self, down: bool, name: &[u8]) -> Result<(), ReadError>
+        ensures { Reads (spec.step down name.now self.old) result self.new }
     {
         let start = self.place();
         if self.takes(name) {
-            return self.step_behind_name(start, name);
+            return self.step_behind_name(start, down, name);
         }
-        if self.takes(b"++") {
+        if self.takes(twice(down)) {
             return self.expect_in_step(start, name);
         }
         Err(ReadError::Fault(self.refusal_in_step(start)))
     }
 
-    /// The lower bound behind a loop's name.
-    #[tactic(auto, unfolding(crate::specs::Items::lower_bound))]
-    fn lower_bound(&mut self, brackets: u8) -> Result<Row, ReadError>
-        ensures { Reads (spec.lower_bound brackets self.old) result self.new }
+    /// The first bound, behind a loop's name.
+    #[tactic(auto, unfolding(crate::specs::Items::first_bound))]
+    fn first_bound(&mut self, brackets: u8) -> Result<Row, ReadError>
+        ensures { Reads (spec.first_bound brackets self.old) result self.new }
     {
         self.expect(b"=")?;
         let a = self.affine(brackets, None)?;
@@ -175,25 +239,33 @@ impl<'a> Reader<'a> {
         Ok(a.into_row())
     }
 
-    /// An upper bound behind its comparison, which is this much less than the expression.
-    #[tactic(auto, unfolding(crate::specs::Items::upper_from))]
-    fn upper_from(&mut self, brackets: u8, start: usize, less: i32) -> Result<Row, ReadError>
-        ensures { Reads (spec.upper_from brackets start less self.old) result self.new }
+    /// The bound behind its comparison, which is this much less than the expression.
+    #[tactic(auto, unfolding(crate::specs::Items::last_from))]
+    fn last_from(&mut self, brackets: u8, start: usize, less: i32) -> Result<Row, ReadError>
+        ensures { Reads (spec.last_from brackets start less self.old) result self.new }
     {
         let a = self.affine(brackets, None)?;
-        let upper = bound(self.alloc(), start, less, a.numbers())?;
+        let last = bound(self.alloc(), start, less, a.numbers())?;
         self.closed_by(b";", a)?;
-        Ok(upper)
+        Ok(last)
     }
 
-    /// The upper bound of the loop of this name.
-    #[tactic(auto, unfolding(crate::specs::Items::upper_bound))]
-    fn upper_bound(&mut self, brackets: u8, name: &[u8]) -> Result<Row, ReadError>
-        ensures { Reads (spec.upper_bound brackets name.now self.old) result self.new }
+    /// The bounds of the loop of this name and number, the first of which this is.
+    #[tactic(auto, unfolding(crate::specs::Items::header_from))]
+    fn header_from(
+        &mut self,
+        brackets: u8,
+        name: &[u8],
+        at: usize,
+        first: Row,
+    ) -> Result<Header, ReadError>
+        ensures { Reads (spec.header_from brackets name.now at first self.old) result self.new }
     {
         self.expect(name)?;
-        let less = self.less()?;
-        self.upper_from(brackets, self.place(), less)
+        let limit = self.limit()?;
+        let last = self.last_from(brackets, self.place(), limit.less)?;
+        self.step(limit.down, name)?;
+        Ok(header(at, limit.down, first, last))
     }
 
     /// A header behind its bracket, of the loop of this name.
@@ -202,15 +274,10 @@ impl<'a> Reader<'a> {
         ensures { Reads (spec.header_of brackets name.now self.old) result self.new }
     {
         let at = self.loop_name()?;
-        let lower = self.lower_bound(brackets)?;
-        let upper = self.upper_bound(brackets, name)?;
-        self.step(name)?;
+        let first = self.first_bound(brackets)?;
+        let header = self.header_from(brackets, name, at, first)?;
         self.expect(b")")?;
-        Ok(Header {
-            name: at,
-            lower,
-            upper,
-        })
+        Ok(header)
     }
 
     /// `for`, and the bracket behind it.

@@ -7,10 +7,12 @@ use crate::access::{Row, Statement};
 use std::alloc::{AllocError, Global};
 use std::marker::Model;
 
-/// A loop's header: the number of its name among the names, and the rows of its lower and its upper bound, both included.
+/// A loop's header: the number of its name among the names, whether the loop runs downward, and the rows of its lower and
+/// its upper bound, both included.
 #[derive(Drop)]
 pub struct Header {
     pub name: usize,
+    pub down: bool,
     pub lower: Row,
     pub upper: Row,
 }

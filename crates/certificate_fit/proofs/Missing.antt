@@ -5,8 +5,8 @@ use Rattle.std.specs.List.{AllByRecursion, range_with_len}
 use Rattle.std.proofs.lemmas.Bool.{ltb-true}
 use Rattle.std.proofs.lemmas.List.{length-map}
 use Rattle.iolb_model.specs.Path.{PathStep, first_of, item_path, row_path}
-use Rattle.iolb_model.specs.Program.{Row, done, next}
-use Rattle.iolb_model.specs.Order.{Direction, common_loops, item_common, row_common}
+use Rattle.iolb_model.specs.Program.{Direction, Row, done, next}
+use Rattle.iolb_model.specs.Order.{common_loops, item_common, row_common}
 use Rattle.execution_laws.proofs.Domains.{way-below}
 use Rattle.affine_program.specs.Domain.{depth_of}
 use Rattle.affine_program.specs.Parts.{ProgramParts, IsProgram, meaning, statement_of}

@@ -7,7 +7,7 @@ ghost use Rattle.affine_program.specs.Parts.{meaning};
 ghost use Rattle.claims.specs.Claims.{numbered, Decides};
 ghost use Rattle.claims.specs.declared.place.Step.TheVariants.{Key};
 ghost use Rattle.certificate_fit.specs.FamilyFit.{RisesBelow, families_fit, family_fit, input_fit, inputs_fit, label_fit, node_fit, node_fit_at, nodes_fit, set_fit, start_fit, subscripts_of};
-ghost use Rattle.reuse_paths.specs.Families.{credit_of, family_of, forms_of, node_of};
+ghost use Rattle.reuse_paths.specs.Families.{boxed_node, credit_of, family_of, forms_of, node_of};
 ghost use Rattle.reuse_paths.specs.FamilyClaims.{family_setting};
 ghost use Rattle.dep_quast.specs.Quasts.{trees_of};
 ghost use Rattle.reuse_paths.specs.WalkViews.{walk_of};
@@ -201,9 +201,9 @@ fn node_fits_in(
     family: &Family,
     list: &Place,
     statement: u16,
-    node: &Option<FamilyNode>,
+    node: &Option<Box<FamilyNode>>,
 ) -> Result<(), Refused>
-    ensures { Decides (node_fit (meaning program.now) (trees_of quasts.now) (map credit_of credits.now) (family_of family.now) list.now statement (option_map node_of node.now)) result }
+    ensures { Decides (node_fit (meaning program.now) (trees_of quasts.now) (map credit_of credits.now) (family_of family.now) list.now statement (option_map boxed_node node.now)) result }
 {
     let Some(node) = node else {
         return Ok(());
@@ -222,10 +222,10 @@ fn all_nodes_fit_in(
     credits: &[Credit],
     family: &Family,
     list: &Place,
-    nodes: &[Option<FamilyNode>],
+    nodes: &[Option<Box<FamilyNode>>],
 ) -> Result<(), Refused>
     requires { length nodes.now ≡ length program.now.statements }
-    ensures { Decides (numbered (node_fit (meaning program.now) (trees_of quasts.now) (map credit_of credits.now) (family_of family.now) list.now) 0 (map (option_map node_of) nodes.now)) result }
+    ensures { Decides (numbered (node_fit (meaning program.now) (trees_of quasts.now) (map credit_of credits.now) (family_of family.now) list.now) 0 (map (option_map boxed_node) nodes.now)) result }
 {
     let _params = program.params();
     for (statement, node) in nodes.iter().enumerate() {

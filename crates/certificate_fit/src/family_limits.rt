@@ -4,7 +4,7 @@ ghost use Rattle.std.specs.Prelude.{◌≡◌, ◌≤◌, ◌↔◌, IsTrue, map
 ghost use Rattle.std.specs.List.{AllByRecursion};
 ghost use Rattle.certificate_fit.specs.Limits.{AreSmall, IsSmallFamily, IsSmallFamilyNode, IsSmallLabel, IsSmallWalk};
 ghost use Rattle.iolb_model.specs.declared.limits.TheConstants.{SCALE, WEIGHT};
-ghost use Rattle.reuse_paths.specs.Families.{family_of, forms_of, node_of};
+ghost use Rattle.reuse_paths.specs.Families.{boxed_node, family_of, forms_of};
 
 use crate::part_limits::are_small;
 use crate::walk_limits::{is_small_node, is_small_walk};
@@ -13,8 +13,8 @@ use iolb_model::limits;
 use reuse_paths::{Family, FamilyNode};
 
 /// Whether what a family says of a statement, if it says something, is within its limits.
-fn is_small_family_node(node: &Option<FamilyNode>) -> bool
-    ensures { IsTrue result ↔ IsSmallFamilyNode (option_map node_of node.now) }
+fn is_small_family_node(node: &Option<Box<FamilyNode>>) -> bool
+    ensures { IsTrue result ↔ IsSmallFamilyNode (option_map boxed_node node.now) }
 {
     match node {
         Some(node) => are_small(node.label.as_slice()) && is_small_node(&node.region),
@@ -23,8 +23,8 @@ fn is_small_family_node(node: &Option<FamilyNode>) -> bool
 }
 
 /// Whether what a family says of the statements is within its limits.
-fn are_small_family_nodes(nodes: &[Option<FamilyNode>]) -> bool
-    ensures { IsTrue result ↔ AllByRecursion IsSmallFamilyNode (map (option_map node_of) nodes.now) }
+fn are_small_family_nodes(nodes: &[Option<Box<FamilyNode>>]) -> bool
+    ensures { IsTrue result ↔ AllByRecursion IsSmallFamilyNode (map (option_map boxed_node) nodes.now) }
 {
     for node in nodes {
         if !is_small_family_node(node) {

@@ -1,6 +1,6 @@
 -- Records that are written, read.
 use Rattle.std.proofs.Common.{◌≡◌, List, [], ◌∷◌, length, map, true, None, Some, refl, Vec, Global, arith}
-use Rattle.std.specs.Prelude.{Option, IfSome, option_map}
+use Rattle.std.specs.Prelude.{Box, Option, IfSome, option_map}
 use Rattle.std.specs.List.{AllByRecursion}
 use Rattle.std.proofs.lemmas.Bool.{le-leb, ne_eqb}
 use Rattle.iolb_model.specs.Form.{AffineForm}
@@ -8,7 +8,7 @@ use Rattle.iolb_model.specs.declared.limits.TheConstants.{FAMILIES, WEIGHTS}
 use Rattle.certificate_fit.specs.Limits.{AreSmall, IsSmallFamily, IsSmallLabel, IsSmallFamilyNode}
 use Rattle.reuse_paths.specs.declared.family.Family.{Family}
 use Rattle.reuse_paths.specs.declared.family.FamilyNode.{FamilyNode}
-use Rattle.reuse_paths.specs.Families.{FamilyForms, forms_of, node_of, family_of}
+use Rattle.reuse_paths.specs.Families.{FamilyForms, forms_of, boxed_node, family_of}
 use Rattle.json_parts.specs.Fields.{object_shape}
 use Rattle.json_parts.specs.Shape.{IsReadBack}
 use Rattle.json_parts.proofs.Back.{few_read}
@@ -40,8 +40,8 @@ labels_fit [] h = tt
 labels_fit (None ∷ labels) h = (tt, labels_fit labels h.1)
 labels_fit (Some label ∷ labels) h = ((h.0, refl), labels_fit labels h.1)
 
-pub family_nodes_fit : (nodes : List (Option FamilyNode)) → AllByRecursion IsSmallFamilyNode (map (option_map node_of) nodes)
-    → AllByRecursion (λ one. IfSome one (λ (node : FamilyNode). IsSmallForms (node_of node) × (node_shape.is_present ≡ true))) nodes
+pub family_nodes_fit : (nodes : List (Option (Box FamilyNode Global))) → AllByRecursion IsSmallFamilyNode (map (option_map boxed_node) nodes)
+    → AllByRecursion (λ one. IfSome one (λ (node : Box FamilyNode Global). IsSmallForms (boxed_node node) × (node_shape.is_present ≡ true))) nodes
 unfolding node_shape
 family_nodes_fit [] h = tt
 family_nodes_fit (None ∷ nodes) h = (tt, family_nodes_fit nodes h.1)

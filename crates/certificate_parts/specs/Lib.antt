@@ -1,6 +1,7 @@
 pub mod Forms
 pub mod Multipliers
 pub mod Matrices
+pub mod Inverses
 pub mod Nests
 pub mod Polynomials
 pub mod Leaves

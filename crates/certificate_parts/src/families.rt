@@ -4,7 +4,7 @@ ghost use Rattle.std.specs.Prelude.{◌≡◌, suc, List, [], map, min, IfOk};
 ghost use Rattle.serde_json.specs.View.{view};
 ghost use Rattle.iolb_model.specs.Form.{AffineForm};
 ghost use Rattle.certificate_fit.specs.Limits.{AreSmall, IsSmallWalk, IsSmallFamily};
-ghost use Rattle.reuse_paths.specs.Families.{NodeForms, FamilyForms, node_of, family_of};
+ghost use Rattle.reuse_paths.specs.Families.{NodeForms, FamilyForms, boxed_node, family_of};
 ghost use Rattle.reuse_paths.specs.Walks.{WalkTree, tree_of_walk};
 ghost use Rattle.json_parts.specs.Fields.{field};
 ghost use Rattle.json_parts.specs.Names.{first_of, more_of, one-more-name};
@@ -33,28 +33,28 @@ type Label = ListOf<OfForm>;
 struct OfNode {}
 
 impl Part for OfNode {
-    type Value = FamilyNode;
+    type Value = Box<FamilyNode>;
 
     ghost Said = { NodeForms };
 
     ghost shape = { node_shape };
 
-    ghost link = { plain_link node_of };
+    ghost link = { plain_link boxed_node };
 
-    ghost Fits = { λ node. IsSmallForms (node_of node) };
+    ghost Fits = { λ node. IsSmallForms (boxed_node node) };
 
     #[tactic(auto, unfolding(crate::specs::Families::node_shape))]
-    fn read(alloc: Global, value: &Json) -> Result<FamilyNode, CertError> {
+    fn read(alloc: Global, value: &Json) -> Result<Box<FamilyNode>, CertError> {
         let (label, (region, ())) = read_object::<(Label, (OrNull<OfRegion>, End))>(
             alloc,
             value,
             &["label", "region"],
         )?;
-        Ok(FamilyNode { label, region })
+        Ok(Box::new(alloc, FamilyNode { label, region })?)
     }
 
     #[tactic(auto, using(crate::proofs::ReadReaches::node_fits), unfolding(crate::specs::Families::node_shape))]
-    fn write(alloc: Global, part: &FamilyNode) -> Result<Value, Memory> {
+    fn write(alloc: Global, part: &Box<FamilyNode>) -> Result<Value, Memory> {
         let rest = put_part::<OrNull<OfRegion>, _>(&part.region, End {});
         let all = put_part::<Label, _>(&part.label, rest);
         let value = write_object(alloc, &["label", "region"], &all)?;

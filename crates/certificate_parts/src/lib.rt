@@ -1,5 +1,5 @@
-//! The parts of certificates as JSON values, read and written: forms, multipliers, matrices, nests, polynomials, claims at
-//! the leaves of source trees, these trees, walks back along the sources of reads, regions, spots, what shows that walks
+//! The parts of certificates as JSON values, read and written: forms, multipliers, matrices and those with a scale, nests,
+//! polynomials, claims at the leaves of source trees, these trees, walks back along the sources of reads, regions, spots, what shows that walks
 //! arrive, families of walks, and credited nests.
 //!
 //! Each is a `Part` of `json_parts`. Its reader takes a JSON value (RFC 8259) and answers what it says, or the first fault of
@@ -13,6 +13,7 @@ mod apart;
 mod credits;
 mod families;
 mod forms;
+mod inverses;
 mod leaves;
 mod matrices;
 mod multipliers;
@@ -27,6 +28,7 @@ mod walks;
 pub use credits::OfCredit;
 pub use families::OfFamilies;
 pub use forms::OfForm;
+pub use inverses::OfInverse;
 pub use leaves::OfLeaf;
 pub use matrices::OfMatrix;
 pub use multipliers::OfMultipliers;

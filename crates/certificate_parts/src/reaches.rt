@@ -40,7 +40,10 @@ impl Part for OfRegion {
             value,
             &["rows", "tree"],
         )?;
-        Ok(Region { rows, tree })
+        Ok(Region {
+            rows,
+            tree: Box::new(alloc, tree)?,
+        })
     }
 
     #[tactic(auto, unfolding(crate::specs::Reaches::region_shape))]

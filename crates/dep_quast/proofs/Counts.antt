@@ -7,8 +7,8 @@ use Rattle.std.proofs.lemmas.List.{drop_more, drop-map, length-append, length-ma
 use Rattle.std.proofs.lemmas.List.FromFn.{length-range_with_len}
 use Rattle.std.proofs.Math.Numerals.{suc-eq-add-one}
 use Rattle.iolb_model.specs.Form.{AffineForm}
-use Rattle.iolb_model.specs.Program.{AffineProgram, Statement as ModelStatement, no_statement}
-use Rattle.iolb_model.specs.Order.{Direction, upward, common_loops}
+use Rattle.iolb_model.specs.Program.{Direction, AffineProgram, Statement as ModelStatement, no_statement}
+use Rattle.iolb_model.specs.Order.{common_loops}
 use Rattle.affine_form.specs.Rows.{order_rows}
 use Rattle.affine_program.specs.declared.statement.Statement.{Statement}
 use Rattle.affine_program.specs.Parts.{statement_of}
@@ -86,9 +86,9 @@ order-many vars [] zero ys xs p q r = refl
 order-many vars [] (suc level) ys xs p q r = absurd (omega arith)
 order-many vars (d ∷ loops) level [] xs p q r = absurd (omega arith)
 order-many vars (d ∷ loops) level (y ∷ ys) [] p q r = absurd (omega arith)
-order-many vars (upward ∷ loops) zero (y ∷ ys) (x ∷ xs) p q r =
+order-many vars (d ∷ loops) zero (y ∷ ys) (x ∷ xs) p q r =
     ap (λ (b : Bool). 2 * 0 + (if b then 1 else 0)) (sym (lt-ltb 0 (suc (length loops)) (omega arith)))
-order-many vars (upward ∷ loops) (suc level) (y ∷ ys) (x ∷ xs) p q r =
+order-many vars (d ∷ loops) (suc level) (y ∷ ys) (x ∷ xs) p q r =
     let rest = order-many vars loops level ys xs (omega arith) (omega arith) (omega arith) in
     ap (λ (n : ℕ). suc (suc n)) rest ∙ two_more level (if nat_lt level (length loops) then 1 else 0) ∙ ap (λ (b : Bool). 2 * suc level + (if b then 1 else 0)) (less-suc level (length loops)) where
       two_more : (a b : ℕ) → suc (suc (2 * a + b)) ≡ 2 * suc a + b

@@ -8,9 +8,9 @@ use Rattle.std.specs.List.{AllByRecursion}
 use Rattle.std.proofs.lemmas.List.{length-map, get_or-map}
 use Rattle.base_laws.proofs.Lists.{All-append, All-at, there}
 use Rattle.iolb_model.specs.Form.{AffineForm}
-use Rattle.iolb_model.specs.Path.{PathStep, rises, row_path}
-use Rattle.iolb_model.specs.Program.{Array, AccessFits, IsOver, StatementFits, AffineProgram, IsWellFormed, statement_at, no_statement, Statement as ModelStatement}
-use Rattle.iolb_model.specs.Order.{Direction, upward, common_loops}
+use Rattle.iolb_model.specs.Path.{PathStep, bounded, row_path}
+use Rattle.iolb_model.specs.Program.{Direction, Array, AccessFits, IsOver, StatementFits, AffineProgram, IsWellFormed, statement_at, no_statement, Statement as ModelStatement}
+use Rattle.iolb_model.specs.Order.{common_loops}
 use Rattle.execution_laws.proofs.Domains.{way-there, statements-rise}
 use Rattle.execution_laws.proofs.Orders.{row_common-within, row_common-turn}
 use Rattle.affine_form.specs.Form.{variables, IsSmallForm}
@@ -59,14 +59,6 @@ common-first program t s well below =
 pub common-second : (program : AffineProgram) (t s : ℕ) → IsWellFormed program → s < length program.statements → length (common_loops program t s) ≤ depth_of program s
 common-second program t s well below =
     subst (λ (loops : List Direction). length loops ≤ depth_of program s) (row_common-turn program.tree s t) (common-first program s t well below)
-
--- loops in common are as many, all upward
-all-upward : (loops : List Direction) → loops ≡ replicate (length loops) upward
-all-upward [] = refl
-all-upward (upward ∷ loops) = ap (λ (l : List Direction). upward ∷ l) (all-upward loops)
-
-pub common-upward : (program : AffineProgram) (t s common : ℕ) → common ≡ length (common_loops program t s) → replicate common upward ≡ common_loops program t s
-common-upward program t s common e = ap (λ n. replicate n upward) e ∙ sym (all-upward (common_loops program t s))
 
 -- what stands at a place that is there
 -- a statement of the program that the parts mean

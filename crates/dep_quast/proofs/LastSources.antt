@@ -9,12 +9,12 @@ use Rattle.std.proofs.lemmas.List.{append_assoc, append-nil, length-append, leng
 use Rattle.base_laws.proofs.Lists.{All-append}
 use Rattle.iolb_model.specs.Form.{AffineForm, form_value}
 use Rattle.iolb_model.specs.Path.{row_path}
-use Rattle.iolb_model.specs.Program.{Statement, AffineProgram, IsWellFormed, statement_at, no_statement}
+use Rattle.iolb_model.specs.Program.{Direction, Statement, AffineProgram, IsWellFormed, statement_at, no_statement}
 use Rattle.iolb_model.specs.Bound.{IsAdmitted}
 use Rattle.iolb_model.specs.Execution.{Instance, execution}
 use Rattle.iolb_model.specs.Source.{written_at, input as input_source, Cell, written_cell, source_or, read_cell}
 use Rattle.iolb_model.specs.Domain.{IsWithin, IsInDomain, IsAt}
-use Rattle.iolb_model.specs.Order.{Direction, common_loops, Precedes}
+use Rattle.iolb_model.specs.Order.{common_loops, Precedes}
 use Rattle.execution_laws.proofs.Members.{Member, Member-map, Member-flat_map}
 use Rattle.execution_laws.proofs.Domains.{domains_executed, way-there, way-below, statements-rise, counted-has}
 use Rattle.execution_laws.proofs.Orders.{order_by_levels, row_common-within, row_common-turn}
@@ -34,7 +34,7 @@ use Rattle.execution_laws.proofs.Ways.{within-length, there-holds, holds-there}
 use Rattle.affine_program.proofs.Domains.{domain_rows-met, domain_rows-says}
 
 -- a statement that writes the array is one of its writers
-Member-writers : (first : ℕ) (statements : List Statement) (array w : ℕ) → w < length statements → (get_or statements w no_statement).writes.array ≡ array
+pub Member-writers : (first : ℕ) (statements : List Statement) (array w : ℕ) → w < length statements → (get_or statements w no_statement).writes.array ≡ array
     → Member (first + w) (writers_from first statements array)
 Member-writers first [] array w below e = absurd (omega arith)
 Member-writers first (s ∷ statements) array zero below e = by (s.writes.array == array) (eq-eqb s.writes.array array e) where
@@ -49,7 +49,7 @@ Member-writers first (s ∷ statements) array (suc w) below e =
       by false m = m
 
 -- a level that there is is one of the levels
-level-cases : (loops : List Direction) (level t s : ℕ) → HasLevel loops level t s → (level < length loops) ⊎ ((level ≡ length loops) × (t < s))
+pub level-cases : (loops : List Direction) (level t s : ℕ) → HasLevel loops level t s → (level < length loops) ⊎ ((level ≡ length loops) × (t < s))
 level-cases [] zero t s h = inr (refl, h)
 level-cases [] (suc level) t s h = absurd h
 level-cases (d ∷ loops) zero t s h = inl (omega arith)

@@ -98,7 +98,7 @@ pub fn precedence_rows(
     ensures over { IfOk result (λ rows. AllOver vars rows.items) }
 {
     let _params = program.params();
-    let common = program.common(t, s);
-    let rows = order_rows(alloc, vars, common, level, ys, xs)?;
+    let down = program.common_down(t, s);
+    let rows = order_rows(alloc, vars, down, level, ys, xs)?;
     Ok(rows)
 }

@@ -8,7 +8,7 @@ use Rattle.std.proofs.lemmas.Int.{ints}
 use Rattle.std.proofs.lemmas.List.{append_assoc, append-nil, length-append, length-map, map-append}
 use Rattle.base_laws.proofs.Lists.{All-append}
 use Rattle.iolb_model.specs.Form.{AffineForm, dot, form_value}
-use Rattle.iolb_model.specs.Path.{PathStep, rises}
+use Rattle.iolb_model.specs.Path.{PathStep, bounded}
 use Rattle.iolb_model.specs.Program.{AffineProgram, IsWellFormed}
 use Rattle.iolb_model.specs.Bound.{IsAdmitted}
 use Rattle.iolb_model.specs.Domain.{IsWithin}
@@ -98,7 +98,7 @@ counted (bounds ∷ nest) (sum ∷ sums) total before fit whole h =
 
 -- a value more within its bounds
 within-more : (path : List PathStep) (lower upper : AffineForm) (point xs : List ℤ) (x : ℤ) → IsWithin path point xs
-    → form_value lower (point ++ xs) ≤ℤ x → x ≤ℤ form_value upper (point ++ xs) → IsWithin (path ++ rises lower upper ∷ []) point (xs ++ x ∷ [])
+    → form_value lower (point ++ xs) ≤ℤ x → x ≤ℤ form_value upper (point ++ xs) → IsWithin (path ++ bounded lower upper ∷ []) point (xs ++ x ∷ [])
 within-more [] lower upper point [] x h p q =
     let same = append-nil point in (
       subst (λ (ps : List ℤ). form_value lower ps ≤ℤ x) same p,
@@ -106,8 +106,8 @@ within-more [] lower upper point [] x h p q =
       tt,
     )
 within-more [] lower upper point (y ∷ xs) x h p q = absurd h
-within-more (rises l u ∷ path) lower upper point [] x h p q = absurd h
-within-more (rises l u ∷ path) lower upper point (y ∷ xs) x h p q =
+within-more (bounded l u ∷ path) lower upper point [] x h p q = absurd h
+within-more (bounded l u ∷ path) lower upper point (y ∷ xs) x h p q =
     let same = append_assoc point (y ∷ []) xs in (
       h.0,
       h.1,

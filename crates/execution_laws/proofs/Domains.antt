@@ -7,14 +7,14 @@ use Rattle.std.proofs.Math.IntN.{ℤ}
 use Rattle.std.proofs.Math.Nat.{eq-or-lt_of_le}
 use lib.Signed.{◌≤ℤ◌}
 use Rattle.iolb_model.specs.Form.{AffineForm, form_value}
-use Rattle.iolb_model.specs.Path.{PathStep, rises, first_of, item_path, row_path}
+use Rattle.iolb_model.specs.Path.{PathStep, bounded, first_of, item_path, row_path}
 use Rattle.iolb_model.specs.Program.{Item, assign, loop, Row, done, next, AffineProgram, IsWellFormed, item_statements, row_statements}
-use Rattle.iolb_model.specs.Execution.{Instance, range, at_value, item_runs, row_runs, execution}
+use Rattle.iolb_model.specs.Execution.{Instance, loop_values, at_value, item_runs, row_runs, execution}
 use Rattle.execution_laws.specs.Domain.{DomainsAreExecuted}
 use Rattle.iolb_model.specs.Domain.{IsWithin}
 use Rattle.execution_laws.proofs.Members.{Member, Member-append_left, Member-append_right, Member-map, Member-flat_map, Member-slice_get}
 use Rattle.execution_laws.proofs.Ordered.{IsOrdered, Member-append, Member-map_from, Member-flat_map_from, Member-place, Ordered-left, Ordered-right, Ordered-across}
-use Rattle.execution_laws.proofs.Ranges.{range-has, range-within}
+use Rattle.execution_laws.proofs.Ranges.{values-has, values-within}
 
 -- what an option holds that has a property
 pub found : {T : Type 0} (o : Option T) (P : T → Type 0) → IsSomeAnd o P → (x : T) × ((o ≡ Some x) × P x)
@@ -71,8 +71,8 @@ first-right (Some x) p P none h = absurd (none refl)
 mutual
   pub item_path-statement : (item : Item) (s : ℕ) (P : List PathStep → Type 0) → IsSomeAnd (item_path item s) P → Member s (item_statements item)
   item_path-statement (assign number) s P h = Member-assign number s P (number == s) refl h
-  item_path-statement (loop name lower upper body) s P h =
-      row_path-statement body s (λ path. P (rises lower upper ∷ path)) (Some-map (λ path. rises lower upper ∷ path) (row_path body s) P h)
+  item_path-statement (loop name direction lower upper body) s P h =
+      row_path-statement body s (λ path. P (bounded lower upper ∷ path)) (Some-map (λ path. bounded lower upper ∷ path) (row_path body s) P h)
 
   pub row_path-statement : (row : Row) (s : ℕ) (P : List PathStep → Type 0) → IsSomeAnd (row_path row s) P → Member s (row_statements row)
   row_path-statement done s P h = absurd h
@@ -109,10 +109,10 @@ assigned number point s values e =
 -- values within the bounds on a way from a loop's body on, and a value of the loop before them
 wrapped : (lower upper : AffineForm) (o : Option (List PathStep)) (point : List ℤ) (value : ℤ) (rest values : List ℤ) → values ≡ value ∷ rest
     → (form_value lower point ≤ℤ value) × (value ≤ℤ form_value upper point) → IsSomeAnd o (λ path. IsWithin path (point ++ value ∷ []) rest)
-    → IsSomeAnd (option_map (λ path. rises lower upper ∷ path) o) (λ path. IsWithin path point values)
+    → IsSomeAnd (option_map (λ path. bounded lower upper ∷ path) o) (λ path. IsWithin path point values)
 wrapped lower upper None point value rest values e bounds h = absurd h
 wrapped lower upper (Some path) point value rest values e bounds h =
-    subst (λ (vs : List ℤ). IsWithin (rises lower upper ∷ path) point vs) (sym e) (bounds.0, bounds.1, h)
+    subst (λ (vs : List ℤ). IsWithin (bounded lower upper ∷ path) point vs) (sym e) (bounds.0, bounds.1, h)
 
 -- an instance that an item or a row has at a point is within the bounds on its way
 mutual
@@ -120,11 +120,11 @@ mutual
       → Member (record { statement = s; values = values }) (item_runs item point) → IsSomeAnd (item_path item s) (λ path. IsWithin path point values)
   item_runs-within (assign number) point s values rise (inl e) = assigned number point s values e
   item_runs-within (assign number) point s values rise (inr m) = absurd m
-  item_runs-within (loop name lower upper body) point s values rise m =
-      let at = Member-flat_map_from (λ value. map (at_value value) (row_runs body (point ++ value ∷ []))) (record { statement = s; values = values }) (range (form_value lower point) (form_value upper point)) m in
+  item_runs-within (loop name direction lower upper body) point s values rise m =
+      let at = Member-flat_map_from (λ value. map (at_value value) (row_runs body (point ++ value ∷ []))) (record { statement = s; values = values }) (loop_values direction (form_value lower point) (form_value upper point)) m in
       let inner = Member-map_from (at_value at.0) (record { statement = s; values = values }) (row_runs body (point ++ at.0 ∷ [])) at.1.1 in
       let is = at_value-equal at.0 inner.0 s values inner.1.1 in
-      let bounds = range-within (form_value lower point) (form_value upper point) at.0 at.1.0 in
+      let bounds = values-within direction (form_value lower point) (form_value upper point) at.0 at.1.0 in
       let there : IsSomeAnd (row_path body inner.0.statement) (λ path. IsWithin path (point ++ at.0 ∷ []) inner.0.values) =
       row_runs-within body (point ++ at.0 ∷ []) inner.0.statement inner.0.values rise inner.1.0 in
       wrapped lower upper (row_path body s) point at.0 inner.0.values values is.1 bounds
@@ -154,7 +154,7 @@ member-assigned number point s values true e h =
 member-assigned number point s values false e h = absurd h
 
 -- the first value of values within a loop, and the rest
-entered : (lower upper : AffineForm) (path : List PathStep) (point values : List ℤ) → IsWithin (rises lower upper ∷ path) point values
+entered : (lower upper : AffineForm) (path : List PathStep) (point values : List ℤ) → IsWithin (bounded lower upper ∷ path) point values
     → (value : ℤ) × ((rest : List ℤ) × ((values ≡ value ∷ rest) × ((form_value lower point ≤ℤ value) × ((value ≤ℤ form_value upper point) × IsWithin path (point ++ value ∷ []) rest))))
 entered lower upper path point [] h = absurd h
 entered lower upper path point (v ∷ vs) h = (v, (vs, (refl, (h.0, (h.1, h.2)))))
@@ -164,15 +164,15 @@ mutual
   pub item_runs-has : (item : Item) (point : List ℤ) (s : ℕ) (values : List ℤ) → IsSomeAnd (item_path item s) (λ path. IsWithin path point values)
       → Member (record { statement = s; values = values }) (item_runs item point)
   item_runs-has (assign number) point s values h = member-assigned number point s values (number == s) refl h
-  item_runs-has (loop name lower upper body) point s values h =
-      let way = found (row_path body s) (λ path. IsWithin (rises lower upper ∷ path) point values) (Some-map (λ path. rises lower upper ∷ path) (row_path body s) (λ path. IsWithin path point values) h) in
+  item_runs-has (loop name direction lower upper body) point s values h =
+      let way = found (row_path body s) (λ path. IsWithin (bounded lower upper ∷ path) point values) (Some-map (λ path. bounded lower upper ∷ path) (row_path body s) (λ path. IsWithin path point values) h) in
       let into = entered lower upper way.0 point values way.1.1 in
       let inner : Member (record { statement = s; values = into.1.0 }) (row_runs body (point ++ into.0 ∷ [])) =
       row_runs-has body (point ++ into.0 ∷ []) s into.1.0
       (subst (λ (o : Option (List PathStep)). IsSomeAnd o (λ path. IsWithin path (point ++ into.0 ∷ []) into.1.0)) (sym way.1.0) into.1.1.1.1.1) in
-      subst (λ (vs : List ℤ). Member (record { statement = s; values = vs }) (item_runs (loop name lower upper body) point)) (sym into.1.1.0)
-      (Member-flat_map (λ value. map (at_value value) (row_runs body (point ++ value ∷ []))) into.0 (range (form_value lower point) (form_value upper point)) (record { statement = s; values = into.0 ∷ into.1.0 })
-      (range-has (form_value lower point) (form_value upper point) into.0 into.1.1.1.0 into.1.1.1.1.0)
+      subst (λ (vs : List ℤ). Member (record { statement = s; values = vs }) (item_runs (loop name direction lower upper body) point)) (sym into.1.1.0)
+      (Member-flat_map (λ value. map (at_value value) (row_runs body (point ++ value ∷ []))) into.0 (loop_values direction (form_value lower point) (form_value upper point)) (record { statement = s; values = into.0 ∷ into.1.0 })
+      (values-has direction (form_value lower point) (form_value upper point) into.0 into.1.1.1.0 into.1.1.1.1.0)
       (Member-map (at_value into.0) (record { statement = s; values = into.1.0 }) (row_runs body (point ++ into.0 ∷ [])) inner))
 
   pub row_runs-has : (row : Row) (point : List ℤ) (s : ℕ) (values : List ℤ) → IsSomeAnd (row_path row s) (λ path. IsWithin path point values)
@@ -195,7 +195,7 @@ mutual
   item_path-there : (item : Item) (s : ℕ) → Member s (item_statements item) → IsSomeAnd (item_path item s) (λ path. Unit {0})
   item_path-there (assign number) s (inl e) = subst (λ (b : Bool). IsSomeAnd {T = List PathStep} (if b then Some [] else None) (λ path. Unit {0})) (sym (eq-eqb number s (sym e))) tt
   item_path-there (assign number) s (inr m) = absurd m
-  item_path-there (loop name lower upper body) s m = map-Some (λ path. rises lower upper ∷ path) (row_path body s) (λ path. Unit {0}) (row_path-there body s m)
+  item_path-there (loop name direction lower upper body) s m = map-Some (λ path. bounded lower upper ∷ path) (row_path body s) (λ path. Unit {0}) (row_path-there body s m)
 
   pub row_path-there : (row : Row) (s : ℕ) → Member s (row_statements row) → IsSomeAnd (row_path row s) (λ path. Unit {0})
   row_path-there done s m = absurd m

@@ -1,19 +1,19 @@
 -- The instances of an execution are in the order of the levels.
-use Rattle.std.proofs.Common.{◌≡◌, refl, sym, ◌∙◌, ap, subst, inl, inr, ℕ, zero, suc, ◌<◌, ◌≤◌, Bool, true, false, List, [], ◌∷◌, ◌++◌, map, arith, length}
+use Rattle.std.proofs.Common.{◌≡◌, refl, sym, ◌∙◌, ap, subst, inl, inr, ℕ, zero, suc, ◌<◌, ◌≤◌, Bool, true, false, List, [], ◌∷◌, ◌++◌, map, take, arith, length}
 use Rattle.std.specs.Prelude.{◌⊎◌, ◌&&◌, ◌<ℤ◌, if◌then◌else◌, Option, Some, None, IsSomeAnd, is_some, slice_get, option_map}
 use Rattle.std.proofs.lemmas.Int.{ints}
 use Rattle.std.proofs.Math.IntN.{ℤ}
 use Rattle.iolb_model.specs.Form.{form_value}
-use Rattle.iolb_model.specs.Path.{PathStep, first_of, item_path, row_path, rises}
-use Rattle.iolb_model.specs.Program.{Item, assign, loop, Row, done, next, AffineProgram, IsWellFormed, item_statements, row_statements}
-use Rattle.iolb_model.specs.Execution.{Instance, range, at_value, item_runs, row_runs, execution}
+use Rattle.iolb_model.specs.Path.{PathStep, first_of, item_path, row_path, bounded}
+use Rattle.iolb_model.specs.Program.{Direction, upward, downward, Item, assign, loop, Row, done, next, AffineProgram, IsWellFormed, item_statements, row_statements}
+use Rattle.iolb_model.specs.Execution.{Instance, loop_values, at_value, item_runs, row_runs, execution}
 use Rattle.execution_laws.specs.Domain.{InstancesAreExecutedOnce}
 use Rattle.iolb_model.specs.Domain.{IsWithin}
 use Rattle.execution_laws.specs.Order.{OrderIsByLevels}
-use Rattle.iolb_model.specs.Order.{Direction, upward, has_both, item_common, row_common, Precedes}
+use Rattle.iolb_model.specs.Order.{GoesBefore, has_both, item_common, row_common, Precedes}
 use Rattle.execution_laws.proofs.Members.{Member}
 use Rattle.execution_laws.proofs.Ordered.{IsOrdered, Ordered-append, Ordered-weaken, Ordered-map, Ordered-flat_map, Ordered-left, Ordered-right, Ordered-across, Ordered-at, Member-map_from}
-use Rattle.execution_laws.proofs.Ranges.{range-ordered}
+use Rattle.execution_laws.proofs.Ranges.{values-ordered}
 use Rattle.execution_laws.proofs.Domains.{Rises, some_there, statements-rise, item_path-statement, row_path-statement, in_one, item_runs-within, row_runs-within}
 
 -- one instance comes before another at some level of these loops around both
@@ -92,25 +92,25 @@ at_value-first : (value : ℤ) (y : Instance) (runs : List Instance) → Member 
 at_value-first value y runs m =
     let inner = Member-map_from (at_value value) y runs m in (inner.0.values, ap (λ (i : Instance). i.values) inner.1.1)
 
--- instances at a lesser value of a loop come first
-before_values : (loops : List Direction) (v w : ℤ) (y z : Instance) → v <ℤ w → ((rest : List ℤ) × (y.values ≡ v ∷ rest)) → ((rest : List ℤ) × (z.values ≡ w ∷ rest))
-    → Before (upward ∷ loops) y z
-before_values loops v w y z less p q = (
+-- instances at an earlier value of a loop come first
+before_values : (direction : Direction) (loops : List Direction) (v w : ℤ) (y z : Instance) → GoesBefore direction v w
+    → ((rest : List ℤ) × (y.values ≡ v ∷ rest)) → ((rest : List ℤ) × (z.values ≡ w ∷ rest)) → Before (direction ∷ loops) y z
+before_values direction loops v w y z before p q = (
   zero,
-  subst (λ (ys : List ℤ). Precedes (upward ∷ loops) zero y.statement z.statement ys z.values) (sym p.1)
-      (subst (λ (zs : List ℤ). Precedes (upward ∷ loops) zero y.statement z.statement (v ∷ p.0) zs) (sym q.1) less),
+  subst (λ (ys : List ℤ). Precedes (direction ∷ loops) zero y.statement z.statement ys z.values) (sym p.1)
+      (subst (λ (zs : List ℤ). Precedes (direction ∷ loops) zero y.statement z.statement (v ∷ p.0) zs) (sym q.1) before),
 )
 
 -- the instances of an item and of a row are in the order of the levels
 mutual
   pub item_runs-ordered : (item : Item) (point : List ℤ) → Rises (item_statements item) → IsOrdered (ItemBefore item) (item_runs item point)
   item_runs-ordered (assign number) point rise = (tt, tt)
-  item_runs-ordered (loop name lower upper body) point rise =
-      Ordered-flat_map ◌<ℤ◌ (ItemBefore (loop name lower upper body)) (λ value. map (at_value value) (row_runs body (point ++ value ∷ [])))
-      (range (form_value lower point) (form_value upper point)) (range-ordered (form_value lower point) (form_value upper point))
-      (λ value. Ordered-map (RowBefore body) (ItemBefore (loop name lower upper body)) (at_value value) (row_runs body (point ++ value ∷ []))
+  item_runs-ordered (loop name direction lower upper body) point rise =
+      Ordered-flat_map (GoesBefore direction) (ItemBefore (loop name direction lower upper body)) (λ value. map (at_value value) (row_runs body (point ++ value ∷ [])))
+      (loop_values direction (form_value lower point) (form_value upper point)) (values-ordered direction (form_value lower point) (form_value upper point))
+      (λ value. Ordered-map (RowBefore body) (ItemBefore (loop name direction lower upper body)) (at_value value) (row_runs body (point ++ value ∷ []))
       (row_runs-ordered body (point ++ value ∷ []) rise) (λ a b before. (suc before.0, (refl, before.1))))
-      (λ v w less y z m n. before_values (row_common body y.statement z.statement) v w y z less (at_value-first v y (row_runs body (point ++ v ∷ [])) m) (at_value-first w z (row_runs body (point ++ w ∷ [])) n))
+      (λ v w before y z m n. before_values direction (row_common body y.statement z.statement) v w y z before (at_value-first v y (row_runs body (point ++ v ∷ [])) m) (at_value-first w z (row_runs body (point ++ w ∷ [])) n))
 
   pub row_runs-ordered : (row : Row) (point : List ℤ) → Rises (row_statements row) → IsOrdered (RowBefore row) (row_runs row point)
   row_runs-ordered done point rise = tt
@@ -136,13 +136,46 @@ if-turn a b x y z w p q r = cc
 mutual
   item_common-turn : (item : Item) (t s : ℕ) → item_common item t s ≡ item_common item s t
   item_common-turn (assign number) t s = refl
-  item_common-turn (loop name lower upper body) t s = ap (λ (loops : List Direction). upward ∷ loops) (row_common-turn body t s)
+  item_common-turn (loop name direction lower upper body) t s = ap (λ (loops : List Direction). direction ∷ loops) (row_common-turn body t s)
 
   pub row_common-turn : (row : Row) (t s : ℕ) → row_common row t s ≡ row_common row s t
   row_common-turn done t s = refl
   row_common-turn (next item row) t s =
       if-turn (has_both item t s) (has_both item s t) (item_common item t s) (row_common row t s) (item_common item s t) (row_common row s t)
       (and-turn (is_some (item_path item t)) (is_some (item_path item s))) (item_common-turn item t s) (row_common-turn row t s)
+
+-- the loops that a statement has in common with another are the first of those around it
+front-none : (loops own : List Direction) → loops ≡ [] → loops ≡ take (length loops) own
+front-none [] own e = refl
+front-none (d ∷ loops) own e = absurd cc
+
+both_without : (item : Item) (row : Row) (t s : ℕ) → is_some (item_path item t) ≡ false → row_common (next item row) t s ≡ row_common row t s
+both_without item row t s p = ap (λ (b : Bool). if b && is_some (item_path item s) then item_common item t s else row_common row t s) p
+
+front-same : (l m own other : List Direction) → l ≡ m → own ≡ other → m ≡ take (length m) other → l ≡ take (length l) own
+front-same l m own other e f h = e ∙ h ∙ ap (λ (ds : List Direction). take (length ds) other) (sym e) ∙ ap (take (length l)) (sym f)
+
+mutual
+  item_common-front : (item : Item) (t s : ℕ) → Rises (item_statements item) → item_common item t s ≡ take (length (item_common item t s)) (item_common item t t)
+  item_common-front (assign number) t s rise = refl
+  item_common-front (loop name direction lower upper body) t s rise = ap (λ (loops : List Direction). direction ∷ loops) (row_common-front body t s rise)
+
+  pub row_common-front : (row : Row) (t s : ℕ) → Rises (row_statements row) → row_common row t s ≡ take (length (row_common row t s)) (row_common row t t)
+  row_common-front done t s rise = refl
+  row_common-front (next item row) t s rise =
+      by (is_some (item_path item t)) (is_some (item_path item s)) refl refl
+      (item_common-front item t s (Ordered-left ◌<◌ (item_statements item) (row_statements row) rise))
+      (row_common-front row t s (Ordered-right ◌<◌ (item_statements item) (row_statements row) rise)) where
+        by : (b c : Bool) → is_some (item_path item t) ≡ b → is_some (item_path item s) ≡ c → item_common item t s ≡ take (length (item_common item t s)) (item_common item t t)
+            → row_common row t s ≡ take (length (row_common row t s)) (row_common row t t)
+            → row_common (next item row) t s ≡ take (length (row_common (next item row) t s)) (row_common (next item row) t t)
+        by true true p q inside behind =
+            front-same (row_common (next item row) t s) (item_common item t s) (row_common (next item row) t t) (item_common item t t) (both_first item row t s p q) (both_first item row t t p p) inside
+        by true false p q inside behind =
+            front-none (row_common (next item row) t s) (row_common (next item row) t t)
+            (both_later item row t s q ∙ no_common row t s (λ h. in_one item row t rise (row_path-statement row t (λ path. Unit {0}) (some_there (row_path row t) h)) p))
+        by false c p q inside behind =
+            front-same (row_common (next item row) t s) (row_common row t s) (row_common (next item row) t t) (row_common row t t) (both_without item row t s p) (both_without item row t t p) behind
 
 -- of two instances only one comes before the other
 Precedes-one : (loops : List Direction) (k l t s : ℕ) (ys xs : List ℤ) → Precedes loops k t s ys xs → Precedes loops l s t xs ys → ⊥
@@ -152,8 +185,11 @@ Precedes-one [] (suc k) l t s ys xs p q = p
 Precedes-one (d ∷ loops) k l t s [] xs p q = p
 Precedes-one (d ∷ loops) k l t s (y ∷ ys) [] p q = p
 Precedes-one (upward ∷ loops) zero zero t s (y ∷ ys) (x ∷ xs) p q = omega (arith, ints)
+Precedes-one (downward ∷ loops) zero zero t s (y ∷ ys) (x ∷ xs) p q = omega (arith, ints)
 Precedes-one (upward ∷ loops) zero (suc l) t s (y ∷ ys) (x ∷ xs) p q = omega (arith, ints, q.0)
+Precedes-one (downward ∷ loops) zero (suc l) t s (y ∷ ys) (x ∷ xs) p q = omega (arith, ints, q.0)
 Precedes-one (upward ∷ loops) (suc k) zero t s (y ∷ ys) (x ∷ xs) p q = omega (arith, ints, p.0)
+Precedes-one (downward ∷ loops) (suc k) zero t s (y ∷ ys) (x ∷ xs) p q = omega (arith, ints, p.0)
 Precedes-one (d ∷ loops) (suc k) (suc l) t s (y ∷ ys) (x ∷ xs) p q = Precedes-one loops k l t s ys xs p.1 q.1
 
 RowBefore-one : (row : Row) (a b : Instance) → RowBefore row a b → RowBefore row b a → ⊥
@@ -206,14 +242,14 @@ mutual
     weaker : (o : Option (List PathStep)) → IsSomeAnd o (λ path. Unit {0}) → IsSomeAnd o (λ path. 0 ≤ length path)
     weaker None h = h
     weaker (Some path) h = omega arith
-  item_common-within (loop name lower upper body) t s rise h =
+  item_common-within (loop name direction lower upper body) t s rise h =
       longer (row_path body t) (row_common-within body t s rise (inside (row_path body t) h)) where
-        inside : (o : Option (List PathStep)) → IsSomeAnd (option_map (λ path. rises lower upper ∷ path) o) (λ path. Unit {0}) → IsSomeAnd o (λ path. Unit {0})
+        inside : (o : Option (List PathStep)) → IsSomeAnd (option_map (λ path. bounded lower upper ∷ path) o) (λ path. Unit {0}) → IsSomeAnd o (λ path. Unit {0})
         inside None h = h
         inside (Some path) h = tt
 
         longer : (o : Option (List PathStep)) → IsSomeAnd o (λ path. length (row_common body t s) ≤ length path)
-            → IsSomeAnd (option_map (λ path. rises lower upper ∷ path) o) (λ path. suc (length (row_common body t s)) ≤ length path)
+            → IsSomeAnd (option_map (λ path. bounded lower upper ∷ path) o) (λ path. suc (length (row_common body t s)) ≤ length path)
         longer None h = h
         longer (Some path) h = omega arith
 

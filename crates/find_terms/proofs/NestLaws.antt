@@ -6,12 +6,13 @@ use Rattle.std.proofs.Math.IntN.{pos}
 use Rattle.std.proofs.lemmas.List.{length-append, length-map}
 use Rattle.base_laws.proofs.Lists.{All-append, All-push, rest_at, All-left, All-right}
 use Rattle.iolb_model.specs.Form.{AffineForm}
-use Rattle.iolb_model.specs.Path.{PathStep, rises}
-use Rattle.iolb_model.specs.Program.{AffineProgram}
+use Rattle.iolb_model.specs.Path.{PathStep, bounded}
+use Rattle.iolb_model.specs.Program.{Direction, AffineProgram}
 use Rattle.iolb_model.specs.declared.limits.TheConstants.{NUMBER_SIZE}
 use Rattle.reuse_paths.proofs.EntryClaims.{all-widened-small}
 use Rattle.affine_form.specs.Form.{variables, IsSmall, IsSmallForm}
 use Rattle.affine_form.specs.Rows.{BoundsFit, IsSmallOver, step_of, variable, widened}
+use Rattle.flow_deps.specs.Candidates.{direction_at, first_bound}
 use Rattle.flow_deps.proofs.SmallForms.{variable-small}
 use Rattle.certificate_fit.specs.Limits.{AreSmall}
 use Rattle.find_terms.specs.Found.{FarFits, IsSmallNest}
@@ -30,18 +31,20 @@ narrowed-all vars (f ∷ forms) h = (narrowed-small vars f h.0, narrowed-all var
 
 module _ (program : AffineProgram) where
   -- where the numbers are small behind a step, they are before it
-  into-small : (named : Bool) (far : NestSoFar) (step : PathStep) → IsSmallNest (into_loop program named far step) → IsSmallNest far
-  into-small true far (rises lower upper) h = (
+  into-small : (named : Bool) (direction : Direction) (far : NestSoFar) (step : PathStep) → IsSmallNest (into_loop program named direction far step) → IsSmallNest far
+  into-small true direction far (bounded lower upper) h = (
     All-left (λ (b : AffineForm × AffineForm). IsSmallForm NUMBER_SIZE b.0 × IsSmallForm NUMBER_SIZE b.1) far.nest ((at_values program far lower, at_values program far upper) ∷ []) h.0,
     narrowed-all (width program far + 1) far.values
         (All-left (IsSmallForm NUMBER_SIZE) (map (widened (width program far + 1)) far.values) (variable (width program far + 1) (width program far) ∷ []) h.1),
   )
-  into-small false far (rises lower upper) h = (h.0, All-left (IsSmallForm NUMBER_SIZE) far.values (at_values program far lower ∷ []) h.1)
+  into-small false direction far (bounded lower upper) h =
+      (h.0, All-left (IsSmallForm NUMBER_SIZE) far.values (at_values program far (first_bound direction (bounded lower upper)) ∷ []) h.1)
 
-  pub along-small : (loops : List ℕ) (number : ℕ) (path : List PathStep) (far : NestSoFar) → IsSmallNest (nest_along program loops number path far) → IsSmallNest far
-  along-small loops number [] far h = h
-  along-small loops number (step ∷ path) far h =
-      into-small (is_named loops number) far step (along-small loops (number + 1) path (into_loop program (is_named loops number) far step) h)
+  pub along-small : (statement : ℕ) (loops : List ℕ) (number : ℕ) (path : List PathStep) (far : NestSoFar) → IsSmallNest (nest_along program statement loops number path far) → IsSmallNest far
+  along-small statement loops number [] far h = h
+  along-small statement loops number (step ∷ path) far h =
+      let direction : Direction = direction_at program statement number in
+      into-small (is_named loops number) direction far step (along-small statement loops (number + 1) path (into_loop program (is_named loops number) direction far step) h)
 
   -- the bounds of a variable more
   pub bounds-of-variable : (far : NestSoFar) (lower upper : AffineForm) → IsSmallNest (with_variable program far lower upper)
@@ -54,13 +57,15 @@ module _ (program : AffineProgram) where
   value-of-first far lower h = (All-right (IsSmallForm NUMBER_SIZE) far.values (at_values program far lower ∷ []) h.1).0
 
   -- one step of the way
-  pub along-next : (loops : List ℕ) (path : List PathStep) (k : ℕ) (pair : AffineForm × AffineForm) (far : NestSoFar) (named : Bool) (next : NestSoFar)
-      → k < length path → ((none : PathStep) → get_or path k none ≡ step_of pair) → named ≡ is_named loops k → next ≡ into_loop program named far (step_of pair)
-      → nest_along program loops k (drop k path) far ≡ nest_along program loops (k + 1) (drop (k + 1) path) next
-  along-next loops path k pair far named next below is test pushed =
-      ap (λ (p : List PathStep). nest_along program loops k p far) (rest_at path k (step_of pair) below (sym (is (step_of pair))))
-      ∙ ap (λ (b : Bool). nest_along program loops (k + 1) (drop (k + 1) path) (into_loop program b far (step_of pair))) (sym test)
-      ∙ ap (nest_along program loops (k + 1) (drop (k + 1) path)) (sym pushed)
+  pub along-next : (statement : ℕ) (loops : List ℕ) (path : List PathStep) (k : ℕ) (pair : AffineForm × AffineForm) (far : NestSoFar) (named : Bool) (direction : Direction) (next : NestSoFar)
+      → k < length path → ((none : PathStep) → get_or path k none ≡ step_of pair) → named ≡ is_named loops k → direction ≡ direction_at program statement k
+      → next ≡ into_loop program named direction far (step_of pair)
+      → nest_along program statement loops k (drop k path) far ≡ nest_along program statement loops (k + 1) (drop (k + 1) path) next
+  along-next statement loops path k pair far named direction next below is test goes pushed =
+      ap (λ (p : List PathStep). nest_along program statement loops k p far) (rest_at path k (step_of pair) below (sym (is (step_of pair))))
+      ∙ ap (λ (b : Bool). nest_along program statement loops (k + 1) (drop (k + 1) path) (into_loop program b (direction_at program statement k) far (step_of pair))) (sym test)
+      ∙ ap (λ (d : Direction). nest_along program statement loops (k + 1) (drop (k + 1) path) (into_loop program named d far (step_of pair))) (sym goes)
+      ∙ ap (nest_along program statement loops (k + 1) (drop (k + 1) path)) (sym pushed)
 
   -- ---- what fits
 
@@ -111,21 +116,21 @@ module _ (program : AffineProgram) where
 
   -- ---- there are as many variables as loops that are named
 
-  into-many : (named : Bool) (far : NestSoFar) (step : PathStep) → length (into_loop program named far step).nest ≡ length far.nest + (if named then 1 else 0)
-  into-many true far (rises lower upper) = length-append far.nest ((at_values program far lower, at_values program far upper) ∷ [])
-  into-many false far (rises lower upper) = none (length far.nest) where
+  into-many : (named : Bool) (direction : Direction) (far : NestSoFar) (step : PathStep) → length (into_loop program named direction far step).nest ≡ length far.nest + (if named then 1 else 0)
+  into-many true direction far (bounded lower upper) = length-append far.nest ((at_values program far lower, at_values program far upper) ∷ [])
+  into-many false direction far (bounded lower upper) = none (length far.nest) where
     none : (n : ℕ) → n ≡ n + 0
     none n = omega arith
 
-  pub along-many : (loops : List ℕ) (number : ℕ) (path : List PathStep) (far : NestSoFar)
-      → length (nest_along program loops number path far).nest ≡ length far.nest + length (filter (is_named loops) (range_with_len number (length path)))
-  along-many loops number [] far = none (length far.nest) where
+  pub along-many : (statement : ℕ) (loops : List ℕ) (number : ℕ) (path : List PathStep) (far : NestSoFar)
+      → length (nest_along program statement loops number path far).nest ≡ length far.nest + length (filter (is_named loops) (range_with_len number (length path)))
+  along-many statement loops number [] far = none (length far.nest) where
     none : (n : ℕ) → n ≡ n + 0
     none n = omega arith
-  along-many loops number (step ∷ path) far =
+  along-many statement loops number (step ∷ path) far =
       let later : List ℕ = filter (is_named loops) (range_with_len (number + 1) (length path)) in
-      along-many loops (number + 1) path (into_loop program (is_named loops number) far step)
-      ∙ ap (λ (n : ℕ). n + length later) (into-many (is_named loops number) far step) ∙ by (is_named loops number) later where
+      along-many statement loops (number + 1) path (into_loop program (is_named loops number) (direction_at program statement number) far step)
+      ∙ ap (λ (n : ℕ). n + length later) (into-many (is_named loops number) (direction_at program statement number) far step) ∙ by (is_named loops number) later where
         by : (b : Bool) (ns : List ℕ) → (length far.nest + (if b then 1 else 0)) + length ns ≡ length far.nest + length (cond b (number ∷ ns) ns)
         by true ns = omega arith
         by false ns = omega arith

@@ -41,7 +41,7 @@ module _ (program : AffineProgram) (reader : ReadOf) where
     bounds = far.bounds;
     point = far.many;
     forms = far.values;
-    rows = sym (along-many program loops 0 (path_of program reader.statement) (record { nest = []; values = [] }) ∙ none (length (named_loops program reader loops)));
+    rows = sym (along-many program reader.statement loops 0 (path_of program reader.statement) (record { nest = []; values = [] }) ∙ none (length (named_loops program reader loops)));
     columns = λ some. sym (named-many program reader loops named);
     some_scale = omega arith;
     scale = omega arith;

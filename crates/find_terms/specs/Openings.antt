@@ -2,8 +2,8 @@
 use Rattle.std.specs.Prelude.{◌≡◌, ◌⊎◌, ⊤, ℕ, ◌+◌, ◌<◌, ◌≤◌, nat_eq, Bool, if◌then◌else◌, ℤ, pos, List, [], ◌∷◌, ◌++◌, length, map, filter, flat_map, Option, Some, None, Contains}
 use Rattle.std.specs.List.{AllByRecursion, IsDistinct, list_any, range_with_len}
 use Rattle.iolb_model.specs.Form.{AffineForm}
-use Rattle.iolb_model.specs.Path.{PathStep, rises}
-use Rattle.iolb_model.specs.Program.{AffineProgram}
+use Rattle.iolb_model.specs.Path.{PathStep, bounded}
+use Rattle.iolb_model.specs.Program.{Direction, AffineProgram}
 use Rattle.affine_form.specs.Matrix.{IntegerMatrix}
 use Rattle.affine_form.specs.Rows.{widened, variable}
 use Rattle.affine_form.specs.Substitution.{substitution}
@@ -12,7 +12,7 @@ use Rattle.flow_deps.specs.declared.wanted.Wanted.TheVariants.{Short}
 use Rattle.dep_quast.specs.Context.{ReadOf, reference_of, parameter_point}
 use Rattle.dep_quast.specs.Tree.{SelectionTree}
 use Rattle.dep_quast.specs.Truth.{ReadFits}
-use Rattle.flow_deps.specs.Candidates.{loop_variable}
+use Rattle.flow_deps.specs.Candidates.{direction_at, first_bound, loop_variable}
 use Rattle.flow_deps.specs.Plain.{IsPlain}
 use Rattle.wavefront.specs.declared.cold.Cold.{Cold}
 use Rattle.wavefront.specs.View.{term_of}
@@ -58,24 +58,25 @@ with_variable program far lower upper = record {
   values = map (widened (width program far + 1)) far.values ++ variable (width program far + 1) (width program far) ∷ [];
 }
 
--- into another loop, in its first turn: it has its lower bound at the values so far
+-- into another loop, in its first turn: it has its first bound at the values so far
 abbrev pub with_first : AffineProgram → NestSoFar → AffineForm → NestSoFar
-with_first program far lower = record { nest = far.nest; values = far.values ++ at_values program far lower ∷ [] }
+with_first program far first = record { nest = far.nest; values = far.values ++ at_values program far first ∷ [] }
 
--- into a loop
-abbrev pub into_loop : AffineProgram → Bool → NestSoFar → PathStep → NestSoFar
-into_loop program named far (rises lower upper) = if named then with_variable program far lower upper else with_first program far lower
+-- into a loop that goes so
+abbrev pub into_loop : AffineProgram → Bool → Direction → NestSoFar → PathStep → NestSoFar
+into_loop program named direction far (bounded lower upper) =
+    if named then with_variable program far lower upper else with_first program far (first_bound direction (bounded lower upper))
 
--- along the rest of the way, whose first loop has this number
-abbrev pub nest_along : AffineProgram → List ℕ → ℕ → List PathStep → NestSoFar → NestSoFar
-nest_along program loops number [] far = far
-nest_along program loops number (step ∷ path) far =
-    nest_along program loops (number + 1) path (into_loop program (is_named loops number) far step)
+-- along the rest of the way to a statement, whose first loop has this number
+abbrev pub nest_along : AffineProgram → ℕ → List ℕ → ℕ → List PathStep → NestSoFar → NestSoFar
+nest_along program statement loops number [] far = far
+nest_along program statement loops number (step ∷ path) far =
+    nest_along program statement loops (number + 1) path (into_loop program (is_named loops number) (direction_at program statement number) far step)
 
 -- The nest of the loops that are named, outermost first, and the loop values: a loop that is named has its variable, each
--- other its lower bound at the values before it.
+-- other its first value, at the values before it.
 abbrev pub named_nest : AffineProgram → ReadOf → List ℕ → NestSoFar
-named_nest program reader loops = nest_along program loops 0 (path_of program reader.statement) (record { nest = []; values = [] })
+named_nest program reader loops = nest_along program reader.statement loops 0 (path_of program reader.statement) (record { nest = []; values = [] })
 
 -- ---- the matrix
 

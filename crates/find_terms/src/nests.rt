@@ -2,7 +2,7 @@
 
 ghost use Rattle.std.specs.Prelude.{◌≡◌, ◌<◌, ◌+◌, length, IfOk};
 ghost use Rattle.affine_form.specs.Form.{variables};
-ghost use Rattle.affine_form.specs.Rows.{IsSmallOver, step_of};
+ghost use Rattle.affine_form.specs.Rows.{direction_of, IsSmallOver, step_of};
 ghost use Rattle.affine_program.specs.Domain.{depth_of};
 ghost use Rattle.affine_program.specs.Parts.{meaning};
 ghost use Rattle.dep_quast.specs.Truth.{ReadFits};
@@ -15,7 +15,7 @@ use affine_form::{Form, Memory, put, variable, variables_from, widened};
 use affine_program::{Program, is_small_form};
 use claims::lists::{all_widened, followed_by};
 use dep_quast::reader::{Reader, depth};
-use flow_deps::points::bounds_at;
+use flow_deps::points::{bounds_at, runs_down};
 use std::alloc::Global;
 
 /// A nest, and the values of the loops on a way, as far as the way is gone.
@@ -67,19 +67,19 @@ fn with_variable(
     Ok(Some(SoFar { nest, values }))
 }
 
-/// Into another loop, in its first turn: its lower bound. None only where that isn't small.
+/// Into another loop, in its first turn: its first bound. None only where that isn't small.
 fn with_first(
     alloc: Global,
     program: &Program,
     far: SoFar,
-    lower: &Form,
+    first: &Form,
 ) -> Result<Option<SoFar>, Memory>
     requires few { length far.values.items < LOOPS }
     requires far { FarFits (meaning program.now) (length far.values.items) (so_far far) }
-    requires lower { IsSmallOver (length program.now.params + length far.values.items) lower.now }
-    ensures { IfOk result (λ found. FindsNest (meaning program.now) (length far.values.items + 1) (with_first (meaning program.now) (so_far far) lower.now) found) }
+    requires first { IsSmallOver (length program.now.params + length far.values.items) first.now }
+    ensures { IfOk result (λ found. FindsNest (meaning program.now) (length far.values.items + 1) (with_first (meaning program.now) (so_far far) first.now) found) }
 {
-    let value = at_values(alloc, program, &far, lower)?;
+    let value = at_values(alloc, program, &far, first)?;
     if !is_small_form(&value) {
         return Ok(None);
     }
@@ -89,11 +89,12 @@ fn with_first(
     Ok(Some(SoFar { nest, values }))
 }
 
-/// Into a loop.
+/// Into a loop that runs downward or not.
 fn into_loop(
     alloc: Global,
     program: &Program,
     named: bool,
+    down: bool,
     far: SoFar,
     bounds: &(Form, Form),
 ) -> Result<Option<SoFar>, Memory>
@@ -101,17 +102,19 @@ fn into_loop(
     requires far { FarFits (meaning program.now) (length far.values.items) (so_far far) }
     requires lower { IsSmallOver (length program.now.params + length far.values.items) bounds.now.0 }
     requires upper { IsSmallOver (length program.now.params + length far.values.items) bounds.now.1 }
-    ensures { IfOk result (λ found. FindsNest (meaning program.now) (length far.values.items + 1) (into_loop (meaning program.now) named (so_far far) (step_of bounds.now)) found) }
+    ensures { IfOk result (λ found. FindsNest (meaning program.now) (length far.values.items + 1) (into_loop (meaning program.now) named (direction_of down) (so_far far) (step_of bounds.now)) found) }
 {
     if named {
         with_variable(alloc, program, far, bounds)
+    } else if down {
+        with_first(alloc, program, far, &bounds.1)
     } else {
         with_first(alloc, program, far, &bounds.0)
     }
 }
 
 /// The nest of the loops that are named, outermost first, and the loop values: a loop that is named has its variable, each
-/// other its lower bound at the values before it. None only where some number isn't small.
+/// other its first value, at the values before it. None only where some number isn't small.
 pub(crate) fn named_nest(
     alloc: Global,
     program: &Program,
@@ -127,8 +130,9 @@ pub(crate) fn named_nest(
     };
     for level in 0..depth(program, reader.statement) {
         let named = loops.contains(&(level as u8));
+        let down = runs_down(program, reader.statement, level);
         let bounds = bounds_at(program, reader.statement, level);
-        let Some(next) = into_loop(alloc, program, named, far, bounds)? else {
+        let Some(next) = into_loop(alloc, program, named, down, far, bounds)? else {
             return Ok(None);
         };
         far = next;

@@ -6,12 +6,12 @@ use Rattle.std.specs.List.{AllByRecursion}
 use Rattle.std.proofs.lemmas.List.{get_or-map}
 use Rattle.base_laws.proofs.Lists.{there, rest_at, All-left, All-right}
 use Rattle.iolb_model.specs.Form.{AffineForm}
-use Rattle.iolb_model.specs.Path.{PathStep, rises}
+use Rattle.iolb_model.specs.Path.{PathStep}
 use Rattle.iolb_model.specs.Program.{AffineProgram}
 use Rattle.affine_form.specs.Rows.{IsSmallOver, BoundsFit, step_of}
 use Rattle.affine_form.specs.declared.form.Form.{Form}
 use Rattle.dep_quast.specs.Context.{ReadOf, variables_at}
-use Rattle.flow_deps.specs.Candidates.{subscript_for, is_name, loop_value, values_along, point_from, FindsPoint}
+use Rattle.flow_deps.specs.Candidates.{direction_at, last_bound, subscript_for, is_name, loop_value, values_along, point_from, FindsPoint}
 
 -- ---- subscripts
 
@@ -60,19 +60,24 @@ step-is bounds path k pair none e below is =
 
 module _ (program : AffineProgram) (reader : ReadOf) (writer : ℕ) where
   -- the value of the next loop, and the rest of the way
-  pub along-next : (path : List PathStep) (k : ℕ) (pair : AffineForm × AffineForm) (values more : List AffineForm) (value : AffineForm)
-      → k < length path → ((none : PathStep) → get_or path k none ≡ step_of pair) → value ≡ loop_value program reader writer pair.1 values → more ≡ values ++ value ∷ []
+  pub along-next : (path : List PathStep) (k : ℕ) (bound : AffineForm) (values more : List AffineForm) (value : AffineForm)
+      → k < length path → length values ≡ k → ((none : PathStep) → bound ≡ last_bound (direction_at program writer k) (get_or path k none))
+      → value ≡ loop_value program reader writer bound values → more ≡ values ++ value ∷ []
       → values_along program reader writer (drop k path) values ≡ values_along program reader writer (drop (k + 1) path) more
-  along-next path k pair values more value below is is_value pushed =
-      ap (λ (p : List PathStep). values_along program reader writer p values) (rest_at path k (step_of pair) below (sym (is (step_of pair))))
-      ∙ ap (λ (v : AffineForm). values_along program reader writer (drop (k + 1) path) (values ++ v ∷ [])) (sym is_value)
+  along-next path k bound values more value below many is is_value pushed =
+      let step = there path k below in
+      let last : bound ≡ last_bound (direction_at program writer (length values)) step.0 =
+      is step.0 ∙ ap (λ (n : ℕ). last_bound (direction_at program writer n) (get_or path k step.0)) (sym many) ∙ ap (last_bound (direction_at program writer (length values))) (sym step.1) in
+      ap (λ (p : List PathStep). values_along program reader writer p values) (rest_at path k step.0 below step.1)
+      ∙ ap (λ (v : AffineForm). values_along program reader writer (drop (k + 1) path) (values ++ v ∷ [])) (ap (λ (b : AffineForm). loop_value program reader writer b values) (sym last) ∙ sym is_value)
       ∙ ap (λ (vs : List AffineForm). values_along program reader writer (drop (k + 1) path) vs) (sym pushed)
 
   -- what holds of all values along a way holds of the first ones
   pub along-first : (P : AffineForm → Type 0) (path : List PathStep) (values : List AffineForm) → AllByRecursion P (values_along program reader writer path values) → AllByRecursion P values
   along-first P [] values h = h
-  along-first P (rises lower upper ∷ path) values h =
-      All-left P values (loop_value program reader writer upper values ∷ []) (along-first P path (values ++ loop_value program reader writer upper values ∷ []) h)
+  along-first P (step ∷ path) values h =
+      let value : AffineForm = loop_value program reader writer (last_bound (direction_at program writer (length values)) step) values in
+      All-left P values (value ∷ []) (along-first P path (values ++ value ∷ []) h)
 
   pub along-last : (P : AffineForm → Type 0) (path : List PathStep) (values : List AffineForm) (value : AffineForm)
       → AllByRecursion P (values_along program reader writer path (values ++ value ∷ [])) → P value

@@ -1,15 +1,17 @@
--- Variables, and variables less 1, are small forms.
+-- Variables, and variables one turn before, are small forms.
 use Rattle.std.proofs.Common.{◌≡◌, ℕ, zero, suc, ◌+◌, ◌-◌, ◌<◌, List, [], ◌∷◌, length, map, replicate, arith, lit<}
 use Rattle.std.specs.Prelude.{slice_set}
 use Rattle.std.specs.List.{AllByRecursion}
 use Rattle.std.proofs.Math.IntN.{ℤ, pos, negsuc, ◌-ℤ◌}
 use Rattle.base_laws.proofs.Lists.{All-append, All-replicate, All-weaken}
 use Rattle.iolb_model.specs.declared.limits.TheConstants.{NUMBER_SIZE}
+use Rattle.iolb_model.specs.Program.{Direction, upward, downward}
 use Rattle.affine_form.specs.Combination.{add_lists}
 use Rattle.affine_form.specs.Form.{variables, IsSmall}
 use Rattle.affine_form.specs.Rows.{IsSmallOver, variable, difference, widened}
 use Rattle.affine_form.proofs.RowLemmas.{variables-over, length-difference}
 use Rattle.affine_form.proofs.Sizes.{size-add}
+use Rattle.flow_deps.specs.Candidates.{step_back}
 
 -- a variable is a small form
 pub variable-small : (vars k : ℕ) → IsSmallOver vars (variable vars k)
@@ -31,19 +33,22 @@ negated-zeros : (n : ℕ) → AllByRecursion (IsSmall 1) (map (λ (x : ℤ). pos
 negated-zeros zero = tt
 negated-zeros (suc n) = (lit< tt, negated-zeros n)
 
--- a variable less 1 is a small form
-pub turn-small : (vars k : ℕ) → IsSmallOver vars (difference vars (variable vars k) (record { coefficients = []; constant = pos 0 }) (negsuc 0))
-turn-small vars k =
+-- a variable one turn before is a small form
+pub turn-small : (vars k : ℕ) (direction : Direction) → IsSmallOver vars (difference vars (variable vars k) (record { coefficients = []; constant = pos 0 }) (step_back direction))
+turn-small vars k direction =
     let one : variables (variable vars k) ≡ vars = (variable-small vars k).over in
     let wide : AllByRecursion (IsSmall 2) (widened vars (variable vars k)).coefficients =
     All-append (IsSmall 2) (variable vars k).coefficients (replicate (vars - length (variable vars k).coefficients) (pos 0)) (set-below 2 vars k (lit< tt))
     (All-replicate (IsSmall 2) (vars - length (variable vars k).coefficients) (pos 0) (lit< tt)) in
     record {
-      over = length-difference vars (variable vars k) (record { coefficients = []; constant = pos 0 }) (negsuc 0) (omega (arith, one)) (omega arith);
+      over = length-difference vars (variable vars k) (record { coefficients = []; constant = pos 0 }) (step_back direction) (omega (arith, one)) (omega arith);
       small = (
-        All-weaken (IsSmall (2 + 1)) (IsSmall NUMBER_SIZE) (difference vars (variable vars k) (record { coefficients = []; constant = pos 0 }) (negsuc 0)).coefficients (λ x h. omega (arith, h))
+        All-weaken (IsSmall (2 + 1)) (IsSmall NUMBER_SIZE) (difference vars (variable vars k) (record { coefficients = []; constant = pos 0 }) (step_back direction)).coefficients (λ x h. omega (arith, h))
             (add-small 2 1 (widened vars (variable vars k)).coefficients (map (λ (x : ℤ). pos 0 -ℤ x) (widened vars (record { coefficients = []; constant = pos 0 })).coefficients) (lit< tt) (lit< tt)
             wide (negated-zeros (vars - 0))),
-        lit< tt,
+        number direction,
       );
-    }
+    } where
+      number : (d : Direction) → IsSmall NUMBER_SIZE (difference vars (variable vars k) (record { coefficients = []; constant = pos 0 }) (step_back d)).constant
+      number upward = lit< tt
+      number downward = lit< tt

@@ -6,10 +6,10 @@ use Rattle.std.specs.List.{AllByRecursion, range_with_len}
 use Rattle.std.specs.Option.{unwrap_or}
 use Rattle.std.specs.Ordering.{int_eq}
 use Rattle.iolb_model.specs.Form.{AffineForm}
-use Rattle.iolb_model.specs.Path.{PathStep, rises}
-use Rattle.iolb_model.specs.Program.{AffineProgram, statement_at}
+use Rattle.iolb_model.specs.Path.{PathStep, bounded}
+use Rattle.iolb_model.specs.Program.{Direction, upward, downward, AffineProgram, statement_at}
 use Rattle.iolb_model.specs.Order.{common_loops}
-use Rattle.affine_form.specs.Rows.{widened, variable, variables_from, difference, IsSmallOver}
+use Rattle.affine_form.specs.Rows.{widened, variable, variables_from, difference, earlier_row, IsSmallOver}
 use Rattle.affine_form.specs.declared.form.Form.{Form}
 use Rattle.affine_form.specs.Substitution.{substitution}
 use Rattle.affine_program.specs.Domain.{path_of, depth_of}
@@ -18,6 +18,27 @@ use Rattle.dep_quast.specs.Levels.{writers, IsWriter}
 use Rattle.flow_deps.specs.Shapes.{Shape, no_write, last_write, split}
 use Rattle.flow_deps.specs.declared.candidate.Candidate.{Candidate}
 use Rattle.flow_deps.specs.declared.candidate.Candidate.TheVariants.{NoWrite, SameTurn, TurnBefore}
+
+-- ---- loops
+
+-- how the values of a loop around a statement go
+abbrev pub direction_at : AffineProgram → ℕ → ℕ → Direction
+direction_at program statement loop = slice_index_or (common_loops program statement statement) loop upward
+
+-- the bound at which a loop begins
+abbrev pub first_bound : Direction → PathStep → AffineForm
+first_bound upward (bounded lower upper) = lower
+first_bound downward (bounded lower upper) = upper
+
+-- and that at which it ends
+abbrev pub last_bound : Direction → PathStep → AffineForm
+last_bound upward (bounded lower upper) = upper
+last_bound downward (bounded lower upper) = lower
+
+-- what a loop's value one turn before is more than now
+abbrev pub step_back : Direction → ℤ
+step_back upward = negsuc 0
+step_back downward = pos 1
 
 -- ---- the point of a writer
 
@@ -42,23 +63,24 @@ subscript_for place [] read = None
 subscript_for place (w ∷ written) [] = None
 subscript_for place (w ∷ written) (r ∷ read) = if is_name place w then Some r else subscript_for place written read
 
--- the last value of a loop of a writer: its upper bound at the values before it
+-- the last value of a loop of a writer: the bound at which it ends, at the values before it
 abbrev pub last_value : AffineProgram → ReadOf → AffineForm → List AffineForm → AffineForm
-last_value program reader upper before =
-    let vars = variables_at program reader in widened vars (substitution upper (parameter_point program vars ++ before))
+last_value program reader bound before =
+    let vars = variables_at program reader in widened vars (substitution bound (parameter_point program vars ++ before))
 
 -- The value of a loop of a writer: the read subscript at the first place at which the written one is that loop's name
 -- alone; and where there is none its last value.
 abbrev pub loop_value : AffineProgram → ReadOf → ℕ → AffineForm → List AffineForm → AffineForm
-loop_value program reader writer upper before =
+loop_value program reader writer bound before =
     unwrap_or (subscript_for (length program.parameters + length before) (statement_at program writer).writes.subscripts (reference_of program reader).subscripts)
-    (last_value program reader upper before)
+    (last_value program reader bound before)
 
 -- the values of a writer's loops, from those that are given on along the rest of the way
 abbrev pub values_along : AffineProgram → ReadOf → ℕ → List PathStep → List AffineForm → List AffineForm
 values_along program reader writer [] before = before
-values_along program reader writer (rises lower upper ∷ path) before =
-    values_along program reader writer path (before ++ loop_value program reader writer upper before ∷ [])
+values_along program reader writer (step ∷ path) before =
+    let bound = last_bound (direction_at program writer (length before)) step in
+    values_along program reader writer path (before ++ loop_value program reader writer bound before ∷ [])
 
 -- the point of a writer whose first loops have the values that are given
 abbrev pub point_from : AffineProgram → ReadOf → ℕ → List AffineForm → List AffineForm
@@ -83,19 +105,19 @@ loop_variable program reader loop = variable (variables_at program reader) (leng
 
 -- the value of a loop of the reader one turn before
 abbrev pub turn_before : AffineProgram → ReadOf → ℕ → AffineForm
-turn_before program reader loop = difference (variables_at program reader) (loop_variable program reader loop) (record { coefficients = []; constant = pos 0 }) (negsuc 0)
+turn_before program reader loop =
+    difference (variables_at program reader) (loop_variable program reader loop) (record { coefficients = []; constant = pos 0 }) (step_back (direction_at program reader.statement loop))
 
--- a way's lower bound of a loop
-abbrev pub lower_of : PathStep → AffineForm
-lower_of (rises lower upper) = lower
-
--- the lower bound of a loop of the reader
-abbrev pub lower_bound : AffineProgram → ReadOf → ℕ → AffineForm
-lower_bound program reader loop = lower_of (slice_index_or (path_of program reader.statement) loop (rises (record { coefficients = []; constant = pos 0 }) (record { coefficients = []; constant = pos 0 })))
+-- the bound at which a loop of the reader begins
+abbrev pub begin_bound : AffineProgram → ReadOf → ℕ → AffineForm
+begin_bound program reader loop =
+    first_bound (direction_at program reader.statement loop)
+    (slice_index_or (path_of program reader.statement) loop (bounded (record { coefficients = []; constant = pos 0 }) (record { coefficients = []; constant = pos 0 })))
 
 -- at least 0 where a loop of the reader isn't in its first turn
 abbrev pub later_turn : AffineProgram → ReadOf → ℕ → AffineForm
-later_turn program reader loop = difference (variables_at program reader) (loop_variable program reader loop) (lower_bound program reader loop) (negsuc 0)
+later_turn program reader loop =
+    earlier_row (variables_at program reader) (direction_at program reader.statement loop) (begin_bound program reader loop) (loop_variable program reader loop)
 
 -- The shape of a candidate: no write is earlier; or the last write is by a statement in the same turn of all loops around
 -- both; or it is by a statement one turn of a loop before, and there is none in the loop's first turn.

@@ -19,7 +19,7 @@ ghost use Rattle.iolb_model.specs.declared.limits.TheConstants.{TREE_TESTS};
 
 use crate::candidate::Candidate;
 use crate::leaves::{input_leaf, source_leaf, unshown};
-use crate::points::{bounds_at, point_from};
+use crate::points::{bounds_at, point_from, runs_down};
 use crate::wanted::Wanted;
 use affine_form::{Form, Memory, difference, variable, variables_from};
 use affine_program::{Program, is_small_form};
@@ -61,7 +61,11 @@ pub(crate) fn turn_before(
     let vars = variables(program, reader);
     let now = variable(alloc, vars, program.params().len() + level)?;
     let zero = Form::new(Vec::new(alloc), 0);
-    difference(alloc, vars, &now, &zero, -1)
+    if runs_down(program, reader.statement, level) {
+        difference(alloc, vars, &now, &zero, 1)
+    } else {
+        difference(alloc, vars, &now, &zero, -1)
+    }
 }
 
 /// The form that is at least 0 where a loop of the reader isn't in its first turn.
@@ -78,8 +82,12 @@ fn later_turn(
 {
     let vars = variables(program, reader);
     let now = variable(alloc, vars, program.params().len() + level)?;
-    let lower = &bounds_at(program, reader.statement, level).0;
-    difference(alloc, vars, &now, lower, -1)
+    let (lower, upper) = bounds_at(program, reader.statement, level);
+    if runs_down(program, reader.statement, level) {
+        difference(alloc, vars, upper, &now, -1)
+    } else {
+        difference(alloc, vars, &now, lower, -1)
+    }
 }
 
 /// The point of a writer in the same turn of all loops around it and the reader. None only where some value is too large.

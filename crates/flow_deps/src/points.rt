@@ -4,13 +4,13 @@ ghost use Rattle.std.specs.Prelude.{◌≡◌, ◌≤◌, ◌<◌, ◌+◌, leng
 ghost use Rattle.std.specs.List.{AllByRecursion};
 ghost use Rattle.affine_form.specs.Form.{variables};
 ghost use Rattle.iolb_model.specs.Path.{PathStep};
-ghost use Rattle.affine_form.specs.Rows.{IsSmallOver, step_of};
+ghost use Rattle.affine_form.specs.Rows.{IsSmallOver, direction_of, step_of};
 ghost use Rattle.affine_program.specs.Domain.{path_of, depth_of};
 ghost use Rattle.affine_program.specs.Parts.{meaning};
 ghost use Rattle.dep_quast.specs.Context.{variables_at};
 ghost use Rattle.dep_quast.specs.Truth.{ReadFits};
 ghost use Rattle.dep_quast.specs.Views.{read_of};
-ghost use Rattle.flow_deps.specs.Candidates.{are_zero, is_unit, is_name, subscript_for, last_value, loop_value, FindsPoint};
+ghost use Rattle.flow_deps.specs.Candidates.{are_zero, direction_at, is_unit, is_name, last_bound, subscript_for, last_value, loop_value, FindsPoint};
 ghost use Rattle.iolb_model.specs.declared.limits.TheConstants.{LOOPS};
 
 use affine_form::{Form, Memory, put, variables_from, widened};
@@ -86,22 +86,48 @@ pub fn bounds_at(program: &Program, statement: u16, level: usize) -> &(Form, For
         .as_slice()[level]
 }
 
+/// Whether a loop around a statement runs downward.
+pub fn runs_down(program: &Program, statement: u16, level: usize) -> bool
+    requires { statement < length program.now.statements }
+    ensures { direction_of result ≡ direction_at (meaning program.now) statement level }
+{
+    match program.common_down(statement, statement).get(level) {
+        Some(down) => *down,
+        None => false,
+    }
+}
+
+/// The bound at which a loop around a statement ends.
+pub(crate) fn last_bound(program: &Program, statement: u16, level: usize) -> &Form
+    requires there { statement < length program.now.statements }
+    requires level_in { level < depth_of (meaning program.now) statement }
+    ensures over { IsSmallOver (length program.now.params + level) result.now }
+    ensures bound { (none : PathStep) → result.now ≡ last_bound (direction_at (meaning program.now) statement level) (slice_index_or (path_of (meaning program.now) statement) level none) }
+{
+    let bounds = bounds_at(program, statement, level);
+    if runs_down(program, statement, level) {
+        &bounds.0
+    } else {
+        &bounds.1
+    }
+}
+
 /// The value of the next loop of a writer: the read subscript at the first place at which the written one is that loop's
-/// name alone; and where there is none its upper bound at the values before it.
+/// name alone; and where there is none the bound at which it ends, at the values before it.
 fn loop_value(
     alloc: Global,
     program: &Program,
     reader: Reader,
     writer: u16,
-    upper: &Form,
+    bound: &Form,
     before: &[Form],
 ) -> Result<Form, Memory>
     requires read { ReadFits (meaning program.now) (read_of reader) }
     requires writer { writer < length program.now.statements }
     requires few { length before.now < depth_of (meaning program.now) writer }
-    requires upper { IsSmallOver (length program.now.params + length before.now) upper.now }
+    requires bound { IsSmallOver (length program.now.params + length before.now) bound.now }
     requires before { AllByRecursion (IsSmallOver (variables_at (meaning program.now) (read_of reader))) before.now }
-    ensures value { IfOk result (λ value. value ≡ loop_value (meaning program.now) (read_of reader) writer upper.now before.now) }
+    ensures value { IfOk result (λ value. value ≡ loop_value (meaning program.now) (read_of reader) writer bound.now before.now) }
     ensures over { IfOk result (λ value. variables value ≡ variables_at (meaning program.now) (read_of reader)) }
 {
     let params = program.params().len();
@@ -110,28 +136,28 @@ fn loop_value(
     if let Some(value) = subscript_for(alloc, params + before.len(), writes, reads)? {
         return Ok(value);
     }
-    last_value(alloc, program, reader, upper, before)
+    last_value(alloc, program, reader, bound, before)
 }
 
-/// The last value of a writer's next loop: its upper bound at the values before it.
+/// The last value of a writer's next loop: the bound at which it ends, at the values before it.
 pub(crate) fn last_value(
     alloc: Global,
     program: &Program,
     reader: Reader,
-    upper: &Form,
+    bound: &Form,
     before: &[Form],
 ) -> Result<Form, Memory>
     requires read { ReadFits (meaning program.now) (read_of reader) }
     requires few { length before.now ≤ LOOPS }
-    requires upper { IsSmallOver (length program.now.params + length before.now) upper.now }
+    requires bound { IsSmallOver (length program.now.params + length before.now) bound.now }
     requires before { AllByRecursion (IsSmallOver (variables_at (meaning program.now) (read_of reader))) before.now }
-    ensures value { IfOk result (λ value. value ≡ last_value (meaning program.now) (read_of reader) upper.now before.now) }
+    ensures value { IfOk result (λ value. value ≡ last_value (meaning program.now) (read_of reader) bound.now before.now) }
     ensures over { IfOk result (λ value. variables value ≡ variables_at (meaning program.now) (read_of reader)) }
 {
     let vars = variables(program, reader);
     let known = variables_from(alloc, vars, 0, program.params().len())?;
     let point = followed_by(alloc, known, before)?;
-    let last = put(alloc, vars, upper, point.as_slice())?;
+    let last = put(alloc, vars, bound, point.as_slice())?;
     widened(alloc, vars, &last)
 }
 
@@ -151,8 +177,8 @@ pub(crate) fn point_from(
 {
     let mut values = given;
     for level in values.len()..depth(program, writer) {
-        let upper = &bounds_at(program, writer, level).1;
-        let value = loop_value(alloc, program, reader, writer, upper, values.as_slice())?;
+        let bound = last_bound(program, writer, level);
+        let value = loop_value(alloc, program, reader, writer, bound, values.as_slice())?;
         if !is_small_form(&value) {
             return Ok(None);
         }

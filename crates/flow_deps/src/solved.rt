@@ -15,7 +15,7 @@ ghost use Rattle.iolb_model.specs.declared.limits.TheConstants.{VARIABLES};
 
 use crate::origins::Origin;
 use crate::planted::{first_values, turn_before};
-use crate::points::{bounds_at, last_value};
+use crate::points::{last_bound, last_value};
 use affine_form::{Form, Memory};
 use affine_program::{Program, is_small_form};
 use claims::lists::followed_by;
@@ -125,8 +125,8 @@ fn next_value(
     if level < common && before.len() == level {
         return turn_before(alloc, program, reader, level);
     }
-    let upper = &bounds_at(program, origin.writer, before.len()).1;
-    last_value(alloc, program, reader, upper, before)
+    let bound = last_bound(program, origin.writer, before.len());
+    last_value(alloc, program, reader, bound, before)
 }
 
 /// The point of an origin: the reader's values in the loops before its level, and then loop by loop. None where some value

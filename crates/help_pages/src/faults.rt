@@ -20,7 +20,7 @@ fn fault_wrong(number: u64) -> Option<&'static str>
         2 => "this byte begins no token of C, or the comment that begins here isn't closed",
         3 => "this can't stand here",
         4 => "this isn't affine: a sum of names and numbers, each name times a number",
-        5 => "the loop doesn't step upward by one, or isn't compared by `<` or `<=`",
+        5 => "the loop doesn't step by one, or steps the other way than its comparison",
         6 =>
             "this name is of another kind than is wanted here: a parameter or a loop where an array is wanted, or an array or a loop that was left where a number is wanted",
         7 => "this loop has the name of a loop around it, of a parameter or of an array",
@@ -43,11 +43,11 @@ fn fault_instead(number: u64) -> Option<&'static str>
         1 => "put the loops between these two lines, each alone on its line",
         2 => "remove it, or close the comment",
         3 =>
-            "write loops `for (int i = LOWER; i < UPPER; i++)`, blocks, and assignments to cells, and nothing else",
+            "write loops `for (int i = LOWER; i < UPPER; i++)` or `for (int i = UPPER; i >= LOWER; i--)`, blocks, and assignments to cells, and nothing else",
         4 =>
             "write whole numbers, parameters and loops around it, joined by `+`, `-`, and `*` by a number",
         5 =>
-            "write `for (int i = LOWER; i < UPPER; i++)`, and use another form of `i` where the loop stepped otherwise",
+            "write `for (int i = FIRST; i < END; i++)` or `for (int i = FIRST; i >= LAST; i--)`, and use another form of `i` where the loop stepped otherwise",
         6 => "rename it, or move it into the loop's body",
         7 => "give it a name of its own",
         8 => "write as many subscripts as where it stands first",

@@ -27,7 +27,7 @@ use Rattle.iolb_cert.specs.ColdTexts.{cold_fields, cold_parts, cold_shape}
 use Rattle.iolb_cert.specs.FrontTexts.{front_fields, front_parts, front_shape}
 use Rattle.iolb_cert.specs.PartitionTexts.{partition_fields, partition_parts, members_shape, partition_shape}
 use Rattle.iolb_cert.specs.Read.{PartitionClaim, WrittenCold, WrittenPartition, WrittenFront, WrittenTerm, as_cold, as_partition, as_front, WrittenBranch, WrittenCertificate, IsCold, IsPartition, IsFront, IsCreditTerm, IsTerm, IsBranch, IsCertificate}
-use Rattle.iolb_cert.specs.Shapes.{inverse_shape}
+use Rattle.certificate_parts.specs.Inverses.{inverse_shape}
 use Rattle.iolb_cert.specs.Terms.{term_shape, branch_shape}
 use Rattle.certificate_parts.proofs.Related.{all_related, as_many}
 

@@ -21,7 +21,7 @@ use Rattle.iolb_cert.specs.ColdTexts.{cold_shape}
 use Rattle.iolb_cert.specs.FrontTexts.{front_shape}
 use Rattle.iolb_cert.specs.PartitionTexts.{members_shape, partition_shape}
 use Rattle.iolb_cert.specs.Read.{WrittenCold, WrittenPartition, WrittenFront, WrittenTerm, as_cold, as_partition, as_front, WrittenBranch}
-use Rattle.iolb_cert.specs.Shapes.{inverse_shape}
+use Rattle.certificate_parts.specs.Inverses.{inverse_shape}
 use Rattle.iolb_cert.specs.Terms.{term_shape, branch_shape}
 use Rattle.iolb_cert.specs.Written.{written_branch, written_of}
 use Rattle.iolb_cert.proofs.Limits.{small-way}

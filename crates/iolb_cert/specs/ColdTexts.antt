@@ -13,7 +13,7 @@ use Rattle.certificate_parts.specs.Nests.{nest_shape}
 use Rattle.certificate_parts.specs.Polynomials.{polynomial_shape}
 use Rattle.iolb_cert.specs.Read.{WrittenCold}
 use Rattle.certificate_parts.specs.Leaves.{leaves_shape}
-use Rattle.iolb_cert.specs.Shapes.{inverse_shape}
+use Rattle.certificate_parts.specs.Inverses.{inverse_shape}
 
 abbrev pub ColdMembers : Type 0
 ColdMembers = List FarkasMultipliers × ((IntegerMatrix × ℕ) × (List LeafClaim × (List (AffineForm × AffineForm) × (List AffineForm × (ℕ × (List FarkasMultipliers × (ℕ × (List Polynomial × Unit {0}))))))))

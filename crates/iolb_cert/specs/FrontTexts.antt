@@ -14,7 +14,7 @@ use Rattle.certificate_parts.specs.Nests.{nest_shape}
 use Rattle.certificate_parts.specs.Polynomials.{polynomial_shape}
 use Rattle.iolb_cert.specs.Read.{WrittenFront}
 use Rattle.certificate_parts.specs.Leaves.{leaves_shape}
-use Rattle.iolb_cert.specs.Shapes.{inverse_shape}
+use Rattle.certificate_parts.specs.Inverses.{inverse_shape}
 
 abbrev pub FrontMembers : Type 0
 FrontMembers = ReachClaim × (List LeafClaim × (List FarkasMultipliers × ((IntegerMatrix × ℕ) × (List (AffineForm × AffineForm) × (ℕ × (List Polynomial × (Option ReachClaim × (ℕ × (List FarkasMultipliers × (Option SpotForms × (List Polynomial × (SpotForms × (SpotForms × Unit {0})))))))))))))

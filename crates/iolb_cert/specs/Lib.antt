@@ -1,4 +1,3 @@
-pub mod Shapes
 pub mod Certificates
 pub mod ColdTexts
 pub mod FrontTexts

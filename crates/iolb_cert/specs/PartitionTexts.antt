@@ -1,5 +1,5 @@
 -- The texts of partition terms.
-use Rattle.std.specs.Prelude.{ℕ, ◌+◌, List, bytes_eq, if◌then◌else◌, codes, Bool, false, nat_le, Option, None, Some, Ok, refl}
+use Rattle.std.specs.Prelude.{ℕ, ◌+◌, List, bytes_eq, if◌then◌else◌, codes, Bool, false, nat_le, Option, None, Some, Ok, Err, IfOk, refl}
 use Rattle.iolb_model.specs.Form.{AffineForm}
 use Rattle.iolb_model.specs.Polynomial.{Polynomial}
 use Rattle.affine_form.specs.Matrix.{IntegerMatrix}
@@ -20,10 +20,13 @@ use Rattle.certificate_parts.specs.Nests.{nest_shape}
 use Rattle.certificate_parts.specs.Polynomials.{polynomial_shape}
 use Rattle.iolb_cert.specs.Read.{WrittenPartition}
 use Rattle.certificate_parts.specs.Matrices.{matrix_shape}
-use Rattle.iolb_cert.specs.Shapes.{any}
 use Rattle.iolb_model.specs.declared.limits.TheConstants.{STRETCH, STRETCH_MORE, WEIGHT}
 
 -- ---- shapes, by their names
+
+pub any : {A : Type 0} (read : Outcome A) → IfOk read (λ _. Unit {0})
+any (Ok a) = tt
+any (Err f) = tt
 
 abbrev pub shape_of : Option (List ℕ) → Outcome TermShape
 shape_of None = fault 2

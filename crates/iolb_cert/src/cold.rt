@@ -1,61 +1,19 @@
-//! Cold terms, and matrices with their scales.
+//! Cold terms.
 
-ghost use Rattle.std.specs.Prelude.{◌≤◌, ℕ};
-ghost use Rattle.affine_form.specs.Matrix.{IntegerMatrix};
 ghost use Rattle.iolb_check.specs.Limits.{IsSmallCold};
-ghost use Rattle.json_parts.specs.Related.{plain_link};
 ghost use Rattle.iolb_cert.specs.ColdTexts.{cold_shape};
 ghost use Rattle.iolb_cert.specs.Read.{WrittenCold};
-ghost use Rattle.iolb_cert.specs.Shapes.{inverse_shape};
 ghost use Rattle.iolb_cert.specs.Written.{cold_link};
-ghost use Rattle.iolb_model.specs.declared.limits.TheConstants.{SCALE};
 
 use affine_form::Memory;
-use certificate_parts::{OfForm, OfLeaf, OfMatrix, OfMultipliers, OfNest, OfPolynomial};
+use certificate_parts::{OfForm, OfInverse, OfLeaf, OfMultipliers, OfNest, OfPolynomial};
 use domain_count::Sums;
-use json_parts::{
-    Any16, CertError, End, ListOf, Number32, Part, Put, PutList, read_object, write_object,
-};
+use json_parts::{Any16, CertError, End, ListOf, Part, Put, PutList, read_object, write_object};
 use json_values::Json;
 use serde_json::Value;
 use std::alloc::Global;
 use std::marker::PhantomData;
-use wavefront::{Cold, Inverse};
-
-/// A matrix, and its scale from 1 to 2^20.
-pub(crate) struct OfInverse {}
-
-type Scale = Number32<1, 1048576>;
-
-impl Part for OfInverse {
-    type Value = Inverse;
-
-    ghost Said = { IntegerMatrix × ℕ };
-
-    ghost shape = { inverse_shape };
-
-    ghost link = { plain_link (λ inverse. (inverse.matrix, inverse.scale)) };
-
-    ghost Fits = { λ inverse. (1 ≤ inverse.scale) × (inverse.scale ≤ SCALE) };
-
-    #[tactic(auto, unfolding(crate::specs::Shapes::inverse_shape))]
-    fn read(alloc: Global, value: &Json) -> Result<Inverse, CertError> {
-        let (matrix, (scale, ())) = read_object::<(OfMatrix, (Scale, End))>(
-            alloc,
-            value,
-            &["matrix", "scale"],
-        )?;
-        Ok(Inverse { matrix, scale })
-    }
-
-    #[tactic(auto, using(json_parts::proofs::Back::made_read), unfolding(crate::specs::Shapes::inverse_shape))]
-    fn write(alloc: Global, part: &Inverse) -> Result<Value, Memory> {
-        let rest = put!(Scale, &part.scale, End {});
-        let all = put!(OfMatrix, &part.matrix, rest);
-        let value = write_object(alloc, &["matrix", "scale"], &all)?;
-        Ok(value)
-    }
-}
+use wavefront::Cold;
 
 /// A cold term.
 pub(crate) struct OfCold {}

@@ -5,9 +5,8 @@ ghost use Rattle.iolb_cert.specs.FrontTexts.{front_shape};
 ghost use Rattle.iolb_cert.specs.Read.{WrittenFront};
 ghost use Rattle.iolb_cert.specs.Written.{front_link};
 
-use crate::cold::OfInverse;
 use affine_form::Memory;
-use certificate_parts::{OfLeaf, OfMultipliers, OfNest, OfPolynomial, OfReach, OfSpot};
+use certificate_parts::{OfInverse, OfLeaf, OfMultipliers, OfNest, OfPolynomial, OfReach, OfSpot};
 use domain_count::Sums;
 use json_parts::{
     Any8, Any16, CertError, End, ListOf, OrNull, Part, Put, PutList, read_object, write_object,

@@ -6,7 +6,7 @@ ghost use Rattle.dep_quast.specs.Tree.{tree_of};
 ghost use Rattle.dep_quast.specs.Views.{read_of};
 ghost use Rattle.iolb_check.specs.FamilyTargets.{family_targets, leaf_targets, partition_targets, region_targets, regions_targets, taken_target, taken_targets, walk_targets};
 ghost use Rattle.k_partition.specs.View.{partition_of};
-ghost use Rattle.reuse_paths.specs.Families.{family_of, node_of, node_region};
+ghost use Rattle.reuse_paths.specs.Families.{boxed_node, family_of, node_region};
 ghost use Rattle.reuse_paths.specs.LeafClaims.{claim_of};
 ghost use Rattle.dep_quast.specs.Quasts.{trees_of};
 ghost use Rattle.footprint_pieces.specs.TargetPairs.{items_of};
@@ -92,9 +92,9 @@ fn push_regions_targets(
     targets: &mut Vec<Target>,
     program: &Program,
     quasts: &Quasts,
-    nodes: &[Option<FamilyNode>],
+    nodes: &[Option<Box<FamilyNode>>],
 ) -> Result<(), Memory>
-    ensures { OnOk result (targets.new.items ≡ targets.old.items ++ regions_targets (meaning program.now) (trees_of quasts.now) 0 (map node_region (map (option_map node_of) nodes.now))) }
+    ensures { OnOk result (targets.new.items ≡ targets.old.items ++ regions_targets (meaning program.now) (trees_of quasts.now) 0 (map node_region (map (option_map boxed_node) nodes.now))) }
 {
     for (number, node) in nodes.iter().enumerate() {
         push_region_targets(alloc, targets, program, quasts, number, node)?;
@@ -110,21 +110,21 @@ fn push_region_targets(
     program: &Program,
     quasts: &Quasts,
     number: usize,
-    node: &Option<FamilyNode>,
+    node: &Option<Box<FamilyNode>>,
 ) -> Result<(), Memory>
-    ensures { OnOk result (targets.new.items ≡ targets.old.items ++ region_targets (meaning program.now) (trees_of quasts.now) number (node_region (option_map node_of node.now))) }
+    ensures { OnOk result (targets.new.items ≡ targets.old.items ++ region_targets (meaning program.now) (trees_of quasts.now) number (node_region (option_map boxed_node node.now))) }
 {
     if number >= program.statements().len() {
         return Ok(());
     }
-    match node {
-        Some(
-            FamilyNode {
-                region: Some(region),
-                ..
-            },
-        ) => push_walk_targets(alloc, targets, program, quasts, number as u16, &region.tree),
-        _ => Ok(()),
+    let Some(node) = node else {
+        return Ok(());
+    };
+    match &node.region {
+        Some(region) => {
+            push_walk_targets(alloc, targets, program, quasts, number as u16, &region.tree)
+        }
+        None => Ok(()),
     }
 }
 

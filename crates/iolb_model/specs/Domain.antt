@@ -1,7 +1,7 @@
 -- Iteration domains: the loop values at which a statement is executed. (Feautrier 1991.)
 use Rattle.std.specs.Prelude.{◌≡◌, ℕ, ℤ, ◌≤ℤ◌, ⊤, List, [], ◌∷◌, ◌++◌, Some, slice_get, IsSomeAnd}
 use Rattle.iolb_model.specs.Form.{form_value}
-use Rattle.iolb_model.specs.Path.{PathStep, rises, row_path}
+use Rattle.iolb_model.specs.Path.{PathStep, bounded, row_path}
 use Rattle.iolb_model.specs.Program.{AffineProgram}
 use Rattle.iolb_model.specs.Execution.{Instance, execution}
 
@@ -10,8 +10,8 @@ use Rattle.iolb_model.specs.Execution.{Instance, execution}
 abbrev pub IsWithin : List PathStep → List ℤ → List ℤ → Type 0
 IsWithin [] point [] = ⊤
 IsWithin [] point (value ∷ values) = ⊥
-IsWithin (rises lower upper ∷ path) point [] = ⊥
-IsWithin (rises lower upper ∷ path) point (value ∷ values) =
+IsWithin (bounded lower upper ∷ path) point [] = ⊥
+IsWithin (bounded lower upper ∷ path) point (value ∷ values) =
     (form_value lower point ≤ℤ value) × (value ≤ℤ form_value upper point) × IsWithin path (point ++ value ∷ []) values
 
 -- these loop values are in the domain of the statement: it is in the tree, and they are within the bounds around it

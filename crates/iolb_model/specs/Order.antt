@@ -1,12 +1,8 @@
 -- The order of execution, by the loops that two statements have in common. (Feautrier 1991; the levels of Allen and Kennedy 1987.)
 use Rattle.std.specs.Prelude.{◌≡◌, ℕ, zero, suc, ◌<◌, ℤ, ◌<ℤ◌, Bool, ◌&&◌, if◌then◌else◌, is_some, List, [], ◌∷◌}
 use Rattle.iolb_model.specs.Path.{item_path}
-use Rattle.iolb_model.specs.Program.{Item, assign, loop, Row, done, next, AffineProgram}
+use Rattle.iolb_model.specs.Program.{Direction, upward, downward, Item, assign, loop, Row, done, next, AffineProgram}
 use Rattle.iolb_model.specs.Execution.{Instance}
-
--- how a loop's values go
-pub data Direction : Type 0 where
-  upward : Direction
 
 -- whether both statements are in the item
 abbrev pub has_both : Item → ℕ → ℕ → Bool
@@ -16,7 +12,7 @@ has_both item t s = is_some (item_path item t) && is_some (item_path item s)
 abbrev mutual
   pub item_common : Item → ℕ → ℕ → List Direction
   item_common (assign number) t s = []
-  item_common (loop name lower upper body) t s = upward ∷ row_common body t s
+  item_common (loop name direction lower upper body) t s = direction ∷ row_common body t s
 
   pub row_common : Row → ℕ → ℕ → List Direction
   row_common done t s = []
@@ -26,6 +22,11 @@ abbrev mutual
 abbrev pub common_loops : AffineProgram → ℕ → ℕ → List Direction
 common_loops program t s = row_common program.tree t s
 
+-- one value of a loop comes before another: it is less where the loop runs upward, and greater where it runs downward
+abbrev pub GoesBefore : Direction → ℤ → ℤ → Type 0
+GoesBefore upward y x = y <ℤ x
+GoesBefore downward y x = x <ℤ y
+
 -- Loop values ys of statement t come before loop values xs of statement s at a level, where these loops are around
 -- both: in as many loops as the level says the values are equal, and in the next loop y comes before x. At the last
 -- level the values are equal in all loops, and t stands before s in the text.
@@ -34,7 +35,7 @@ Precedes [] zero t s ys xs = t < s
 Precedes [] (suc level) t s ys xs = ⊥
 Precedes (direction ∷ loops) level t s [] xs = ⊥
 Precedes (direction ∷ loops) level t s (y ∷ ys) [] = ⊥
-Precedes (upward ∷ loops) zero t s (y ∷ ys) (x ∷ xs) = y <ℤ x
+Precedes (direction ∷ loops) zero t s (y ∷ ys) (x ∷ xs) = GoesBefore direction y x
 Precedes (direction ∷ loops) (suc level) t s (y ∷ ys) (x ∷ xs) = (y ≡ x) × Precedes loops level t s ys xs
 
 -- one instance comes before another at a level of the loops around both

@@ -3,9 +3,9 @@ use Rattle.std.specs.Prelude.{ℕ, ◌==◌, if◌then◌else◌, List, [], ◌�
 use Rattle.iolb_model.specs.Form.{AffineForm}
 use Rattle.iolb_model.specs.Program.{Item, assign, loop, Row, done, next}
 
--- A step of the way: into a loop that rises from its lower to its upper bound, both included.
+-- A step of the way: into a loop whose values are from its lower to its upper bound, both included.
 pub data PathStep : Type 0 where
-  rises : AffineForm → AffineForm → PathStep
+  bounded : AffineForm → AffineForm → PathStep
 
 -- the first of two that there is
 abbrev pub first_of : {A : Type 0} → Option A → Option A → Option A
@@ -16,7 +16,7 @@ first_of (Some x) b = Some x
 abbrev mutual
   pub item_path : Item → ℕ → Option (List PathStep)
   item_path (assign statement) number = if statement == number then Some [] else None
-  item_path (loop name lower upper body) number = option_map (λ path. rises lower upper ∷ path) (row_path body number)
+  item_path (loop name direction lower upper body) number = option_map (λ path. bounded lower upper ∷ path) (row_path body number)
 
   pub row_path : Row → ℕ → Option (List PathStep)
   row_path done number = None

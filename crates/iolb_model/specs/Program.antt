@@ -14,12 +14,17 @@ pub record Statement : Type 0 where
   pub writes : Access
   pub reads : List Access
 
--- An item is a statement, by its number in the text, or a loop: its name, its lower and upper bound, both
--- included, and its body. A row of items is none, or an item and then a row.
+-- whether a loop's values rise by one from its lower bound, or fall by one from its upper bound
+pub data Direction : Type 0 where
+  upward : Direction
+  downward : Direction
+
+-- An item is a statement, by its number in the text, or a loop: its name, how its values go, its lower and upper bound,
+-- both included, and its body. A row of items is none, or an item and then a row.
 mutual
   pub data Item : Type 0 where
     assign : ℕ → Item
-    loop : List ℕ → AffineForm → AffineForm → Row → Item
+    loop : List ℕ → Direction → AffineForm → AffineForm → Row → Item
 
   pub data Row : Type 0 where
     done : Row
@@ -70,7 +75,7 @@ pub record StatementFits (program : AffineProgram) (variables : ℕ) (number : �
 abbrev mutual
   pub ItemFits : AffineProgram → ℕ → Item → Type 0
   ItemFits program variables (assign number) = StatementFits program variables number
-  ItemFits program variables (loop name lower upper body) =
+  ItemFits program variables (loop name direction lower upper body) =
       IsOver variables lower × IsOver variables upper × RowFits program (suc variables) body
 
   pub RowFits : AffineProgram → ℕ → Row → Type 0
@@ -81,7 +86,7 @@ abbrev mutual
 abbrev mutual
   pub item_statements : Item → List ℕ
   item_statements (assign number) = number ∷ []
-  item_statements (loop name lower upper body) = row_statements body
+  item_statements (loop name direction lower upper body) = row_statements body
 
   pub row_statements : Row → List ℕ
   row_statements done = []

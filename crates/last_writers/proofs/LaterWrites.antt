@@ -3,17 +3,17 @@ use Rattle.std.proofs.Common.{◌≡◌, refl, sym, ◌∙◌, ap, subst, inl, i
 use Rattle.std.specs.Prelude.{◌⊎◌, ◌==◌, nat_lt, if◌then◌else◌}
 use Rattle.std.proofs.Math.IntN.{ℤ, pos}
 use lib.Signed.{◌≤ℤ◌}
-use Rattle.std.proofs.lemmas.Bool.{eq-eqb, lt-ltb}
+use Rattle.std.proofs.lemmas.Bool.{lt-ltb}
 use Rattle.std.proofs.lemmas.List.{append_assoc, length-append, length-map, map-append}
 use Rattle.base_laws.proofs.Lists.{All-append}
 use Rattle.iolb_model.specs.Form.{AffineForm, form_value}
 use Rattle.iolb_model.specs.Path.{row_path}
-use Rattle.iolb_model.specs.Program.{AffineProgram, IsWellFormed, Statement, no_statement, statement_at}
+use Rattle.iolb_model.specs.Program.{AffineProgram, Direction, IsWellFormed, Statement, statement_at}
 use Rattle.iolb_model.specs.Bound.{IsAdmitted}
 use Rattle.iolb_model.specs.Execution.{Instance}
 use Rattle.iolb_model.specs.Source.{Cell, written_cell}
 use Rattle.iolb_model.specs.Domain.{IsAt, IsInDomain, IsWithin}
-use Rattle.iolb_model.specs.Order.{Direction, Precedes, common_loops}
+use Rattle.iolb_model.specs.Order.{Precedes, common_loops}
 use Rattle.execution_laws.proofs.Members.{Member, Member-flat_map, Member-map}
 use Rattle.execution_laws.proofs.Domains.{counted-has, domains_executed, way-below}
 use Rattle.execution_laws.proofs.Orders.{order_by_levels}
@@ -24,35 +24,14 @@ use Rattle.affine_form.specs.Rows.{equality_rows, order_rows, step_of, widened}
 use Rattle.affine_form.proofs.Meaning.{HasLevel, equality_rows-met, order_rows-met, values-end, values-front, values_at-front, values_at-put_in, widened-stay}
 use Rattle.affine_program.specs.Domain.{depth_of, path_of, domain_rows}
 use Rattle.dep_quast.specs.Context.{parameter_point}
-use Rattle.dep_quast.specs.Levels.{level_count, levels, writers, writers_from}
+use Rattle.dep_quast.specs.Levels.{level_count, levels, writers}
 use Rattle.reuse_paths.proofs.NestPoints.{nest-met-before}
 use Rattle.store_terms.specs.Claims.{OutputClaim}
+use Rattle.dep_quast.proofs.LastSources.{Member-writers, level-cases}
 use Rattle.last_writers.specs.OutputClaims.{later_values, later_write, later_writes, output_system, output_variables, variables_with, write_rows, written_forms}
 use Rattle.last_writers.specs.Fitting.{OutputFits}
 use Rattle.last_writers.specs.Outputs.{output_instance}
 use Rattle.affine_program.proofs.Domains.{domain_rows-met}
-
--- a statement that writes the array is one of its writers
-Member-writers : (first : ℕ) (statements : List Statement) (array w : ℕ) → w < length statements → (get_or statements w no_statement).writes.array ≡ array
-    → Member (first + w) (writers_from first statements array)
-Member-writers first [] array w below e = absurd (omega arith)
-Member-writers first (s ∷ statements) array zero below e = by (s.writes.array == array) (eq-eqb s.writes.array array e) where
-  by : (b : Bool) → b ≡ true → Member (first + 0) (if b then first ∷ writers_from (suc first) statements array else writers_from (suc first) statements array)
-  by true h = inl (omega arith)
-  by false h = absurd cc
-Member-writers first (s ∷ statements) array (suc w) below e =
-    by (s.writes.array == array) (subst (λ (n : ℕ). Member n (writers_from (suc first) statements array)) (omega arith) (Member-writers (suc first) statements array w (omega arith) e)) where
-      by : (b : Bool) → Member (first + suc w) (writers_from (suc first) statements array)
-          → Member (first + suc w) (if b then first ∷ writers_from (suc first) statements array else writers_from (suc first) statements array)
-      by true m = inr m
-      by false m = m
-
--- a level that there is is one of the levels
-level-cases : (loops : List Direction) (level t s : ℕ) → HasLevel loops level t s → (level < length loops) ⊎ ((level ≡ length loops) × (t < s))
-level-cases [] zero t s h = inr (refl, h)
-level-cases [] (suc level) t s h = absurd h
-level-cases (d ∷ loops) zero t s h = inl (omega arith)
-level-cases (d ∷ loops) (suc level) t s h = elim (level-cases loops level t s h) [ inl less ↦ inl (omega arith) | inr last ↦ inr (ap suc last.0, last.1) ]
 
 Member-levels : (program : AffineProgram) (t s level : ℕ) → HasLevel (common_loops program t s) level t s → Member level (levels program t s)
 Member-levels program t s level h = counted-has 0 (level_count program t s) level (omega arith) (below (nat_lt t s) refl (level-cases (common_loops program t s) level t s h)) where

@@ -1,25 +1,28 @@
 -- Counting turns and instances one after the other.
-use Rattle.std.proofs.Common.{◌≡◌, refl, sym, ap, subst, ℕ, zero, suc, ◌+◌, ◌<◌, ◌≤◌, false, List, [], ◌∷◌, ◌++◌, length, drop, get_or, arith}
-use Rattle.std.specs.Prelude.{flat_map, ◌≤ℤ◌, ◌<ℤ◌, Option, None, Some}
+use Rattle.std.proofs.Common.{◌≡◌, refl, sym, ap, subst, ℕ, ◌+◌, ◌<◌, ◌≤◌, List, [], ◌∷◌, ◌++◌, length, drop, get_or, arith}
+use Rattle.std.specs.Prelude.{flat_map, ◌≤ℤ◌, Option, None, Some}
 use Rattle.std.specs.List.{AllByRecursion}
 use Rattle.std.proofs.Math.IntN.{ℤ, pos, negsuc, ◌+ℤ◌, ◌-ℤ◌}
 use Rattle.std.proofs.lemmas.Int.{ints}
-use Rattle.std.specs.Int.Signed.{lt_z, lt_z_no}
-use Rattle.std.proofs.lemmas.Float.{T_from_false}
 use Rattle.iolb_model.specs.Form.{AffineForm, form_value}
 use Rattle.std.proofs.lemmas.List.{length-append, length-map}
 use Rattle.base_laws.proofs.Lists.{All-append}
-use Rattle.execution_laws.proofs.Ranges.{range-has}
-use Rattle.execution_laws.proofs.Ordered.{All-member}
+use Rattle.execution_laws.proofs.Members.{Member}
+use Rattle.execution_laws.proofs.Ranges.{values-has, values-within}
+use Rattle.execution_laws.proofs.Ordered.{All-from, All-member}
 use Rattle.affine_form.specs.Form.{IsSmall}
+use Rattle.affine_form.specs.Rows.{direction_of}
 use Rattle.affine_program.specs.declared.item.Item.{Item}
 use Rattle.affine_program.specs.Tree.{item_of, row_of}
-use Rattle.iolb_model.specs.Program.{Item as ModelItem, loop, Row, next}
-use Rattle.iolb_model.specs.Execution.{natural, rising, range, at_value, item_runs, row_runs}
+use Rattle.iolb_model.specs.Program.{Direction, Item as ModelItem, loop, Row, next}
+use Rattle.iolb_model.specs.Execution.{natural, range_size, loop_values, at_value, item_runs, row_runs}
 use Rattle.loop_graph.specs.Turns.{item_turns, row_turns}
-use Rattle.loop_graph.specs.Rooms.{HasRoom, Leaves, IsLeft}
+use Rattle.loop_graph.specs.Rooms.{HasRoom, Leaves, IsLeft, MayBegin}
+use Rattle.loop_graph.specs.Values.{values_left}
+use Rattle.loop_graph.specs.declared.values.Values.{Values}
 use Rattle.loop_graph.specs.declared.counted.Room.{Room}
-use Rattle.loop_graph.proofs.Walks.{All-both, turns_at, runs_at, range_step, range_done, row_seen}
+use Rattle.loop_graph.proofs.LoopValues.{values_count}
+use Rattle.loop_graph.proofs.Walks.{All-both, turns_at, runs_at, values_hold, row_seen}
 use Rattle.iolb_model.specs.declared.limits.TheConstants.{VALUE_SIZE}
 
 pub nothing_taken : (room : Room) → Leaves [] 0 room room
@@ -79,8 +82,9 @@ item_too_long row i item point left room below is none so_far =
 abbrev pub LoopLeft : Row → List ℤ → List ℤ → Room → Option Room → Type 0
 LoopLeft body point values room out = IsLeft (flat_map (turns_at body point) values) (length (flat_map (runs_at body point) values)) room out
 
-abbrev pub LoopGoesOn : Row → List ℤ → ℤ → ℤ → ℤ → Room → Room → Type 0
-LoopGoesOn body point first value last left room = (out : Option Room) → LoopLeft body point (range value last) left out → LoopLeft body point (range first last) room out
+-- what a loop leaves with the values that it has yet to take is what it leaves with all
+abbrev pub LoopGoesOn : Row → List ℤ → List ℤ → List ℤ → Room → Room → Type 0
+LoopGoesOn body point all values left room = (out : Option Room) → LoopLeft body point values left out → LoopLeft body point all room out
 
 entered_turn : (value : ℤ) (left entered : Room) → IsSmall VALUE_SIZE value → record { turns = entered.turns + 1; instances = entered.instances } ≡ left → Leaves (value ∷ []) 0 left entered
 entered_turn value left entered small is = record {
@@ -89,10 +93,10 @@ entered_turn value left entered small is = record {
   instances = omega (arith, ap (λ (r : Room). r.instances) is);
 }
 
-value_first : (body : Row) (point : List ℤ) (value last : ℤ) → length (row_runs body (point ++ value ∷ [])) + length (flat_map (runs_at body point) (range (value +ℤ pos 1) last))
-    ≡ length (flat_map (runs_at body point) (value ∷ range (value +ℤ pos 1) last))
-value_first body point value last =
-    omega (arith, length-append (runs_at body point value) (flat_map (runs_at body point) (range (value +ℤ pos 1) last)), length-map (row_runs body (point ++ value ∷ [])) (at_value value))
+value_first : (body : Row) (point : List ℤ) (value : ℤ) (values : List ℤ) → length (row_runs body (point ++ value ∷ [])) + length (flat_map (runs_at body point) values)
+    ≡ length (flat_map (runs_at body point) (value ∷ values))
+value_first body point value values =
+    omega (arith, length-append (runs_at body point value) (flat_map (runs_at body point) values), length-map (row_runs body (point ++ value ∷ [])) (at_value value))
 
 -- the turn at a value and what the body takes there
 body_taken : (body : Row) (point : List ℤ) (value : ℤ) (left entered : Room) (out : Option Room) → IsSmall VALUE_SIZE value → record { turns = entered.turns + 1; instances = entered.instances } ≡ left
@@ -103,92 +107,83 @@ body_taken body point value left entered out small is rest =
       none : (n : ℕ) → 0 + n ≡ n
       none n = omega arith
 
-pub turn_taken : (body : Row) (point : List ℤ) (first value last : ℤ) (left entered after room : Room) → value ≤ℤ last → IsSmall VALUE_SIZE value
+pub turn_taken : (body : Row) (point all : List ℤ) (value : ℤ) (values : List ℤ) (left entered after room : Room) → IsSmall VALUE_SIZE value
     → record { turns = entered.turns + 1; instances = entered.instances } ≡ left → RowLeft body (point ++ value ∷ []) entered (Some after)
-    → LoopGoesOn body point first value last left room → LoopGoesOn body point first (value +ℤ pos 1) last after room
-turn_taken body point first value last left entered after room le small is taken so_far out rest =
+    → LoopGoesOn body point all (value ∷ values) left room → LoopGoesOn body point all values after room
+turn_taken body point all value values left entered after room small is taken so_far out rest =
     let here = body_taken body point value left entered (Some after) small is taken in
-    let more = more_taken (turns_at body point value) (flat_map (turns_at body point) (range (value +ℤ pos 1) last)) (length (row_runs body (point ++ value ∷ [])))
-    (length (flat_map (runs_at body point) (range (value +ℤ pos 1) last))) left after out here rest in
-    so_far out (subst (λ (vs : List ℤ). LoopLeft body point vs left out) (sym (range_step value last le))
-    (subst (λ (n : ℕ). IsLeft (flat_map (turns_at body point) (value ∷ range (value +ℤ pos 1) last)) n left out) (value_first body point value last) more))
+    let more = more_taken (turns_at body point value) (flat_map (turns_at body point) values) (length (row_runs body (point ++ value ∷ [])))
+    (length (flat_map (runs_at body point) values)) left after out here rest in
+    so_far out (subst (λ (n : ℕ). IsLeft (flat_map (turns_at body point) (value ∷ values)) n left out) (value_first body point value values) more)
 
 -- the loop has no room for its turn at a value, or for what its body takes there
-stopped : (body : Row) (point : List ℤ) (first value last : ℤ) (left room : Room) → value ≤ℤ last
-    → (HasRoom (turns_at body point value) (length (row_runs body (point ++ value ∷ []))) left → ⊥) → LoopGoesOn body point first value last left room → LoopLeft body point (range first last) room None
-stopped body point first value last left room le none so_far =
-    let more = no_room (turns_at body point value) (flat_map (turns_at body point) (range (value +ℤ pos 1) last)) (length (row_runs body (point ++ value ∷ [])))
-    (length (flat_map (runs_at body point) (range (value +ℤ pos 1) last))) left none in
-    so_far None (subst (λ (vs : List ℤ). LoopLeft body point vs left None) (sym (range_step value last le))
-    (subst (λ (n : ℕ). IsLeft (flat_map (turns_at body point) (value ∷ range (value +ℤ pos 1) last)) n left None) (value_first body point value last) more))
+stopped : (body : Row) (point all : List ℤ) (value : ℤ) (values : List ℤ) (left room : Room)
+    → (HasRoom (turns_at body point value) (length (row_runs body (point ++ value ∷ []))) left → ⊥) → LoopGoesOn body point all (value ∷ values) left room → LoopLeft body point all room None
+stopped body point all value values left room none so_far =
+    let more = no_room (turns_at body point value) (flat_map (turns_at body point) values) (length (row_runs body (point ++ value ∷ [])))
+    (length (flat_map (runs_at body point) values)) left none in
+    so_far None (subst (λ (n : ℕ). IsLeft (flat_map (turns_at body point) (value ∷ values)) n left None) (value_first body point value values) more)
 
-pub body_too_long : (body : Row) (point : List ℤ) (first value last : ℤ) (left entered room : Room) → value ≤ℤ last → IsSmall VALUE_SIZE value
+pub body_too_long : (body : Row) (point all : List ℤ) (value : ℤ) (values : List ℤ) (left entered room : Room) → IsSmall VALUE_SIZE value
     → record { turns = entered.turns + 1; instances = entered.instances } ≡ left → RowLeft body (point ++ value ∷ []) entered None
-    → LoopGoesOn body point first value last left room → LoopLeft body point (range first last) room None
-body_too_long body point first value last left entered room le small is none so_far =
-    stopped body point first value last left room le (body_taken body point value left entered None small is none) so_far
+    → LoopGoesOn body point all (value ∷ values) left room → LoopLeft body point all room None
+body_too_long body point all value values left entered room small is none so_far =
+    stopped body point all value values left room (body_taken body point value left entered None small is none) so_far
 
-pub no_turn_left : (body : Row) (point : List ℤ) (first value last : ℤ) (left room : Room) → value ≤ℤ last → left.turns ≡ 0
-    → LoopGoesOn body point first value last left room → LoopLeft body point (range first last) room None
-no_turn_left body point first value last left room le none so_far =
-    stopped body point first value last left room le (λ has. absurd (omega (arith, has.turns, none))) so_far
+pub no_turn_left : (body : Row) (point all : List ℤ) (value : ℤ) (values : List ℤ) (left room : Room) → left.turns ≡ 0
+    → LoopGoesOn body point all (value ∷ values) left room → LoopLeft body point all room None
+no_turn_left body point all value values left room none so_far = stopped body point all value values left room (λ has. absurd (omega (arith, has.turns, none))) so_far
 
-pub all_taken : (body : Row) (point : List ℤ) (first value last : ℤ) (left room : Room) → last <ℤ value → LoopGoesOn body point first value last left room → LoopLeft body point (range first last) room (Some left)
-all_taken body point first value last left room past so_far =
-    so_far (Some left) (subst (λ (vs : List ℤ). LoopLeft body point vs left (Some left)) (sym (range_done value last past)) (nothing_taken left))
+pub all_taken : (body : Row) (point all : List ℤ) (left room : Room) → LoopGoesOn body point all [] left room → LoopLeft body point all room (Some left)
+all_taken body point all left room so_far = so_far (Some left) (nothing_taken left)
 
 -- ---- a loop that may not begin
-
-values_hold : (P : ℤ → Type 0) (body : Row) (point values : List ℤ) → AllByRecursion P (flat_map (turns_at body point) values) → AllByRecursion P values
-values_hold P body point [] h = tt
-values_hold P body point (value ∷ values) h =
-    let both = All-both P (turns_at body point value) (flat_map (turns_at body point) values) h in (both.0.0, values_hold P body point values both.1)
 
 values_many : (body : Row) (point values : List ℤ) → length values ≤ length (flat_map (turns_at body point) values)
 values_many body point [] = omega arith
 values_many body point (value ∷ values) =
     omega (arith, values_many body point values, length-append (turns_at body point value) (flat_map (turns_at body point) values))
 
-rising_long : (first : ℤ) (count : ℕ) → length (rising first count) ≡ count
-rising_long first zero = refl
-rising_long first (suc count) = ap suc (rising_long (first +ℤ pos 1) count)
-
 natural_is : (z : ℤ) → pos 0 ≤ℤ z → pos (natural z) ≡ z
 natural_is (pos n) h = refl
 natural_is (negsuc n) h = absurd (omega (arith, ints))
 
-pub begins : (body : Row) (point : List ℤ) (lower upper : ℤ) (instances : ℕ) (room : Room) → lower ≤ℤ upper → HasRoom (flat_map (turns_at body point) (range lower upper)) instances room
-    → IsSmall VALUE_SIZE lower × IsSmall VALUE_SIZE upper × (upper <ℤ (lower +ℤ pos room.turns))
-begins body point lower upper instances room le has =
-    let small = values_hold (IsSmall VALUE_SIZE) body point (range lower upper) has.small in
-    let count : length (range lower upper) ≡ natural ((upper -ℤ lower) +ℤ pos 1) = rising_long lower (natural ((upper -ℤ lower) +ℤ pos 1)) in
-    let whole : pos (natural ((upper -ℤ lower) +ℤ pos 1)) ≡ (upper -ℤ lower) +ℤ pos 1 = natural_is ((upper -ℤ lower) +ℤ pos 1) (omega (arith, ints)) in
-    let many : natural ((upper -ℤ lower) +ℤ pos 1) ≤ room.turns = omega (arith, values_many body point (range lower upper), has.turns, count) in (
-      All-member (IsSmall VALUE_SIZE) (range lower upper) lower small (range-has lower upper lower (omega (arith, ints)) le),
-      All-member (IsSmall VALUE_SIZE) (range lower upper) upper small (range-has lower upper upper le (omega (arith, ints))),
+begins : (body : Row) (point : List ℤ) (values : Values) (instances : ℕ) (room : Room) → HasRoom (flat_map (turns_at body point) (values_left values)) instances room → MayBegin values room
+begins body point values instances room has le =
+    let lower : ℤ = values.lower in
+    let upper : ℤ = values.upper in
+    let direction : Direction = direction_of values.down in
+    let small = values_hold (IsSmall VALUE_SIZE) body point (values_left values) has.small in
+    let whole : pos (range_size lower upper) ≡ (upper -ℤ lower) +ℤ pos 1 = natural_is ((upper -ℤ lower) +ℤ pos 1) (omega (arith, ints, le)) in
+    let many : range_size lower upper ≤ room.turns = omega (arith, values_many body point (values_left values), has.turns, values_count direction lower upper) in (
+      All-member (IsSmall VALUE_SIZE) (values_left values) lower small (values-has direction lower upper lower (omega (arith, ints)) le),
+      All-member (IsSmall VALUE_SIZE) (values_left values) upper small (values-has direction lower upper upper le (omega (arith, ints))),
       omega (arith, ints, whole, many),
     )
 
--- ---- items
+-- the values of a loop that may begin are small
+pub values_small : (values : Values) (room : Room) → MayBegin values room → AllByRecursion (IsSmall VALUE_SIZE) (values_left values)
+values_small values room may = All-from (IsSmall VALUE_SIZE) (values_left values) one where
+  one : (v : ℤ) → Member v (values_left values) → IsSmall VALUE_SIZE v
+  one v m =
+      let within = values-within (direction_of values.down) values.lower values.upper v m in
+      let ends = may (omega (arith, ints, within.0, within.1)) in
+      omega (arith, ints, ends.0, ends.1, within.0, within.1)
 
-pub not_past : (a b : ℤ) → lt_z b a ≡ false → a ≤ℤ b
-not_past a b h = lt_z_no (T_from_false (lt_z b a) h)
+-- a loop that may not begin has no room
+pub may_not_begin : (body : Row) (point : List ℤ) (values : Values) (room : Room) → (MayBegin values room → ⊥) → LoopLeft body point (values_left values) room None
+may_not_begin body point values room not has = not (begins body point values (length (flat_map (runs_at body point) (values_left values))) room has)
+
+-- ---- items
 
 abbrev pub ItemLeft : ModelItem → List ℤ → Room → Option Room → Type 0
 ItemLeft item point room out = IsLeft (item_turns item point) (length (item_runs item point)) room out
 
 -- what a loop leaves
-pub loop_left : (item : ModelItem) (name : List ℕ) (lower upper : AffineForm) (body : Row) (point : List ℤ) (first last : ℤ) (room : Room) (out : Option Room) → item ≡ loop name lower upper body
-    → first ≡ form_value lower point → last ≡ form_value upper point → LoopLeft body point (range first last) room out → ItemLeft item point room out
-loop_left item name lower upper body point first last room out is low high h =
+pub loop_left : (item : ModelItem) (name : List ℕ) (lower upper : AffineForm) (body : Row) (point : List ℤ) (values : Values) (room : Room) (out : Option Room)
+    → item ≡ loop name (direction_of values.down) lower upper body
+    → values.lower ≡ form_value lower point → values.upper ≡ form_value upper point → LoopLeft body point (values_left values) room out → ItemLeft item point room out
+loop_left item name lower upper body point values room out is low high h =
     subst (λ (i : ModelItem). ItemLeft i point room out) (sym is)
-    (subst (λ (v : ℤ). LoopLeft body point (range (form_value lower point) v) room out) high
-    (subst (λ (v : ℤ). LoopLeft body point (range v last) room out) low h))
-
--- a loop that may not begin has no room
-pub may_not_begin : (body : Row) (point : List ℤ) (lower upper : ℤ) (room : Room) → lower ≤ℤ upper
-    → (IsSmall VALUE_SIZE lower × IsSmall VALUE_SIZE upper × (upper <ℤ (lower +ℤ pos room.turns)) → ⊥) → LoopLeft body point (range lower upper) room None
-may_not_begin body point lower upper room le not has = not (begins body point lower upper (length (flat_map (runs_at body point) (range lower upper))) room le has)
-
-pub between : (first value last : ℤ) → IsSmall VALUE_SIZE first → IsSmall VALUE_SIZE last → first ≤ℤ value → value ≤ℤ last → IsSmall VALUE_SIZE value
-between first value last low high from to = omega (arith, ints, low, high, from, to)
+    (subst (λ (v : ℤ). LoopLeft body point (loop_values (direction_of values.down) (form_value lower point) v) room out) high
+    (subst (λ (v : ℤ). LoopLeft body point (loop_values (direction_of values.down) v values.upper) room out) low h))

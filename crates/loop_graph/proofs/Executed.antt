@@ -15,7 +15,7 @@ use Rattle.iolb_model.specs.Domain.{IsWithin}
 use Rattle.iolb_model.specs.Form.{form_value}
 use Rattle.iolb_model.specs.Path.{row_path}
 use Rattle.iolb_model.specs.Program.{Item, assign, loop, Row, done, next, AffineProgram, IsWellFormed}
-use Rattle.iolb_model.specs.Execution.{Instance, range, at_value, item_runs, row_runs, execution}
+use Rattle.iolb_model.specs.Execution.{Instance, loop_values, at_value, item_runs, row_runs, execution}
 use Rattle.loop_graph.specs.Turns.{item_turns, row_turns, turns}
 use Rattle.loop_graph.specs.Runs.{with_point, run_of, IsRun}
 use Rattle.loop_graph.specs.declared.listed.Run.{Run}
@@ -31,19 +31,19 @@ longer : (P : ℤ → Type 0) (value : ℤ) (runs : List Instance) → P value �
 longer P value [] p h = tt
 longer P value (run ∷ runs) p h = ((p, h.0), longer P value runs p h.1)
 
-loop_values : (P : ℤ → Type 0) (body : Row) (point : List ℤ) → ((value : ℤ) → AllByRecursion P (row_turns body (point ++ value ∷ [])) → AllByRecursion (HasAll P) (row_runs body (point ++ value ∷ [])))
+body_values : (P : ℤ → Type 0) (body : Row) (point : List ℤ) → ((value : ℤ) → AllByRecursion P (row_turns body (point ++ value ∷ [])) → AllByRecursion (HasAll P) (row_runs body (point ++ value ∷ [])))
     → (values : List ℤ) → AllByRecursion P (flat_map (turns_at body point) values) → AllByRecursion (HasAll P) (flat_map (runs_at body point) values)
-loop_values P body point inner [] h = tt
-loop_values P body point inner (value ∷ values) h =
+body_values P body point inner [] h = tt
+body_values P body point inner (value ∷ values) h =
     let both = All-both P (turns_at body point value) (flat_map (turns_at body point) values) h in
     All-append (HasAll P) (runs_at body point value) (flat_map (runs_at body point) values)
-    (longer P value (row_runs body (point ++ value ∷ [])) both.0.0 (inner value both.0.1)) (loop_values P body point inner values both.1)
+    (longer P value (row_runs body (point ++ value ∷ [])) both.0.0 (inner value both.0.1)) (body_values P body point inner values both.1)
 
 mutual
   item_values : (P : ℤ → Type 0) (item : Item) (point : List ℤ) → AllByRecursion P (item_turns item point) → AllByRecursion (HasAll P) (item_runs item point)
   item_values P (assign statement) point h = (tt, tt)
-  item_values P (loop name lower upper body) point h =
-      loop_values P body point (λ value turns. row_values P body (point ++ value ∷ []) turns) (range (form_value lower point) (form_value upper point)) h
+  item_values P (loop name direction lower upper body) point h =
+      body_values P body point (λ value turns. row_values P body (point ++ value ∷ []) turns) (loop_values direction (form_value lower point) (form_value upper point)) h
 
   pub row_values : (P : ℤ → Type 0) (row : Row) (point : List ℤ) → AllByRecursion P (row_turns row point) → AllByRecursion (HasAll P) (row_runs row point)
   row_values P done point h = tt

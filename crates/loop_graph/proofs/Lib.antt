@@ -1,3 +1,4 @@
+pub mod LoopValues
 pub mod Walks
 pub mod Executed
 pub mod Counting

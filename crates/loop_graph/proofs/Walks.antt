@@ -1,14 +1,11 @@
 -- The instances of a loop and of a row, one after the other.
-use Rattle.std.proofs.Common.{◌≡◌, refl, sym, ap, ◌∙◌, subst, ℕ, zero, suc, List, [], ◌∷◌, Bool, true, false, ◌++◌, ◌+◌, ◌<◌, length, drop, get_or, map, append_assoc, arith, Vec, Global}
-use Rattle.std.specs.Prelude.{T, flat_map, ◌≤ℤ◌, ◌<ℤ◌}
+use Rattle.std.proofs.Common.{◌≡◌, refl, sym, ap, ◌∙◌, subst, ℕ, zero, suc, List, [], ◌∷◌, Bool, ◌++◌, ◌+◌, ◌<◌, length, drop, get_or, map, append_assoc, arith, Vec, Global}
+use Rattle.std.specs.Prelude.{flat_map}
 use Rattle.std.specs.List.{AllByRecursion}
-use Rattle.std.proofs.Math.IntN.{ℤ, pos, negsuc, ◌+ℤ◌, ◌-ℤ◌}
-use Rattle.std.proofs.lemmas.Int.{ints}
-use Rattle.std.specs.Int.Signed.{le_z, le_z_yes, lt_z, lt_z_yes, lt_z_no}
-use Rattle.std.proofs.lemmas.Float.{T_from_true, T_from_false}
+use Rattle.std.proofs.Math.IntN.{ℤ}
 use Rattle.std.proofs.lemmas.List.{append-nil, map-append, length-append}
 use Rattle.affine_form.specs.Form.{IsSmall}
-use Rattle.iolb_model.specs.Program.{Item as ModelItem, assign, loop, Row, done, next, AffineProgram, ItemFits, RowFits}
+use Rattle.iolb_model.specs.Program.{Direction, Item as ModelItem, assign, loop, Row, done, next, AffineProgram, ItemFits, RowFits}
 use Rattle.iolb_model.specs.declared.limits.TheConstants.{VALUE_SIZE}
 use Rattle.base_laws.proofs.Lists.{rest_at, All-push}
 use Rattle.affine_program.specs.declared.item.Item.{Item}
@@ -16,44 +13,12 @@ use Rattle.affine_program.specs.declared.item.Item.TheVariants.{Loop, Assign, ro
 use Rattle.affine_program.specs.declared.item.Item.TheOpen.{Loop as loop_layer, Assign as assign_layer}
 use Rattle.affine_program.specs.declared.item.Item.TheFolds.{fold-roll-Item}
 use Rattle.iolb_model.specs.Form.{AffineForm}
+use Rattle.affine_form.specs.Rows.{direction_of}
 use Rattle.affine_program.specs.Tree.{item_step, item_of, row_of}
-use Rattle.iolb_model.specs.Execution.{Instance, natural, rising, range, at_value, item_runs, row_runs}
+use Rattle.iolb_model.specs.Execution.{Instance, at_value, item_runs, row_runs}
 use Rattle.loop_graph.specs.Turns.{item_turns, row_turns}
 use Rattle.loop_graph.specs.Runs.{with_point, run_of}
 use Rattle.loop_graph.specs.declared.listed.Run.{Run}
-
--- ---- the values of a loop
-
-pub at_most : (a b : ℤ) → le_z a b ≡ true → a ≤ℤ b
-at_most a b h = le_z_yes (T_from_true (le_z a b) h)
-
-pub is_past : (a b : ℤ) → le_z a b ≡ false → b <ℤ a
-is_past a b h = by (lt_z b a) refl where
-  by : (x : Bool) → lt_z b a ≡ x → b <ℤ a
-  by true e = lt_z_yes (T_from_true (lt_z b a) e)
-  by false e =
-      let le : a ≤ℤ b = lt_z_no (T_from_false (lt_z b a) e) in
-      absurd (subst T h le.le)
-
-natural_step : (z : ℤ) → pos 1 ≤ℤ z → natural z ≡ suc (natural (z -ℤ pos 1))
-natural_step (pos zero) h = absurd (omega (arith, ints))
-natural_step (pos (suc n)) h = ap suc (by (pos (suc n) -ℤ pos 1) (omega (arith, ints))) where
-  by : (y : ℤ) → y ≡ pos n → n ≡ natural y
-  by y e = sym (ap natural e)
-natural_step (negsuc n) h = absurd (omega (arith, ints))
-
-pub range_step : (value last : ℤ) → value ≤ℤ last → range value last ≡ value ∷ range (value +ℤ pos 1) last
-range_step value last h =
-    let left : ((last -ℤ value) +ℤ pos 1) -ℤ pos 1 ≡ (last -ℤ (value +ℤ pos 1)) +ℤ pos 1 = omega (arith, ints) in
-    ap (rising value) (natural_step ((last -ℤ value) +ℤ pos 1) (omega (arith, ints)) ∙ ap (λ z. suc (natural z)) left)
-
-natural_low : (z : ℤ) → z ≤ℤ pos 0 → natural z ≡ 0
-natural_low (pos zero) h = refl
-natural_low (pos (suc n)) h = absurd (omega (arith, ints))
-natural_low (negsuc n) h = refl
-
-pub range_done : (value last : ℤ) → last <ℤ value → range value last ≡ []
-range_done value last h = ap (rising value) (natural_low ((last -ℤ value) +ℤ pos 1) (omega (arith, ints)))
 
 -- ---- what holds of the turns
 
@@ -65,14 +30,11 @@ All-both P (x ∷ xs) ys h = let more = All-both P xs ys h.1 in ((h.0, more.0), 
 abbrev pub turns_at : Row → List ℤ → ℤ → List ℤ
 turns_at body point value = value ∷ row_turns body (point ++ value ∷ [])
 
--- what holds of a loop's turns holds of its first value, of the turns of its body there, and of the other turns
-pub first_turns : (P : ℤ → Type 0) (body : Row) (point : List ℤ) (value last : ℤ) → value ≤ℤ last → AllByRecursion P (flat_map (turns_at body point) (range value last))
-    → P value × AllByRecursion P (row_turns body (point ++ value ∷ [])) × AllByRecursion P (flat_map (turns_at body point) (range (value +ℤ pos 1) last))
-first_turns P body point value last h all =
-    let seen : AllByRecursion P (turns_at body point value ++ flat_map (turns_at body point) (range (value +ℤ pos 1) last)) =
-    subst (λ (vs : List ℤ). AllByRecursion P (flat_map (turns_at body point) vs)) (range_step value last h) all in
-    let both = All-both P (turns_at body point value) (flat_map (turns_at body point) (range (value +ℤ pos 1) last)) seen in
-    (both.0.0, both.0.1, both.1)
+-- what holds of a loop's turns holds of its values
+pub values_hold : (P : ℤ → Type 0) (body : Row) (point values : List ℤ) → AllByRecursion P (flat_map (turns_at body point) values) → AllByRecursion P values
+values_hold P body point [] h = tt
+values_hold P body point (value ∷ values) h =
+    let both = All-both P (turns_at body point value) (flat_map (turns_at body point) values) h in (both.0.0, values_hold P body point values both.1)
 
 -- ---- the instances of a loop
 
@@ -90,27 +52,21 @@ runs_at body point value = map (at_value value) (row_runs body (point ++ value �
 abbrev pub loop_points : Row → List ℤ → List ℤ → List (ℕ × List ℤ)
 loop_points body point values = map (with_point point) (flat_map (runs_at body point) values)
 
-pub loop_goes_on : (body : Row) (point : List ℤ) (value last : ℤ) (before after total : List (ℕ × List ℤ)) → value ≤ℤ last
+pub loop_goes_on : (body : Row) (point : List ℤ) (value : ℤ) (values : List ℤ) (before after total : List (ℕ × List ℤ))
     → after ≡ before ++ map (with_point (point ++ value ∷ [])) (row_runs body (point ++ value ∷ []))
-    → before ++ loop_points body point (range value last) ≡ total → after ++ loop_points body point (range (value +ℤ pos 1) last) ≡ total
-loop_goes_on body point value last before after total h one so_far =
-    let others = loop_points body point (range (value +ℤ pos 1) last) in
+    → before ++ loop_points body point (value ∷ values) ≡ total → after ++ loop_points body point values ≡ total
+loop_goes_on body point value values before after total one so_far =
+    let others = loop_points body point values in
     let here : map (with_point point) (runs_at body point value) ≡ map (with_point (point ++ value ∷ [])) (row_runs body (point ++ value ∷ [])) = point_more point value (row_runs body (point ++ value ∷ [])) in
-    let split : loop_points body point (range value last) ≡ map (with_point point) (runs_at body point value) ++ others =
-    ap (loop_points body point) (range_step value last h) ∙ map-append (with_point point) (runs_at body point value) (flat_map (runs_at body point) (range (value +ℤ pos 1) last)) in
+    let split : loop_points body point (value ∷ values) ≡ map (with_point point) (runs_at body point value) ++ others = map-append (with_point point) (runs_at body point value) (flat_map (runs_at body point) values) in
     ap (λ (l : List (ℕ × List ℤ)). l ++ others) (one ∙ ap (λ (l : List (ℕ × List ℤ)). before ++ l) (sym here))
     ∙ append_assoc before (map (with_point point) (runs_at body point value)) others
     ∙ ap (λ (l : List (ℕ × List ℤ)). before ++ l) (sym split) ∙ so_far
 
-pub loop_done : (body : Row) (point : List ℤ) (value last : ℤ) (before total : List (ℕ × List ℤ)) → last <ℤ value
-    → before ++ loop_points body point (range value last) ≡ total → before ≡ total
-loop_done body point value last before total h so_far =
-    sym (append-nil before) ∙ ap (λ (vs : List ℤ). before ++ loop_points body point vs) (sym (range_done value last h)) ∙ so_far
-
 -- ---- items, as those of the definitions
 
-pub item_of-Loop : (name : List ℕ) (lower upper : AffineForm) (body : Vec Item Global) → item_of (Loop name lower upper body) ≡ loop name lower upper (row_of body.items)
-item_of-Loop name lower upper body = ap item_of (sym (rolls-Loop name lower upper body)) ∙ fold-roll-Item ModelItem item_step (loop_layer name lower upper body)
+pub item_of-Loop : (name : List ℕ) (lower upper : AffineForm) (down : Bool) (body : Vec Item Global) → item_of (Loop name lower upper down body) ≡ loop name (direction_of down) lower upper (row_of body.items)
+item_of-Loop name lower upper down body = ap item_of (sym (rolls-Loop name lower upper down body)) ∙ fold-roll-Item ModelItem item_step (loop_layer name lower upper down body)
 
 pub item_of-Assign : (statement : ℕ) → item_of (Assign statement) ≡ assign statement
 item_of-Assign statement = ap item_of (sym (rolls-Assign statement)) ∙ fold-roll-Item ModelItem item_step (assign_layer statement)
@@ -119,29 +75,21 @@ item_of-Assign statement = ap item_of (sym (rolls-Assign statement)) ∙ fold-ro
 mutual
   pub item_size : ModelItem → ℕ
   item_size (assign statement) = 0
-  item_size (loop name lower upper body) = suc (row_size body)
+  item_size (loop name direction lower upper body) = suc (row_size body)
 
   pub row_size : Row → ℕ
   row_size done = 0
   row_size (next item row) = suc (item_size item + row_size row)
 
-pub body_smaller : (t : ModelItem) (name : List ℕ) (lower upper : AffineForm) (body : Row) → t ≡ loop name lower upper body → row_size body < item_size t
+pub body_smaller : (t : ModelItem) (name : List ℕ) (direction : Direction) (lower upper : AffineForm) (body : Row) → t ≡ loop name direction lower upper body → row_size body < item_size t
 unfolding item_size row_size
-body_smaller t name lower upper body e = omega (arith, ap item_size e)
+body_smaller t name direction lower upper body e = omega (arith, ap item_size e)
 
 pub item_smaller : (row : List Item) (i : ℕ) (item : Item) → i < length row → item ≡ get_or row i item → item_size (item_of item) < row_size (row_of row)
 unfolding item_size row_size
 item_smaller [] i item below is = absurd (omega arith)
 item_smaller (x ∷ row) zero item below is = omega (arith, ap (λ (y : Item). item_size (item_of y)) is)
 item_smaller (x ∷ row) (suc i) item below is = let h = item_smaller row i item (omega arith) is in omega (arith, h)
-
--- a loop's turns that are left become fewer
-pub fewer_left : (value after last : ℤ) → value ≤ℤ last → after ≡ value +ℤ pos 1 → natural ((last -ℤ after) +ℤ pos 1) < natural ((last -ℤ value) +ℤ pos 1)
-fewer_left value after last le is =
-    let one : ((last -ℤ value) +ℤ pos 1) -ℤ pos 1 ≡ (last -ℤ after) +ℤ pos 1 = omega (arith, ints) in
-    let step = natural_step ((last -ℤ value) +ℤ pos 1) (omega (arith, ints)) in
-    let same : natural (((last -ℤ value) +ℤ pos 1) -ℤ pos 1) ≡ natural ((last -ℤ after) +ℤ pos 1) = ap natural one in
-    omega (arith, step, same)
 
 -- ---- the instances of a row
 
@@ -170,18 +118,18 @@ row_asks row i item point below is asks =
     let turns = All-both (IsSmall VALUE_SIZE) (item_turns (item_of item) point) (row_turns (row_of (drop (i + 1) row)) point) seen.1 in
     (((seen.0.0, seen.0.1.0), turns.0), ((seen.0.0, seen.0.1.1), turns.1))
 
--- what is asked for at a loop's body
-pub body_asks : (body : Row) (point inner : List ℤ) (value last : ℤ) → inner ≡ point ++ value ∷ [] → value ≤ℤ last → ((program : AffineProgram) × RowFits program (suc (length point)) body)
-    → AllByRecursion (IsSmall VALUE_SIZE) point → AllByRecursion (IsSmall VALUE_SIZE) (flat_map (turns_at body point) (range value last))
+-- what is asked for at a loop's body, where the loop has yet to take these values
+pub body_asks : (body : Row) (point inner : List ℤ) (value : ℤ) (values : List ℤ) → inner ≡ point ++ value ∷ [] → ((program : AffineProgram) × RowFits program (suc (length point)) body)
+    → AllByRecursion (IsSmall VALUE_SIZE) point → AllByRecursion (IsSmall VALUE_SIZE) (flat_map (turns_at body point) (value ∷ values))
     → RowAsks body inner × AllByRecursion (IsSmall VALUE_SIZE) inner
-body_asks body point inner value last is le fits small turns =
-    let first = first_turns (IsSmall VALUE_SIZE) body point value last le turns in
+body_asks body point inner value values is fits small turns =
+    let first = All-both (IsSmall VALUE_SIZE) (turns_at body point value) (flat_map (turns_at body point) values) turns in
     let long : suc (length point) ≡ length inner = omega (arith, ap length is, length-append point (value ∷ [])) in (
       (
         (fits.0, subst (λ n. RowFits fits.0 n body) long fits.1),
-        subst (λ (l : List ℤ). AllByRecursion (IsSmall VALUE_SIZE) (row_turns body l)) (sym is) first.1,
+        subst (λ (l : List ℤ). AllByRecursion (IsSmall VALUE_SIZE) (row_turns body l)) (sym is) first.0.1,
       ),
-      subst (AllByRecursion (IsSmall VALUE_SIZE)) (sym is) (All-push (IsSmall VALUE_SIZE) point value small first.0),
+      subst (AllByRecursion (IsSmall VALUE_SIZE)) (sym is) (All-push (IsSmall VALUE_SIZE) point value small first.0.0),
     )
 
 pub assign_done : (runs after : List Run) (run : Run) (statement : ℕ) (point : List ℤ) → after ≡ runs ++ run ∷ [] → run.statement ≡ statement → run.point.items ≡ point

@@ -1,5 +1,6 @@
 pub mod Turns
 pub mod Runs
+pub mod Values
 pub mod Rooms
 pub mod Cells
 pub mod Known

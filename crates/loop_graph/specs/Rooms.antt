@@ -1,8 +1,9 @@
 -- Room for the turns of loops and for instances.
-use Rattle.std.specs.Prelude.{◌≡◌, ℕ, ◌+◌, ◌≤◌, ℤ, List, length, Option, Some, None}
+use Rattle.std.specs.Prelude.{◌≡◌, ℕ, ◌+◌, ◌≤◌, ℤ, pos, ◌+ℤ◌, ◌≤ℤ◌, ◌<ℤ◌, List, length, Option, Some, None}
 use Rattle.std.specs.List.{AllByRecursion}
 use Rattle.affine_form.specs.Form.{IsSmall}
 use Rattle.loop_graph.specs.declared.counted.Room.{Room}
+use Rattle.loop_graph.specs.declared.values.Values.{Values}
 use Rattle.iolb_model.specs.declared.limits.TheConstants.{VALUE_SIZE}
 
 -- there is room for these turns, each of size below 2^40, and for so many instances
@@ -21,3 +22,7 @@ pub record Leaves (list : List ℤ) (count : ℕ) (room left : Room) : Type 0 wh
 abbrev pub IsLeft : List ℤ → ℕ → Room → Option Room → Type 0
 IsLeft turns instances room None = ¬ HasRoom turns instances room
 IsLeft turns instances room (Some left) = Leaves turns instances room left
+
+-- Where a loop has values, there is room for a turn with each of them, each of size below 2^40.
+abbrev pub MayBegin : Values → Room → Type 0
+MayBegin values room = values.lower ≤ℤ values.upper → IsSmall VALUE_SIZE values.lower × IsSmall VALUE_SIZE values.upper × (values.upper <ℤ (values.lower +ℤ pos room.turns))

@@ -2,15 +2,15 @@
 use Rattle.std.specs.Prelude.{ℤ, List, [], ◌∷◌, ◌++◌, flat_map}
 use Rattle.iolb_model.specs.Form.{form_value}
 use Rattle.iolb_model.specs.Program.{Item, assign, loop, Row, done, next, AffineProgram}
-use Rattle.iolb_model.specs.Execution.{range}
+use Rattle.iolb_model.specs.Execution.{loop_values}
 
 -- the turns of the loops of an item and of a row at a point, which has the parameters' values and those of the loops
 -- around it
 abbrev mutual
   pub item_turns : Item → List ℤ → List ℤ
   item_turns (assign statement) point = []
-  item_turns (loop name lower upper body) point =
-      flat_map (λ value. value ∷ row_turns body (point ++ value ∷ [])) (range (form_value lower point) (form_value upper point))
+  item_turns (loop name direction lower upper body) point =
+      flat_map (λ value. value ∷ row_turns body (point ++ value ∷ [])) (loop_values direction (form_value lower point) (form_value upper point))
 
   pub row_turns : Row → List ℤ → List ℤ
   row_turns done point = []

@@ -1,6 +1,6 @@
 //! Counting turns and instances.
 
-ghost use Rattle.std.specs.Prelude.{◌≡◌, ◌↔◌, ◌+◌, ◌<ℤ◌, ◌≤ℤ◌, ◌+ℤ◌, pos, IsTrue, length, IfOk, MatchOption};
+ghost use Rattle.std.specs.Prelude.{◌≡◌, ◌↔◌, ◌+◌, IsTrue, length, IfOk, MatchOption};
 ghost use Rattle.std.specs.List.{AllByRecursion};
 ghost use Rattle.iolb_model.specs.Program.{AffineProgram, ItemFits, RowFits};
 ghost use Rattle.iolb_model.specs.Execution.{item_runs, row_runs, execution};
@@ -8,10 +8,11 @@ ghost use Rattle.affine_form.specs.Form.{IsSmall};
 ghost use Rattle.affine_program.specs.Tree.{item_of, row_of};
 ghost use Rattle.affine_program.specs.Parts.{meaning};
 ghost use Rattle.loop_graph.specs.Turns.{item_turns, row_turns, turns as turns_of};
-ghost use Rattle.loop_graph.specs.Rooms.{HasRoom, IsLeft};
+ghost use Rattle.loop_graph.specs.Rooms.{HasRoom, IsLeft, MayBegin};
 ghost use Rattle.iolb_model.specs.declared.limits.TheConstants.{VALUE_SIZE};
 
 use crate::listed::put_point;
+use crate::values::Values;
 use affine_form::Memory;
 use affine_program::{Item, Program};
 use std::alloc::Global;
@@ -30,15 +31,14 @@ fn is_small(number: i128) -> bool
     number.unsigned_abs() < 1 << 40
 }
 
-/// Whether a loop with these bounds has room for a turn with each of its values.
-fn may_begin(lower: i128, upper: i128, room: Room) -> bool
-    requires { lower ≤ℤ upper }
-    ensures { IsTrue result ↔ (IsSmall VALUE_SIZE lower × IsSmall VALUE_SIZE upper × (upper <ℤ (lower +ℤ pos room.turns))) }
+/// Whether a loop has room for a turn with each of its values, each of size below 2^40.
+fn may_begin(values: Values, room: Room) -> bool
+    ensures { IsTrue result ↔ MayBegin values room }
 {
-    if !is_small(lower) || !is_small(upper) {
-        return false;
-    }
-    upper < lower + i128::from(room.turns)
+    values.upper < values.lower
+        || is_small(values.lower)
+            && is_small(values.upper)
+            && values.upper < values.lower + i128::from(room.turns)
 }
 
 /// The room that a turn leaves.
@@ -78,20 +78,23 @@ fn behind_item(alloc: Global, item: &Item, point: &[i128], room: Room) -> Left
         Item::Loop {
             lower,
             upper,
+            down,
             body,
             ..
         } => {
-            let last = upper.value(point);
-            let mut value = lower.value(point);
-            if last < value {
-                return Ok(Some(room));
-            }
-            if !may_begin(value, last, room) {
+            let lowest = lower.value(point);
+            let highest = upper.value(point);
+            let mut values = Values {
+                lower: lowest,
+                upper: highest,
+                down: *down,
+            };
+            if !may_begin(values, room) {
                 return Ok(None);
             }
             let mut left = room;
             let mut inner = Vec::new(alloc);
-            while value <= last {
+            while let Some(value) = values.next() {
                 put_point(&mut inner, point, value)?;
                 let Some(entered) = behind_turn(left) else {
                     return Ok(None);
@@ -100,7 +103,6 @@ fn behind_item(alloc: Global, item: &Item, point: &[i128], room: Room) -> Left
                     Some(rest) => left = rest,
                     None => return Ok(None),
                 }
-                value += 1;
             }
             Ok(Some(left))
         }

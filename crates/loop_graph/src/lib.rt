@@ -10,6 +10,7 @@ mod known;
 pub mod limits;
 mod listed;
 mod predecessors;
+mod values;
 
 pub use counted::{Room, has_room};
 pub use fault::GraphFault;

@@ -11,6 +11,7 @@ ghost use Rattle.loop_graph.specs.Turns.{item_turns, row_turns, turns};
 ghost use Rattle.loop_graph.specs.Runs.{with_point, run_of, IsRun};
 ghost use Rattle.iolb_model.specs.declared.limits.TheConstants.{VALUE_SIZE};
 
+use crate::values::Values;
 use affine_form::Memory;
 use affine_program::{Item, Program};
 use std::alloc::Global;
@@ -60,16 +61,21 @@ fn push_item(alloc: Global, item: &Item, point: &[i128], runs: &mut Vec<Run>) ->
         Item::Loop {
             lower,
             upper,
+            down,
             body,
             ..
         } => {
-            let last = upper.value(point);
-            let mut value = lower.value(point);
+            let lowest = lower.value(point);
+            let highest = upper.value(point);
+            let mut values = Values {
+                lower: lowest,
+                upper: highest,
+                down: *down,
+            };
             let mut inner = Vec::new(alloc);
-            while value <= last {
+            while let Some(value) = values.next() {
                 put_point(&mut inner, point, value)?;
                 push_row(alloc, body, inner.as_slice(), runs)?;
-                value += 1;
             }
         }
     }

@@ -10,7 +10,7 @@ use Rattle.iolb_model.specs.Game.{marked, mark_count, vertices}
 use Rattle.iolb_model.specs.Tower.{TowerBoard, HasRoom, IsTowerAllowed, level_at, tower_board_after, first_tower_board}
 use Rattle.iolb_model.specs.declared.tower.TowerMove.{TowerMove}
 use Rattle.iolb_model.specs.declared.tower.TowerMove.TheVariants.{Bring, Send, Compute, Drop}
-use Rattle.stretch_laws.proofs.CompletePebblings.{count-cons}
+use Rattle.pebble_game.proofs.Marks.{none-marked}
 use Rattle.memory_levels.proofs.Unions.{sum-cons}
 
 -- so many levels, each with a place for each vertex, and the fast ones with no more words than they hold
@@ -152,10 +152,6 @@ counts-below (marks ∷ levels) (c ∷ capacities) (suc i) (suc k) within below 
 
 -- ---- the first board
 
-unmarked : (n : ℕ) → mark_count (replicate n false) ≡ 0
-unmarked zero = refl
-unmarked (suc n) = omega (arith, count-cons false (replicate n false), unmarked n)
-
 pub first-held : (graph : ComputationGraph) (capacities : List ℕ) → IsHeld (vertices graph) capacities (first_tower_board (length capacities) graph).levels
 first-held graph capacities = record { many = many; long = λ k below. long k (below_or k below); kept = kept } where
   many : length (replicate (length capacities) (replicate (vertices graph) false) ++ (replicate graph.instances false ++ replicate graph.inputs true) ∷ []) ≡ length capacities + 1
@@ -193,4 +189,4 @@ first-held graph capacities = record { many = many; long = λ k below. long k (b
 
   kept : (k : ℕ) → k < length capacities
       → mark_count (get_or (replicate (length capacities) (replicate (vertices graph) false) ++ (replicate graph.instances false ++ replicate graph.inputs true) ∷ []) k []) ≤ get_or capacities k 0
-  kept k below = omega (arith, ap mark_count (fast k below), unmarked (vertices graph))
+  kept k below = omega (arith, ap mark_count (fast k below), none-marked (vertices graph))

@@ -1,6 +1,7 @@
 pub mod Unions
 pub mod Held
 pub mod Sight
+pub mod SightLoads
 pub mod Towers
 pub mod Reading
 pub mod Climbing

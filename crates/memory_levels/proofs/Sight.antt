@@ -1,18 +1,20 @@
 -- What a boundary sees of moves over levels is a list of moves of the game of one fast memory.
 use Rattle.std.proofs.Common.{◌≡◌, refl, sym, ◌∙◌, ap, subst, inl, inr, ℕ, zero, suc, ◌+◌, ◌-◌, ◌<◌, ◌≤◌, Bool, true, false, cond, ◌||◌, leb, List, [], ◌∷◌, ◌++◌, length, get_or, take, drop, set, replicate, IsTrue, arith}
-use Rattle.std.specs.Prelude.{◌⊎◌, nat_eq, nat_le}
+use Rattle.std.specs.Prelude.{◌⊎◌}
 use Rattle.std.specs.List.{AllByRecursion}
 use Rattle.std.proofs.lemmas.Bool.{cases_eq, cases_Bool, eq-eqb, ne_eqb, leb-false, leb-true}
 use Rattle.std.proofs.lemmas.List.{length-set, get_or-set_same, get_or-set_other, take-set-le, drop-set-lt, length-replicate, length-append}
-use Rattle.std.proofs.lemmas.List.Sums.{fold-append, sum_by-append, sum_by-cons}
-use Rattle.iolb_model.specs.Graph.{ComputationGraph, computation_graph}
-use Rattle.iolb_model.specs.Game.{Board, marked, mark_count, vertices, predecessors_at, first_board, board_after, AreAllowed, final_board, is_load, is_store, loads, stores}
-use Rattle.iolb_model.specs.Tower.{TowerBoard, IsFastLevel, HasRoom, IsTowerAllowed, level_at, with_word, tower_board_after, first_tower_board, capacity_up_to, AreTowerAllowed, final_tower_board, tower_left, is_bring, is_send, stands_at_one, seen_move, seen_moves}
+use Rattle.std.proofs.lemmas.List.Sums.{fold-append}
+use Rattle.iolb_model.specs.Graph.{ComputationGraph}
+use Rattle.iolb_model.specs.Game.{Board, marked, mark_count, vertices, predecessors_at, first_board, board_after, AreAllowed, final_board}
+use Rattle.iolb_model.specs.Tower.{TowerBoard, IsFastLevel, HasRoom, IsTowerAllowed, level_at, tower_board_after, first_tower_board, capacity_up_to, AreTowerAllowed, final_tower_board, tower_left, stands_at_one, seen_move, seen_moves}
 use Rattle.iolb_model.specs.declared.game.Move.{Move}
 use Rattle.iolb_model.specs.declared.game.Move.TheVariants as moves
 use Rattle.iolb_model.specs.declared.tower.TowerMove.{TowerMove}
 use Rattle.iolb_model.specs.declared.tower.TowerMove.TheVariants.{Bring, Send, Compute, Drop}
-use Rattle.memory_levels.specs.Seen.{BoundsHoldAtLevels, SeenAreAllowed, SeenIsComplete, SeenLoads, SeenStores}
+use Rattle.pebble_game.proofs.Allowed.{allowed-append}
+use Rattle.pebble_game.proofs.Marks.{unmarked-at}
+use Rattle.memory_levels.specs.Seen.{SeenAreAllowed, SeenIsComplete}
 use Rattle.memory_levels.proofs.Unions.{count-of-union, stands-first, stands-last, first-stays, last-stays}
 use Rattle.memory_levels.proofs.Held.{IsHeld, placed, moved-held, first-held, counts-below}
 
@@ -299,11 +301,6 @@ move-seen graph capacities i tower board (Drop j v) fast held sees allowed = dro
 
 -- ---- all moves
 
-allowed-append : (graph : ComputationGraph) (s : ℕ) (board : Board) (xs ys : List Move) → AreAllowed graph s board xs
-    → AreAllowed graph s (final_board board xs) ys → AreAllowed graph s board (xs ++ ys)
-allowed-append graph s board [] ys h k = k
-allowed-append graph s board (x ∷ xs) ys h k = (h.0, allowed-append graph s (board_after board x) xs ys h.1 k)
-
 moves-seen : (graph : ComputationGraph) (capacities : List ℕ) (i : ℕ) (tower : TowerBoard) (board : Board) (steps : List TowerMove) → IsFastLevel capacities i
     → IsHeld (vertices graph) capacities tower.levels → Sees (vertices graph) i tower board → AreTowerAllowed graph capacities tower steps
     → IsSeen graph (capacity_up_to capacities i) i (final_tower_board tower steps) board (seen_moves i tower steps)
@@ -319,17 +316,12 @@ moves-seen graph capacities i tower board (move ∷ steps) fast held sees allowe
 
 -- ---- the first board
 
-none-marked : (n v : ℕ) → marked (replicate n false) v ≡ false
-none-marked zero v = refl
-none-marked (suc n) zero = refl
-none-marked (suc n) (suc v) = none-marked n v
-
 -- the fast levels are empty, and the slow one is the only other
 first-white : (k i n : ℕ) (slow : List Bool) (v : ℕ) → i ≤ k → stands_at_one (take i (replicate k (replicate n false) ++ slow ∷ [])) v ≡ false
 first-white k zero n slow v le = refl
 first-white zero (suc i) n slow v le = absurd (omega (arith, le))
 first-white (suc k) (suc i) n slow v le =
-    ap (λ b. b || stands_at_one (take i (replicate k (replicate n false) ++ slow ∷ [])) v) (none-marked n v) ∙ first-white k i n slow v (omega (arith, le))
+    ap (λ b. b || stands_at_one (take i (replicate k (replicate n false) ++ slow ∷ [])) v) (unmarked-at n v) ∙ first-white k i n slow v (omega (arith, le))
 
 or-false : (b : Bool) → (b || false) ≡ b
 or-false true = refl
@@ -338,14 +330,14 @@ or-false false = refl
 first-blue : (k i n : ℕ) (slow : List Bool) (v : ℕ) → i ≤ k → stands_at_one (drop i (replicate k (replicate n false) ++ slow ∷ [])) v ≡ marked slow v
 first-blue zero zero n slow v le = or-false (marked slow v)
 first-blue (suc k) zero n slow v le =
-    ap (λ b. b || stands_at_one (replicate k (replicate n false) ++ slow ∷ []) v) (none-marked n v) ∙ first-blue k zero n slow v (omega arith)
+    ap (λ b. b || stands_at_one (replicate k (replicate n false) ++ slow ∷ []) v) (unmarked-at n v) ∙ first-blue k zero n slow v (omega arith)
 first-blue zero (suc i) n slow v le = absurd (omega (arith, le))
 first-blue (suc k) (suc i) n slow v le = first-blue k i n slow v (omega (arith, le))
 
 first-sees : (graph : ComputationGraph) (capacities : List ℕ) (i : ℕ) → i ≤ length capacities
     → Sees (vertices graph) i (first_tower_board (length capacities) graph) (first_board graph)
 first-sees graph capacities i le = record {
-  red = λ u. none-marked (vertices graph) u ∙ sym (first-white (length capacities) i (vertices graph) (replicate graph.instances false ++ replicate graph.inputs true) u le);
+  red = λ u. unmarked-at (vertices graph) u ∙ sym (first-white (length capacities) i (vertices graph) (replicate graph.instances false ++ replicate graph.inputs true) u le);
   blue = λ u. sym (first-blue (length capacities) i (vertices graph) (replicate graph.instances false ++ replicate graph.inputs true) u le);
   computed = refl;
   reds = length-replicate (vertices graph) false;
@@ -371,74 +363,3 @@ seen_is_complete graph capacities steps i fast complete =
       computed = λ v below. ap (λ (c : List Bool). marked c v) seen.sees.computed ∙ complete.computed v below;
       stored = λ v below last. seen.sees.blue v ∙ stands-last (tower_left graph capacities steps).levels i (length capacities + 1 - 1) v (omega (arith, fast.1)) (complete.stored v below last);
     }
-
--- ---- loads and stores
-
-one-load : (i : ℕ) (tower : TowerBoard) (move : TowerMove) → loads (seen_move i tower move) ≡ cond (is_bring i move) 1 0
-one-load i tower (Bring j v) = by (nat_eq j i) where
-  by : (b : Bool) → loads (cond b (moves.Load v ∷ []) []) ≡ cond b 1 0
-  by true = refl
-  by false = refl
-one-load i tower (Send j v) = by (nat_eq j i) where
-  by : (b : Bool) → loads (cond b (moves.Store v ∷ []) []) ≡ 0
-  by true = refl
-  by false = refl
-one-load i tower (Compute v) = refl
-one-load i tower (Drop j v) = by (nat_le j i) (stands_at_one (take i (with_word tower j v false).levels) v) (stands_at_one (drop i (with_word tower j v false).levels) v) where
-  by : (b up behind : Bool) → loads (cond b (cond up [] (moves.Drop v ∷ [])) (cond behind [] (moves.Erase v ∷ []))) ≡ 0
-  by true true behind = refl
-  by true false behind = refl
-  by false up true = refl
-  by false up false = refl
-
-one-store : (i : ℕ) (tower : TowerBoard) (move : TowerMove) → stores (seen_move i tower move) ≡ cond (is_send i move) 1 0
-one-store i tower (Bring j v) = by (nat_eq j i) where
-  by : (b : Bool) → stores (cond b (moves.Load v ∷ []) []) ≡ 0
-  by true = refl
-  by false = refl
-one-store i tower (Send j v) = by (nat_eq j i) where
-  by : (b : Bool) → stores (cond b (moves.Store v ∷ []) []) ≡ cond b 1 0
-  by true = refl
-  by false = refl
-one-store i tower (Compute v) = refl
-one-store i tower (Drop j v) = by (nat_le j i) (stands_at_one (take i (with_word tower j v false).levels) v) (stands_at_one (drop i (with_word tower j v false).levels) v) where
-  by : (b up behind : Bool) → stores (cond b (cond up [] (moves.Drop v ∷ [])) (cond behind [] (moves.Erase v ∷ []))) ≡ 0
-  by true true behind = refl
-  by true false behind = refl
-  by false up true = refl
-  by false up false = refl
-
-pub seen_loads : SeenLoads
-seen_loads i tower [] = refl
-seen_loads i tower (move ∷ steps) =
-    let all = sum_by-append (λ (m : Move). cond (is_load m) 1 0) (seen_move i tower move) (seen_moves i (tower_board_after tower move) steps) in
-    let first = one-load i tower move in
-    let rest = seen_loads i (tower_board_after tower move) steps in
-    let counted = sum_by-cons (λ (m : TowerMove). cond (is_bring i m) 1 0) move steps in
-    omega (arith, all, first, rest, counted)
-
-pub seen_stores : SeenStores
-seen_stores i tower [] = refl
-seen_stores i tower (move ∷ steps) =
-    let all = sum_by-append (λ (m : Move). cond (is_store m) 1 0) (seen_move i tower move) (seen_moves i (tower_board_after tower move) steps) in
-    let first = one-store i tower move in
-    let rest = seen_stores i (tower_board_after tower move) steps in
-    let counted = sum_by-cons (λ (m : TowerMove). cond (is_send i m) 1 0) move steps in
-    omega (arith, all, first, rest, counted)
-
--- ---- bounds
-
--- levels up to a fast one hold something
-some-held : (capacities : List ℕ) (i : ℕ) → IsFastLevel capacities i → AllByRecursion (λ c. 1 ≤ c) capacities → 1 ≤ capacity_up_to capacities i
-some-held [] i fast each = absurd (omega (arith, fast.0, fast.1))
-some-held (c ∷ capacities) zero fast each = absurd (omega (arith, fast.0))
-some-held (c ∷ capacities) (suc i) fast each = omega (arith, each.0, sum_by-cons (λ (n : ℕ). n) c (take i capacities))
-
-pub bounds_hold_at_levels : BoundsHoldAtLevels
-bounds_hold_at_levels program bound holds values capacities steps admitted each complete i fast =
-    omega (
-      arith,
-      seen_loads i (first_tower_board (length capacities) (computation_graph program values)) steps,
-      holds values (capacity_up_to capacities i) (seen_moves i (first_tower_board (length capacities) (computation_graph program values)) steps) admitted (some-held capacities i fast each)
-          (seen_is_complete (computation_graph program values) capacities steps i fast complete),
-    )

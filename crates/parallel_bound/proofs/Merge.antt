@@ -1,16 +1,16 @@
 -- The moves of several processors as those of one.
-use Rattle.std.proofs.Common.{◌≡◌, refl, sym, ◌∙◌, ap, subst, inl, inr, ℕ, zero, suc, ◌*◌, ◌<◌, ◌≤◌, Bool, true, false, cond, List, [], ◌∷◌, length, get_or, set, arith, IsTrue}
+use Rattle.std.proofs.Common.{◌≡◌, refl, sym, ◌∙◌, ap, subst, inl, inr, ℕ, ◌*◌, ◌<◌, ◌≤◌, Bool, true, false, cond, List, [], ◌∷◌, length, get_or, set, arith, IsTrue}
 use Rattle.std.specs.Prelude.{◌⊎◌, ◌||◌}
 use Rattle.std.specs.List.{AllByRecursion}
 use Rattle.std.proofs.lemmas.Bool.{cases_eq}
-use Rattle.std.proofs.lemmas.List.{get_or-set_other, get_or-set_same, length-set, set-get_or}
+use Rattle.std.proofs.lemmas.List.{get_or-set_other, length-set, set-get_or}
 use Rattle.base_laws.proofs.Lists.{All-weaken}
 use Rattle.iolb_model.specs.declared.game.Move.{Move}
 use Rattle.iolb_model.specs.declared.game.Move.TheVariants.{Load, Store, Compute, Drop, Erase}
 use Rattle.iolb_model.specs.Graph.{ComputationGraph}
 use Rattle.iolb_model.specs.Game.{AreAllowed, Board, IsAllowed, board_after, final_board, mark_count, marked, predecessors_at, vertices}
 use Rattle.iolb_model.specs.Parallel.{AreAllowedThere, ParallelBoard, ParallelMove, final_parallel_board, parallel_board_after, view_of}
-use Rattle.pebble_game.proofs.Marks.{count-put, taken-here}
+use Rattle.pebble_game.proofs.Marks.{count-put, marked-below, put-here, taken-here}
 use Rattle.stretch_laws.proofs.CompletePebblings.{count-again, count-taken}
 use Rattle.parallel_bound.proofs.HeldMarks.{AreFew, all-get, all-set, fewer-all, held-count, held-get, held-kept, held-set, is_held, others_hold}
 
@@ -29,14 +29,6 @@ merged board (step ∷ steps) = kept (parallel_board_after board step).reds step
 -- the one board has these red marks, and the others of the board of several
 abbrev pub one_board : List Bool → ParallelBoard → Board
 one_board red board = record { red = red; blue = board.blue; computed = board.computed }
-
-put-here : (marks : List Bool) (v : ℕ) → v < length marks → marked (set marks v true) v ≡ true
-put-here marks v there = get_or-set_same marks v true false there
-
-below-length : (marks : List Bool) (v : ℕ) → marked marks v ≡ true → v < length marks
-below-length [] v on = absurd cc
-below-length (m ∷ marks) zero on = omega arith
-below-length (m ∷ marks) (suc v) on = omega (arith, below-length marks v on)
 
 module _ (width s : ℕ) where
   -- these red marks are those that one of the processors has, of which none has more than s
@@ -134,7 +126,7 @@ module _ (graph : ComputationGraph) (s processors : ℕ) where
         → ((now : List Bool) → AreRedsOf (vertices graph) s now (after move).reds → AreAllowed graph (processors * s) (one_board now (after move)) rest)
         → AreAllowed graph (processors * s) (one_board red board) (kept (after move).reds move rest)
     step-allowed (Load v) allowed on =
-        ((allowed.0, has-room v allowed.1), on (set red v true) (put (vertices graph) s red board.reds processor are there v (omega (arith, below-length board.blue v allowed.0, blue)) (loads-few v allowed.1)))
+        ((allowed.0, has-room v allowed.1), on (set red v true) (put (vertices graph) s red board.reds processor are there v (omega (arith, marked-below board.blue v allowed.0, blue)) (loads-few v allowed.1)))
     step-allowed (Store v) allowed on = (own-red (vertices graph) s red board.reds processor are there v allowed, on red (same (vertices graph) s red board.reds processor are there))
     step-allowed (Compute v) allowed on = (
       (allowed.0, allowed.1, all-red (predecessors_at graph v) allowed.2, room allowed.3),

@@ -15,7 +15,7 @@ use std::alloc::Global;
 /// How a walk goes on from a statement, with its claims.
 #[derive(Drop)]
 enum Onward {
-    Made(Option<FamilyNode>, Vec<Words>),
+    Made(Option<Box<FamilyNode>>, Vec<Words>),
     Restrict(Affine),
     Fails,
 }
@@ -45,7 +45,10 @@ fn region_of(
         return Ok(Found::Fails);
     };
     match walk_by(alloc, at, work, &given, step.read, read)? {
-        Walked::Made(tree, all) => Ok(Found::Made(Region { rows, tree }, all)),
+        Walked::Made(tree, all) => {
+            let tree = Box::new(alloc, tree)?;
+            Ok(Found::Made(Region { rows, tree }, all))
+        }
         Walked::Restrict(row) if step.row.is_none() => Ok(Found::Restrict(row)),
         _ => Ok(Found::Fails),
     }
@@ -65,7 +68,7 @@ fn node_from(
             label,
             region: None,
         };
-        return Ok(Onward::Made(Some(node), Vec::new(alloc)));
+        return Ok(Onward::Made(Some(Box::new(alloc, node)?), Vec::new(alloc)));
     };
     let Some(read) = at.facts.read(statement, step.read) else {
         return Ok(Onward::Fails);
@@ -76,7 +79,7 @@ fn node_from(
                 label,
                 region: Some(region),
             };
-            Ok(Onward::Made(Some(node), all))
+            Ok(Onward::Made(Some(Box::new(alloc, node)?), all))
         }
         Found::Restrict(row) => Ok(Onward::Restrict(row)),
         Found::Fails => Ok(Onward::Fails),
@@ -113,7 +116,7 @@ fn onward_from(
 /// The nodes of a family, and their words; or the statement that has to be restricted to a row.
 #[derive(Drop)]
 pub(crate) enum Nodes {
-    Made(Vec<Option<FamilyNode>>, Vec<Words>),
+    Made(Vec<Option<Box<FamilyNode>>>, Vec<Words>),
     Restrict(u16, Affine),
     Fails,
 }

@@ -102,7 +102,7 @@ fn claimed(
     depth: usize,
     weight: u8,
     start: Walk,
-    nodes: Vec<Option<FamilyNode>>,
+    nodes: Vec<Option<Box<FamilyNode>>>,
 ) -> Result<Option<Family>, Memory> {
     let vars = facts.params.saturating_add(depth);
     let Some(start_label) = all_forms(alloc, vars, draft.label.as_slice())? else {

@@ -1,11 +1,11 @@
 -- A move is allowed exactly where nothing refuses it.
-use Rattle.std.proofs.Common.{◌≡◌, refl, ◌∙◌, ap, ℕ, ◌<◌, Bool, true, false, cond, not, ◌&&◌, List, [], ◌∷◌, find, Option, Some, None, IsTrue, ◌⊎◌, inl, inr, leb}
+use Rattle.std.proofs.Common.{◌≡◌, refl, ◌∙◌, ap, ℕ, ◌<◌, Bool, true, false, cond, not, ◌&&◌, List, [], ◌∷◌, ◌++◌, find, Option, Some, None, IsTrue, ◌⊎◌, inl, inr, leb}
 use Rattle.std.specs.List.{AllByRecursion}
 use Rattle.std.proofs.lemmas.Bool.{leb-false, lt-leb}
 use Rattle.iolb_model.specs.declared.game.Move.{Move}
 use Rattle.iolb_model.specs.declared.game.Move.TheVariants.{Load, Store, Compute, Drop, Erase}
 use Rattle.iolb_model.specs.Graph.{ComputationGraph}
-use Rattle.iolb_model.specs.Game.{Board, marked, mark_count, predecessors_at, IsAllowed}
+use Rattle.iolb_model.specs.Game.{Board, marked, mark_count, predecessors_at, board_after, IsAllowed, AreAllowed, final_board}
 use Rattle.pebble_game.specs.declared.illegal.Illegal.{Illegal}
 use Rattle.pebble_game.specs.declared.illegal.Illegal.TheVariants.{NoBlue, NoRed, Computed, Full, InputVertex}
 use Rattle.pebble_game.specs.Boards.{refusal_after, refusal}
@@ -89,3 +89,9 @@ allowed-refusal graph s board (Erase v) h = none_if NoBlue (marked board.blue v)
 pub refusal-forbidden : (graph : ComputationGraph) (s : ℕ) (board : Board) (move : Move) (illegal : Illegal)
     → refusal graph s board move ≡ Some illegal → ¬ IsAllowed graph s board move
 refusal-forbidden graph s board move illegal refused allowed = let e = allowed-refusal graph s board move allowed in cc
+
+-- moves are allowed behind others where they are on the board behind those
+pub allowed-append : (graph : ComputationGraph) (s : ℕ) (board : Board) (xs ys : List Move) → AreAllowed graph s board xs
+    → AreAllowed graph s (final_board board xs) ys → AreAllowed graph s board (xs ++ ys)
+allowed-append graph s board [] ys h k = k
+allowed-append graph s board (x ∷ xs) ys h k = (h.0, allowed-append graph s (board_after board x) xs ys h.1 k)

@@ -35,7 +35,7 @@ loads_of-loaded set (Drop v ∷ moves) = loads_of-loaded set moves
 loads_of-loaded set (Erase v ∷ moves) = loads_of-loaded set moves
 
 -- another vertex's mark stays
-marked_other : (marks : List Bool) (v w : ℕ) (b : Bool) → v ≢ w → marked (set marks w b) v ≡ marked marks v
+pub marked_other : (marks : List Bool) (v w : ℕ) (b : Bool) → v ≢ w → marked (set marks w b) v ≡ marked marks v
 marked_other marks v w b apart = get_or-set_other marks w v b false apart
 
 unmarked_first : (m : Bool) (marks : List Bool) (w : ℕ) → m ≡ false → marked (set (m ∷ marks) w false) zero ≡ false
@@ -43,7 +43,7 @@ unmarked_first m marks zero h = refl
 unmarked_first m marks (suc w) h = h
 
 -- a vertex without a mark has none after one is taken off
-unmarked : (marks : List Bool) (v w : ℕ) → marked marks v ≡ false → marked (set marks w false) v ≡ false
+pub unmarked : (marks : List Bool) (v w : ℕ) → marked marks v ≡ false → marked (set marks w false) v ≡ false
 unmarked [] v w h = refl
 unmarked (m ∷ marks) (suc v) zero h = h
 unmarked (m ∷ marks) zero w h = unmarked_first m marks w h

@@ -1,9 +1,9 @@
 -- Marks and sets of vertices.
-use Rattle.std.proofs.Common.{◌≡◌, refl, sym, ◌∙◌, ap, subst, inl, inr, ℕ, zero, suc, ◌+◌, ◌≤◌, Bool, true, false, cond, List, [], ◌∷◌, length, set, replicate, arith}
+use Rattle.std.proofs.Common.{◌≡◌, refl, sym, ◌∙◌, ap, subst, inl, inr, ℕ, zero, suc, ◌+◌, ◌<◌, ◌≤◌, Bool, true, false, cond, List, [], ◌∷◌, length, set, replicate, arith}
 use Rattle.std.specs.Prelude.{◌⊎◌, filter, nat_eq, Contains}
 use Rattle.std.specs.List.{AllByRecursion, IsDistinct}
 use Rattle.std.proofs.lemmas.Bool.{eq-eqb, ne_eqb, cases_eq, or_left, or_right}
-use Rattle.std.proofs.lemmas.List.{get_or-set_other}
+use Rattle.std.proofs.lemmas.List.{get_or-set_same, get_or-set_other}
 use Rattle.std.proofs.lemmas.List.Elements.{All-from_recursion, All-contains}
 use Rattle.std.proofs.lemmas.List.Sums.{sum_by-cons}
 use Rattle.execution_laws.proofs.Members.{Member}
@@ -21,6 +21,14 @@ pub member-stands : (xs : List ℕ) (v : ℕ) → Member v xs → stands_in xs v
 member-stands [] v m = absurd m
 member-stands (x ∷ xs) v (inl e) = or_left (nat_eq v x) (stands_in xs v) (eq-eqb v x e)
 member-stands (x ∷ xs) v (inr m) = or_right (nat_eq v x) (stands_in xs v) (member-stands xs v m)
+
+pub marked-below : (marks : List Bool) (v : ℕ) → marked marks v ≡ true → v < length marks
+marked-below [] v h = absurd cc
+marked-below (m ∷ marks) zero h = omega arith
+marked-below (m ∷ marks) (suc v) h = omega (arith, marked-below marks v h)
+
+pub put-here : (marks : List Bool) (v : ℕ) → v < length marks → marked (set marks v true) v ≡ true
+put-here marks v below = get_or-set_same marks v true false below
 
 -- a vertex that is marked after a mark was put was marked before, or is the one
 pub set-marked : (marks : List Bool) (w v : ℕ) → marked (set marks w true) v ≡ true → (v ≡ w) ⊎ (marked marks v ≡ true)

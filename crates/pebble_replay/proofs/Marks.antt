@@ -4,21 +4,13 @@ use Rattle.std.specs.Prelude.{◌⊎◌, nat_eq}
 use Rattle.std.specs.List.{AllByRecursion, IsDistinct}
 use Rattle.std.specs.Cmp.{nat_eq_equiv}
 use Rattle.std.proofs.lemmas.Bool.{cases_eq, cases_Bool, ne_eqb, or_cases, or_from, eqb-true}
-use Rattle.std.proofs.lemmas.List.{get_or-set_other, get_or-set_same, length-replicate}
+use Rattle.std.proofs.lemmas.List.{get_or-set_other, length-replicate}
 use Rattle.std.proofs.lemmas.List.Sums.{sum_by-set}
 use Rattle.std.proofs.lemmas.Map.Made.{length-le_from_is_member}
 use Rattle.std.proofs.Math.Seq.{get_or-append_right}
 use Rattle.iolb_model.specs.Game.{marked, mark_count, stands_in}
 use Rattle.execution_laws.proofs.Members.{Member}
-use Rattle.pebble_game.proofs.Marks.{marked_from, length-marked_from}
-
-pub marked-below : (marks : List Bool) (v : ℕ) → marked marks v ≡ true → v < length marks
-marked-below [] v h = absurd cc
-marked-below (m ∷ marks) zero h = omega arith
-marked-below (m ∷ marks) (suc v) h = omega (arith, marked-below marks v h)
-
-pub put-here : (marks : List Bool) (v : ℕ) → v < length marks → marked (set marks v true) v ≡ true
-put-here marks v below = get_or-set_same marks v true false below
+use Rattle.pebble_game.proofs.Marks.{marked-below, put-here, marked_from, length-marked_from}
 
 -- a mark stays where another is put
 pub put-stays : (marks : List Bool) (v w : ℕ) → marked marks w ≡ true → marked (set marks v true) w ≡ true

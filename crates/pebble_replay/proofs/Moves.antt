@@ -1,5 +1,5 @@
 -- Moves one after the other, and what holds between them while an order is played.
-use Rattle.std.proofs.Common.{◌≡◌, refl, sym, ◌∙◌, subst, inl, inr, ℕ, ◌<◌, ◌≤◌, Bool, true, false, List, [], ◌∷◌, ◌++◌, length, set, arith}
+use Rattle.std.proofs.Common.{◌≡◌, refl, sym, ◌∙◌, subst, inl, inr, ℕ, ◌<◌, ◌≤◌, Bool, true, false, List, ◌∷◌, ◌++◌, length, set, arith}
 use Rattle.std.specs.Prelude.{◌⊎◌, ◌||◌, nat_eq}
 use Rattle.std.proofs.lemmas.Bool.{cases_eq, or_cases, or_right, eq-eqb, eqb-true, or_parts}
 use Rattle.std.proofs.lemmas.List.{length-set}
@@ -7,19 +7,14 @@ use Rattle.std.proofs.lemmas.List.Sums.{fold-append}
 use Rattle.iolb_model.specs.declared.game.Move.{Move}
 use Rattle.iolb_model.specs.declared.game.Move.TheVariants.{Load}
 use Rattle.iolb_model.specs.Graph.{ComputationGraph}
-use Rattle.iolb_model.specs.Game.{Board, marked, mark_count, vertices, stands_in, board_after, AreAllowed, final_board}
+use Rattle.iolb_model.specs.Game.{Board, marked, mark_count, vertices, stands_in, board_after, final_board}
 use Rattle.pebble_game.specs.Boards.{IsBoardOf}
-use Rattle.pebble_game.proofs.Marks.{count-put}
+use Rattle.pebble_game.proofs.Marks.{count-put, put-here}
 use Rattle.pebble_replay.specs.Played.{reads, is_used}
-use Rattle.pebble_replay.proofs.Marks.{put-here, put-stays, put-other, taken-other, count-taken}
+use Rattle.pebble_replay.proofs.Marks.{put-stays, put-other, taken-other, count-taken}
 
 pub final-append : (board : Board) (xs ys : List Move) → final_board board (xs ++ ys) ≡ final_board (final_board board xs) ys
 final-append board xs ys = fold-append board_after board xs ys
-
-pub allowed-append : (graph : ComputationGraph) (s : ℕ) (board : Board) (xs ys : List Move) → AreAllowed graph s board xs
-    → AreAllowed graph s (final_board board xs) ys → AreAllowed graph s board (xs ++ ys)
-allowed-append graph s board [] ys h k = k
-allowed-append graph s board (x ∷ xs) ys h k = (h.0, allowed-append graph s (board_after board x) xs ys h.1 k)
 
 -- What holds after some instances were computed, and before the rest of the order is: no word is lost that is used later.
 pub record IsReady (graph : ComputationGraph) (s : ℕ) (done rest : List ℕ) (board : Board) : Type 0 where

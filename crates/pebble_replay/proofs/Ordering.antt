@@ -10,10 +10,10 @@ use Rattle.iolb_model.specs.Game.{marked, predecessors_at, stands_in}
 use Rattle.execution_laws.proofs.Members.{Member}
 use Rattle.execution_laws.proofs.Ordered.{All-member}
 use Rattle.pebble_game.specs.Graphs.{IsWellFormedGraph}
-use Rattle.pebble_game.proofs.Marks.{standing-member}
+use Rattle.pebble_game.proofs.Marks.{standing-member, put-here}
 use Rattle.pebble_replay.specs.declared.fault.ReplayFault.TheVariants.{OutOfOrder}
 use Rattle.pebble_replay.specs.Order.{late_source, late_or, order_fault}
-use Rattle.pebble_replay.proofs.Marks.{apart-stands, put-here, put-other}
+use Rattle.pebble_replay.proofs.Marks.{apart-stands, put-other}
 
 -- of an order no fault was found yet, and the marked instances are those that don't come any more
 pub record IsOrdering (graph : ComputationGraph) (order : List ℕ) (done : List Bool) (rest : List ℕ) : Type 0 where

@@ -9,6 +9,7 @@ use Rattle.iolb_model.specs.declared.game.Move.{Move}
 use Rattle.iolb_model.specs.Graph.{ComputationGraph}
 use Rattle.iolb_model.specs.Game.{Board, vertices, predecessors_at, stands_in, first_board, AreAllowed, final_board}
 use Rattle.execution_laws.proofs.Ordered.{All-member}
+use Rattle.pebble_game.proofs.Allowed.{allowed-append}
 use Rattle.pebble_game.specs.Graphs.{IsWellFormedGraph}
 use Rattle.pebble_game.proofs.Marks.{unmarked-at, standing-member, none-marked}
 use Rattle.pebble_replay.specs.declared.fault.ReplayFault.{ReplayFault}
@@ -16,7 +17,7 @@ use Rattle.pebble_replay.specs.Order.{HoldsEachOnce, late_source, late_or, order
 use Rattle.pebble_replay.specs.Played.{reads, instance_moves, moves_of_first}
 use Rattle.pebble_replay.specs.Complete.{PlayedIsComplete}
 use Rattle.pebble_replay.proofs.Marks.{first-blue}
-use Rattle.pebble_replay.proofs.Moves.{final-append, allowed-append, IsReady, second-holds}
+use Rattle.pebble_replay.proofs.Moves.{final-append, IsReady, second-holds}
 use Rattle.pebble_replay.proofs.Victim.{find-none_at}
 use Rattle.pebble_replay.proofs.Turns.{Computes, turn}
 

@@ -9,14 +9,14 @@ use Rattle.iolb_model.specs.declared.game.Move.{Move}
 use Rattle.iolb_model.specs.declared.game.Move.TheVariants.{Store, Drop}
 use Rattle.iolb_model.specs.Graph.{ComputationGraph}
 use Rattle.iolb_model.specs.Game.{Board, marked, vertices, final_board}
-use Rattle.pebble_game.proofs.Marks.{taken-here}
+use Rattle.pebble_game.proofs.Marks.{taken-here, marked-below}
 use Rattle.pebble_game.specs.Boards.{IsBoardOf, is_full}
 use Rattle.pebble_replay.specs.Played.{reads, is_used, may_go, victim, moves_out, room_moves}
 use Rattle.pebble_replay.specs.Uses.{left_from}
 use Rattle.pebble_replay.specs.Queue.{pair_cmp}
 use Rattle.pebble_replay.specs.Turns.{IsQueue, IsInTurn}
 use Rattle.pebble_replay.specs.declared.hand.Hand.{Hand}
-use Rattle.pebble_replay.proofs.Marks.{marked-below, taken-other}
+use Rattle.pebble_replay.proofs.Marks.{taken-other}
 use Rattle.pebble_replay.proofs.Queue.{known, nobody, first-goes, left-used}
 use Rattle.pebble_replay.specs.Queue.{IsSwitched}
 use Rattle.pebble_replay.proofs.Steps.{switched-queue, final-fits}

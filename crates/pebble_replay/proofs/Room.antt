@@ -8,9 +8,9 @@ use Rattle.iolb_model.specs.declared.game.Move.TheVariants.{Store, Drop}
 use Rattle.iolb_model.specs.Graph.{ComputationGraph}
 use Rattle.iolb_model.specs.Game.{Board, marked, mark_count, predecessors_at, AreAllowed, final_board}
 use Rattle.pebble_game.specs.Boards.{is_full}
-use Rattle.pebble_game.proofs.Marks.{dropped-marked}
+use Rattle.pebble_game.proofs.Marks.{dropped-marked, marked-below, put-here}
 use Rattle.pebble_replay.specs.Played.{reads, is_used, may_go, victim, moves_out, room_moves}
-use Rattle.pebble_replay.proofs.Marks.{marked-below, put-here, put-stays, taken-other, count-taken, one-outside}
+use Rattle.pebble_replay.proofs.Marks.{put-stays, taken-other, count-taken, one-outside}
 use Rattle.pebble_replay.proofs.Moves.{IsReady, gone-ready}
 use Rattle.pebble_replay.proofs.Victim.{victim-some}
 

@@ -10,11 +10,12 @@ use Rattle.iolb_model.specs.Graph.{ComputationGraph}
 use Rattle.iolb_model.specs.Game.{Board, marked, mark_count, vertices, predecessors_at, stands_in, board_after, AreAllowed, final_board}
 use Rattle.execution_laws.proofs.Members.{Member}
 use Rattle.execution_laws.proofs.Ordered.{All-from, All-member}
+use Rattle.pebble_game.proofs.Allowed.{allowed-append}
 use Rattle.pebble_game.specs.Graphs.{IsWellFormedGraph}
-use Rattle.pebble_game.proofs.Marks.{member-stands, standing-member}
+use Rattle.pebble_game.proofs.Marks.{member-stands, standing-member, put-here}
 use Rattle.pebble_replay.specs.Played.{reads, is_used, room_moves, load_moves, store_moves, compute_moves, instance_moves}
-use Rattle.pebble_replay.proofs.Marks.{put-here, put-stays}
-use Rattle.pebble_replay.proofs.Moves.{final-append, allowed-append, IsReady, loaded-ready, computed-ready}
+use Rattle.pebble_replay.proofs.Marks.{put-stays}
+use Rattle.pebble_replay.proofs.Moves.{final-append, IsReady, loaded-ready, computed-ready}
 use Rattle.pebble_replay.proofs.Room.{MakesRoom, room-made}
 
 -- what moves do that load predecessors of instance v: at the end all are red

@@ -3,8 +3,9 @@
 ghost use Rattle.std.specs.Prelude.{◌≡◌, ◌++◌, ◌∷◌, [], map, IfOk, true, OnOk};
 ghost use Rattle.std.specs.List.{AllByRecursion};
 ghost use Rattle.iolb_model.specs.Form.{form_value};
-ghost use Rattle.iolb_model.specs.Execution.{rising, range, natural, at_value, item_runs, row_runs};
+ghost use Rattle.iolb_model.specs.Execution.{rising, falling, range_size, loop_values, at_value, item_runs, row_runs};
 ghost use Rattle.affine_form.specs.Form.{IsSmall};
+ghost use Rattle.affine_form.specs.Rows.{direction_of};
 ghost use Rattle.affine_program.specs.Tree.{item_of, row_of};
 ghost use Rattle.plain_graph.specs.Views.{instance_of};
 ghost use Rattle.iolb_model.specs.declared.limits.TheConstants.{VALUE_SIZE};
@@ -44,7 +45,7 @@ pub fn value_at(form: &Form, point: &[i128]) -> Result<i128, Stopped>
 }
 
 /// The values from a first one on, so many, each one more than the one before.
-fn values_from(alloc: Global, first: i128, count: usize) -> Result<Vec<i128>, Stopped>
+fn values_up(alloc: Global, first: i128, count: usize) -> Result<Vec<i128>, Stopped>
     ensures { IfOk result (λ values. values.items ≡ rising first count) }
 {
     let mut values = Vec::new(alloc);
@@ -59,31 +60,70 @@ fn values_from(alloc: Global, first: i128, count: usize) -> Result<Vec<i128>, St
     Ok(values)
 }
 
-/// The values of a loop.
-pub fn loop_values(alloc: Global, lower: i128, upper: i128) -> Result<Vec<i128>, Stopped>
-    ensures { IfOk result (λ values. values.items ≡ range lower upper) }
+/// The values from a first one on, so many, each one less than the one before.
+fn values_down(alloc: Global, first: i128, count: usize) -> Result<Vec<i128>, Stopped>
+    ensures { IfOk result (λ values. values.items ≡ falling first count) }
+{
+    let mut values = Vec::new(alloc);
+    let mut value = first;
+    for _k in 0..count {
+        if value <= -1_099_511_627_776 {
+            return Err(Stopped::OutOfReach);
+        }
+        values.push(value)?;
+        value -= 1;
+    }
+    Ok(values)
+}
+
+/// How many whole numbers there are from lower to upper, both included.
+fn count_of(lower: i128, upper: i128) -> Result<usize, Stopped>
+    ensures { IfOk result (λ count. count ≡ range_size lower upper) }
 {
     if upper < lower {
-        return Ok(Vec::new(alloc));
+        return Ok(0);
     }
     let size = upper.checked_sub(lower).ok_or(Stopped::OutOfReach)?;
     let count = size.checked_add(1).ok_or(Stopped::OutOfReach)?;
     let Ok(count) = usize::try_from(count) else {
         return Err(Stopped::OutOfReach);
     };
-    values_from(alloc, lower, count)
+    Ok(count)
+}
+
+/// The values of a loop, in the order in which it takes them.
+pub fn loop_values(
+    alloc: Global,
+    down: bool,
+    lower: i128,
+    upper: i128,
+) -> Result<Vec<i128>, Stopped>
+    ensures { IfOk result (λ values. values.items ≡ loop_values (direction_of down) lower upper) }
+{
+    let count = count_of(lower, upper)?;
+    if down {
+        values_down(alloc, upper, count)
+    } else {
+        values_up(alloc, lower, count)
+    }
 }
 
 /// The values of a loop with these bounds at a point.
 fn values_between(
     alloc: Global,
+    down: bool,
     lower: &Form,
     upper: &Form,
     point: &[i128],
 ) -> Result<Vec<i128>, Stopped>
-    ensures { IfOk result (λ values. values.items ≡ range (form_value lower.now point.now) (form_value upper.now point.now)) }
+    ensures { IfOk result (λ values. values.items ≡ loop_values (direction_of down) (form_value lower.now point.now) (form_value upper.now point.now)) }
 {
-    loop_values(alloc, value_at(lower, point)?, value_at(upper, point)?)
+    loop_values(
+        alloc,
+        down,
+        value_at(lower, point)?,
+        value_at(upper, point)?,
+    )
 }
 
 /// A point with one value more.
@@ -121,10 +161,11 @@ pub fn runs_of_row(alloc: Global, row: &[Item], point: &[i128]) -> Result<Vec<In
             Item::Loop {
                 lower,
                 upper,
+                down,
                 body,
                 ..
             } => {
-                let values = values_between(alloc, lower, upper, point)?;
+                let values = values_between(alloc, *down, lower, upper, point)?;
                 for value in values.as_slice() {
                     let inner = with_value(alloc, point, *value)?;
                     push_at_value(

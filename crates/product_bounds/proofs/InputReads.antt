@@ -140,8 +140,8 @@ module _ (program : AffineProgram) (reader : ReadOf) (loops below : List ℕ) (n
 
   nest-is : named_nest program reader loops ≡ state_after program below names d
   nest-is =
-      ap (λ (path : List PathStep). nest_along program loops 0 path (record { nest = []; values = [] })) (sym run.path)
-      ∙ nest-along program below loops run.bounds below [] 0 (subst (λ (n : ℕ). RunBelow program n run.bounds below) (more p) run.run) (λ i. ap (λ (n : ℕ). get_or below n 0) (front i)) tt
+      ap (λ (path : List PathStep). nest_along program reader.statement loops 0 path (record { nest = []; values = [] })) (sym run.path)
+      ∙ nest-along program below reader.statement run.upward loops run.bounds below [] 0 (subst (λ (n : ℕ). RunBelow program n run.bounds below) (more p) run.run) (λ i. ap (λ (n : ℕ). get_or below n 0) (front i)) tt
       ∙ ap (λ (n : ℕ). state_after program below (filter (is_named loops) (range_with_len 0 n)) (0 + n)) (way-many r)
       ∙ ap (state_after program below names) (sym (front d)) where
         more : (n : ℕ) → n ≡ n + 0

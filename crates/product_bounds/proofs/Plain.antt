@@ -17,7 +17,7 @@ use Rattle.find_terms.specs.Openings.{AreNamed, HasPlainRead}
 use Rattle.product_bounds.specs.InputReads.{LoopsRunBelow}
 use Rattle.product_bounds.proofs.InputReads.{input-plain}
 use Rattle.product_bounds.proofs.NamedLoops.{HasRoom}
-use Rattle.product_bounds.proofs.Programs.{first-read, no-writer, path-is, second-read, statement-is}
+use Rattle.product_bounds.proofs.Programs.{runs-upward, first-read, no-writer, path-is, second-read, statement-is}
 use Rattle.product_bounds.proofs.Squares.{parameters}
 
 module _ (n : ℕ) where
@@ -48,6 +48,7 @@ module _ (n : ℕ) where
         (record { there = omega arith; lower = refl; upper = refl; assumed = inl (refl, omega (arith, ints)) }, tt),
       ),
     );
+    upward = runs-upward n q below;
   }
 
   -- ---- reads of inputs

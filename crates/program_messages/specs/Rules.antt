@@ -1,7 +1,7 @@
 -- What is said of a fault where certain words stand at its place.
 use Rattle.std.specs.Prelude.{ℕ, List, codes}
 use Rattle.program_messages.specs.declared.rules.Rule.{Rule}
-use Rattle.program_messages.specs.declared.rules.Rule.TheVariants.{Directive, Quotation, OpenComment, Cast, LoopType, Declaration, Choice, Operator, OtherLoop, Jump, Else, Step, Call, Member, Pointer, Product, Quotient, Minimum, CallInForm, CellInForm, Downward, TooDeep}
+use Rattle.program_messages.specs.declared.rules.Rule.TheVariants.{Directive, Quotation, OpenComment, Cast, LoopType, Declaration, Choice, Operator, OtherLoop, Jump, Else, Step, Call, Member, Pointer, Product, Quotient, Minimum, CallInForm, CellInForm, OtherWay, TooDeep}
 
 -- the number of the fault that a rule is for
 abbrev pub fault_number : Rule → ℕ
@@ -25,7 +25,7 @@ fault_number Quotient = 4
 fault_number Minimum = 4
 fault_number CallInForm = 4
 fault_number CellInForm = 4
-fault_number Downward = 5
+fault_number OtherWay = 5
 fault_number TooDeep = 9
 
 -- what is wrong
@@ -50,7 +50,7 @@ rule_text Quotient = codes "a quotient or a remainder isn't affine"
 rule_text Minimum = codes "a minimum, a maximum or `?:` can't stand in a bound or a subscript"
 rule_text CallInForm = codes "a call can't stand in a bound or a subscript"
 rule_text CellInForm = codes "a cell of an array can't stand in a bound or a subscript"
-rule_text Downward = codes "the loop runs downward"
+rule_text OtherWay = codes "the loop steps the other way than its comparison"
 rule_text TooDeep = codes "more than 6 loops are nested"
 
 -- what to write instead
@@ -75,5 +75,5 @@ rule_help Quotient = codes "name the number of turns as a parameter, and write a
 rule_help Minimum = codes "write the loops as they are before they are tiled: a bound holds of every order of the instances; else split the loop"
 rule_help CallInForm = codes "name its value as a parameter"
 rule_help CellInForm = codes "only loops, parameters and numbers may tell which cell is meant: bound a program that reads them in the order of the loops"
-rule_help Downward = codes "write it upward, and the mirrored form in its body: `for (int i = 0; i < N; i++)` with `N - 1 - i` for `i`"
+rule_help OtherWay = codes "write `<` or `<=` with `i++`, and `>` or `>=` with `i--`"
 rule_help TooDeep = codes "bound an inner part of the nest, with the outer loops as parameters"

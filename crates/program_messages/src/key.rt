@@ -47,11 +47,25 @@ fn call_key(before: &[u8]) -> &'static [u8] {
     }
 }
 
-/// What a loop's step or comparison is that begins a text.
-fn step_key(after: &[u8]) -> &'static [u8] {
+/// The sign of a step that goes the other way than the comparison before it.
+fn other_sign(before: &[u8]) -> u8 {
+    for byte in before.iter().rev() {
+        if *byte == b'>' {
+            return b'+';
+        }
+        if *byte == b'<' {
+            return b'-';
+        }
+    }
+    b'-'
+}
+
+/// What a loop's step is that begins a text, behind its comparison.
+fn step_key(before: &[u8], after: &[u8]) -> &'static [u8] {
+    let other = other_sign(before);
     for byte in after {
-        if *byte == b'-' || *byte == b'>' {
-            return b"DOWN";
+        if *byte == other {
+            return b"OTHERWAY";
         }
         if *byte == b')' || *byte == b';' || *byte == b'\n' {
             return b"STEP";
@@ -78,7 +92,7 @@ pub(crate) fn key_of(text: &[u8], number: u8, place: usize) -> &[u8]
         return call_key(before);
     }
     if number == 5 {
-        return step_key(after);
+        return step_key(before, after);
     }
     word
 }

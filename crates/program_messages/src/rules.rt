@@ -48,8 +48,8 @@ pub enum Rule {
     CallInForm,
     /// A cell of an array in a form.
     CellInForm,
-    /// A loop that runs downward.
-    Downward,
+    /// A step that goes the other way than the comparison.
+    OtherWay,
     /// A loop inside too many others.
     TooDeep,
 }
@@ -91,7 +91,7 @@ impl Rule {
             Rule::Minimum => "a minimum, a maximum or `?:` can't stand in a bound or a subscript",
             Rule::CallInForm => "a call can't stand in a bound or a subscript",
             Rule::CellInForm => "a cell of an array can't stand in a bound or a subscript",
-            Rule::Downward => "the loop runs downward",
+            Rule::OtherWay => "the loop steps the other way than its comparison",
             Rule::TooDeep => "more than 6 loops are nested",
         }
     }
@@ -133,9 +133,7 @@ impl Rule {
             Rule::CellInForm => {
                 "only loops, parameters and numbers may tell which cell is meant: bound a program that reads them in the order of the loops"
             }
-            Rule::Downward => {
-                "write it upward, and the mirrored form in its body: `for (int i = 0; i < N; i++)` with `N - 1 - i` for `i`"
-            }
+            Rule::OtherWay => { "write `<` or `<=` with `i++`, and `>` or `>=` with `i--`" }
             Rule::TooDeep => "bound an inner part of the nest, with the outer loops as parameters",
         }
     }
@@ -225,7 +223,7 @@ pub(crate) fn rule_for(number: u8, word: &[u8]) -> Option<Rule>
         2 => token_rule(word),
         3 => statement_rule(word),
         4 => form_rule(word),
-        5 if is_listed("DOWN", word) => Some(Rule::Downward),
+        5 if is_listed("OTHERWAY", word) => Some(Rule::OtherWay),
         9 if is_listed("for", word) => Some(Rule::TooDeep),
         _ => None,
     }

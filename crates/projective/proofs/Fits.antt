@@ -6,9 +6,9 @@ use Rattle.std.proofs.Math.IntN.{pos, negsuc}
 use Rattle.std.proofs.lemmas.List.{length-append, length-map}
 use Rattle.base_laws.proofs.Lists.{All-append, All-replicate, All-weaken, there}
 use Rattle.iolb_model.specs.Form.{AffineForm}
-use Rattle.iolb_model.specs.Order.{Direction, upward, common_loops}
+use Rattle.iolb_model.specs.Order.{common_loops}
 use Rattle.iolb_model.specs.Path.{PathStep}
-use Rattle.iolb_model.specs.Program.{AffineProgram, statement_at}
+use Rattle.iolb_model.specs.Program.{Direction, AffineProgram, statement_at}
 use Rattle.iolb_model.specs.declared.limits.TheConstants.{NUMBER_SIZE}
 use Rattle.reuse_paths.proofs.FamilyLabels.{ranks-few}
 use Rattle.flow_deps.proofs.SmallForms.{variable-small}
@@ -243,8 +243,8 @@ module _ (parts : ProgramParts) (is : IsProgram parts) (some : 0 < length parts.
       order-few many [] level ys xs = omega arith
       order-few many (direction ∷ loops) level [] xs = omega arith
       order-few many (direction ∷ loops) level (y ∷ ys) [] = omega arith
-      order-few many (upward ∷ loops) zero (y ∷ ys) (x ∷ xs) = omega arith
-      order-few many (upward ∷ loops) (suc level) (y ∷ ys) (x ∷ xs) = omega (arith, order-few many loops level ys xs)
+      order-few many (direction ∷ loops) zero (y ∷ ys) (x ∷ xs) = omega arith
+      order-few many (direction ∷ loops) (suc level) (y ∷ ys) (x ∷ xs) = omega (arith, order-few many loops level ys xs)
 
       pub between-over : (loop after level : ℕ) → AllOver wide ((written ++ since loop after) ++ order level)
       between-over loop after level =

@@ -129,6 +129,6 @@ module _ (program : AffineProgram) (read : ℕ) (facts : NestFacts program) (sam
   pub before-answered : AllOver vars precedence → AllByRecursion HasShortAnswer (map asks precedence)
   before-answered wide =
       All-map HasShortAnswer asks precedence
-      (order-each (λ goal. HasShortAnswer (asks goal)) vars (common_loops program 0 0) loop (turn_before program loop) (reader_values program reader vars) t x (turn-worth program loop)
+      (order-each (λ goal. HasShortAnswer (asks goal)) vars (common_loops program 0 0) loop (turn_before program loop) (reader_values program reader vars) t x facts.rise (turn-worth program loop)
       (variables-worth vars n (depth_of program 0) (omega arith)) wide (λ j point before. sym (turn-before program loop j point before))
       (λ point. let h = turn-here program loop point in omega (arith, ints)) nothing)

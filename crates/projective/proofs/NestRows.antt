@@ -6,8 +6,8 @@ use Rattle.std.proofs.Math.IntN.{ℤ, pos, negsuc, ◌+ℤ◌, ◌-ℤ◌}
 use Rattle.std.proofs.lemmas.Int.{ints}
 use Rattle.std.proofs.lemmas.List.{length-append, length-map, map-append}
 use Rattle.iolb_model.specs.Form.{AffineForm, form_value}
-use Rattle.iolb_model.specs.Path.{PathStep, rises}
-use Rattle.iolb_model.specs.Order.{Direction, upward}
+use Rattle.iolb_model.specs.Path.{PathStep, bounded}
+use Rattle.iolb_model.specs.Program.{Direction, upward, downward}
 use Rattle.affine_form.specs.Form.{variables}
 use Rattle.affine_form.specs.Substitution.{substitution, values_at}
 use Rattle.affine_form.specs.System.{AllOver}
@@ -72,7 +72,7 @@ SameParameters params q point = (k : ℕ) → k < params → get_or q k (pos 0) 
 -- each loop runs from 0 to its end, which depends on the parameters alone
 abbrev pub RunsTo : ℕ → (ℕ → Worth) → List PathStep → Type 0
 RunsTo params ends [] = ⊤
-RunsTo params ends (rises lower upper ∷ path) =
+RunsTo params ends (bounded lower upper ∷ path) =
     (((q : List ℤ) → form_value lower q ≡ pos 0) × ((q point : List ℤ) → SameParameters params q point → form_value upper q ≡ ends 0 point))
     × RunsTo params (λ j. ends (suc j)) path
 
@@ -103,8 +103,8 @@ at_worth ws (f ∷ fs) (suc k) point h less = at_worth (λ j. ws (suc j)) fs k p
 pub within-picked : (vars params : ℕ) (path : List PathStep) (before values : List AffineForm) (ends ws : ℕ → Worth) (j : ℕ) → RunsTo params ends path → KeepsParameters params before
     → AreWorth ws values → j < length path → j < length values → IsPicked (within_rows vars path before values) (ws j ∷ less (ends j) (ws j) ∷ [])
 within-picked vars params [] before values ends ws j runs keeps worth there here = absurd (omega arith)
-within-picked vars params (rises lower upper ∷ path) before [] ends ws j runs keeps worth there here = absurd (omega arith)
-within-picked vars params (rises lower upper ∷ path) before (v ∷ values) ends ws zero runs keeps worth there here =
+within-picked vars params (bounded lower upper ∷ path) before [] ends ws j runs keeps worth there here = absurd (omega arith)
+within-picked vars params (bounded lower upper ∷ path) before (v ∷ values) ends ws zero runs keeps worth there here =
     inl ((λ point. low point), inl ((λ point. high point), picked-none (within_rows vars path (before ++ v ∷ []) values))) where
       low : (point : List ℤ) → form_value (difference vars v (substitution lower before) (pos 0)) point ≡ ws 0 point
       low point =
@@ -114,7 +114,7 @@ within-picked vars params (rises lower upper ∷ path) before (v ∷ values) end
       high point =
           let h = difference-worth vars (substitution upper before) v (ends 0) (ws 0) (pos 0)
           (λ p. form_value-substitution upper before p ∙ runs.0.1 (values_at before p) p (keeps.same p)) worth.0 point in omega (arith, ints)
-within-picked vars params (rises lower upper ∷ path) before (v ∷ values) ends ws (suc j) runs keeps worth there here =
+within-picked vars params (bounded lower upper ∷ path) before (v ∷ values) ends ws (suc j) runs keeps worth there here =
     inr (inr (within-picked vars params path (before ++ v ∷ []) values (λ k. ends (suc k)) (λ k. ws (suc k)) j runs.1 (keeps-more params before (v ∷ []) keeps) worth.1 (omega arith) (omega arith)))
 
 -- what holds of all rows: of one that is worth the value at a place, and of one that is worth the end less it
@@ -123,8 +123,8 @@ pub within-each : (P : AffineForm → Type 0) (vars params : ℕ) (path : List P
     → ((j : ℕ) → j < length path → (f : AffineForm) → variables f ≡ vars → IsWorth f (ws j) → P f)
     → ((j : ℕ) → j < length path → (f : AffineForm) → variables f ≡ vars → IsWorth f (less (ends j) (ws j)) → P f) → AllByRecursion P (within_rows vars path before values)
 within-each P vars params [] before values ends ws runs keeps worth over low high = tt
-within-each P vars params (rises lower upper ∷ path) before [] ends ws runs keeps worth over low high = tt
-within-each P vars params (rises lower upper ∷ path) before (v ∷ values) ends ws runs keeps worth over low high = (
+within-each P vars params (bounded lower upper ∷ path) before [] ends ws runs keeps worth over low high = tt
+within-each P vars params (bounded lower upper ∷ path) before (v ∷ values) ends ws runs keeps worth over low high = (
   low 0 (omega arith) (difference vars v (substitution lower before) (pos 0)) over.0 (λ point.
       let h = difference-worth vars v (substitution lower before) (ws 0) (λ p. pos 0) (pos 0) worth.0 (λ p. form_value-substitution lower before p ∙ runs.0.0 (values_at before p)) point in omega (arith, ints)),
   (
@@ -212,52 +212,49 @@ equality-each P vars here there (f ∷ fs) over same each = (
 
 -- ---- the order of execution
 
+-- loops that all run upward
+abbrev pub AreUpward : List Direction → Type 0
+AreUpward [] = ⊤
+AreUpward (upward ∷ loops) = AreUpward loops
+AreUpward (downward ∷ loops) = ⊥
+
 -- the row of the last loop
-pub order-last : (vars : ℕ) (loops : List Direction) (level : ℕ) (ys xs : List AffineForm) (b a : ℕ → Worth) → AreWorth b ys → AreWorth a xs
+pub order-last : (vars : ℕ) (loops : List Direction) (level : ℕ) (ys xs : List AffineForm) (b a : ℕ → Worth) → AreUpward loops → AreWorth b ys → AreWorth a xs
     → level < length loops → level < length ys → level < length xs → IsPicked (order_rows vars loops level ys xs) (below (a level) (b level) ∷ [])
-order-last vars [] level ys xs b a p q h i k = absurd (omega arith)
-order-last vars (direction ∷ loops) level [] xs b a p q h i k = absurd (omega arith)
-order-last vars (direction ∷ loops) level (y ∷ ys) [] b a p q h i k = absurd (omega arith)
-order-last vars (upward ∷ loops) zero (y ∷ ys) (x ∷ xs) b a p q h i k = inl (below-worth vars x y (a 0) (b 0) q.0 p.0, tt)
-order-last vars (upward ∷ loops) (suc level) (y ∷ ys) (x ∷ xs) b a p q h i k =
-    inr (inr (order-last vars loops level ys xs (λ j. b (suc j)) (λ j. a (suc j)) p.1 q.1 (omega arith) (omega arith) (omega arith)))
+order-last vars [] level ys xs b a rise p q h i k = absurd (omega arith)
+order-last vars (direction ∷ loops) level [] xs b a rise p q h i k = absurd (omega arith)
+order-last vars (direction ∷ loops) level (y ∷ ys) [] b a rise p q h i k = absurd (omega arith)
+order-last vars (downward ∷ loops) level (y ∷ ys) (x ∷ xs) b a rise p q h i k = absurd rise
+order-last vars (upward ∷ loops) zero (y ∷ ys) (x ∷ xs) b a rise p q h i k = inl (below-worth vars x y (a 0) (b 0) q.0 p.0, tt)
+order-last vars (upward ∷ loops) (suc level) (y ∷ ys) (x ∷ xs) b a rise p q h i k =
+    inr (inr (order-last vars loops level ys xs (λ j. b (suc j)) (λ j. a (suc j)) rise p.1 q.1 (omega arith) (omega arith) (omega arith)))
 
--- the rows of a loop before it, and then that of the last
-pub order-first : (vars : ℕ) (loops : List Direction) (level : ℕ) (ys xs : List AffineForm) (b a : ℕ → Worth) (j : ℕ) → AreWorth b ys → AreWorth a xs
-    → level < length loops → level < length ys → level < length xs → j < level → IsPicked (order_rows vars loops level ys xs) (less (b j) (a j) ∷ [])
-order-first vars [] level ys xs b a j p q h i k before = absurd (omega arith)
-order-first vars (direction ∷ loops) level [] xs b a j p q h i k before = absurd (omega arith)
-order-first vars (direction ∷ loops) level (y ∷ ys) [] b a j p q h i k before = absurd (omega arith)
-order-first vars (upward ∷ loops) zero (y ∷ ys) (x ∷ xs) b a j p q h i k before = absurd (omega arith)
-order-first vars (upward ∷ loops) (suc level) (y ∷ ys) (x ∷ xs) b a zero p q h i k before =
-    inl (less-worth vars y x (b 0) (a 0) p.0 q.0, picked-none (difference vars x y (pos 0) ∷ order_rows vars loops level ys xs))
-order-first vars (upward ∷ loops) (suc level) (y ∷ ys) (x ∷ xs) b a (suc j) p q h i k before =
-    inr (inr (order-first vars loops level ys xs (λ n. b (suc n)) (λ n. a (suc n)) j p.1 q.1 (omega arith) (omega arith) (omega arith) (omega arith)))
-
+-- the second row of a loop before it
 pub order-second : (vars : ℕ) (loops : List Direction) (level : ℕ) (ys xs : List AffineForm) (b a : ℕ → Worth) (j : ℕ) → AreWorth b ys → AreWorth a xs
     → level < length loops → level < length ys → level < length xs → j < level → IsPicked (order_rows vars loops level ys xs) (less (a j) (b j) ∷ [])
 order-second vars [] level ys xs b a j p q h i k before = absurd (omega arith)
 order-second vars (direction ∷ loops) level [] xs b a j p q h i k before = absurd (omega arith)
 order-second vars (direction ∷ loops) level (y ∷ ys) [] b a j p q h i k before = absurd (omega arith)
-order-second vars (upward ∷ loops) zero (y ∷ ys) (x ∷ xs) b a j p q h i k before = absurd (omega arith)
-order-second vars (upward ∷ loops) (suc level) (y ∷ ys) (x ∷ xs) b a zero p q h i k before =
+order-second vars (direction ∷ loops) zero (y ∷ ys) (x ∷ xs) b a j p q h i k before = absurd (omega arith)
+order-second vars (direction ∷ loops) (suc level) (y ∷ ys) (x ∷ xs) b a zero p q h i k before =
     inr (inl (less-worth vars x y (a 0) (b 0) q.0 p.0, picked-none (order_rows vars loops level ys xs)))
-order-second vars (upward ∷ loops) (suc level) (y ∷ ys) (x ∷ xs) b a (suc j) p q h i k before =
+order-second vars (direction ∷ loops) (suc level) (y ∷ ys) (x ∷ xs) b a (suc j) p q h i k before =
     inr (inr (order-second vars loops level ys xs (λ n. b (suc n)) (λ n. a (suc n)) j p.1 q.1 (omega arith) (omega arith) (omega arith) (omega arith)))
 
 -- where the values are equal before the last loop, and in it the second is 1 more, all rows are worth nothing
-pub order-each : (P : AffineForm → Type 0) (vars : ℕ) (loops : List Direction) (level : ℕ) (ys xs : List AffineForm) (b a : ℕ → Worth) → AreWorth b ys → AreWorth a xs
+pub order-each : (P : AffineForm → Type 0) (vars : ℕ) (loops : List Direction) (level : ℕ) (ys xs : List AffineForm) (b a : ℕ → Worth) → AreUpward loops → AreWorth b ys → AreWorth a xs
     → AllOver vars (order_rows vars loops level ys xs) → ((j : ℕ) (point : List ℤ) → j < level → a j point ≡ b j point) → ((point : List ℤ) → a level point ≡ b level point +ℤ pos 1)
     → ((f : AffineForm) → variables f ≡ vars → IsWorth f (λ point. pos 0) → P f) → AllByRecursion P (order_rows vars loops level ys xs)
-order-each P vars [] level ys xs b a p q over same next each = tt
-order-each P vars (direction ∷ loops) level [] xs b a p q over same next each = tt
-order-each P vars (direction ∷ loops) level (y ∷ ys) [] b a p q over same next each = tt
-order-each P vars (upward ∷ loops) zero (y ∷ ys) (x ∷ xs) b a p q over same next each =
+order-each P vars [] level ys xs b a rise p q over same next each = tt
+order-each P vars (direction ∷ loops) level [] xs b a rise p q over same next each = tt
+order-each P vars (direction ∷ loops) level (y ∷ ys) [] b a rise p q over same next each = tt
+order-each P vars (downward ∷ loops) level (y ∷ ys) (x ∷ xs) b a rise p q over same next each = absurd rise
+order-each P vars (upward ∷ loops) zero (y ∷ ys) (x ∷ xs) b a rise p q over same next each =
     (each (difference vars x y (negsuc 0)) over.0 (λ point. let h = below-worth vars x y (a 0) (b 0) q.0 p.0 point in let e = next point in omega (arith, ints)), tt)
-order-each P vars (upward ∷ loops) (suc level) (y ∷ ys) (x ∷ xs) b a p q over same next each = (
+order-each P vars (upward ∷ loops) (suc level) (y ∷ ys) (x ∷ xs) b a rise p q over same next each = (
   each (difference vars y x (pos 0)) over.0 (λ point. let h = less-worth vars y x (b 0) (a 0) p.0 q.0 point in let e = same 0 point (omega arith) in omega (arith, ints)),
   (
     each (difference vars x y (pos 0)) over.1.0 (λ point. let h = less-worth vars x y (a 0) (b 0) q.0 p.0 point in let e = same 0 point (omega arith) in omega (arith, ints)),
-    order-each P vars loops level ys xs (λ j. b (suc j)) (λ j. a (suc j)) p.1 q.1 over.1.1 (λ j point before. same (suc j) point (omega (arith, before))) next each,
+    order-each P vars loops level ys xs (λ j. b (suc j)) (λ j. a (suc j)) rise p.1 q.1 over.1.1 (λ j point before. same (suc j) point (omega (arith, before))) next each,
   ),
 )

@@ -8,16 +8,16 @@ use Rattle.std.proofs.lemmas.Bool.{cases_lt}
 use Rattle.std.proofs.lemmas.List.{append-nil, get_or-set_same, get_or-set_other, length-replicate}
 use Rattle.base_laws.proofs.Lists.{All-at}
 use Rattle.iolb_model.specs.Form.{AffineForm, form_value}
-use Rattle.iolb_model.specs.Order.{item_common, row_common, Direction, common_loops}
-use Rattle.iolb_model.specs.Path.{PathStep, rises, item_path, row_path, first_of}
-use Rattle.iolb_model.specs.Program.{Access, Statement, Item, assign, loop, Row, done, next, AffineProgram, IsWellFormed, item_statements, row_statements, statement_at, read_at, no_statement}
+use Rattle.iolb_model.specs.Order.{item_common, row_common, common_loops}
+use Rattle.iolb_model.specs.Path.{PathStep, bounded, item_path, row_path, first_of}
+use Rattle.iolb_model.specs.Program.{Direction, upward, downward, Access, Statement, Item, assign, loop, Row, done, next, AffineProgram, IsWellFormed, item_statements, row_statements, statement_at, read_at, no_statement}
 use Rattle.affine_form.specs.Rows.{variable}
 use Rattle.affine_form.proofs.Combination.{form_value-constant, coefficient_of-constant}
 use Rattle.affine_program.specs.Domain.{path_of, depth_of}
 use Rattle.dep_quast.specs.Levels.{writers, writers_from}
 use Rattle.projective.specs.Projective.{HoldsOfOne, IsNestItem, IsNestRow, AllRun, IsLoop, IsProjection, IsProjective, reference_to}
 use Rattle.projective.specs.Turns.{width}
-use Rattle.projective.proofs.NestRows.{RunsTo, IsAmong}
+use Rattle.projective.proofs.NestRows.{AreUpward, RunsTo, IsAmong}
 use Rattle.projective.proofs.TurnWorths.{ends_of, shifted-worth}
 use Rattle.projective.proofs.Facts.{NestFacts, IsKeptLoop}
 
@@ -25,7 +25,7 @@ use Rattle.projective.proofs.Facts.{NestFacts, IsKeptLoop}
 
 pub runs-to : (program : AffineProgram) (vars : ℕ) (path : List PathStep) → length program.parameters ≤ vars → AllRun program vars path → RunsTo (length program.parameters) (ends_of path) path
 runs-to program vars [] more h = tt
-runs-to program vars (rises lower upper ∷ path) more h =
+runs-to program vars (bounded lower upper ∷ path) more h =
     let parameter : ℕ = h.0.0 in
     let below = h.0.1 in
     let value : (q : List ℤ) → form_value upper q ≡ get_or q parameter (pos 0) +ℤ negsuc 0 =
@@ -39,34 +39,39 @@ runs-to program vars (rises lower upper ∷ path) more h =
 
 -- ---- the loops around the statement
 
--- a nest down to the statement 0 has a way to it, and all loops of it are around the statement twice
+-- a nest down to the statement 0 has a way to it, and all loops of it are around the statement twice, and run upward
 record HasWay (way : Option (List PathStep)) (common : List Direction) : Type 0 where
   pub path : List PathStep
   pub is : way ≡ Some path
   pub many : length common ≡ length path
+  pub rise : AreUpward common
 
 first_number : (number : ℕ) → number ∷ [] ≡ 0 ∷ [] → (number == 0) ≡ true
 first_number number e = ap (λ (k : ℕ). k == 0) (ap (λ (ks : List ℕ). get_or ks 0 0) e)
 
 mutual
   item-way : (item : Item) → IsNestItem item → item_statements item ≡ 0 ∷ [] → HasWay (item_path item 0) (item_common item 0 0)
-  item-way (assign number) nest e = record { path = []; is = ap (λ (b : Bool). if b then Some [] else None) (first_number number e); many = refl }
-  item-way (loop name lower upper body) nest e =
-      let way = row-way body nest e in record { path = rises lower upper ∷ way.path; is = ap (option_map (λ (path : List PathStep). rises lower upper ∷ path)) way.is; many = ap suc way.many }
+  item-way (assign number) nest e = record { path = []; is = ap (λ (b : Bool). if b then Some [] else None) (first_number number e); many = refl; rise = tt }
+  item-way (loop name upward lower upper body) nest e =
+      let way = row-way body nest e in record { path = bounded lower upper ∷ way.path; is = ap (option_map (λ (path : List PathStep). bounded lower upper ∷ path)) way.is; many = ap suc way.many; rise = way.rise }
+  item-way (loop name downward lower upper body) nest e = absurd nest
 
   row-way : (row : Row) → IsNestRow row → row_statements row ≡ 0 ∷ [] → HasWay (row_path row 0) (row_common row 0 0)
   row-way done nest e = absurd nest
   row-way (next item done) nest e =
-      let way = item-way item nest (sym (append-nil (item_statements item)) ∙ e) in record {
+      let way = item-way item nest (sym (append-nil (item_statements item)) ∙ e) in
+      let same : row_common (next item done) 0 0 ≡ item_common item 0 0 = ap (λ (o : Option (List PathStep)). if is_some o && is_some o then item_common item 0 0 else []) way.is in
+      record {
         path = way.path;
         is = ap (λ (o : Option (List PathStep)). first_of o None) way.is;
-        many = ap length (ap (λ (o : Option (List PathStep)). if is_some o && is_some o then item_common item 0 0 else []) way.is) ∙ way.many;
+        many = ap length same ∙ way.many;
+        rise = subst AreUpward (sym same) way.rise;
       }
   row-way (next item (next other row)) nest e = absurd nest
 
-common-all : (program : AffineProgram) → IsNestRow program.tree → row_statements program.tree ≡ 0 ∷ [] → length (common_loops program 0 0) ≡ depth_of program 0
+common-all : (program : AffineProgram) → IsNestRow program.tree → row_statements program.tree ≡ 0 ∷ [] → (length (common_loops program 0 0) ≡ depth_of program 0) × AreUpward (common_loops program 0 0)
 common-all program nest one =
-    let way = row-way program.tree nest one in way.many ∙ sym (ap (λ (o : Option (List PathStep)). length (unwrap_or o [])) way.is)
+    let way = row-way program.tree nest one in (way.many ∙ sym (ap (λ (o : Option (List PathStep)). length (unwrap_or o [])) way.is), way.rise)
 
 -- ---- subscripts
 
@@ -143,9 +148,11 @@ facts-of program well is =
     let statement = statement_at program 0 in
     let writes : IsProjection (length program.parameters) (depth_of program 0) statement.writes =
     all-one (IsProjection (length program.parameters) (depth_of program 0)) statement.writes statement.reads is.projects.projections is.projects.accumulates in
+    let around = common-all program is.loops.nest (well.numbered ∙ ap (range_with_len 0) is.one) in
     record {
       runs = runs-to program (length program.parameters) (path_of program 0) (omega arith) is.loops.loops;
-      common = common-all program is.loops.nest (well.numbered ∙ ap (range_with_len 0) is.one);
+      common = around.0;
+      rise = around.1;
       subscripts = all-kept program statement.writes.subscripts (λ form h. h) writes.loops;
       among = λ place below kept. among-place (length program.parameters) (depth_of program 0) place statement.writes.subscripts writes.loops kept;
     }

@@ -5,7 +5,7 @@ use Rattle.std.proofs.Math.IntN.{ℤ, pos, negsuc, ◌+ℤ◌}
 use Rattle.std.proofs.lemmas.Int.{ints}
 use Rattle.std.proofs.lemmas.Bool.{eqb-true, lt-ltb, ltb-true}
 use Rattle.iolb_model.specs.Form.{AffineForm, form_value}
-use Rattle.iolb_model.specs.Path.{PathStep, rises}
+use Rattle.iolb_model.specs.Path.{PathStep, bounded}
 use Rattle.iolb_model.specs.Program.{AffineProgram}
 use Rattle.affine_form.specs.Rows.{widened, variable}
 use Rattle.affine_form.proofs.Meaning.{form_value-widened, form_value-variable}
@@ -18,8 +18,8 @@ use Rattle.projective.proofs.NestRows.{AreWorth, at, worth-same}
 -- the ends of the loops on a way
 abbrev pub ends_of : List PathStep → ℕ → Worth
 ends_of [] j point = pos 0
-ends_of (rises lower upper ∷ path) zero point = form_value upper point
-ends_of (rises lower upper ∷ path) (suc j) point = ends_of path j point
+ends_of (bounded lower upper ∷ path) zero point = form_value upper point
+ends_of (bounded lower upper ∷ path) (suc j) point = ends_of path j point
 
 pub shifted-worth : (vars place : ℕ) (point : List ℤ) → place < vars → form_value (shifted_variable vars place (negsuc 0)) point ≡ at place point +ℤ negsuc 0
 shifted-worth vars place point less = let h : form_value (variable vars place) point ≡ get_or point place (pos 0) = form_value-variable vars place point less in omega (arith, ints)
@@ -45,7 +45,7 @@ module _ (program : AffineProgram) (loop : ℕ) where
 
   values-worth : (place : ℕ) (path : List PathStep) → place + length path ≤ depth_of program 0 → AreWorth (λ j. turn_worth (ends_of path j) (place + j)) (turn_values program loop place path)
   values-worth place [] few = tt
-  values-worth place (rises lower upper ∷ path) few = (
+  values-worth place (bounded lower upper ∷ path) few = (
     subst (λ (k : ℕ). IsWorth (turn_value program loop place upper) (turn_worth (form_value upper) k)) none (value-worth place upper (omega arith)),
     worth-same (λ j. turn_worth (ends_of path j) (suc place + j)) (λ j. turn_worth (ends_of path j) (place + suc j)) (turn_values program loop (suc place) path)
         (λ j point less. ap (λ (k : ℕ). turn_worth (ends_of path j) k point) (moved j)) (values-worth (suc place) path (omega arith)),
@@ -67,7 +67,7 @@ module _ (program : AffineProgram) (loop : ℕ) where
 
   values-many : (place : ℕ) (path : List PathStep) → length (turn_values program loop place path) ≡ length path
   values-many place [] = refl
-  values-many place (rises lower upper ∷ path) = ap suc (values-many (suc place) path)
+  values-many place (bounded lower upper ∷ path) = ap suc (values-many (suc place) path)
 
   pub turn-many : length (turn_before program loop) ≡ depth_of program 0
   turn-many = values-many 0 (path_of program 0)

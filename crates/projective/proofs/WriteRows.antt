@@ -8,8 +8,8 @@ use Rattle.std.proofs.lemmas.Bool.{cases_lt}
 use Rattle.std.proofs.lemmas.Int.{ints}
 use Rattle.std.proofs.lemmas.List.{length-replicate}
 use Rattle.iolb_model.specs.Form.{AffineForm}
-use Rattle.iolb_model.specs.Order.{Direction, common_loops}
-use Rattle.iolb_model.specs.Program.{AffineProgram, statement_at}
+use Rattle.iolb_model.specs.Order.{common_loops}
+use Rattle.iolb_model.specs.Program.{Direction, AffineProgram, statement_at}
 use Rattle.affine_form.specs.Shown.{minus_one}
 use Rattle.affine_form.specs.Substitution.{substitution}
 use Rattle.affine_form.specs.System.{AffineSystem, AllOver}
@@ -120,7 +120,7 @@ module _ (program : AffineProgram) (read : ℕ) (facts : NestFacts program) (sam
 
   before-last : (level : ℕ) → level < d → IsPicked (order level) (below (x level) (w level) ∷ [])
   before-last level there =
-      order-last wide loops level (writer_values program reader 0 wide) (reader_values program reader wide) w x writer-worth reader-worth (omega (arith, facts.common)) (omega (arith, writer-long)) (omega (arith, reader-long))
+      order-last wide loops level (writer_values program reader 0 wide) (reader_values program reader wide) w x facts.rise writer-worth reader-worth (omega (arith, facts.common)) (omega (arith, writer-long)) (omega (arith, reader-long))
 
   before-second : (level j : ℕ) → level < d → j < level → IsPicked (order level) (less (x j) (w j) ∷ [])
   before-second level j there first =
@@ -181,7 +181,7 @@ module _ (program : AffineProgram) (read : ℕ) (facts : NestFacts program) (sam
 
     after-last : (after : ℕ) → after < d → IsPicked (since after) (below (w after) (t after) ∷ [])
     after-last after there =
-        order-last wide loops after (turn_before program loop) (writer_values program reader 0 wide) t w (turn-worth program loop) writer-worth (omega (arith, facts.common)) (omega (arith, turn-long)) (omega (arith, writer-long))
+        order-last wide loops after (turn_before program loop) (writer_values program reader 0 wide) t w facts.rise (turn-worth program loop) writer-worth (omega (arith, facts.common)) (omega (arith, turn-long)) (omega (arith, writer-long))
 
     after-second : (after j : ℕ) → after < d → j < after → IsPicked (since after) (less (w j) (t j) ∷ [])
     after-second after j there first =

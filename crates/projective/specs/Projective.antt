@@ -1,11 +1,11 @@
--- Projective programs: one statement in a nest of loops that run from 0 to below parameters, where each reference is a
--- coordinate projection of the loops. (The projective loop nests of Dinh and Demmel 2020.)
+-- Projective programs: one statement in a nest of loops that run upward from 0 to below parameters, where each reference
+-- is a coordinate projection of the loops. (The projective loop nests of Dinh and Demmel 2020.)
 use Rattle.std.specs.Prelude.{◌≡◌, ◌≢◌, ◌⊎◌, ⊤, ℕ, suc, ◌+◌, ◌<◌, ◌≤◌, ℤ, pos, negsuc, ◌≤ℤ◌, Bool, true, not, ◌==◌, List, [], ◌∷◌, length, map, Option, Some, None, slice_index_or}
 use Rattle.std.specs.List.{AllByRecursion, filter, find, list_any, range_with_len}
 use Rattle.std.specs.Ordering.{int_eq}
 use Rattle.iolb_model.specs.Form.{AffineForm}
-use Rattle.iolb_model.specs.Path.{PathStep, rises}
-use Rattle.iolb_model.specs.Program.{Access, Statement, Item, assign, loop, Row, done, next, AffineProgram, statement_at}
+use Rattle.iolb_model.specs.Path.{PathStep, bounded}
+use Rattle.iolb_model.specs.Program.{upward, downward, Access, Statement, Item, assign, loop, Row, done, next, AffineProgram, statement_at}
 use Rattle.affine_form.specs.Combination.{constant_form}
 use Rattle.affine_form.specs.Rows.{variable}
 use Rattle.affine_program.specs.Domain.{depth_of, path_of}
@@ -18,11 +18,12 @@ HoldsOfOne P (x ∷ xs) = P x ⊎ HoldsOfOne P xs
 
 -- ---- loops
 
--- The tree is a nest: each row holds one item, down to a statement.
+-- The tree is a nest: each row holds one item, down to a statement, and each loop runs upward.
 abbrev mutual
   pub IsNestItem : Item → Type 0
   IsNestItem (assign number) = ⊤
-  IsNestItem (loop name lower upper body) = IsNestRow body
+  IsNestItem (loop name upward lower upper body) = IsNestRow body
+  IsNestItem (loop name downward lower upper body) = ⊥
 
   pub IsNestRow : Row → Type 0
   IsNestRow done = ⊥
@@ -48,7 +49,7 @@ pub record RunsBelow (program : AffineProgram) (vars : ℕ) (bounds : AffineForm
 -- each loop on a way runs from 0 to below a parameter
 abbrev pub AllRun : AffineProgram → ℕ → List PathStep → Type 0
 AllRun program vars [] = ⊤
-AllRun program vars (rises lower upper ∷ path) = ((parameter : ℕ) × RunsBelow program vars (lower, upper) parameter) × AllRun program (suc vars) path
+AllRun program vars (bounded lower upper ∷ path) = ((parameter : ℕ) × RunsBelow program vars (lower, upper) parameter) × AllRun program (suc vars) path
 
 -- ---- references
 
@@ -81,8 +82,8 @@ coordinates params depth (Some access) = filter (λ place. stands_in (params + p
 
 -- ---- programs
 
--- The tree is a nest of at least one loop, and each loop on this way runs from 0 to below a parameter that is assumed to be
--- at least 1.
+-- The tree is a nest of at least one loop, each of which runs upward, and each loop on this way runs from 0 to below a
+-- parameter that is assumed to be at least 1.
 pub record AreProjectiveLoops (program : AffineProgram) (path : List PathStep) : Type 0 where
   pub some : 1 ≤ length path
   pub nest : IsNestRow program.tree
@@ -97,8 +98,8 @@ pub record AreProjections (params arrays depth : ℕ) (statement : Statement) : 
   pub standing : (place : ℕ) → place < depth → HoldsOfOne (λ (access : Access). stands_in (params + place) access ≡ true) statement.reads
   pub projections : AllByRecursion (IsProjection params depth) statement.reads
 
--- A projective program has one statement, in a nest of loops that run from 0 to below parameters, whose references are
--- projections of the loops.
+-- A projective program has one statement, in a nest of loops that run upward from 0 to below parameters, whose references
+-- are projections of the loops.
 pub record IsProjective (program : AffineProgram) : Type 0 where
   pub one : length program.statements ≡ 1
   pub loops : AreProjectiveLoops program (path_of program 0)

@@ -2,7 +2,7 @@
 -- level: Feautrier 1991; the levels of Allen and Kennedy 1987.)
 use Rattle.std.specs.Prelude.{ℕ, suc, ◌+◌, negsuc, nat_lt, Bool, ◌==◌, ◌||◌, if◌then◌else◌, List, [], ◌∷◌, length}
 use Rattle.iolb_model.specs.Form.{AffineForm}
-use Rattle.iolb_model.specs.Path.{PathStep, rises}
+use Rattle.iolb_model.specs.Path.{PathStep, bounded}
 use Rattle.iolb_model.specs.Program.{AffineProgram, statement_at}
 use Rattle.affine_form.specs.Rows.{widened, variable}
 use Rattle.affine_program.specs.Domain.{path_of, depth_of}
@@ -27,7 +27,7 @@ turn_value program loop place upper =
 -- the values of the loops on the rest of the way, whose first loop is at a place
 abbrev pub turn_values : AffineProgram → ℕ → ℕ → List PathStep → List AffineForm
 turn_values program loop place [] = []
-turn_values program loop place (rises lower upper ∷ path) = turn_value program loop place upper ∷ turn_values program loop (suc place) path
+turn_values program loop place (bounded lower upper ∷ path) = turn_value program loop place upper ∷ turn_values program loop (suc place) path
 
 -- the loop values of the last write of the reader's cell one turn of a loop before
 abbrev pub turn_before : AffineProgram → ℕ → List AffineForm

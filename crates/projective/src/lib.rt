@@ -1,5 +1,5 @@
-//! Projective programs: one statement in a nest of loops that run from 0 to below parameters, where each reference is a
-//! coordinate projection of the loops (Dinh and Demmel 2020).
+//! Projective programs: one statement in a nest of loops that run upward from 0 to below parameters, where each reference is
+//! a coordinate projection of the loops (Dinh and Demmel 2020).
 #![tactic(auto)]
 
 mod assumed;

@@ -1,4 +1,4 @@
-//! Whether loops run from 0 to below parameters.
+//! Whether loops are a nest in which each runs upward, from 0 to below a parameter.
 
 ghost use Rattle.std.specs.Prelude.{◌≡◌, ◌↔◌, ◌+◌, ◌<◌, ◌≤◌, ◌≤ℤ◌, negsuc, IsTrue, IfOk, ℕ, List, length, map};
 ghost use Rattle.iolb_model.specs.Form.{AffineForm};
@@ -13,18 +13,18 @@ use affine_form::{Form, Memory, variable};
 use affine_program::{Item, Program};
 use std::alloc::Global;
 
-/// Whether an item is a nest down to a statement.
+/// Whether an item is a nest down to a statement, each of whose loops runs upward.
 #[cycle(nest)]
 fn is_nest_item(item: &Item) -> bool
     ensures { IsTrue result ↔ IsNestItem (item_of item.now) }
 {
     match item {
-        Item::Loop { body, .. } => is_nest(body),
+        Item::Loop { down, body, .. } => !*down && is_nest(body),
         Item::Assign(_) => true,
     }
 }
 
-/// Whether a row of items is a nest down to a statement.
+/// Whether a row of items is a nest down to a statement, each of whose loops runs upward.
 #[cycle(nest)]
 pub(crate) fn is_nest(items: &[Item]) -> bool
     ensures { IsTrue result ↔ IsNestRow (row_of items.now) }

@@ -19,7 +19,7 @@ use std::alloc::Global;
 /// The most arrays of a projective program: as many as a partition term may have families.
 pub(crate) const MOST_ARRAYS: usize = 6;
 
-/// Whether a program is a nest of loops with these bounds, at least one, which run from 0 to below parameters.
+/// Whether a program is a nest of loops with these bounds, at least one, which run upward from 0 to below parameters.
 fn are_loops_projective(
     alloc: Global,
     program: &Program,
@@ -113,9 +113,9 @@ fn shape_of(
 }
 
 /// The loops of a projective program, and those that stand in each array's reference, and `None` exactly where the program
-/// isn't projective: one statement in a nest of at least one loop, each of which runs from 0 to below a parameter that some
-/// assumption says is at least 1; the reference that is written is also read; at most 6 arrays, each with one reference,
-/// whose subscripts are different loops; and each loop stands in a reference. Want of memory is the only error.
+/// isn't projective: one statement in a nest of at least one loop, each of which runs upward from 0 to below a parameter
+/// that some assumption says is at least 1; the reference that is written is also read; at most 6 arrays, each with one
+/// reference, whose subscripts are different loops; and each loop stands in a reference. Want of memory is the only error.
 pub fn as_projective(alloc: Global, program: &Program) -> Result<Option<Projective>, Memory>
     ensures { IfOk result (λ found. MatchOption found (¬ IsProjective (meaning program.now)) (λ shape. IsProjective (meaning program.now) × IsShapeOf (meaning program.now) shape)) }
 {

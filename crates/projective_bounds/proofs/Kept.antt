@@ -5,7 +5,7 @@ use Rattle.std.specs.List.{AllByRecursion, range_with_len}
 use Rattle.std.proofs.lemmas.Bool.{eq-eqb, eqb-true}
 use Rattle.base_laws.proofs.Lists.{All-weaken}
 use Rattle.iolb_model.specs.Form.{AffineForm}
-use Rattle.iolb_model.specs.Path.{PathStep, rises}
+use Rattle.iolb_model.specs.Path.{PathStep, bounded}
 use Rattle.iolb_model.specs.Program.{Access, AffineProgram, read_at, statement_at}
 use Rattle.affine_form.specs.Form.{variables}
 use Rattle.affine_form.specs.Rows.{IsSmallOver, widened}
@@ -30,10 +30,10 @@ use Rattle.projective_bounds.specs.KeptLaws.{SourceTreesKeepLoops}
 
 turn-at : (program : AffineProgram) (loop place k : ℕ) (path : List PathStep) → k < length path → (upper : AffineForm) × (get_or (turn_values program loop place path) k none ≡ turn_value program loop (place + k) upper)
 turn-at program loop place k [] below = absurd (omega arith)
-turn-at program loop place zero (rises lower upper ∷ path) below = (upper, ap (λ (n : ℕ). turn_value program loop n upper) (back place)) where
+turn-at program loop place zero (bounded lower upper ∷ path) below = (upper, ap (λ (n : ℕ). turn_value program loop n upper) (back place)) where
   back : (n : ℕ) → n ≡ n + 0
   back n = omega arith
-turn-at program loop place (suc k) (rises lower upper ∷ path) below =
+turn-at program loop place (suc k) (bounded lower upper ∷ path) below =
     let there = turn-at program loop (suc place) k path (omega arith) in (there.0, there.1 ∙ ap (λ (n : ℕ). turn_value program loop n there.0) (moved place k)) where
       moved : (m n : ℕ) → suc m + n ≡ m + suc n
       moved m n = omega arith

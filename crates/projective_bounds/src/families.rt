@@ -4,7 +4,7 @@ ghost use Rattle.std.specs.Prelude.{◌≡◌, ◌≤◌, ◌<◌, ◌+◌, IfOk
 ghost use Rattle.std.specs.List.{AllByRecursion};
 ghost use Rattle.affine_program.specs.Domain.{depth_of};
 ghost use Rattle.affine_program.specs.Parts.{access_of, meaning};
-ghost use Rattle.reuse_paths.specs.Families.{family_of, forms_of, node_of};
+ghost use Rattle.reuse_paths.specs.Families.{boxed_node, family_of, forms_of};
 ghost use Rattle.dep_quast.specs.Quasts.{trees_of};
 ghost use Rattle.reuse_paths.specs.Walks.{tree_of_walk};
 ghost use Rattle.projective_bounds.specs.Families.{array_families, array_family, array_inputs, array_node, array_read, array_subscripts, array_walk, cell_label, first_to, loops_label};
@@ -81,20 +81,22 @@ fn node(
     quasts: &Quasts,
     array: u16,
     set: &CoordSet,
-) -> Result<Option<FamilyNode>, Memory>
+) -> Result<Option<Box<FamilyNode>>, Memory>
     requires there { 0 < length program.now.statements }
     requires readable { IsReadable (meaning program.now) array set.now }
-    ensures { IfOk result (λ found. option_map node_of found ≡ array_node (meaning program.now) (trees_of quasts.now) array set.now) }
+    ensures { IfOk result (λ found. option_map boxed_node found ≡ array_node (meaning program.now) (trees_of quasts.now) array set.now) }
 {
     if written(program, 0).array != array {
         return Ok(None);
     }
     let tree = array_walk(alloc, program, quasts, array, set.coords().len())?;
+    let tree = Box::new(alloc, tree)?;
     let rows = Vec::new(alloc);
-    Ok(Some(FamilyNode {
+    let node = FamilyNode {
         label: label(alloc, program, set)?,
         region: Some(Region { rows, tree }),
-    }))
+    };
+    Ok(Some(Box::new(alloc, node)?))
 }
 
 /// The label of the cells of an array.

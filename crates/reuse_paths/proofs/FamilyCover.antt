@@ -29,7 +29,6 @@ use Rattle.dep_quast.specs.Truth.{ReadFits, source_at}
 use Rattle.domain_count.specs.Points.{points}
 use Rattle.footprint_pieces.specs.declared.piece.Target.{Target}
 use Rattle.footprint_pieces.specs.declared.piece.Target.TheVariants.{Cell, Instance as InstanceOf}
-use Rattle.affine_form.specs.Matrix.{IntegerMatrix}
 use Rattle.reuse_paths.specs.EntryClaims.{keeping_claims}
 use Rattle.reuse_paths.specs.Families.{CreditedNest, FamilyForms, node_label, node_region}
 use Rattle.reuse_paths.specs.FamilyClaims.{family_setting, node_walk, start_rows, start_tree}

@@ -8,13 +8,13 @@ use Rattle.std.proofs.lemmas.Bool.{ne_eqb}
 use Rattle.std.proofs.lemmas.List.{append_assoc, append-nil, length-map}
 use Rattle.base_laws.proofs.Lists.{All-append, All-weaken, All-map, All-every, All-flat_map}
 use Rattle.iolb_model.specs.Form.{AffineForm, form_value}
-use Rattle.iolb_model.specs.Program.{AffineProgram, IsWellFormed}
+use Rattle.iolb_model.specs.Program.{upward, AffineProgram, IsWellFormed}
 use Rattle.iolb_model.specs.Bound.{IsAdmitted}
 use Rattle.iolb_model.specs.Execution.{natural, range}
 use Rattle.iolb_model.specs.Domain.{IsWithin}
 use Rattle.execution_laws.proofs.Ordered.{All-from}
 use Rattle.execution_laws.proofs.Members.{Member, Member-map, Member-flat_map}
-use Rattle.execution_laws.proofs.Ranges.{range-has, range-within}
+use Rattle.execution_laws.proofs.Ranges.{values-has, values-within}
 use Rattle.execution_laws.proofs.Different.{Differ, Differ-append, Differ-map, Differ-rising, same_head, same_tail}
 use Rattle.affine_form.specs.Substitution.{values_at}
 use Rattle.affine_form.specs.System.{IsMet}
@@ -32,7 +32,7 @@ points-within (bounds ∷ nest) before =
     let inside : List ℤ → Type 0 = λ u. IsWithin (map step_of (bounds ∷ nest)) before u in
     All-flat_map inside (λ (v : ℤ). map (λ (u : List ℤ). v ∷ u) (points nest (before ++ v ∷ []))) (range lower upper)
     (All-from (λ (v : ℤ). AllByRecursion inside (map (λ (u : List ℤ). v ∷ u) (points nest (before ++ v ∷ [])))) (range lower upper) (λ v m.
-    let there : (lower ≤ℤ v) × (v ≤ℤ upper) = range-within lower upper v m in
+    let there : (lower ≤ℤ v) × (v ≤ℤ upper) = values-within upward lower upper v m in
     All-map inside (λ (u : List ℤ). v ∷ u) (points nest (before ++ v ∷ []))
     (All-weaken (λ (u : List ℤ). IsWithin (map step_of nest) (before ++ v ∷ []) u) (λ (u : List ℤ). inside (v ∷ u)) (points nest (before ++ v ∷ [])) (λ u h. (there.0, there.1, h)) (points-within nest (before ++ v ∷ [])))))
 
@@ -44,7 +44,7 @@ points-all (bounds ∷ nest) before [] h = absurd h
 points-all (bounds ∷ nest) before (v ∷ u) h =
     let lower : ℤ = form_value bounds.0 before in
     let upper : ℤ = form_value bounds.1 before in
-    Member-flat_map (λ (w : ℤ). map (λ (p : List ℤ). w ∷ p) (points nest (before ++ w ∷ []))) v (range lower upper) (v ∷ u) (range-has lower upper v h.0 h.1)
+    Member-flat_map (λ (w : ℤ). map (λ (p : List ℤ). w ∷ p) (points nest (before ++ w ∷ []))) v (range lower upper) (v ∷ u) (values-has upward lower upper v h.0 h.1)
     (Member-map (λ (p : List ℤ). v ∷ p) u (points nest (before ++ v ∷ [])) (points-all nest (before ++ v ∷ []) u h.2))
 
 -- they have a value for each variable

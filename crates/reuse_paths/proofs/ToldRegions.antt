@@ -1,30 +1,31 @@
 -- The pieces of regions, region by region.
 use Rattle.std.proofs.Common.{◌≡◌, sym, ◌∙◌, ap, subst, ℕ, zero, suc, ◌+◌, ◌<◌, ◌≤◌, List, [], ◌∷◌, ◌++◌, length, get_or, map, drop, append_assoc, arith}
-use Rattle.std.specs.Prelude.{Option, option_map}
+use Rattle.std.specs.Global.{Global}
+use Rattle.std.specs.Prelude.{Box, Option, option_map}
 use Rattle.std.specs.List.{AllByRecursion}
 use Rattle.std.proofs.lemmas.List.{append-nil, drop_all, get_or-map, length-map}
 use Rattle.std.proofs.Math.Nat.{add-zero}
 use Rattle.base_laws.proofs.Lists.{rest_at, add-one, All-append}
 use Rattle.claims.proofs.Members.{suc-moved}
 use Rattle.reuse_paths.specs.declared.family.FamilyNode.{FamilyNode}
-use Rattle.reuse_paths.specs.Families.{node_of, node_region}
+use Rattle.reuse_paths.specs.Families.{boxed_node, node_region}
 use Rattle.reuse_paths.specs.FamilyPieces.{region_pieces, regions_pieces}
 use Rattle.reuse_paths.specs.FewContexts.{RegionTakesFit, RegionsTakeFit}
 use Rattle.footprint_pieces.specs.Pieces.{FootprintPiece, PieceFits}
 use Rattle.reuse_paths.specs.WalkSettings.{WalkSetting}
 use Rattle.reuse_paths.specs.Walks.{WalkRegion}
 
-abbrev pub region_in : Option FamilyNode → Option WalkRegion
-region_in node = node_region (option_map node_of node)
+abbrev pub region_in : Option (Box FamilyNode Global) → Option WalkRegion
+region_in node = node_region (option_map boxed_node node)
 
 -- the region of a node that the code holds, in the list of the setting
-pub region-at : (held : List (Option FamilyNode)) (regions : List (Option WalkRegion)) (i : ℕ) (d : Option FamilyNode) → regions ≡ map node_region (map (option_map node_of) held) → i < length held
+pub region-at : (held : List (Option (Box FamilyNode Global))) (regions : List (Option WalkRegion)) (i : ℕ) (d : Option (Box FamilyNode Global)) → regions ≡ map node_region (map (option_map boxed_node) held) → i < length held
     → d ≡ get_or held i d → (i < length regions) × (region_in d ≡ get_or regions i (region_in d))
 region-at held regions i d e below is =
     subst (λ (rs : List (Option WalkRegion)). (i < length rs) × (region_in d ≡ get_or rs i (region_in d))) (sym e) (
-      omega (arith, below, length-map held (option_map node_of), length-map (map (option_map node_of) held) node_region),
-      ap region_in is ∙ sym (get_or-map node_region (map (option_map node_of) held) i (option_map node_of d) (region_in d) (omega (arith, below, length-map held (option_map node_of)))
-          ∙ ap node_region (get_or-map (option_map node_of) held i d (option_map node_of d) below)),
+      omega (arith, below, length-map held (option_map boxed_node), length-map (map (option_map boxed_node) held) node_region),
+      ap region_in is ∙ sym (get_or-map node_region (map (option_map boxed_node) held) i (option_map boxed_node d) (region_in d) (omega (arith, below, length-map held (option_map boxed_node)))
+          ∙ ap node_region (get_or-map (option_map boxed_node) held i d (option_map boxed_node d) below)),
     )
 
 -- what the region of a statement takes is there

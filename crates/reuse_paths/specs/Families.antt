@@ -1,7 +1,8 @@
 -- Families of walks, as plain values: walks back along the sources of reads whose words all have the label of their start.
 -- (Reuse paths, as in Olivry et al. 2020; labels in place of paths.)
-use Rattle.std.specs.Prelude.{ℕ, List, map, Option, None, option_map, option_and_then, slice_index_or, Vec}
+use Rattle.std.specs.Prelude.{ℕ, List, map, Option, None, option_map, option_and_then, slice_index_or, Vec, Box}
 use Rattle.std.specs.Global.{Global}
+use Rattle.std.specs.Box.{box_value}
 use Rattle.iolb_model.specs.Form.{AffineForm}
 use Rattle.reuse_paths.specs.Walks.{WalkTree, tree_of_walk, WalkRegion, region_of}
 use Rattle.reuse_paths.specs.declared.family.Credit.{Credit}
@@ -51,6 +52,10 @@ credit_of credit = record { statement = credit.statement; nest = credit.nest }
 abbrev pub node_of : FamilyNode → NodeForms
 node_of node = record { label = node.label.items; region = option_map region_of node.region }
 
+-- a node in its box
+abbrev pub boxed_node : Box FamilyNode Global → NodeForms
+boxed_node node = node_of (box_value node)
+
 abbrev pub forms_of : Vec AffineForm Global → List AffineForm
 forms_of forms = forms.items
 
@@ -61,6 +66,6 @@ family_of family = record {
   weight = family.weight;
   start_label = family.start_label.items;
   start = tree_of_walk family.start;
-  nodes = map (option_map node_of) family.nodes.items;
+  nodes = map (option_map boxed_node) family.nodes.items;
   inputs = map (option_map forms_of) family.inputs.items;
 }

@@ -1,5 +1,5 @@
 -- What makes a reach fit a program.
-use Rattle.std.specs.Prelude.{◌≡◌, ◌*◌, List, length}
+use Rattle.std.specs.Prelude.{◌≡◌, List, length}
 use Rattle.iolb_model.specs.Form.{AffineForm}
 use Rattle.iolb_model.specs.Program.{AffineProgram}
 use Rattle.affine_program.specs.Domain.{domain_size}

@@ -36,7 +36,7 @@ pub struct Family {
     pub weight: u8,
     pub start_label: Vec<Form>,
     pub start: Walk,
-    pub nodes: Vec<Option<FamilyNode>>,
+    pub nodes: Vec<Option<Box<FamilyNode>>>,
     pub inputs: Vec<Option<Vec<Form>>>,
 }
 

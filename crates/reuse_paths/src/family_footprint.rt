@@ -8,7 +8,7 @@ ghost use Rattle.affine_program.specs.Domain.{depth_of};
 ghost use Rattle.affine_program.specs.Parts.{meaning};
 ghost use Rattle.claims.specs.Claims.{AllHold, IsRefusal, numbered};
 ghost use Rattle.claims.specs.declared.place.Step.TheVariants.{Key};
-ghost use Rattle.reuse_paths.specs.Families.{family_of, node_of, node_region};
+ghost use Rattle.reuse_paths.specs.Families.{boxed_node, family_of, node_region};
 ghost use Rattle.reuse_paths.specs.FamilyClaims.{start_rows as rows_of_start};
 ghost use Rattle.reuse_paths.specs.FamilyPieces.{family_pieces, region_pieces, regions_pieces};
 ghost use Rattle.reuse_paths.specs.FewContexts.{few_contexts, few_region, few_walk, FitsSome, ReadersFit, RegionTakesFit, RegionsTakeFit, TakesFit};
@@ -146,15 +146,15 @@ fn push_region(
     walking: &Walking,
     list: &Place,
     statement: u16,
-    node: &Option<FamilyNode>,
+    node: &Option<Box<FamilyNode>>,
 ) -> Result<(), Refused>
     requires flat { length (walk_of walking.now).nest ≡ 0 }
     requires readers { ReadersFit (walk_of walking.now) statement }
-    requires takes { RegionTakesFit (walk_of walking.now) statement (node_region (option_map node_of node.now)) }
-    ensures pieces { OnOk result (pieces_of pieces.new ≡ pieces_of pieces.old ++ region_pieces (walk_of walking.now) statement (node_region (option_map node_of node.now))) }
-    ensures fit { OnOk result (AllByRecursion (PieceFits (walk_of walking.now).program) (region_pieces (walk_of walking.now) statement (node_region (option_map node_of node.now)))) }
-    ensures few { OnOk result (AllHold (few_region (walk_of walking.now) list.now statement (node_region (option_map node_of node.now)))) }
-    ensures refused { IfErr result (IsRefusal (few_region (walk_of walking.now) list.now statement (node_region (option_map node_of node.now)))) }
+    requires takes { RegionTakesFit (walk_of walking.now) statement (node_region (option_map boxed_node node.now)) }
+    ensures pieces { OnOk result (pieces_of pieces.new ≡ pieces_of pieces.old ++ region_pieces (walk_of walking.now) statement (node_region (option_map boxed_node node.now))) }
+    ensures fit { OnOk result (AllByRecursion (PieceFits (walk_of walking.now).program) (region_pieces (walk_of walking.now) statement (node_region (option_map boxed_node node.now)))) }
+    ensures few { OnOk result (AllHold (few_region (walk_of walking.now) list.now statement (node_region (option_map boxed_node node.now)))) }
+    ensures refused { IfErr result (IsRefusal (few_region (walk_of walking.now) list.now statement (node_region (option_map boxed_node node.now)))) }
 {
     let _params = walking.program.params();
     let Some(node) = node else {
@@ -184,10 +184,10 @@ fn push_regions(
     pieces: &mut Vec<Piece>,
     walking: &Walking,
     list: &Place,
-    nodes: &[Option<FamilyNode>],
+    nodes: &[Option<Box<FamilyNode>>],
 ) -> Result<(), Refused>
     requires flat { length (walk_of walking.now).nest ≡ 0 }
-    requires nodes { (walk_of walking.now).nodes ≡ map node_region (map (option_map node_of) nodes.now) }
+    requires nodes { (walk_of walking.now).nodes ≡ map node_region (map (option_map boxed_node) nodes.now) }
     requires setting { SettingFits (walk_of walking.now) }
     requires take { RegionsTakeFit (walk_of walking.now) 0 (walk_of walking.now).nodes }
     ensures pieces { OnOk result (pieces_of pieces.new ≡ pieces_of pieces.old ++ regions_pieces (walk_of walking.now) 0 (walk_of walking.now).nodes) }

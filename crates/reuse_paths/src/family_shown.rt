@@ -10,7 +10,7 @@ ghost use Rattle.affine_program.specs.Domain.{depth_of};
 ghost use Rattle.affine_program.specs.Parts.{meaning};
 ghost use Rattle.claims.specs.Claims.{AllHold, Decides, IsRefusal, numbered};
 ghost use Rattle.claims.specs.declared.place.Step.TheVariants.{Key};
-ghost use Rattle.reuse_paths.specs.Families.{credit_of, family_of, node_of, NodeForms};
+ghost use Rattle.reuse_paths.specs.Families.{boxed_node, credit_of, family_of, NodeForms};
 ghost use Rattle.reuse_paths.specs.FamilyClaims.{family_claims, family_setting, label_rows, node_walk, region_walk, start_rows, start_walk, IsScaledRow};
 ghost use Rattle.reuse_paths.specs.FamilyFits.{CountedFits, FamilyFits, NodeFits, NodesFit};
 ghost use Rattle.dep_quast.specs.Quasts.{trees_of};
@@ -233,13 +233,13 @@ fn node_shown(
     family: &Family,
     list: &Place,
     statement: u16,
-    node: &Option<FamilyNode>,
+    node: &Option<Box<FamilyNode>>,
 ) -> Result<(), Refused>
     requires none { none.now ≡ [] }
-    requires fits { (here : NodeForms) → option_map node_of node.now ≡ Some here
+    requires fits { (here : NodeForms) → option_map boxed_node node.now ≡ Some here
         → ReadingFits (family_setting (meaning program.now) (trees_of quasts.now) (map credit_of credits.now) (family_of family.now) here.label) statement }
-    requires region_fits { NodeFits (meaning program.now) (trees_of quasts.now) (map credit_of credits.now) (family_of family.now) statement (option_map node_of node.now) }
-    ensures { Decides (node_walk (meaning program.now) (trees_of quasts.now) (map credit_of credits.now) (family_of family.now) list.now statement (option_map node_of node.now)) result }
+    requires region_fits { NodeFits (meaning program.now) (trees_of quasts.now) (map credit_of credits.now) (family_of family.now) statement (option_map boxed_node node.now) }
+    ensures { Decides (node_walk (meaning program.now) (trees_of quasts.now) (map credit_of credits.now) (family_of family.now) list.now statement (option_map boxed_node node.now)) result }
 {
     let Some(node) = node else {
         return Ok(());

@@ -1,9 +1,9 @@
 -- Instances that are loaded were stored, and last writers: between a board without a blue pebble and one with it, or a load,
 -- stands a store.
-use Rattle.std.proofs.Common.{◌≡◌, refl, sym, ◌∙◌, ap, subst, ℕ, zero, suc, ◌<◌, ◌≢◌, Bool, true, false, List, [], ◌∷◌, set, replicate, arith}
+use Rattle.std.proofs.Common.{◌≡◌, refl, sym, ◌∙◌, ap, subst, ℕ, ◌<◌, Bool, true, false, List, [], ◌∷◌, set, replicate, arith}
 use Rattle.std.specs.Prelude.{nat_eq, ◌||◌}
 use Rattle.std.proofs.lemmas.Bool.{eqb-false, eqb-true}
-use Rattle.std.proofs.lemmas.List.{get_or-set_other, get_or_append_left}
+use Rattle.std.proofs.lemmas.List.{get_or_append_left}
 use Rattle.std.proofs.lemmas.List.{length-replicate}
 use Rattle.base_laws.proofs.Lists.{All-weaken}
 use Rattle.iolb_model.specs.declared.game.Move.{Move}
@@ -11,22 +11,10 @@ use Rattle.iolb_model.specs.declared.game.Move.TheVariants.{Load, Store, Compute
 use Rattle.iolb_model.specs.Graph.{ComputationGraph}
 use Rattle.iolb_model.specs.Game.{AreAllowed, Board, board_after, final_board, first_board, is_store, marked}
 use Rattle.pebble_game.specs.Loaded.{is_loaded}
-use Rattle.pebble_game.proofs.Loaded.{or_true}
+use Rattle.pebble_game.proofs.Loaded.{marked_other, or_true, unmarked}
 use Rattle.pebble_game.proofs.Marks.{unmarked-at}
 use Rattle.store_laws.specs.Stored.{IsLastWriter, LastWritersAreStored, LastWritersAreStores, LoadedInstancesAreStored, LoadedInstancesAreStores, is_stored}
 use Rattle.store_laws.proofs.MovesTaken.{all-pass, different_are_taken, more-pass}
-
--- another vertex's mark stays
-marked-other : (marks : List Bool) (v w : ℕ) (b : Bool) → v ≢ w → marked (set marks w b) v ≡ marked marks v
-marked-other marks v w b apart = get_or-set_other marks w v b false apart
-
--- a vertex without a mark has none after one is taken off
-unmarked : (marks : List Bool) (v w : ℕ) → marked marks v ≡ false → marked (set marks w false) v ≡ false
-unmarked [] v w h = refl
-unmarked (m ∷ marks) (suc v) zero h = h
-unmarked (m ∷ marks) zero zero h = refl
-unmarked (m ∷ marks) zero (suc w) h = h
-unmarked (m ∷ marks) (suc v) (suc w) h = unmarked marks v w h
 
 module _ (graph : ComputationGraph) (s v : ℕ) where
   -- a vertex that isn't blue is stored before it is loaded
@@ -43,7 +31,7 @@ module _ (graph : ComputationGraph) (s v : ℕ) where
         later false b never e = e
   stored-then-loaded board (Store w ∷ moves) allowed plain h =
       or_true (nat_eq v w) (is_stored v moves) (λ apart. stored-then-loaded (board_after board (Store w)) moves allowed.1
-      (marked-other board.blue v w true (eqb-false v w apart) ∙ plain) h)
+      (marked_other board.blue v w true (eqb-false v w apart) ∙ plain) h)
   stored-then-loaded board (Compute w ∷ moves) allowed plain h = stored-then-loaded (board_after board (Compute w)) moves allowed.1 plain h
   stored-then-loaded board (Drop w ∷ moves) allowed plain h = stored-then-loaded (board_after board (Drop w)) moves allowed.1 plain h
   stored-then-loaded board (Erase w ∷ moves) allowed plain h = stored-then-loaded (board_after board (Erase w)) moves allowed.1 (unmarked board.blue v w plain) h
@@ -54,7 +42,7 @@ module _ (graph : ComputationGraph) (s v : ℕ) where
   stored-then-blue board (Load w ∷ moves) plain h = stored-then-blue (board_after board (Load w)) moves plain h
   stored-then-blue board (Store w ∷ moves) plain h =
       or_true (nat_eq v w) (is_stored v moves) (λ apart. stored-then-blue (board_after board (Store w)) moves
-      (marked-other board.blue v w true (eqb-false v w apart) ∙ plain) h)
+      (marked_other board.blue v w true (eqb-false v w apart) ∙ plain) h)
   stored-then-blue board (Compute w ∷ moves) plain h = stored-then-blue (board_after board (Compute w)) moves plain h
   stored-then-blue board (Drop w ∷ moves) plain h = stored-then-blue (board_after board (Drop w)) moves plain h
   stored-then-blue board (Erase w ∷ moves) plain h = stored-then-blue (board_after board (Erase w)) moves (unmarked board.blue v w plain) h

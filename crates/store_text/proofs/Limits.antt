@@ -7,7 +7,8 @@ use Rattle.certificate_parts.specs.Polynomials.{all_read_small}
 use Rattle.store_terms.specs.Claims.{OutputClaim, claim_of_output, claim_of_stores}
 use Rattle.store_terms.specs.Limits.{IsSmallOutput, IsWithinLimits, StoresParts}
 use Rattle.store_terms.specs.declared.output.Output.{Output}
-use Rattle.store_text.specs.Outputs.{OutputMembers, WrittenOutput, inverse_shape, output_fields, output_shape}
+use Rattle.certificate_parts.specs.Inverses.{inverse_shape}
+use Rattle.store_text.specs.Outputs.{OutputMembers, WrittenOutput, output_fields, output_shape}
 use Rattle.store_text.specs.Read.{IsOutput, IsStores}
 use Rattle.store_text.specs.Stores.{WrittenStores, stores_shape}
 use Rattle.certificate_parts.proofs.Related.{all_related, as_many}

@@ -2,32 +2,15 @@
 use Rattle.std.specs.Prelude.{ℕ, List, codes, refl}
 use Rattle.iolb_model.specs.Form.{AffineForm}
 use Rattle.iolb_model.specs.Polynomial.{Polynomial}
-use Rattle.iolb_model.specs.declared.limits.TheConstants.{SCALE}
 use Rattle.affine_form.specs.Matrix.{IntegerMatrix}
 use Rattle.affine_form.specs.Multipliers.{FarkasMultipliers}
 use Rattle.json_parts.specs.Fields.{Fields, no_fields, field, record_shape}
 use Rattle.json_parts.specs.Shape.{Shape, natural_shape, list_shape}
 use Rattle.certificate_parts.specs.Forms.{forms_shape}
-use Rattle.certificate_parts.specs.Matrices.{matrix_shape}
+use Rattle.certificate_parts.specs.Inverses.{inverse_shape}
 use Rattle.certificate_parts.specs.Multipliers.{all_multipliers_shape}
 use Rattle.certificate_parts.specs.Nests.{nest_shape}
 use Rattle.certificate_parts.specs.Polynomials.{polynomial_shape}
-
--- ---- a matrix and its scale, at least 1 and at most what a scale may be
-
-abbrev pub InverseMembers : Type 0
-InverseMembers = IntegerMatrix × (ℕ × Unit {0})
-
-abbrev pub inverse_fields : Fields InverseMembers
-inverse_fields = field (codes "matrix") matrix_shape (field (codes "scale") (natural_shape 1 SCALE) no_fields)
-
-abbrev pub inverse_made : InverseMembers → IntegerMatrix × ℕ
-inverse_made b = (b.0, b.1.0)
-
-unfoldable pub inverse_shape : Shape (IntegerMatrix × ℕ)
-inverse_shape = record_shape inverse_fields inverse_made (λ inverse. (inverse.0, (inverse.1, tt))) (λ b. refl)
-
--- ---- outputs
 
 -- what an output claims, its polynomials as they are written
 pub record WrittenOutput : Type 0 where

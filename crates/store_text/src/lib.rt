@@ -24,7 +24,6 @@ macro_rules! put_list {
     };
 }
 
-mod inverses;
 mod law;
 mod outputs;
 mod reading;

@@ -6,9 +6,8 @@ ghost use Rattle.store_terms.specs.Limits.{IsSmallOutput};
 ghost use Rattle.store_text.specs.Outputs.{WrittenOutput, output_shape};
 ghost use Rattle.store_text.specs.Read.{IsOutput, written_output};
 
-use crate::inverses::OfInverse;
 use affine_form::Memory;
-use certificate_parts::{OfForm, OfMultipliers, OfNest, OfPolynomial};
+use certificate_parts::{OfForm, OfInverse, OfMultipliers, OfNest, OfPolynomial};
 use domain_count::Sums;
 use json_parts::{Any16, CertError, End, ListOf, Part, Put, PutList, read_object, write_object};
 use json_values::Json;

@@ -233,7 +233,10 @@ fn region(alloc: Global, way: Way, step: &Step) -> Result<Option<Region>, Memory
         }
     };
     match tree {
-        Some(tree) => Ok(Some(Region { rows: forms, tree })),
+        Some(tree) => Ok(Some(Region {
+            rows: forms,
+            tree: Box::new(alloc, tree)?,
+        })),
         None => Ok(None),
     }
 }

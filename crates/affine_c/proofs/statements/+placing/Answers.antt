@@ -7,7 +7,7 @@ use Rattle.affine_program.specs.declared.statement.Statement.{Statement}
 use Rattle.c_reading.specs.Tree as read
 use Rattle.c_grammar.specs.Well.{IsStatementIn, IsItemIn}
 use Rattle.c_grammar.specs.Program.{statements_in_item}
-use Rattle.affine_c.specs.Built.{AreRowsOver, StandsIn}
+use Rattle.affine_c.specs.Built.{AreRowsOver, StandsIn, RunsIn}
 use Rattle.affine_c.proofs.Made.{rows_there, placed_more, item_of-Assign}
 use Rattle.affine_c.proofs.statements.+placing.Goals as goal
 
@@ -28,4 +28,5 @@ pub place_item-returns-in_ok-push-in-Assign-clause-placed : goal.place_item-retu
 place_item-returns-in_ok-push-in-Assign-clause-placed t c =
     let made = c.in_ok-statement_at-in-Assign.field-0 in
     placed_more (row_of c.args.tree.now) c.args.statements.now.items c.push.new.self.items made c.requires.placed c.in_ok-push-in-Assign.ensures.items
-    (subst (λ (n : ℕ). StandsIn (row_of c.args.tree.now) (n, made)) (ap (λ (xs : List Statement). length xs) c.as_slice.ensures.value) c.in_ok-statement_at-in-Assign.ensures.bounds) c.in_ok-statement_at-in-Assign.ensures.limits
+    (subst (λ (n : ℕ). StandsIn (row_of c.args.tree.now) (n, made)) (ap (λ (xs : List Statement). length xs) c.as_slice.ensures.value) c.in_ok-statement_at-in-Assign.ensures.bounds)
+    (subst (λ (n : ℕ). RunsIn (row_of c.args.tree.now) (n, made)) (ap (λ (xs : List Statement). length xs) c.as_slice.ensures.value) c.in_ok-statement_at-in-Assign.ensures.directions) c.in_ok-statement_at-in-Assign.ensures.limits

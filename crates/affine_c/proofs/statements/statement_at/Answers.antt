@@ -10,9 +10,9 @@ use Rattle.affine_c.proofs.statements.statement_at.Goals as goal
 
 pub returns-clause-limits : goal.returns-clause-limits
 returns-clause-limits c =
-    let way : Some (map step_of c.in-Some.bounds.items) ≡ row_path (row_of c.args.tree.now) c.args.number =
-    sym (ap (option_map (λ bounds. map step_of bounds.items)) c.in-Some.is) ∙ c.in_ok-bounds.ensures in
-    let short = short_bounds c.in-Some.bounds.items (row_path (row_of c.args.tree.now) c.args.number) way c.requires.short in
+    let path : Some (map step_of c.in-Some.way.bounds.items) ≡ row_path (row_of c.args.tree.now) c.args.number =
+    sym (ap (option_map (λ way. map step_of way.bounds.items)) c.in-Some.is) ∙ c.in_ok-way.ensures.bounds in
+    let short = short_bounds c.in-Some.way.bounds.items (row_path (row_of c.args.tree.now) c.args.number) path c.requires.short in
     let many = same_length access_of (narrowed_access c.args.parameters c.args.depth) c.in_ok-reads.reads.items c.reads.result.now c.in_ok-reads.ensures.references in
     record {
       depth = short.0;

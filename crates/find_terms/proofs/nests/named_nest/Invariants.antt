@@ -8,7 +8,7 @@ use Rattle.find_terms.proofs.nests.named_nest.Given as goal
 
 abbrev pub invariant-loop-level : goal.invariant-loop-level
 invariant-loop-level l = record {
-  along : nest_along (meaning l.program) l.loops l.level (drop l.level (path_of (meaning l.program) l.reader.statement)) (so_far l.far)
+  along : nest_along (meaning l.program) l.reader.statement l.loops l.level (drop l.level (path_of (meaning l.program) l.reader.statement)) (so_far l.far)
       ≡ named_nest (meaning l.program) (read_of l.reader) l.loops;
   fits : FarFits (meaning l.program) l.level (so_far l.far);
 }

@@ -21,9 +21,9 @@ returns-then-not-is_small_form c =
     let level : ℕ = c.loop-level.level in
     let values : List AffineForm = c.loop-level.values.items in
     let value = c.in_ok-value.value in
-    let is_value = c.in_ok-value.ensures.value ∙ ap (λ (vs : List AffineForm). loop_value program reader c.args.writer c.bounds_at.result.now.1 vs) c.as_slice.ensures.value in
+    let is_value = c.in_ok-value.ensures.value ∙ ap (λ (vs : List AffineForm). loop_value program reader c.args.writer c.last_bound-bound.result.now vs) c.as_slice.ensures.value in
     let below : level < length path = omega (arith, c.loop-level-test.true, c.depth-level-end.ensures.depth) in
-    let next = along-next program reader c.args.writer path level c.bounds_at.result.now values (values ++ value ∷ []) value below c.bounds_at.ensures.step is_value refl in
+    let next = along-next program reader c.args.writer path level c.last_bound-bound.result.now values (values ++ value ∷ []) value below c.loop-level.invariant.count c.last_bound-bound.ensures.bound is_value refl in
     λ all. not-both c.is_small_form.result c.if-not-is_small_form.true
     (c.is_small_form.ensures.1 (along-last program reader c.args.writer (IsSmallOver (variables_at program reader)) (drop (level + 1) path) values value
     (subst (AllByRecursion (IsSmallOver (variables_at program reader))) (sym c.loop-level.invariant.along ∙ next) all)).small)
@@ -36,9 +36,9 @@ loop-level-preserved c =
     let level : ℕ = c.loop-level.level in
     let values : List AffineForm = c.loop-level.values.items in
     let value = c.in_ok-value.value in
-    let is_value = c.in_ok-value.ensures.value ∙ ap (λ (vs : List AffineForm). loop_value program reader c.args.writer c.bounds_at.result.now.1 vs) c.as_slice.ensures.value in
+    let is_value = c.in_ok-value.ensures.value ∙ ap (λ (vs : List AffineForm). loop_value program reader c.args.writer c.last_bound-bound.result.now vs) c.as_slice.ensures.value in
     let below : level < length path = omega (arith, c.loop-level-test.true, c.depth-level-end.ensures.depth) in
-    let next = along-next program reader c.args.writer path level c.bounds_at.result.now values c.push.new.self.items value below c.bounds_at.ensures.step is_value c.in_ok-push.ensures.items in
+    let next = along-next program reader c.args.writer path level c.last_bound-bound.result.now values c.push.new.self.items value below c.loop-level.invariant.count c.last_bound-bound.ensures.bound is_value c.in_ok-push.ensures.items in
     let small : IsSmallOver (variables_at program reader) value = record { over = c.in_ok-value.ensures.over; small = c.is_small_form.ensures.0 c.if-not-is_small_form.false } in
     record {
       along = sym next ∙ c.loop-level.invariant.along;

@@ -1,18 +1,21 @@
-use Rattle.std.proofs.Common.{◌≡◌, refl, sym, ap, ◌∙◌, subst, ◌++◌, ◌∷◌, [], suc, true, false, List, length, drop, ◌+◌, ◌<◌, FitsSigned, to_z, of_z, rules, arith}
-use Rattle.std.specs.Prelude.{ℤ, pos, ◌+ℤ◌, ◌≤ℤ◌, Option, Some, None, MatchOption}
+use Rattle.std.proofs.Common.{◌≡◌, refl, sym, ap, ◌∙◌, subst, ◌++◌, ◌∷◌, [], suc, true, false, List, length, drop, ◌+◌, ◌<◌, to_z, of_z, rules, arith}
+use Rattle.std.specs.Prelude.{ℤ, Option, Some, None, MatchOption}
 use Rattle.std.proofs.lemmas.List.{drop_all, length-append}
 use Rattle.base_laws.proofs.Lists.{All-push}
 use Rattle.iolb_model.specs.Form.{form_value}
 use Rattle.loop_graph.specs.declared.counted.Room.{Room}
 use mir.Syntax.{w128}
-use Rattle.std.proofs.lemmas.Int.{to_z-of_z, fits_signed_from_abs, ints}
+use Rattle.std.proofs.lemmas.Int.{to_z-of_z}
 use Rattle.std.specs.List.{AllByRecursion}
 use Rattle.iolb_model.specs.Program.{next, loop, ItemFits, RowFits}
 use Rattle.affine_form.specs.Form.{IsSmall}
+use Rattle.affine_form.specs.Rows.{direction_of}
+use Rattle.loop_graph.specs.Values.{values_left}
+use Rattle.loop_graph.specs.declared.values.Values.{Values}
 use Rattle.affine_program.specs.declared.item.Item.{Item}
 use Rattle.affine_program.specs.Tree.{item_of, row_of}
-use Rattle.loop_graph.proofs.Walks.{row_seen, item_of-Loop, body_smaller, item_smaller, item_size, row_size, fewer_left, at_most, is_past}
-use Rattle.loop_graph.proofs.Counting.{RowLeft, item_taken, item_too_long, nothing_taken, turn_taken, body_too_long, no_turn_left, all_taken, not_past, ItemLeft, loop_left, may_not_begin, between}
+use Rattle.loop_graph.proofs.Walks.{row_seen, item_of-Loop, body_smaller, item_smaller, item_size, row_size}
+use Rattle.loop_graph.proofs.Counting.{RowLeft, LoopGoesOn, item_taken, item_too_long, nothing_taken, turn_taken, body_too_long, no_turn_left, all_taken, ItemLeft, loop_left, may_not_begin, values_small}
 use Rattle.iolb_model.specs.declared.limits.TheConstants.{VALUE_SIZE}
 use Rattle.loop_graph.proofs.counted.+count.Goals as goal
 
@@ -49,85 +52,93 @@ behind_row-returns t c =
 
 pub behind_item-returns-then-not-may_begin : goal.behind_item-returns-then-not-may_begin
 behind_item-returns-then-not-may_begin t c =
-    let is : item_of c.args.item.now ≡ loop c.in-Loop.name c.in-Loop.lower c.in-Loop.upper (row_of c.in-Loop.body.items) = ap item_of c.in-Loop.is ∙ item_of-Loop c.in-Loop.name c.in-Loop.lower c.in-Loop.upper c.in-Loop.body in
-    let low : to_z w128 (of_z w128 c.value-value.result) ≡ form_value c.in-Loop.lower c.args.point.now = to_z-of_z w128 c.value-value.result (search rules) ∙ c.value-value.ensures in
-    let high : to_z w128 (of_z w128 c.value-last.result) ≡ form_value c.in-Loop.upper c.args.point.now = to_z-of_z w128 c.value-last.result (search rules) ∙ c.value-last.ensures in
-    loop_left (item_of c.args.item.now) c.in-Loop.name c.in-Loop.lower c.in-Loop.upper (row_of c.in-Loop.body.items) c.args.point.now (to_z w128 (of_z w128 c.value-value.result)) (to_z w128 (of_z w128 c.value-last.result)) c.args.room None is low high
-    (may_not_begin (row_of c.in-Loop.body.items) c.args.point.now (to_z w128 (of_z w128 c.value-value.result)) (to_z w128 (of_z w128 c.value-last.result)) c.args.room (not_past (to_z w128 (of_z w128 c.value-value.result)) (to_z w128 (of_z w128 c.value-last.result)) c.if-last-value.false) (λ fits. let e : false ≡ true = c.if-not-may_begin.ensures.1 fits in absurd cc))
+    let is : item_of c.args.item.now ≡ loop c.in-Loop.name (direction_of c.in-Loop.down) c.in-Loop.lower c.in-Loop.upper (row_of c.in-Loop.body.items) = ap item_of c.in-Loop.is ∙ item_of-Loop c.in-Loop.name c.in-Loop.lower c.in-Loop.upper c.in-Loop.down c.in-Loop.body in
+    let low : to_z w128 (of_z w128 c.value-lowest.result) ≡ form_value c.in-Loop.lower c.args.point.now = to_z-of_z w128 c.value-lowest.result (search rules) ∙ c.value-lowest.ensures in
+    let high : to_z w128 (of_z w128 c.value-highest.result) ≡ form_value c.in-Loop.upper c.args.point.now = to_z-of_z w128 c.value-highest.result (search rules) ∙ c.value-highest.ensures in
+    let values : Values = record { lower = to_z w128 (of_z w128 c.value-lowest.result); upper = to_z w128 (of_z w128 c.value-highest.result); down = c.in-Loop.down } in
+    loop_left (item_of c.args.item.now) c.in-Loop.name c.in-Loop.lower c.in-Loop.upper (row_of c.in-Loop.body.items) c.args.point.now values c.args.room None is low high
+    (may_not_begin (row_of c.in-Loop.body.items) c.args.point.now values c.args.room (λ may. let e : false ≡ true = c.if-not-may_begin.ensures.1 may in absurd cc))
 
 pub behind_item-loop-value-init : goal.behind_item-loop-value-init
-behind_item-loop-value-init t c = record { counts = λ out h. h; from = omega (arith, ints) }
+behind_item-loop-value-init t c = record { counts = λ out h. h; small = values_small _ c.args.room (c.if-not-may_begin.ensures.0 refl) }
 
-pub behind_item-returns-in_default : goal.behind_item-returns-in_default
-behind_item-returns-in_default t c =
-    let is : item_of c.args.item.now ≡ loop c.in-Loop.name c.in-Loop.lower c.in-Loop.upper (row_of c.in-Loop.body.items) = ap item_of c.in-Loop.is ∙ item_of-Loop c.in-Loop.name c.in-Loop.lower c.in-Loop.upper c.in-Loop.body in
-    let low : to_z w128 (of_z w128 c.value-value.result) ≡ form_value c.in-Loop.lower c.args.point.now = to_z-of_z w128 c.value-value.result (search rules) ∙ c.value-value.ensures in
-    let high : to_z w128 (of_z w128 c.value-last.result) ≡ form_value c.in-Loop.upper c.args.point.now = to_z-of_z w128 c.value-last.result (search rules) ∙ c.value-last.ensures in
-    let le : to_z w128 c.loop-value.value-bits ≤ℤ to_z w128 (of_z w128 c.value-last.result) = at_most (to_z w128 c.loop-value.value-bits) (to_z w128 (of_z w128 c.value-last.result)) c.loop-value-test.true in
+pub behind_item-next-requires : goal.behind_item-next-requires
+behind_item-next-requires t c = record { small = c.loop-value.invariant.small }
+
+pub behind_item-returns-in_default-behind_turn : goal.behind_item-returns-in_default-behind_turn
+behind_item-returns-in_default-behind_turn t c =
+    let is : item_of c.args.item.now ≡ loop c.in-Loop.name (direction_of c.in-Loop.down) c.in-Loop.lower c.in-Loop.upper (row_of c.in-Loop.body.items) = ap item_of c.in-Loop.is ∙ item_of-Loop c.in-Loop.name c.in-Loop.lower c.in-Loop.upper c.in-Loop.down c.in-Loop.body in
+    let low : to_z w128 (of_z w128 c.value-lowest.result) ≡ form_value c.in-Loop.lower c.args.point.now = to_z-of_z w128 c.value-lowest.result (search rules) ∙ c.value-lowest.ensures in
+    let high : to_z w128 (of_z w128 c.value-highest.result) ≡ form_value c.in-Loop.upper c.args.point.now = to_z-of_z w128 c.value-highest.result (search rules) ∙ c.value-highest.ensures in
+    let values : Values = record { lower = to_z w128 (of_z w128 c.value-lowest.result); upper = to_z w128 (of_z w128 c.value-highest.result); down = c.in-Loop.down } in
+    let counts : LoopGoesOn (row_of c.in-Loop.body.items) c.args.point.now (values_left values) (c.in-Some.value ∷ values_left c.next.new.self) c.loop-value.left c.args.room =
+    subst (λ (vs : List ℤ). LoopGoesOn (row_of c.in-Loop.body.items) c.args.point.now (values_left values) vs c.loop-value.left c.args.room) c.in-Some.ensures c.loop-value.invariant.counts in
     let none : c.loop-value.left.turns ≡ 0 =
-    subst (λ (o : Option Room). MatchOption o (c.loop-value.left.turns ≡ 0) (λ (left : Room). record { turns = left.turns + 1; instances = left.instances } ≡ c.loop-value.left)) c.in_default.is c.behind_turn.ensures in
-    loop_left (item_of c.args.item.now) c.in-Loop.name c.in-Loop.lower c.in-Loop.upper (row_of c.in-Loop.body.items) c.args.point.now (to_z w128 (of_z w128 c.value-value.result)) (to_z w128 (of_z w128 c.value-last.result)) c.args.room None is low high
-    (no_turn_left (row_of c.in-Loop.body.items) c.args.point.now (to_z w128 (of_z w128 c.value-value.result)) (to_z w128 c.loop-value.value-bits) (to_z w128 (of_z w128 c.value-last.result)) c.loop-value.left c.args.room le none c.loop-value.invariant.counts)
+    subst (λ (o : Option Room). MatchOption o (c.loop-value.left.turns ≡ 0) (λ (left : Room). record { turns = left.turns + 1; instances = left.instances } ≡ c.loop-value.left)) c.in_default-behind_turn.is c.behind_turn.ensures in
+    loop_left (item_of c.args.item.now) c.in-Loop.name c.in-Loop.lower c.in-Loop.upper (row_of c.in-Loop.body.items) c.args.point.now values c.args.room None is low high
+    (no_turn_left (row_of c.in-Loop.body.items) c.args.point.now (values_left values) c.in-Some.value (values_left c.next.new.self) c.loop-value.left c.args.room none counts)
 
 pub behind_item-behind_row-requires : goal.behind_item-behind_row-requires
 behind_item-behind_row-requires t c =
-    let is : item_of c.args.item.now ≡ loop c.in-Loop.name c.in-Loop.lower c.in-Loop.upper (row_of c.in-Loop.body.items) = ap item_of c.in-Loop.is ∙ item_of-Loop c.in-Loop.name c.in-Loop.lower c.in-Loop.upper c.in-Loop.body in
-    let le : to_z w128 c.loop-value.value-bits ≤ℤ to_z w128 (of_z w128 c.value-last.result) = at_most (to_z w128 c.loop-value.value-bits) (to_z w128 (of_z w128 c.value-last.result)) c.loop-value-test.true in
-    let begun = c.if-not-may_begin.ensures.0 refl in
-    let small : IsSmall VALUE_SIZE (to_z w128 c.loop-value.value-bits) = between (to_z w128 (of_z w128 c.value-value.result)) (to_z w128 c.loop-value.value-bits) (to_z w128 (of_z w128 c.value-last.result)) begun.0 begun.1 c.loop-value.invariant.from le in
-    let inner : c.as_slice.result.now ≡ c.args.point.now ++ to_z w128 c.loop-value.value-bits ∷ [] = c.as_slice.ensures.value ∙ c.in_ok-put_point-in-Loop.ensures in
-    let fits : ItemFits c.requires.fits.0 (length c.args.point.now) (loop c.in-Loop.name c.in-Loop.lower c.in-Loop.upper (row_of c.in-Loop.body.items)) = subst (ItemFits c.requires.fits.0 (length c.args.point.now)) is c.requires.fits.1 in
-    let long : suc (length c.args.point.now) ≡ length c.as_slice.result.now = omega (arith, ap length inner, length-append c.args.point.now (to_z w128 c.loop-value.value-bits ∷ [])) in
+    let is : item_of c.args.item.now ≡ loop c.in-Loop.name (direction_of c.in-Loop.down) c.in-Loop.lower c.in-Loop.upper (row_of c.in-Loop.body.items) = ap item_of c.in-Loop.is ∙ item_of-Loop c.in-Loop.name c.in-Loop.lower c.in-Loop.upper c.in-Loop.down c.in-Loop.body in
+    let small : AllByRecursion (IsSmall VALUE_SIZE) (c.in-Some.value ∷ values_left c.next.new.self) = subst (AllByRecursion (IsSmall VALUE_SIZE)) c.in-Some.ensures c.loop-value.invariant.small in
+    let inner : c.as_slice.result.now ≡ c.args.point.now ++ c.in-Some.value ∷ [] =
+    c.as_slice.ensures.value ∙ c.in_ok-put_point-in-Loop.ensures ∙ ap (λ v. c.args.point.now ++ v ∷ []) (to_z-of_z w128 c.in-Some.value (search rules)) in
+    let fits : ItemFits c.requires.fits.0 (length c.args.point.now) (loop c.in-Loop.name (direction_of c.in-Loop.down) c.in-Loop.lower c.in-Loop.upper (row_of c.in-Loop.body.items)) = subst (ItemFits c.requires.fits.0 (length c.args.point.now)) is c.requires.fits.1 in
+    let long : suc (length c.args.point.now) ≡ length c.as_slice.result.now = omega (arith, ap length inner, length-append c.args.point.now (c.in-Some.value ∷ [])) in
     let body : RowFits c.requires.fits.0 (length c.as_slice.result.now) (row_of c.deref.result.now) =
     subst (λ (l : List Item). RowFits c.requires.fits.0 (length c.as_slice.result.now) (row_of l)) (sym c.deref.ensures.value) (subst (λ n. RowFits c.requires.fits.0 n (row_of c.in-Loop.body.items)) long fits.2) in
-    let point : AllByRecursion (IsSmall VALUE_SIZE) c.as_slice.result.now = subst (AllByRecursion (IsSmall VALUE_SIZE)) (sym inner) (All-push (IsSmall VALUE_SIZE) c.args.point.now (to_z w128 c.loop-value.value-bits) c.requires.point small) in
-    let fewer : row_size (row_of c.in-Loop.body.items) < item_size (item_of c.args.item.now) = body_smaller (item_of c.args.item.now) c.in-Loop.name c.in-Loop.lower c.in-Loop.upper (row_of c.in-Loop.body.items) is in
+    let point : AllByRecursion (IsSmall VALUE_SIZE) c.as_slice.result.now = subst (AllByRecursion (IsSmall VALUE_SIZE)) (sym inner) (All-push (IsSmall VALUE_SIZE) c.args.point.now c.in-Some.value c.requires.point small.0) in
+    let fewer : row_size (row_of c.in-Loop.body.items) < item_size (item_of c.args.item.now) = body_smaller (item_of c.args.item.now) c.in-Loop.name (direction_of c.in-Loop.down) c.in-Loop.lower c.in-Loop.upper (row_of c.in-Loop.body.items) is in
     let d : row_size (row_of c.deref.result.now) < t = omega (arith, c.decreases, ap (λ (l : List Item). row_size (row_of l)) c.deref.ensures.value) in
     (d, ((c.requires.fits.0, body), point))
 
 pub behind_item-returns-in-None : goal.behind_item-returns-in-None
 behind_item-returns-in-None t c =
-    let is : item_of c.args.item.now ≡ loop c.in-Loop.name c.in-Loop.lower c.in-Loop.upper (row_of c.in-Loop.body.items) = ap item_of c.in-Loop.is ∙ item_of-Loop c.in-Loop.name c.in-Loop.lower c.in-Loop.upper c.in-Loop.body in
-    let low : to_z w128 (of_z w128 c.value-value.result) ≡ form_value c.in-Loop.lower c.args.point.now = to_z-of_z w128 c.value-value.result (search rules) ∙ c.value-value.ensures in
-    let high : to_z w128 (of_z w128 c.value-last.result) ≡ form_value c.in-Loop.upper c.args.point.now = to_z-of_z w128 c.value-last.result (search rules) ∙ c.value-last.ensures in
-    let le : to_z w128 c.loop-value.value-bits ≤ℤ to_z w128 (of_z w128 c.value-last.result) = at_most (to_z w128 c.loop-value.value-bits) (to_z w128 (of_z w128 c.value-last.result)) c.loop-value-test.true in
-    let begun = c.if-not-may_begin.ensures.0 refl in
-    let small : IsSmall VALUE_SIZE (to_z w128 c.loop-value.value-bits) = between (to_z w128 (of_z w128 c.value-value.result)) (to_z w128 c.loop-value.value-bits) (to_z w128 (of_z w128 c.value-last.result)) begun.0 begun.1 c.loop-value.invariant.from le in
-    let inner : c.as_slice.result.now ≡ c.args.point.now ++ to_z w128 c.loop-value.value-bits ∷ [] = c.as_slice.ensures.value ∙ c.in_ok-put_point-in-Loop.ensures in
-    let taken : RowLeft (row_of c.in-Loop.body.items) (c.args.point.now ++ to_z w128 c.loop-value.value-bits ∷ []) c.in-Some.entered c.in_ok-rest-in-Loop.field-0 =
-    subst (λ (l : List ℤ). RowLeft (row_of c.in-Loop.body.items) l c.in-Some.entered c.in_ok-rest-in-Loop.field-0) inner
-    (subst (λ (l : List Item). RowLeft (row_of l) c.as_slice.result.now c.in-Some.entered c.in_ok-rest-in-Loop.field-0) c.deref.ensures.value c.in_ok-rest-in-Loop.ensures) in
-    loop_left (item_of c.args.item.now) c.in-Loop.name c.in-Loop.lower c.in-Loop.upper (row_of c.in-Loop.body.items) c.args.point.now (to_z w128 (of_z w128 c.value-value.result)) (to_z w128 (of_z w128 c.value-last.result)) c.args.room None is low high
-    (body_too_long (row_of c.in-Loop.body.items) c.args.point.now (to_z w128 (of_z w128 c.value-value.result)) (to_z w128 c.loop-value.value-bits) (to_z w128 (of_z w128 c.value-last.result)) c.loop-value.left c.in-Some.entered c.args.room le small c.in-Some.ensures (subst (RowLeft (row_of c.in-Loop.body.items) (c.args.point.now ++ to_z w128 c.loop-value.value-bits ∷ []) c.in-Some.entered) c.in-None.is taken) c.loop-value.invariant.counts)
+    let is : item_of c.args.item.now ≡ loop c.in-Loop.name (direction_of c.in-Loop.down) c.in-Loop.lower c.in-Loop.upper (row_of c.in-Loop.body.items) = ap item_of c.in-Loop.is ∙ item_of-Loop c.in-Loop.name c.in-Loop.lower c.in-Loop.upper c.in-Loop.down c.in-Loop.body in
+    let low : to_z w128 (of_z w128 c.value-lowest.result) ≡ form_value c.in-Loop.lower c.args.point.now = to_z-of_z w128 c.value-lowest.result (search rules) ∙ c.value-lowest.ensures in
+    let high : to_z w128 (of_z w128 c.value-highest.result) ≡ form_value c.in-Loop.upper c.args.point.now = to_z-of_z w128 c.value-highest.result (search rules) ∙ c.value-highest.ensures in
+    let values : Values = record { lower = to_z w128 (of_z w128 c.value-lowest.result); upper = to_z w128 (of_z w128 c.value-highest.result); down = c.in-Loop.down } in
+    let counts : LoopGoesOn (row_of c.in-Loop.body.items) c.args.point.now (values_left values) (c.in-Some.value ∷ values_left c.next.new.self) c.loop-value.left c.args.room =
+    subst (λ (vs : List ℤ). LoopGoesOn (row_of c.in-Loop.body.items) c.args.point.now (values_left values) vs c.loop-value.left c.args.room) c.in-Some.ensures c.loop-value.invariant.counts in
+    let small : AllByRecursion (IsSmall VALUE_SIZE) (c.in-Some.value ∷ values_left c.next.new.self) = subst (AllByRecursion (IsSmall VALUE_SIZE)) c.in-Some.ensures c.loop-value.invariant.small in
+    let inner : c.as_slice.result.now ≡ c.args.point.now ++ c.in-Some.value ∷ [] =
+    c.as_slice.ensures.value ∙ c.in_ok-put_point-in-Loop.ensures ∙ ap (λ v. c.args.point.now ++ v ∷ []) (to_z-of_z w128 c.in-Some.value (search rules)) in
+    let taken : RowLeft (row_of c.in-Loop.body.items) (c.args.point.now ++ c.in-Some.value ∷ []) c.in-Some-behind_turn.entered c.in_ok-rest-in-Loop.field-0 =
+    subst (λ (l : List ℤ). RowLeft (row_of c.in-Loop.body.items) l c.in-Some-behind_turn.entered c.in_ok-rest-in-Loop.field-0) inner
+    (subst (λ (l : List Item). RowLeft (row_of l) c.as_slice.result.now c.in-Some-behind_turn.entered c.in_ok-rest-in-Loop.field-0) c.deref.ensures.value c.in_ok-rest-in-Loop.ensures) in
+    loop_left (item_of c.args.item.now) c.in-Loop.name c.in-Loop.lower c.in-Loop.upper (row_of c.in-Loop.body.items) c.args.point.now values c.args.room None is low high
+    (body_too_long (row_of c.in-Loop.body.items) c.args.point.now (values_left values) c.in-Some.value (values_left c.next.new.self) c.loop-value.left c.in-Some-behind_turn.entered c.args.room small.0 c.in-Some-behind_turn.ensures
+    (subst (RowLeft (row_of c.in-Loop.body.items) (c.args.point.now ++ c.in-Some.value ∷ []) c.in-Some-behind_turn.entered) c.in-None.is taken) counts)
 
 pub behind_item-loop-value-smaller : goal.behind_item-loop-value-smaller
-behind_item-loop-value-smaller t c =
-    let le : to_z w128 c.loop-value.value-bits ≤ℤ to_z w128 (of_z w128 c.value-last.result) = at_most (to_z w128 c.loop-value.value-bits) (to_z w128 (of_z w128 c.value-last.result)) c.loop-value-test.true in
-    let begun = c.if-not-may_begin.ensures.0 refl in
-    let small : IsSmall VALUE_SIZE (to_z w128 c.loop-value.value-bits) = between (to_z w128 (of_z w128 c.value-value.result)) (to_z w128 c.loop-value.value-bits) (to_z w128 (of_z w128 c.value-last.result)) begun.0 begun.1 c.loop-value.invariant.from le in
-    let fits : FitsSigned w128 (to_z w128 c.loop-value.value-bits +ℤ pos 1) = fits_signed_from_abs w128 (to_z w128 c.loop-value.value-bits +ℤ pos 1) (omega (arith, ints, small)) in
-    fewer_left (to_z w128 c.loop-value.value-bits) (to_z w128 (of_z w128 (to_z w128 c.loop-value.value-bits +ℤ pos 1))) (to_z w128 (of_z w128 c.value-last.result)) le (to_z-of_z w128 (to_z w128 c.loop-value.value-bits +ℤ pos 1) fits)
+behind_item-loop-value-smaller t c = omega (arith, ap length c.in-Some.ensures)
 
 pub behind_item-loop-value-preserved : goal.behind_item-loop-value-preserved
 behind_item-loop-value-preserved t c =
-    let le : to_z w128 c.loop-value.value-bits ≤ℤ to_z w128 (of_z w128 c.value-last.result) = at_most (to_z w128 c.loop-value.value-bits) (to_z w128 (of_z w128 c.value-last.result)) c.loop-value-test.true in
-    let begun = c.if-not-may_begin.ensures.0 refl in
-    let small : IsSmall VALUE_SIZE (to_z w128 c.loop-value.value-bits) = between (to_z w128 (of_z w128 c.value-value.result)) (to_z w128 c.loop-value.value-bits) (to_z w128 (of_z w128 c.value-last.result)) begun.0 begun.1 c.loop-value.invariant.from le in
-    let fits : FitsSigned w128 (to_z w128 c.loop-value.value-bits +ℤ pos 1) = fits_signed_from_abs w128 (to_z w128 c.loop-value.value-bits +ℤ pos 1) (omega (arith, ints, small)) in
-    let inner : c.as_slice.result.now ≡ c.args.point.now ++ to_z w128 c.loop-value.value-bits ∷ [] = c.as_slice.ensures.value ∙ c.in_ok-put_point-in-Loop.ensures in
-    let taken : RowLeft (row_of c.in-Loop.body.items) (c.args.point.now ++ to_z w128 c.loop-value.value-bits ∷ []) c.in-Some.entered c.in_ok-rest-in-Loop.field-0 =
-    subst (λ (l : List ℤ). RowLeft (row_of c.in-Loop.body.items) l c.in-Some.entered c.in_ok-rest-in-Loop.field-0) inner
-    (subst (λ (l : List Item). RowLeft (row_of l) c.as_slice.result.now c.in-Some.entered c.in_ok-rest-in-Loop.field-0) c.deref.ensures.value c.in_ok-rest-in-Loop.ensures) in
-    rw (to_z-of_z w128 (to_z w128 c.loop-value.value-bits +ℤ pos 1) fits) (record {
-      counts = turn_taken (row_of c.in-Loop.body.items) c.args.point.now (to_z w128 (of_z w128 c.value-value.result)) (to_z w128 c.loop-value.value-bits) (to_z w128 (of_z w128 c.value-last.result)) c.loop-value.left c.in-Some.entered c.in-Some-2.rest c.args.room le small c.in-Some.ensures
-          (subst (RowLeft (row_of c.in-Loop.body.items) (c.args.point.now ++ to_z w128 c.loop-value.value-bits ∷ []) c.in-Some.entered) c.in-Some-2.is taken) c.loop-value.invariant.counts;
-      from = omega (arith, ints, c.loop-value.invariant.from);
-    })
+    let values : Values = record { lower = to_z w128 (of_z w128 c.value-lowest.result); upper = to_z w128 (of_z w128 c.value-highest.result); down = c.in-Loop.down } in
+    let counts : LoopGoesOn (row_of c.in-Loop.body.items) c.args.point.now (values_left values) (c.in-Some.value ∷ values_left c.next.new.self) c.loop-value.left c.args.room =
+    subst (λ (vs : List ℤ). LoopGoesOn (row_of c.in-Loop.body.items) c.args.point.now (values_left values) vs c.loop-value.left c.args.room) c.in-Some.ensures c.loop-value.invariant.counts in
+    let small : AllByRecursion (IsSmall VALUE_SIZE) (c.in-Some.value ∷ values_left c.next.new.self) = subst (AllByRecursion (IsSmall VALUE_SIZE)) c.in-Some.ensures c.loop-value.invariant.small in
+    let inner : c.as_slice.result.now ≡ c.args.point.now ++ c.in-Some.value ∷ [] =
+    c.as_slice.ensures.value ∙ c.in_ok-put_point-in-Loop.ensures ∙ ap (λ v. c.args.point.now ++ v ∷ []) (to_z-of_z w128 c.in-Some.value (search rules)) in
+    let taken : RowLeft (row_of c.in-Loop.body.items) (c.args.point.now ++ c.in-Some.value ∷ []) c.in-Some-behind_turn.entered c.in_ok-rest-in-Loop.field-0 =
+    subst (λ (l : List ℤ). RowLeft (row_of c.in-Loop.body.items) l c.in-Some-behind_turn.entered c.in_ok-rest-in-Loop.field-0) inner
+    (subst (λ (l : List Item). RowLeft (row_of l) c.as_slice.result.now c.in-Some-behind_turn.entered c.in_ok-rest-in-Loop.field-0) c.deref.ensures.value c.in_ok-rest-in-Loop.ensures) in
+    record {
+      counts = turn_taken (row_of c.in-Loop.body.items) c.args.point.now (values_left values) c.in-Some.value (values_left c.next.new.self) c.loop-value.left c.in-Some-behind_turn.entered c.in-Some-2.rest c.args.room small.0 c.in-Some-behind_turn.ensures
+          (subst (RowLeft (row_of c.in-Loop.body.items) (c.args.point.now ++ c.in-Some.value ∷ []) c.in-Some-behind_turn.entered) c.in-Some-2.is taken) counts;
+      small = small.1;
+    }
 
-pub behind_item-returns-after-loop-value : goal.behind_item-returns-after-loop-value
-behind_item-returns-after-loop-value t c =
-    let is : item_of c.args.item.now ≡ loop c.in-Loop.name c.in-Loop.lower c.in-Loop.upper (row_of c.in-Loop.body.items) = ap item_of c.in-Loop.is ∙ item_of-Loop c.in-Loop.name c.in-Loop.lower c.in-Loop.upper c.in-Loop.body in
-    let low : to_z w128 (of_z w128 c.value-value.result) ≡ form_value c.in-Loop.lower c.args.point.now = to_z-of_z w128 c.value-value.result (search rules) ∙ c.value-value.ensures in
-    let high : to_z w128 (of_z w128 c.value-last.result) ≡ form_value c.in-Loop.upper c.args.point.now = to_z-of_z w128 c.value-last.result (search rules) ∙ c.value-last.ensures in
-    loop_left (item_of c.args.item.now) c.in-Loop.name c.in-Loop.lower c.in-Loop.upper (row_of c.in-Loop.body.items) c.args.point.now (to_z w128 (of_z w128 c.value-value.result)) (to_z w128 (of_z w128 c.value-last.result)) c.args.room (Some c.loop-value.left) is low high
-    (all_taken (row_of c.in-Loop.body.items) c.args.point.now (to_z w128 (of_z w128 c.value-value.result)) (to_z w128 c.loop-value.value-bits) (to_z w128 (of_z w128 c.value-last.result)) c.loop-value.left c.args.room (is_past (to_z w128 c.loop-value.value-bits) (to_z w128 (of_z w128 c.value-last.result)) c.loop-value-test.false) c.loop-value.invariant.counts)
+pub behind_item-returns-in_default : goal.behind_item-returns-in_default
+behind_item-returns-in_default t c =
+    let is : item_of c.args.item.now ≡ loop c.in-Loop.name (direction_of c.in-Loop.down) c.in-Loop.lower c.in-Loop.upper (row_of c.in-Loop.body.items) = ap item_of c.in-Loop.is ∙ item_of-Loop c.in-Loop.name c.in-Loop.lower c.in-Loop.upper c.in-Loop.down c.in-Loop.body in
+    let low : to_z w128 (of_z w128 c.value-lowest.result) ≡ form_value c.in-Loop.lower c.args.point.now = to_z-of_z w128 c.value-lowest.result (search rules) ∙ c.value-lowest.ensures in
+    let high : to_z w128 (of_z w128 c.value-highest.result) ≡ form_value c.in-Loop.upper c.args.point.now = to_z-of_z w128 c.value-highest.result (search rules) ∙ c.value-highest.ensures in
+    let values : Values = record { lower = to_z w128 (of_z w128 c.value-lowest.result); upper = to_z w128 (of_z w128 c.value-highest.result); down = c.in-Loop.down } in
+    let none : values_left c.loop-value.values ≡ [] =
+    subst (λ (o : Option ℤ). MatchOption o (values_left c.loop-value.values ≡ []) (λ (value : ℤ). values_left c.loop-value.values ≡ value ∷ values_left c.next.new.self)) c.in_default.is c.next.ensures in
+    loop_left (item_of c.args.item.now) c.in-Loop.name c.in-Loop.lower c.in-Loop.upper (row_of c.in-Loop.body.items) c.args.point.now values c.args.room (Some c.loop-value.left) is low high
+    (all_taken (row_of c.in-Loop.body.items) c.args.point.now (values_left values) c.loop-value.left c.args.room
+    (subst (λ (vs : List ℤ). LoopGoesOn (row_of c.in-Loop.body.items) c.args.point.now (values_left values) vs c.loop-value.left c.args.room) none c.loop-value.invariant.counts))

@@ -1,19 +1,22 @@
-use Rattle.std.proofs.Common.{pos, ◌+ℤ◌, ◌-ℤ◌, ◌≤ℤ◌, length, drop}
+use Rattle.std.proofs.Common.{length, drop}
+use Rattle.std.specs.List.{AllByRecursion}
 use Rattle.iolb_model.specs.Program.{AffineProgram, RowFits}
-use Rattle.iolb_model.specs.Execution.{natural}
+use Rattle.affine_form.specs.Form.{IsSmall}
+use Rattle.iolb_model.specs.declared.limits.TheConstants.{VALUE_SIZE}
 use Rattle.affine_program.specs.Tree.{item_of, row_of}
+use Rattle.loop_graph.specs.Values.{values_left}
 use Rattle.loop_graph.proofs.Walks.{item_size, row_size}
 use Rattle.loop_graph.proofs.Counting.{RowGoesOn, LoopGoesOn}
 use Rattle.loop_graph.proofs.counted.+count.Given as goal
 
 abbrev pub invariant-behind_item-loop-value : goal.invariant-behind_item-loop-value
 invariant-behind_item-loop-value l = record {
-  counts : LoopGoesOn (row_of l.body.items) l.point l.initial.value l.value l.last l.left l.fn.room;
-  from : l.initial.value ≤ℤ l.value;
+  counts : LoopGoesOn (row_of l.body.items) l.point (values_left l.initial.values) (values_left l.values) l.left l.fn.room;
+  small : AllByRecursion (IsSmall VALUE_SIZE) (values_left l.values);
 }
 
 abbrev pub decreases-behind_item-loop-value : goal.decreases-behind_item-loop-value
-decreases-behind_item-loop-value l = natural ((l.last -ℤ l.value) +ℤ pos 1)
+decreases-behind_item-loop-value l = length (values_left l.values)
 
 abbrev pub invariant-behind_row-loop-item : goal.invariant-behind_row-loop-item
 invariant-behind_row-loop-item l = record {

@@ -1,15 +1,20 @@
-use Rattle.std.proofs.Common.{◌≡◌, refl, sym, ap, ◌∙◌, subst, ◌++◌, ◌∷◌, [], List, map, length, drop, ◌+◌, ◌<◌, FitsSigned, to_z, of_z, rules, arith}
-use Rattle.std.specs.Prelude.{ℤ, pos, ◌+ℤ◌}
+use Rattle.std.proofs.Common.{ℕ, ◌≡◌, refl, sym, ap, ◌∙◌, subst, ◌++◌, ◌∷◌, [], List, map, length, drop, ◌+◌, ◌<◌, to_z, of_z, rules, arith}
+use Rattle.std.specs.Prelude.{ℤ, Option, MatchOption, flat_map}
 use mir.Syntax.{w128}
-use Rattle.std.proofs.lemmas.Int.{to_z-of_z, fits_signed_from_abs, ints}
+use Rattle.std.proofs.lemmas.Int.{to_z-of_z}
 use Rattle.iolb_model.specs.Program.{Item as ModelItem, loop, assign, Row, ItemFits}
 use Rattle.iolb_model.specs.Form.{form_value}
+use Rattle.std.specs.List.{AllByRecursion}
+use Rattle.std.proofs.lemmas.List.{append-nil}
 use Rattle.affine_form.specs.Form.{IsSmall}
+use Rattle.affine_form.specs.Rows.{direction_of}
+use Rattle.loop_graph.specs.Values.{values_left}
+use Rattle.loop_graph.specs.declared.values.Values.{Values}
 use Rattle.affine_program.specs.declared.item.Item.{Item}
 use Rattle.affine_program.specs.Tree.{item_of, row_of}
-use Rattle.iolb_model.specs.Execution.{range, item_runs, row_runs}
+use Rattle.iolb_model.specs.Execution.{loop_values, item_runs, row_runs}
 use Rattle.loop_graph.specs.Runs.{with_point, run_of}
-use Rattle.loop_graph.proofs.Walks.{at_most, is_past, row_seen, row_goes_on, row_asks, body_asks, assign_done, first_turns, loop_points, loop_goes_on, loop_done, RowAsks, item_of-Loop, item_of-Assign, body_smaller, item_smaller, item_size, row_size, fewer_left}
+use Rattle.loop_graph.proofs.Walks.{All-both, turns_at, values_hold, row_seen, row_goes_on, row_asks, body_asks, assign_done, loop_points, loop_goes_on, RowAsks, item_of-Loop, item_of-Assign, body_smaller, item_smaller, item_size, row_size}
 use Rattle.iolb_model.specs.declared.limits.TheConstants.{VALUE_SIZE}
 use Rattle.loop_graph.proofs.listed.+walk.Goals as goal
 
@@ -32,43 +37,43 @@ push_row-loop-item-preserved t c =
       turns = asks.1.1;
     }
 
+pub push_item-next-requires : goal.push_item-next-requires
+push_item-next-requires t c = record { small = values_hold (IsSmall VALUE_SIZE) (row_of c.in-Loop.body.items) c.args.point.now (values_left c.loop-value.values) c.loop-value.invariant.turns }
+
 pub push_item-push_row-requires : goal.push_item-push_row-requires
 push_item-push_row-requires t c =
-    let is : item_of c.args.item.now ≡ loop c.in-Loop.name c.in-Loop.lower c.in-Loop.upper (row_of c.in-Loop.body.items) = ap item_of c.in-Loop.is ∙ item_of-Loop c.in-Loop.name c.in-Loop.lower c.in-Loop.upper c.in-Loop.body in
-    let fits : ItemFits c.requires.fits.0 (length c.args.point.now) (loop c.in-Loop.name c.in-Loop.lower c.in-Loop.upper (row_of c.in-Loop.body.items)) =
+    let is : item_of c.args.item.now ≡ loop c.in-Loop.name (direction_of c.in-Loop.down) c.in-Loop.lower c.in-Loop.upper (row_of c.in-Loop.body.items) = ap item_of c.in-Loop.is ∙ item_of-Loop c.in-Loop.name c.in-Loop.lower c.in-Loop.upper c.in-Loop.down c.in-Loop.body in
+    let fits : ItemFits c.requires.fits.0 (length c.args.point.now) (loop c.in-Loop.name (direction_of c.in-Loop.down) c.in-Loop.lower c.in-Loop.upper (row_of c.in-Loop.body.items)) =
     subst (ItemFits c.requires.fits.0 (length c.args.point.now)) is c.requires.fits.1 in
-    let inner : c.as_slice.result.now ≡ c.args.point.now ++ to_z w128 c.loop-value.value-bits ∷ [] = c.as_slice.ensures.value ∙ c.in_ok-put_point-in-Loop.ensures in
-    let asks = body_asks (row_of c.in-Loop.body.items) c.args.point.now c.as_slice.result.now (to_z w128 c.loop-value.value-bits) (to_z w128 (of_z w128 c.value-last.result)) inner (at_most (to_z w128 c.loop-value.value-bits) (to_z w128 (of_z w128 c.value-last.result)) c.loop-value-test.true) (c.requires.fits.0, fits.2) c.requires.point c.loop-value.invariant.turns in
+    let inner : c.as_slice.result.now ≡ c.args.point.now ++ c.in-Some.value ∷ [] =
+    c.as_slice.ensures.value ∙ c.in_ok-put_point-in-Loop.ensures ∙ ap (λ v. c.args.point.now ++ v ∷ []) (to_z-of_z w128 c.in-Some.value (search rules)) in
+    let turns : AllByRecursion (IsSmall VALUE_SIZE) (flat_map (turns_at (row_of c.in-Loop.body.items) c.args.point.now) (c.in-Some.value ∷ values_left c.next.new.self)) =
+    subst (λ (vs : List ℤ). AllByRecursion (IsSmall VALUE_SIZE) (flat_map (turns_at (row_of c.in-Loop.body.items) c.args.point.now) vs)) c.in-Some.ensures c.loop-value.invariant.turns in
+    let asks = body_asks (row_of c.in-Loop.body.items) c.args.point.now c.as_slice.result.now c.in-Some.value (values_left c.next.new.self) inner (c.requires.fits.0, fits.2) c.requires.point turns in
     let body : RowAsks (row_of c.deref.result.now) c.as_slice.result.now = subst (λ (l : List Item). RowAsks (row_of l) c.as_slice.result.now) (sym c.deref.ensures.value) asks.0 in
-    let fewer : row_size (row_of c.in-Loop.body.items) < item_size (item_of c.args.item.now) = body_smaller (item_of c.args.item.now) c.in-Loop.name c.in-Loop.lower c.in-Loop.upper (row_of c.in-Loop.body.items) is in
+    let fewer : row_size (row_of c.in-Loop.body.items) < item_size (item_of c.args.item.now) = body_smaller (item_of c.args.item.now) c.in-Loop.name (direction_of c.in-Loop.down) c.in-Loop.lower c.in-Loop.upper (row_of c.in-Loop.body.items) is in
     let d : row_size (row_of c.deref.result.now) < t = omega (arith, c.decreases, ap (λ (l : List Item). row_size (row_of l)) c.deref.ensures.value) in
     (d, (body.0, (asks.1, body.1)))
 
-pub push_item-overflow_add-value : goal.push_item-overflow_add-value
-push_item-overflow_add-value t c =
-    let first = first_turns (IsSmall VALUE_SIZE) (row_of c.in-Loop.body.items) c.args.point.now (to_z w128 c.loop-value.value-bits) (to_z w128 (of_z w128 c.value-last.result)) (at_most (to_z w128 c.loop-value.value-bits) (to_z w128 (of_z w128 c.value-last.result)) c.loop-value-test.true) c.loop-value.invariant.turns in
-    fits_signed_from_abs w128 (to_z w128 c.loop-value.value-bits +ℤ pos 1) (omega (arith, ints, first.0))
-
 pub push_item-loop-value-smaller : goal.push_item-loop-value-smaller
-push_item-loop-value-smaller t c =
-    let first = first_turns (IsSmall VALUE_SIZE) (row_of c.in-Loop.body.items) c.args.point.now (to_z w128 c.loop-value.value-bits) (to_z w128 (of_z w128 c.value-last.result)) (at_most (to_z w128 c.loop-value.value-bits) (to_z w128 (of_z w128 c.value-last.result)) c.loop-value-test.true) c.loop-value.invariant.turns in
-    let fits : FitsSigned w128 (to_z w128 c.loop-value.value-bits +ℤ pos 1) = fits_signed_from_abs w128 (to_z w128 c.loop-value.value-bits +ℤ pos 1) (omega (arith, ints, first.0)) in
-    fewer_left (to_z w128 c.loop-value.value-bits) (to_z w128 (of_z w128 (to_z w128 c.loop-value.value-bits +ℤ pos 1))) (to_z w128 (of_z w128 c.value-last.result)) (at_most (to_z w128 c.loop-value.value-bits) (to_z w128 (of_z w128 c.value-last.result)) c.loop-value-test.true) (to_z-of_z w128 (to_z w128 c.loop-value.value-bits +ℤ pos 1) fits)
+push_item-loop-value-smaller t c = omega (arith, ap length c.in-Some.ensures)
 
 pub push_item-loop-value-preserved : goal.push_item-loop-value-preserved
 push_item-loop-value-preserved t c =
-    let first = first_turns (IsSmall VALUE_SIZE) (row_of c.in-Loop.body.items) c.args.point.now (to_z w128 c.loop-value.value-bits) (to_z w128 (of_z w128 c.value-last.result)) (at_most (to_z w128 c.loop-value.value-bits) (to_z w128 (of_z w128 c.value-last.result)) c.loop-value-test.true) c.loop-value.invariant.turns in
-    let fits : FitsSigned w128 (to_z w128 c.loop-value.value-bits +ℤ pos 1) = fits_signed_from_abs w128 (to_z w128 c.loop-value.value-bits +ℤ pos 1) (omega (arith, ints, first.0)) in
-    let inner : c.as_slice.result.now ≡ c.args.point.now ++ to_z w128 c.loop-value.value-bits ∷ [] = c.as_slice.ensures.value ∙ c.in_ok-put_point-in-Loop.ensures in
-    let pushed : map run_of c.push_row.new.runs.items ≡ map run_of c.loop-value.runs.items ++ map (with_point (c.args.point.now ++ to_z w128 c.loop-value.value-bits ∷ [])) (row_runs (row_of c.in-Loop.body.items) (c.args.point.now ++ to_z w128 c.loop-value.value-bits ∷ [])) =
+    let inner : c.as_slice.result.now ≡ c.args.point.now ++ c.in-Some.value ∷ [] =
+    c.as_slice.ensures.value ∙ c.in_ok-put_point-in-Loop.ensures ∙ ap (λ v. c.args.point.now ++ v ∷ []) (to_z-of_z w128 c.in-Some.value (search rules)) in
+    let turns : AllByRecursion (IsSmall VALUE_SIZE) (flat_map (turns_at (row_of c.in-Loop.body.items) c.args.point.now) (c.in-Some.value ∷ values_left c.next.new.self)) =
+    subst (λ (vs : List ℤ). AllByRecursion (IsSmall VALUE_SIZE) (flat_map (turns_at (row_of c.in-Loop.body.items) c.args.point.now) vs)) c.in-Some.ensures c.loop-value.invariant.turns in
+    let pushed : map run_of c.push_row.new.runs.items ≡ map run_of c.loop-value.runs.items ++ map (with_point (c.args.point.now ++ c.in-Some.value ∷ [])) (row_runs (row_of c.in-Loop.body.items) (c.args.point.now ++ c.in-Some.value ∷ [])) =
     subst (λ (l : List ℤ). map run_of c.push_row.new.runs.items ≡ map run_of c.loop-value.runs.items ++ map (with_point l) (row_runs (row_of c.in-Loop.body.items) l)) inner
     (subst (λ (l : List Item). map run_of c.push_row.new.runs.items ≡ map run_of c.loop-value.runs.items ++ map (with_point c.as_slice.result.now) (row_runs (row_of l) c.as_slice.result.now)) c.deref.ensures.value c.in_ok-push_row-in-Loop.ensures) in
-    rw (to_z-of_z w128 (to_z w128 c.loop-value.value-bits +ℤ pos 1) fits) (record {
-      runs = loop_goes_on (row_of c.in-Loop.body.items) c.args.point.now (to_z w128 c.loop-value.value-bits) (to_z w128 (of_z w128 c.value-last.result)) (map run_of c.loop-value.runs.items) (map run_of c.push_row.new.runs.items)
-          (map run_of c.args.runs.now.items ++ loop_points (row_of c.in-Loop.body.items) c.args.point.now (range (to_z w128 (of_z w128 c.value-value.result)) (to_z w128 (of_z w128 c.value-last.result))))
-          (at_most (to_z w128 c.loop-value.value-bits) (to_z w128 (of_z w128 c.value-last.result)) c.loop-value-test.true) pushed c.loop-value.invariant.runs;
-      turns = first.2;
-    })
+    let values : Values = record { lower = to_z w128 (of_z w128 c.value-lowest.result); upper = to_z w128 (of_z w128 c.value-highest.result); down = c.in-Loop.down } in
+    let all : List (ℕ × List ℤ) = map run_of c.args.runs.now.items ++ loop_points (row_of c.in-Loop.body.items) c.args.point.now (values_left values) in
+    record {
+      runs = loop_goes_on (row_of c.in-Loop.body.items) c.args.point.now c.in-Some.value (values_left c.next.new.self) (map run_of c.loop-value.runs.items) (map run_of c.push_row.new.runs.items) all pushed
+          (subst (λ (vs : List ℤ). map run_of c.loop-value.runs.items ++ loop_points (row_of c.in-Loop.body.items) c.args.point.now vs ≡ all) c.in-Some.ensures c.loop-value.invariant.runs);
+      turns = (All-both (IsSmall VALUE_SIZE) (turns_at (row_of c.in-Loop.body.items) c.args.point.now c.in-Some.value) (flat_map (turns_at (row_of c.in-Loop.body.items) c.args.point.now) (values_left c.next.new.self)) turns).1;
+    }
 
 pub push_item-returns-in_ok-push-in-Assign : goal.push_item-returns-in_ok-push-in-Assign
 push_item-returns-in_ok-push-in-Assign t c =
@@ -77,13 +82,17 @@ push_item-returns-in_ok-push-in-Assign t c =
     c.in_ok-push-in-Assign.ensures.items refl c.in_ok-from_slice-in-Assign.ensures.items in
     subst (λ (i : ModelItem). map run_of c.push.new.self.items ≡ map run_of c.args.runs.now.items ++ map (with_point c.args.point.now) (item_runs i c.args.point.now)) (sym is) done
 
-pub push_item-returns-after-loop-value : goal.push_item-returns-after-loop-value
-push_item-returns-after-loop-value t c =
-    let is : item_of c.args.item.now ≡ loop c.in-Loop.name c.in-Loop.lower c.in-Loop.upper (row_of c.in-Loop.body.items) = ap item_of c.in-Loop.is ∙ item_of-Loop c.in-Loop.name c.in-Loop.lower c.in-Loop.upper c.in-Loop.body in
-    let lower : to_z w128 (of_z w128 c.value-value.result) ≡ form_value c.in-Loop.lower c.args.point.now = to_z-of_z w128 c.value-value.result (search rules) ∙ c.value-value.ensures in
-    let upper : to_z w128 (of_z w128 c.value-last.result) ≡ form_value c.in-Loop.upper c.args.point.now = to_z-of_z w128 c.value-last.result (search rules) ∙ c.value-last.ensures in
-    let done = loop_done (row_of c.in-Loop.body.items) c.args.point.now (to_z w128 c.loop-value.value-bits) (to_z w128 (of_z w128 c.value-last.result)) (map run_of c.loop-value.runs.items)
-    (map run_of c.args.runs.now.items ++ loop_points (row_of c.in-Loop.body.items) c.args.point.now (range (to_z w128 (of_z w128 c.value-value.result)) (to_z w128 (of_z w128 c.value-last.result)))) (is_past (to_z w128 c.loop-value.value-bits) (to_z w128 (of_z w128 c.value-last.result)) c.loop-value-test.false) c.loop-value.invariant.runs in
+pub push_item-returns-in_default : goal.push_item-returns-in_default
+push_item-returns-in_default t c =
+    let is : item_of c.args.item.now ≡ loop c.in-Loop.name (direction_of c.in-Loop.down) c.in-Loop.lower c.in-Loop.upper (row_of c.in-Loop.body.items) = ap item_of c.in-Loop.is ∙ item_of-Loop c.in-Loop.name c.in-Loop.lower c.in-Loop.upper c.in-Loop.down c.in-Loop.body in
+    let lower : to_z w128 (of_z w128 c.value-lowest.result) ≡ form_value c.in-Loop.lower c.args.point.now = to_z-of_z w128 c.value-lowest.result (search rules) ∙ c.value-lowest.ensures in
+    let upper : to_z w128 (of_z w128 c.value-highest.result) ≡ form_value c.in-Loop.upper c.args.point.now = to_z-of_z w128 c.value-highest.result (search rules) ∙ c.value-highest.ensures in
+    let values : Values = record { lower = to_z w128 (of_z w128 c.value-lowest.result); upper = to_z w128 (of_z w128 c.value-highest.result); down = c.in-Loop.down } in
+    let all : List (ℕ × List ℤ) = map run_of c.args.runs.now.items ++ loop_points (row_of c.in-Loop.body.items) c.args.point.now (values_left values) in
+    let none : values_left c.loop-value.values ≡ [] =
+    subst (λ (o : Option ℤ). MatchOption o (values_left c.loop-value.values ≡ []) (λ (value : ℤ). values_left c.loop-value.values ≡ value ∷ values_left c.next.new.self)) c.in_default.is c.next.ensures in
+    let done : map run_of c.loop-value.runs.items ≡ all = sym (append-nil (map run_of c.loop-value.runs.items))
+    ∙ subst (λ (vs : List ℤ). map run_of c.loop-value.runs.items ++ loop_points (row_of c.in-Loop.body.items) c.args.point.now vs ≡ all) none c.loop-value.invariant.runs in
     subst (λ (i : ModelItem). map run_of c.loop-value.runs.items ≡ map run_of c.args.runs.now.items ++ map (with_point c.args.point.now) (item_runs i c.args.point.now)) (sym is)
-    (done ∙ ap (λ (v : ℤ). map run_of c.args.runs.now.items ++ loop_points (row_of c.in-Loop.body.items) c.args.point.now (range v (to_z w128 (of_z w128 c.value-last.result)))) lower
-    ∙ ap (λ (v : ℤ). map run_of c.args.runs.now.items ++ loop_points (row_of c.in-Loop.body.items) c.args.point.now (range (form_value c.in-Loop.lower c.args.point.now) v)) upper)
+    (done ∙ ap (λ (v : ℤ). map run_of c.args.runs.now.items ++ loop_points (row_of c.in-Loop.body.items) c.args.point.now (loop_values (direction_of c.in-Loop.down) v (to_z w128 (of_z w128 c.value-highest.result)))) lower
+    ∙ ap (λ (v : ℤ). map run_of c.args.runs.now.items ++ loop_points (row_of c.in-Loop.body.items) c.args.point.now (loop_values (direction_of c.in-Loop.down) (form_value c.in-Loop.lower c.args.point.now) v)) upper)

@@ -1,11 +1,12 @@
-use Rattle.std.proofs.Common.{pos, ◌+ℤ◌, ◌-ℤ◌, ◌≡◌, ◌++◌, map, length, drop}
+use Rattle.std.proofs.Common.{◌≡◌, ◌++◌, map, length, drop}
 use Rattle.std.specs.Prelude.{flat_map}
 use Rattle.std.specs.List.{AllByRecursion}
 use Rattle.iolb_model.specs.Program.{AffineProgram, RowFits}
-use Rattle.iolb_model.specs.Execution.{natural, range, row_runs}
+use Rattle.iolb_model.specs.Execution.{row_runs}
 use Rattle.affine_form.specs.Form.{IsSmall}
 use Rattle.affine_program.specs.Tree.{item_of, row_of}
 use Rattle.loop_graph.specs.Turns.{row_turns}
+use Rattle.loop_graph.specs.Values.{values_left}
 use Rattle.loop_graph.specs.Runs.{with_point, run_of}
 use Rattle.loop_graph.proofs.Walks.{loop_points, turns_at, item_size, row_size}
 use Rattle.iolb_model.specs.declared.limits.TheConstants.{VALUE_SIZE}
@@ -13,13 +14,13 @@ use Rattle.loop_graph.proofs.listed.+walk.Given as goal
 
 abbrev pub invariant-push_item-loop-value : goal.invariant-push_item-loop-value
 invariant-push_item-loop-value l = record {
-  runs : map run_of l.runs.items ++ loop_points (row_of l.body.items) l.point (range l.value l.last)
-      ≡ map run_of l.fn.runs.items ++ loop_points (row_of l.body.items) l.point (range l.initial.value l.last);
-  turns : AllByRecursion (IsSmall VALUE_SIZE) (flat_map (turns_at (row_of l.body.items) l.point) (range l.value l.last));
+  runs : map run_of l.runs.items ++ loop_points (row_of l.body.items) l.point (values_left l.values)
+      ≡ map run_of l.fn.runs.items ++ loop_points (row_of l.body.items) l.point (values_left l.initial.values);
+  turns : AllByRecursion (IsSmall VALUE_SIZE) (flat_map (turns_at (row_of l.body.items) l.point) (values_left l.values));
 }
 
 abbrev pub decreases-push_item-loop-value : goal.decreases-push_item-loop-value
-decreases-push_item-loop-value l = natural ((l.last -ℤ l.value) +ℤ pos 1)
+decreases-push_item-loop-value l = length (values_left l.values)
 
 abbrev pub invariant-push_row-loop-item : goal.invariant-push_row-loop-item
 invariant-push_row-loop-item l = record {

@@ -1,5 +1,6 @@
 -- What a boundary sees is the game of one fast memory.
-use Rattle.memory_levels.proofs.Sight.{seen_are_allowed, seen_is_complete, seen_loads, seen_stores}
+use Rattle.memory_levels.proofs.Sight.{seen_are_allowed, seen_is_complete}
+use Rattle.memory_levels.proofs.SightLoads.{seen_loads, seen_stores}
 use Rattle.memory_levels.proofs.law.boundaries_see_pebblings.Goals as goal
 
 pub returns-clause-allowed : goal.returns-clause-allowed

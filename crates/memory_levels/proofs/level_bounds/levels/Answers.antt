@@ -1,7 +1,7 @@
 -- The bound of the certificate holds at each level.
 use Rattle.affine_program.specs.Parts.{meaning}
 use Rattle.iolb_check.specs.Bounds.{bound_of}
-use Rattle.memory_levels.proofs.Sight.{bounds_hold_at_levels}
+use Rattle.memory_levels.proofs.SightLoads.{bounds_hold_at_levels}
 use Rattle.memory_levels.proofs.level_bounds.levels.Goals as goal
 
 pub returns-in-Ok-values_at_levels : goal.returns-in-Ok-values_at_levels

@@ -1,4 +1,4 @@
-use Rattle.std.proofs.Common.{rules, ◌≡◌, ◌∙◌, sym, ap, subst, arith, ℕ, List, ◌≤◌}
+use Rattle.std.proofs.Common.{◌≡◌, ◌∙◌, sym, ap, subst, arith, ℕ, List, ◌≤◌}
 use Rattle.std.specs.Prelude.{Option, Some, option_map}
 use Rattle.std.specs.List.{AllByRecursion}
 use Rattle.std.proofs.lemmas.List.{length-map}
@@ -9,14 +9,15 @@ use Rattle.affine_program.specs.Parts.{statement_of}
 use Rattle.claims.specs.Claims.{AllHold}
 use Rattle.claims.proofs.Found.{IfOk-then}
 use Rattle.dep_quast.proofs.Fits.{depth-few, read-over}
-use Rattle.reuse_paths.specs.Families.{node_of, node_region}
+use Rattle.reuse_paths.specs.declared.family.FamilyNode.{FamilyNode}
+use Rattle.reuse_paths.specs.Families.{boxed_node, node_region}
 use Rattle.reuse_paths.specs.FamilyPieces.{region_pieces}
 use Rattle.reuse_paths.specs.FewContexts.{few_walk, RegionTakesFit}
 use Rattle.footprint_pieces.specs.Pieces.{PieceFits}
 use Rattle.dep_quast.specs.Trees.{read_of}
 use Rattle.reuse_paths.specs.WalkPieces.{walk_pieces}
 use Rattle.reuse_paths.specs.WalkSettings.{region_context, region_variables}
-use Rattle.reuse_paths.specs.Walks.{WalkRegion, region_of}
+use Rattle.reuse_paths.specs.Walks.{WalkRegion, region_of, tree_of_walk}
 use Rattle.reuse_paths.specs.WalkViews.{walk_of}
 use Rattle.reuse_paths.proofs.PiecesFit.{context-begins, walk-fits}
 use Rattle.reuse_paths.proofs.family_footprint.push_region.Goals as goal
@@ -28,7 +29,10 @@ returns-clause-fit c =
     let parts = c.args.walking.now.program.now in
     let s : ℕ = c.args.statement in
     let region : WalkRegion = region_of c.in-Some-region.region in
-    let held : node_region (option_map node_of c.args.node.now) ≡ Some region = search (rules, c.in-Some.is, c.in-Some-region.is) in
+    let held : node_region (option_map boxed_node c.args.node.now) ≡ Some region =
+    ap (λ held. node_region (option_map boxed_node held)) c.in-Some.is
+    ∙ ap (λ (n : FamilyNode). option_map region_of n.region) (sym c.deref.ensures)
+    ∙ ap (option_map region_of) c.in-Some-region.is in
     let takes : RegionTakesFit walk s (Some region) = subst (RegionTakesFit walk s) held c.requires.takes in
     let rows : List AffineForm = region_context walk s region.rows in
     let is : c.in_ok-rows.rows.items ≡ rows = c.in_ok-rows.ensures.rows ∙ ap (region_context walk s) c.as_slice.ensures.value in
@@ -37,7 +41,7 @@ returns-clause-fit c =
     let fits : AllByRecursion (PieceFits walk.program) (walk_pieces walk s rows region.tree) =
     walk-fits walk s c.requires.flat few (λ read there. read-over parts c.params-params.ensures.kept (read_of s read) there) c.requires.readers.setting.trees rows over
     (context-begins walk s c.requires.flat few region.rows c.params-params.ensures.kept.well_formed.assumptions) region.tree takes.1 in
-    let all : AllByRecursion (PieceFits walk.program) (region_pieces walk s (node_region (option_map node_of c.args.node.now))) =
+    let all : AllByRecursion (PieceFits walk.program) (region_pieces walk s (node_region (option_map boxed_node c.args.node.now))) =
     subst (λ (r : Option WalkRegion). AllByRecursion (PieceFits walk.program) (region_pieces walk s r)) (sym held) fits in
-    IfOk-then c.push_walk.result (λ _. AllHold (few_walk walk s c.in_ok-place.place c.as_slice-2.result.now region.tree))
-    (λ _. AllByRecursion (PieceFits walk.program) (region_pieces walk s (node_region (option_map node_of c.args.node.now)))) c.push_walk.ensures.few (λ _ _. all)
+    IfOk-then c.push_walk.result (λ _. AllHold (few_walk walk s c.in_ok-place.place c.as_slice-2.result.now (tree_of_walk c.deref-2.result.now)))
+    (λ _. AllByRecursion (PieceFits walk.program) (region_pieces walk s (node_region (option_map boxed_node c.args.node.now)))) c.push_walk.ensures.few (λ _ _. all)

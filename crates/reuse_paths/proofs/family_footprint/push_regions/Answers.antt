@@ -1,11 +1,12 @@
 use Rattle.std.proofs.Common.{rules, ◌≡◌, ◌≤◌, sym, ap, subst, arith, refl, ℕ, ◌+◌, ◌++◌, List, map, drop, length, zero-add}
-use Rattle.std.specs.Prelude.{Ok, Err, Option, option_map}
+use Rattle.std.specs.Global.{Global}
+use Rattle.std.specs.Prelude.{Box, Ok, Err, Option, option_map}
 use Rattle.std.proofs.lemmas.List.{drop_all, length-map}
 use Rattle.claims.specs.Claims.{Claim, IsRefusal, numbered}
 use Rattle.claims.proofs.Found.{refused-first}
 use Rattle.claims.proofs.Members.{numbered-ended, numbered-from, numbered-next}
 use Rattle.reuse_paths.specs.declared.family.FamilyNode.{FamilyNode}
-use Rattle.reuse_paths.specs.Families.{node_of, node_region}
+use Rattle.reuse_paths.specs.Families.{boxed_node, node_region}
 use Rattle.reuse_paths.specs.FamilyPieces.{regions_pieces}
 use Rattle.reuse_paths.specs.FewContexts.{few_region, RegionTakesFit}
 use Rattle.footprint_pieces.specs.Pieces.{FootprintPiece, pieces_of}
@@ -50,8 +51,8 @@ loop-i-preserved c =
       decided = λ found h. c.loop-i.invariant.decided found (numbered-next (few_region walk c.args.list.now) walk.nodes i region there.0 there.1 found c.in_ok-push_region.ensures.few h);
     }
 
-past : (nodes : List (Option WalkRegion)) (held : List (Option FamilyNode)) (i : ℕ) → nodes ≡ map node_region (map (option_map node_of) held) → length held ≤ i → length nodes ≤ i
-past nodes held i e h = omega (arith, h, ap (λ (rs : List (Option WalkRegion)). length rs) e, length-map held (option_map node_of), length-map (map (option_map node_of) held) node_region)
+past : (nodes : List (Option WalkRegion)) (held : List (Option (Box FamilyNode Global))) (i : ℕ) → nodes ≡ map node_region (map (option_map boxed_node) held) → length held ≤ i → length nodes ≤ i
+past nodes held i e h = omega (arith, h, ap (λ (rs : List (Option WalkRegion)). length rs) e, length-map held (option_map boxed_node), length-map (map (option_map boxed_node) held) node_region)
 
 pub returns-clause-pieces : goal.returns-clause-pieces
 returns-clause-pieces c =

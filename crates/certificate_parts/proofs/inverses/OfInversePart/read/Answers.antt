@@ -2,8 +2,8 @@ use Rattle.std.proofs.Common.{refl}
 use Rattle.json_values.specs.View.{json_data}
 use Rattle.json_parts.specs.Fields.{reads_object}
 use Rattle.json_parts.proofs.Failing.{made_fails}
-use Rattle.store_text.specs.Outputs.{inverse_fields, inverse_made, inverse_shape}
-use Rattle.store_text.proofs.inverses.OfInversePart.read.Goals as goal
+use Rattle.certificate_parts.specs.Inverses.{inverse_fields, inverse_made, inverse_shape}
+use Rattle.certificate_parts.proofs.inverses.OfInversePart.read.Goals as goal
 
 pub returns-in_err-matrix : goal.returns-in_err-matrix
 unfolding inverse_shape

@@ -4,7 +4,7 @@ use Rattle.std.proofs.lemmas.Int.{to_z-of_z}
 use Rattle.std.specs.Prelude.{ℤ, pos, ◌+ℤ◌}
 use Rattle.std.proofs.lemmas.List.{append_assoc}
 use Rattle.iolb_model.specs.Execution.{rising}
-use Rattle.plain_graph.proofs.runs.values_from.Goals as goal
+use Rattle.plain_graph.proofs.runs.values_up.Goals as goal
 
 one_more : (values new : List ℤ) (value : ℤ) (count k : ℕ) → k < count → new ≡ values ++ value ∷ [] → new ++ rising (value +ℤ pos 1) (count - (k + 1)) ≡ values ++ rising value (count - k)
 one_more values new value count k below e =
