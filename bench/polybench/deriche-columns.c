@@ -18,12 +18,12 @@ for (j = 0; j < H; j++) {
   tp2 = 0.0;
   yp1 = 0.0;
   yp2 = 0.0;
-  for (i = 0; i < W; i++) {
-    y2[W - 1 - i][j] = a7 * tp1 + a8 * tp2 + b1 * yp1 + b2 * yp2;
+  for (i = W - 1; i >= 0; i--) {
+    y2[i][j] = a7 * tp1 + a8 * tp2 + b1 * yp1 + b2 * yp2;
     tp2 = tp1;
-    tp1 = imgOut[W - 1 - i][j];
+    tp1 = imgOut[i][j];
     yp2 = yp1;
-    yp1 = y2[W - 1 - i][j];
+    yp1 = y2[i][j];
   }
 }
 for (i = 0; i < W; i++)

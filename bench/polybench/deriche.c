@@ -28,12 +28,12 @@ for (i = 0; i < W; i++) {
   yp2 = 0.0;
   xp1 = 0.0;
   xp2 = 0.0;
-  for (j = 0; j < H; j++) {
-    y2[i][H - 1 - j] = a3 * xp1 + a4 * xp2 + b1 * yp1 + b2 * yp2;
+  for (j = H - 1; j >= 0; j--) {
+    y2[i][j] = a3 * xp1 + a4 * xp2 + b1 * yp1 + b2 * yp2;
     xp2 = xp1;
-    xp1 = imgIn[i][H - 1 - j];
+    xp1 = imgIn[i][j];
     yp2 = yp1;
-    yp1 = y2[i][H - 1 - j];
+    yp1 = y2[i][j];
   }
 }
 #pragma endscop

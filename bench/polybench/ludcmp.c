@@ -19,10 +19,10 @@ for (i = 0; i < N; i++) {
     w -= A[i][j] * y[j];
   y[i] = w;
 }
-for (i = 0; i < N; i++) {
-  w = y[N - 1 - i];
-  for (j = N - i; j < N; j++)
-    w -= A[N - 1 - i][j] * x[j];
-  x[N - 1 - i] = w / A[N - 1 - i][N - 1 - i];
+for (i = N - 1; i >= 0; i--) {
+  w = y[i];
+  for (j = i + 1; j < N; j++)
+    w -= A[i][j] * x[j];
+  x[i] = w / A[i][i];
 }
 #pragma endscop
