@@ -13,10 +13,10 @@ ghost use Rattle.dep_quast.specs.Truth.{ReadFits};
 ghost use Rattle.dep_quast.specs.Views.{read_of};
 
 use crate::fits::are_over;
-use crate::names::{put_writer_names, reader_names};
+use crate::names::{put_loop_names, reader_names};
 use crate::steps::{index_at, key_at};
 use crate::sums::Sum;
-use crate::systems::{Asked, Says, Section};
+use crate::systems::{Says, Section, System};
 use affine_form::{Form, Memory, Multipliers};
 use affine_program::Program;
 use claims::Step;
@@ -70,13 +70,8 @@ fn write_at_leaf(
     let names = reader_names(alloc, program, reader.statement)?;
     let rows = context_rows(alloc, program, reader, tests)?;
     let sections = leaf_sections(alloc, program, reader, tests.len())?;
-    let asked = Asked {
-        names: names.as_slice(),
-        rows: rows.as_slice(),
-        sections: sections.as_slice(),
-        goal,
-    };
-    asked.write(page, shown)
+    let system = System::of(alloc, names, rows.as_slice(), sections.as_slice())?;
+    system.write(page, goal, shown)
 }
 
 /// Writes the system of an empty leaf, whose goal is -1.
@@ -173,8 +168,7 @@ pub(crate) fn write_source(
         shown_of(claimed, key).get(number),
     ) {
         (Some(goal), Some(shown)) => {
-            let mut sum = Sum::new(page.alloc(), variables(program, reader), 0)?;
-            sum.add(goal, 1);
+            let sum = Sum::of(page.alloc(), variables(program, reader), goal)?;
             write_at_leaf(page, program, reader, tests, &sum, shown)
         }
         _ => Ok(()),
@@ -199,7 +193,7 @@ fn write_of_writer(
 {
     let alloc = page.alloc();
     let mut names = reader_names(alloc, program, reader.statement)?;
-    put_writer_names(alloc, &mut names, program, writer)?;
+    put_loop_names(alloc, &mut names, program, writer, "'")?;
     let mut sections = leaf_sections(alloc, program, reader, tests)?;
     sections.push(Section {
         count: 2 * depth(program, writer),
@@ -222,13 +216,8 @@ fn write_of_writer(
         says: Says::Before,
     })?;
     let goal = Sum::new(alloc, names.len(), -1)?;
-    let asked = Asked {
-        names: names.as_slice(),
-        rows,
-        sections: sections.as_slice(),
-        goal: &goal,
-    };
-    asked.write(page, shown)
+    let system = System::of(alloc, names, rows, sections.as_slice())?;
+    system.write(page, &goal, shown)
 }
 
 /// The writer of an array and the number behind its own, of those that a list goes through, where each writer has so many members.

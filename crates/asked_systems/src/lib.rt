@@ -11,6 +11,9 @@ mod systems;
 mod trees;
 
 pub use fits::is_there;
+pub use names::{nest_names, put_loop_names};
 pub use nests::{NestAsked, write_inside, write_range};
 pub use steps::{behind, index_at, key_at};
+pub use sums::Sum;
+pub use systems::{Says, System};
 pub use trees::write_in_tree;

@@ -32,26 +32,23 @@ pub(crate) fn reader_names(
     Ok(all)
 }
 
-/// Puts the names of the loops around a writer behind others, each with `'` behind it.
-pub(crate) fn put_writer_names(
+/// Puts the names of the loops around a statement behind others, each with a mark behind it.
+pub fn put_loop_names(
     alloc: Global,
     all: &mut Vec<Vec<u8>>,
     program: &Program,
-    writer: u16,
+    statement: u16,
+    mark: &str,
 ) -> Result<(), Memory> {
-    let names = names_at(alloc, program, writer)?;
+    let names = names_at(alloc, program, statement)?;
     match names.as_slice().get(program.params().len()..) {
-        Some(loops) => put_names(alloc, all, loops, "'"),
+        Some(loops) => put_names(alloc, all, loops, mark),
         None => Ok(()),
     }
 }
 
 /// The names of the parameters, and `u1`, `u2` and so on for so many variables of a nest.
-pub(crate) fn nest_names(
-    alloc: Global,
-    program: &Program,
-    count: usize,
-) -> Result<Vec<Vec<u8>>, Memory> {
+pub fn nest_names(alloc: Global, program: &Program, count: usize) -> Result<Vec<Vec<u8>>, Memory> {
     let mut all = Vec::new(alloc);
     put_names(alloc, &mut all, program.params(), "")?;
     for number in 0..count {

@@ -7,7 +7,7 @@ ghost use Rattle.iolb_model.specs.declared.limits.TheConstants.{NEST_VARIABLES};
 use crate::fits::{are_over, bounds_fit, is_over};
 use crate::names::nest_names;
 use crate::sums::Sum;
-use crate::systems::{Asked, Says, Section};
+use crate::systems::{Says, Section, System};
 use affine_form::{Form, Memory, Multipliers, difference};
 use affine_program::Program;
 use dep_quast::point_rows::domain_rows;
@@ -36,26 +36,20 @@ fn write_over(
 {
     let alloc = page.alloc();
     let names = nest_names(alloc, program, bounds.len())?;
-    let system = rows_before(alloc, program, bounds)?;
+    let before = rows_before(alloc, program, bounds)?;
     let sections = [
         Section {
             count: program.assumed().rows().len(),
             says: Says::Assumed,
         },
         Section {
-            count: system.rows().len(),
+            count: before.rows().len(),
             says: Says::Nest,
         },
     ];
-    let mut sum = Sum::new(alloc, names.len(), 0)?;
-    sum.add(goal, 1);
-    let asked = Asked {
-        names: names.as_slice(),
-        rows: system.rows(),
-        sections: &sections,
-        goal: &sum,
-    };
-    asked.write(page, shown)
+    let sum = Sum::of(alloc, names.len(), goal)?;
+    let system = System::of(alloc, names, before.rows(), &sections)?;
+    system.write(page, &sum, shown)
 }
 
 /// Writes the system of the multipliers that show the range of a nest's variable of this number to be whole.

@@ -1,6 +1,8 @@
 -- Rows of tables as comma-separated values (RFC 4180) and as lines of JSON (RFC 8259).
 use Rattle.std.specs.Prelude.{◌≡◌, ⊤, ℕ, Bool, ◌==◌, ◌||◌, ◌+◌, ◌*◌, ◌/◌, ◌%◌, nat_lt, if◌then◌else◌, List, [], ◌∷◌, ◌++◌, codes, decimal}
 use Rattle.std.specs.List.{flat_map, list_any}
+use Rattle.tile_sched.specs.declared.unplayed.Unplayed.{Unplayed}
+use Rattle.tile_sched.specs.declared.unplayed.Unplayed.TheVariants.{Assumption, TooMany, OutOfOrder, TooSmall}
 use Rattle.comparisons.specs.declared.plays.Played.{Played}
 use Rattle.comparisons.specs.declared.plays.Played.TheVariants.{Totals, Refused}
 use Rattle.comparisons.specs.declared.rows.Row.{Row}
@@ -46,11 +48,18 @@ abbrev pub outcome_fields : ℕ → Played → List ℕ
 outcome_fields bound (Totals loads stores) = decimal loads ++ codes "," ++ decimal stores ++ codes "," ++ ratio_text loads bound (codes "")
 outcome_fields bound (Refused unplayed) = codes ",,"
 
--- and as members of an object: null where it isn't played
+-- why a schedule isn't played
+abbrev pub reason_text : Unplayed → List ℕ
+reason_text (Assumption number) = codes "assumption " ++ decimal number ++ codes ", counted from 0, is false"
+reason_text TooMany = codes "there are too many vertices"
+reason_text (OutOfOrder vertex source) = codes "vertex " ++ decimal vertex ++ codes " comes before vertex " ++ decimal source ++ codes ", whose value it reads"
+reason_text (TooSmall vertex need) = codes "vertex " ++ decimal vertex ++ codes " needs " ++ decimal need ++ codes " words at once"
+
+-- and as members of an object: null where it isn't played, with the reason
 abbrev pub outcome_members : ℕ → Played → List ℕ
 outcome_members bound (Totals loads stores) =
     codes "\"loads\":" ++ decimal loads ++ codes ",\"stores\":" ++ decimal stores ++ codes ",\"over\":" ++ ratio_text loads bound (codes "null")
-outcome_members bound (Refused unplayed) = codes "\"loads\":null,\"stores\":null,\"over\":null"
+outcome_members bound (Refused unplayed) = codes "\"loads\":null,\"stores\":null,\"over\":null,\"reason\":\"" ++ reason_text unplayed ++ codes "\""
 
 -- a row as comma-separated values
 abbrev pub fields_line : Row → List ℕ

@@ -1,13 +1,14 @@
 //! Rows.
 
-ghost use Rattle.std.specs.Prelude.{◌≡◌, ◌++◌, OnOk};
-ghost use Rattle.comparisons.specs.Tables.{fields_line, object_line, outcome_fields, outcome_members};
+ghost use Rattle.std.specs.Prelude.{◌≡◌, ◌++◌, OnOk, codes, decimal};
+ghost use Rattle.comparisons.specs.Tables.{fields_line, object_line, outcome_fields, outcome_members, reason_text};
 
 use crate::plays::Played;
 use crate::ratio::write_ratio;
 use crate::strings::{write_field, write_string};
 use plain_pages::Page;
 use std::alloc::AllocError;
+use tile_sched::Unplayed;
 
 /// A row: the words of fast memory, the bound there, the name of a schedule, and what comes of it.
 #[derive(Clone, Copy)]
@@ -31,6 +32,30 @@ fn write_outcome_fields(page: &mut Page, bound: u128, played: Played) -> Result<
     }
 }
 
+/// Writes that an instance needs so many words.
+fn write_need(page: &mut Page, vertex: u32, need: u64) -> Result<(), AllocError>
+    ensures { OnOk result (page.new ≡ page.old ++ codes "vertex " ++ decimal vertex ++ codes " needs " ++ decimal need ++ codes " words at once") }
+{
+    page.text(format!(in page.alloc(); "vertex {vertex} needs {need} words at once")?.as_str())
+}
+
+/// Writes why a schedule isn't played.
+fn write_reason(page: &mut Page, unplayed: Unplayed) -> Result<(), AllocError>
+    ensures { OnOk result (page.new ≡ page.old ++ reason_text unplayed) }
+{
+    let alloc = page.alloc();
+    match unplayed {
+        Unplayed::Assumption(number) => page.text(format!(in alloc;
+            "assumption {number}, counted from 0, is false"
+        )?.as_str()),
+        Unplayed::TooMany => page.text("there are too many vertices"),
+        Unplayed::OutOfOrder { vertex, source } => page.text(format!(in alloc;
+            "vertex {vertex} comes before vertex {source}, whose value it reads"
+        )?.as_str()),
+        Unplayed::TooSmall { vertex, need } => write_need(page, vertex, need),
+    }
+}
+
 /// Writes what comes of a schedule, as members of an object of JSON.
 fn write_outcome_members(page: &mut Page, bound: u128, played: Played) -> Result<(), AllocError>
     ensures { OnOk result (page.new ≡ page.old ++ outcome_members bound played) }
@@ -42,7 +67,11 @@ fn write_outcome_members(page: &mut Page, bound: u128, played: Played) -> Result
             )?.as_str())?;
             write_ratio(page, loads, bound, "null")
         }
-        Played::Refused(_) => page.text("\"loads\":null,\"stores\":null,\"over\":null"),
+        Played::Refused(unplayed) => {
+            page.text("\"loads\":null,\"stores\":null,\"over\":null,\"reason\":\"")?;
+            write_reason(page, unplayed)?;
+            page.text("\"")
+        }
     }
 }
 
@@ -74,7 +103,7 @@ impl Row<'_> {
         page.text("\n")
     }
 
-    /// Writes a row as an object of JSON, where a schedule that isn't played has `null`.
+    /// Writes a row as an object of JSON, where a schedule that isn't played has `null` and the reason.
     pub(crate) fn write_object(self, page: &mut Page) -> Result<(), AllocError>
         ensures { OnOk result (page.new ≡ page.old ++ object_line self.entry) }
     {

@@ -18,7 +18,7 @@ use comparisons::{
 use iolb_check::{Bound, ValueFault};
 use plain_pages::Page;
 use std::alloc::Global;
-use tile_sched::{PlayFault, Unplayed};
+use tile_sched::PlayFault;
 
 /// What is compared: schedules, with capacities of the fast memory, in a table of this shape.
 #[derive(Clone, Copy)]
@@ -135,17 +135,35 @@ fn table(
     Ok(page)
 }
 
-/// Why a schedule isn't played with the first of its capacities with which it isn't.
-fn first_refused(played: &[Played]) -> Option<Unplayed> {
-    for outcome in played {
+/// Writes why a schedule isn't played with each of its capacities with which it isn't; one reason in a row stands once.
+fn write_reasons_of(
+    alloc: Global,
+    page: &mut Page,
+    program: &Program,
+    capacities: &[Capacity],
+    sizes: &[i64],
+    name: &str,
+    played: &[Played],
+) -> Result<(), Memory>
+    requires each { length sizes.now ≡ length program.now.params }
+    requires small { AllByRecursion (IsSmall VALUE_SIZE) sizes.now }
+{
+    let mut last = None;
+    for (capacity, outcome) in capacities.iter().zip(played) {
         if let Played::Refused(unplayed) = outcome {
-            return Some(*unplayed);
+            if last != Some(*unplayed) {
+                let words = capacity.words;
+                page.text(name)?;
+                page.text(format!(in alloc; ": with S = {words} ")?.as_str())?;
+                write_unplayed(alloc, page, program, sizes, *unplayed)?;
+            }
+            last = Some(*unplayed);
         }
     }
-    None
+    Ok(())
 }
 
-/// Writes of each schedule that isn't played with some capacity why it isn't.
+/// Writes of each schedule that isn't played with some capacities why it isn't.
 fn write_reasons(
     alloc: Global,
     page: &mut Page,
@@ -158,11 +176,16 @@ fn write_reasons(
     requires small { AllByRecursion (IsSmall VALUE_SIZE) sizes.now }
 {
     for (schedule, played) in compared.schedules.iter().zip(all) {
-        if let Some(unplayed) = first_refused(played.as_slice()) {
-            page.text(schedule.name.as_str())?;
-            page.text(": ")?;
-            write_unplayed(alloc, page, program, sizes, unplayed)?;
-        }
+        let (name, capacities) = (schedule.name.as_str(), compared.capacities);
+        write_reasons_of(
+            alloc,
+            page,
+            program,
+            capacities,
+            sizes,
+            name,
+            played.as_slice(),
+        )?;
     }
     Ok(())
 }
@@ -210,9 +233,7 @@ pub(crate) fn compare_answer(
     given: &[String],
 ) -> Result<Page, Stop> {
     let program = program_in(alloc, file, text)?;
-    let Some(sizes) = sizes_for(alloc, program.params(), given)? else {
-        return Err(Stop::Words);
-    };
+    let sizes = sizes_for(alloc, program.params(), given)?;
     let stated = certificate.certificate(alloc)?;
     let bound = certificate.bound(alloc, &program, &stated)?;
     answer_for(alloc, &program, &bound, compared, sizes.as_slice())

@@ -16,7 +16,7 @@ use comparisons::{Capacity, Played, play_schedule};
 use loop_graph::{Run, values_of};
 use named_vertices::{Unnamed, find_instances, named_at, write_named};
 use plain_pages::Page;
-use refusal_words::write_unread;
+use refusal_words::write_unscheduled;
 use std::alloc::Global;
 use tile_sched::{PlayFault, SchedError, SchedFault, Schedule, Unplayed, read_schedule};
 
@@ -33,13 +33,20 @@ fn fault_words(number: u8) -> &'static str {
     }
 }
 
-/// The stop where the text of a schedule, which the file of this name has, has a fault.
-fn text_stop(alloc: Global, name: &str, text: &[u8], fault: &SchedFault) -> Stop {
+/// The stop where the text of a schedule of a program, which the file of this name has, has a fault.
+fn text_stop(
+    alloc: Global,
+    program: &Program,
+    name: &str,
+    text: &[u8],
+    fault: &SchedFault,
+) -> Stop {
     let mut page = Page::new(alloc);
-    match write_unread(
+    match write_unscheduled(
         &mut page,
         name,
         text,
+        program,
         fault.number,
         fault_words(fault.number),
         &fault.place,
@@ -60,7 +67,7 @@ pub(crate) fn schedule_in(
 {
     match read_schedule(alloc, text, program) {
         Ok(schedule) => Ok(schedule),
-        Err(SchedError::Fault(fault)) => Err(text_stop(alloc, name, text, &fault)),
+        Err(SchedError::Fault(fault)) => Err(text_stop(alloc, program, name, text, &fault)),
         Err(SchedError::Memory) => Err(Stop::Memory),
     }
 }
@@ -188,9 +195,7 @@ pub(crate) fn schedule_answer(
         return Err(Stop::Words);
     };
     let program = program_in(alloc, file.as_str(), text)?;
-    let Some(sizes) = sizes_for(alloc, program.params(), given)? else {
-        return Err(Stop::Words);
-    };
+    let sizes = sizes_for(alloc, program.params(), given)?;
     let schedule = schedule_in(alloc, &program, name.as_str(), schedule)?;
     order_answer(alloc, &program, &schedule, sizes.as_slice())
 }

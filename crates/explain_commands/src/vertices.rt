@@ -83,9 +83,7 @@ pub(crate) fn vertex_answer(alloc: Global, words: &[String], text: &[u8]) -> Res
         return Err(Stop::Words);
     };
     let program = program_in(alloc, file.as_str(), text)?;
-    let Some(sizes) = sizes_for(alloc, program.params(), given)? else {
-        return Err(Stop::Words);
-    };
+    let sizes = sizes_for(alloc, program.params(), given)?;
     let Some(spot) = spot_of(alloc, &program, word.as_str())? else {
         return Err(Stop::Words);
     };

@@ -60,15 +60,49 @@ fn call<F: Files>(
     Ok(status)
 }
 
+/// A text with another in the place of the first that is as the words in front of ` -> ` say; `no such text` where
+/// there is none.
+fn edited(alloc: Global, text: &str, words: &str) -> Result<String, AllocError> {
+    let (old, new) = words.split_once(" -> ").unwrap_or((words, ""));
+    match text.split_once(old) {
+        Some((front, back)) => format!(in alloc; "{front}{new}{back}"),
+        None => "no such text".to_string(alloc),
+    }
+}
+
+/// The text of the file that a line makes, behind its kind and its name.
+fn text_of<F: Files>(
+    alloc: Global,
+    made: &BTreeMap<String, Vec<u8>>,
+    folder: &mut F,
+    kind: &str,
+    rest: &str,
+) -> Result<String, AllocError> {
+    match kind {
+        "scop" => format!(in alloc; "#pragma scop\\n{rest}\\n#pragma endscop\\n"),
+        "edit" => {
+            let (name, words) = rest.split_once(' ').unwrap_or((rest, ""));
+            let names = vec![in alloc; name.to_string(alloc)?]?;
+            let files = files_of(alloc, made, folder, names.as_slice())?;
+            match files.get(name) {
+                Some(bytes) => edited(alloc, str::from_utf8(bytes.as_slice()).unwrap_or(""), words),
+                None => "no such file".to_string(alloc),
+            }
+        }
+        _ => rest.to_string(alloc),
+    }
+}
+
 /// Makes the file that a line says.
-fn make(alloc: Global, made: &mut BTreeMap<String, Vec<u8>>, line: &str) -> Result<(), AllocError> {
+fn make<F: Files>(
+    alloc: Global,
+    made: &mut BTreeMap<String, Vec<u8>>,
+    folder: &mut F,
+    line: &str,
+) -> Result<(), AllocError> {
     let (kind, behind) = line.split_once(' ').unwrap_or((line, ""));
     let (name, rest) = behind.split_once(' ').unwrap_or((behind, ""));
-    let text = if kind == "scop" {
-        format!(in alloc; "#pragma scop\\n{rest}\\n#pragma endscop\\n")?
-    } else {
-        rest.to_string(alloc)?
-    };
+    let text = text_of(alloc, made, folder, kind, rest)?;
     made.insert(name.to_string(alloc)?, unescaped(alloc, text.as_str())?)?;
     Ok(())
 }
@@ -93,7 +127,7 @@ pub(crate) fn play<F: Files>(
         if let Some(words) = line.strip_prefix('$') {
             status = call(alloc, &made, folder, words, transcript)?;
         } else if !line.is_empty() && !line.starts_with('#') {
-            make(alloc, &mut made, line)?;
+            make(alloc, &mut made, folder, line)?;
         }
     }
     Ok(status)

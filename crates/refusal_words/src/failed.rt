@@ -1,46 +1,63 @@
 //! Conditions that fail.
 
-use crate::heads::{write_head, write_pointer, write_source};
+use crate::branches::branch_pieces;
+use crate::heads::{write_head, write_length, write_pointer, write_source};
 use crate::lengths::{called_for, term_at};
+use crate::sources::write_arrays;
 use crate::terms::write_in_term;
 use affine_form::Memory;
 use affine_program::Program;
-use asked_systems::{behind, key_at, write_in_tree};
+use asked_systems::{behind, index_at, key_at, write_in_tree};
 use claims::{FailedCondition, Step};
 use help_pages::condition_of;
 use iolb_check::Certificate;
-use json_places::{item_places, value_place};
+use json_places::value_place;
 use plain_pages::Page;
+use walk_systems::write_pair;
 
-/// Writes how many members a list has that begins at a place of a text, and how many it has to have, where that is known.
-fn write_length(
-    page: &mut Page,
-    text: &[u8],
-    at: Option<usize>,
-    called: Option<usize>,
-) -> Result<(), Memory> {
-    let alloc = page.alloc();
-    if let (Some(at), Some(called)) = (at, called) {
-        let found = item_places(alloc, text, at)?.len();
-        page.line(format!(in alloc; "length: {found} here, {called} called for")?.as_str())?;
-    }
-    Ok(())
-}
-
-/// Writes the system of the multipliers at a place of a certificate for a program: of a source tree's claims, of the ranges of a term's
-/// nest, or of its instances. Nothing at other places.
-fn write_asked(
+/// Writes the system of the pair of pieces of a branch's terms at a place behind `branches`.
+fn write_disjoint(
     page: &mut Page,
     program: &Program,
     certificate: &Certificate,
     steps: &[Step],
 ) -> Result<(), Memory> {
+    let (Some(number), Some(pair)) = (index_at(steps, 0), index_at(steps, 2)) else {
+        return Ok(());
+    };
+    let Some(branch) = certificate.branches().get(number) else {
+        return Ok(());
+    };
+    let lists = branch_pieces(page.alloc(), program, certificate.quasts(), branch)?;
+    match branch.disjoint.get(pair) {
+        Some(shown) => write_pair(page, program, lists.as_slice(), pair, shown),
+        None => Ok(()),
+    }
+}
+
+/// Writes what a condition asks at a place of a certificate for a program: a system, or what is called for beside what
+/// stands there.
+fn write_asked(
+    page: &mut Page,
+    program: &Program,
+    certificate: &Certificate,
+    condition: u8,
+    steps: &[Step],
+) -> Result<(), Memory> {
     let rest = behind(steps, 1);
+    let quasts = certificate.quasts();
     if key_at(steps, 0) == Some("quasts") {
-        return write_in_tree(page, program, certificate.quasts(), rest);
+        return if key_at(steps, steps.len().saturating_sub(1)) == Some("statement") {
+            write_arrays(page, program, quasts, rest)
+        } else {
+            write_in_tree(page, program, quasts, rest)
+        };
+    }
+    if key_at(steps, 2) == Some("disjoint") {
+        return write_disjoint(page, program, certificate, rest);
     }
     match term_at(certificate, rest) {
-        Some((term, inner)) => write_in_term(page, program, term, inner),
+        Some((term, inner)) => write_in_term(page, program, quasts, term, condition, inner),
         None => Ok(()),
     }
 }
@@ -55,9 +72,11 @@ fn write_condition(page: &mut Page, number: u8) -> Result<(), Memory> {
     Ok(())
 }
 
-/// Writes which condition a certificate for a program fails, which the file of this name has as its text: its number and place, the
-/// place's line with a caret, and when it holds; for condition 1 how long a list is there and has to be; and where multipliers don't
-/// show what they are asked to, the system: its variables, its rows with what each says, the goal, and what the multipliers sum to.
+/// Writes which condition a certificate for a program fails, which the file of this name has as its text: its number
+/// and place, the place's line with a caret, and when it holds; for condition 1 how long a list is there and has to be;
+/// and where multipliers don't show what they are asked to, the system: its variables, its rows with what each says,
+/// the goal, and what the multipliers sum to; where numbers or the word at a leaf are others than they have to be, what
+/// stands there and what is called for.
 pub fn write_failed(
     page: &mut Page,
     file: &str,
@@ -76,8 +95,11 @@ pub fn write_failed(
     write_source(page, at, text)?;
     write_condition(page, number)?;
     match number {
-        1 => write_length(page, text, at, called_for(program, certificate, steps)),
+        1 => {
+            let called = called_for(page.alloc(), program, certificate, steps)?;
+            write_length(page, text, at, called)
+        }
         2 => Ok(()),
-        _ => write_asked(page, program, certificate, steps),
+        _ => write_asked(page, program, certificate, number, steps),
     }
 }

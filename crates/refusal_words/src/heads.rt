@@ -1,7 +1,8 @@
-//! The beginnings of messages.
+//! Parts of messages.
 
 use affine_form::Memory;
 use claims::{Place, Step};
+use json_places::item_places;
 use plain_pages::{Page, position_of};
 
 /// Writes a place as a JSON Pointer (RFC 6901).
@@ -37,6 +38,25 @@ pub(crate) fn write_head(
 pub(crate) fn write_source(page: &mut Page, at: Option<usize>, text: &[u8]) -> Result<(), Memory> {
     if let Some(at) = at {
         page.caret(text, at)?;
+    }
+    Ok(())
+}
+
+/// Writes how many members a list has that begins at a place of a text, and how many it has to have, where that is
+/// known and another number.
+pub(crate) fn write_length(
+    page: &mut Page,
+    text: &[u8],
+    at: Option<usize>,
+    called: Option<usize>,
+) -> Result<(), Memory> {
+    let alloc = page.alloc();
+    let (Some(at), Some(called)) = (at, called) else {
+        return Ok(());
+    };
+    let found = item_places(alloc, text, at)?.len();
+    if text.get(at).copied() == Some(b'[') && found != called {
+        page.line(format!(in alloc; "length: {found} here, {called} called for")?.as_str())?;
     }
     Ok(())
 }

@@ -4,16 +4,23 @@ ghost use Rattle.affine_program.specs.Parts.{meaning};
 ghost use Rattle.dep_quast.specs.Truth.{ReadFits};
 ghost use Rattle.dep_quast.specs.Views.{read_of};
 
+use crate::branches::branch_pieces;
+use affine_form::Memory;
 use affine_program::Program;
 use asked_systems::{behind, index_at, is_there, key_at};
 use certificate_fit::counts::{
     loops_around, order_rows, pairs_between, read_count, subscript_count,
 };
 use claims::Step;
-use dep_quast::Quast;
 use dep_quast::fitting::earlier_count;
 use dep_quast::reader::{Reader, variables};
+use dep_quast::{Quast, Quasts};
 use iolb_check::{Certificate, Term};
+use k_partition::{Partition, Shape};
+use reuse_paths::Credit;
+use std::alloc::Global;
+use walk_systems::{family_length, open_count, pair_count, partition_pieces, reach_length};
+use wavefront::Wavefront;
 
 /// How many members the list with this key of a source has to have, at this level of its statement.
 fn of_source(program: &Program, reader: Reader, source: u16, level: u8, key: &str) -> Option<usize>
@@ -99,14 +106,127 @@ fn sizes_of(program: &Program, term: &Term) -> (usize, usize) {
     }
 }
 
-/// How many members the list with this key of a term has to have.
-fn in_term(program: &Program, term: &Term, key: &str) -> Option<usize> {
+/// How many numbers a form has that is over the parameters and so many variables more: the coefficients, and the
+/// constant.
+fn form_length(program: &Program, more: usize) -> usize {
+    program
+        .params()
+        .len()
+        .saturating_add(more)
+        .saturating_add(1)
+}
+
+/// How many members the list at a place in those that all terms have has to have.
+fn in_lists(program: &Program, term: &Term, steps: &[Step]) -> Option<usize> {
     let (variables, loops) = sizes_of(program, term);
-    match key {
-        "shown" | "sums" => Some(variables),
-        "inside" => Some(loops.saturating_mul(2)),
-        "nest" | "point" => Some(loops),
+    match (key_at(steps, 0)?, index_at(steps, 1)) {
+        ("shown" | "sums", None) => Some(variables),
+        ("inside", None) => Some(loops.saturating_mul(2)),
+        ("nest" | "point", None) => Some(loops),
+        ("nest", Some(number)) => Some(form_length(program, number)),
+        ("point", Some(_)) => Some(form_length(program, variables)),
         _ => None,
+    }
+}
+
+/// How many members the list at a place of a credit has to have, behind its number: one for each loop of its statement,
+/// or the numbers of a bound.
+fn in_credit(program: &Program, credit: &Credit, steps: &[Step]) -> Option<usize> {
+    match (key_at(steps, 0)?, index_at(steps, 1)) {
+        ("nest", Some(number)) => Some(form_length(program, number)),
+        ("nest" | "shown" | "sums", None) => Some(loops_around(program, credit.statement)),
+        _ => None,
+    }
+}
+
+/// How many members the list at a place in a partition term alone has to have.
+fn in_partition(
+    alloc: Global,
+    program: &Program,
+    quasts: &Quasts,
+    term: &Partition,
+    steps: &[Step],
+) -> Result<Option<usize>, Memory> {
+    let number = index_at(steps, 1).unwrap_or(0);
+    let (family, credit) = (term.families.get(number), term.credits.get(number));
+    let rest = behind(steps, 2);
+    match (key_at(steps, 0), family, credit) {
+        (Some("families"), Some(family), _) => {
+            family_length(alloc, program, quasts, term, family, rest)
+        }
+        (Some("credits"), _, Some(credit)) => Ok(in_credit(program, credit, rest)),
+        (Some("apart"), _, _) => match term.shape {
+            Shape::Each => Ok(Some(0)),
+            Shape::Sum => {
+                let lists = partition_pieces(alloc, program, quasts, term)?;
+                Ok(Some(pair_count(alloc, lists.as_slice())?))
+            }
+        },
+        _ => Ok(None),
+    }
+}
+
+/// How many members the list at a place in a wavefront term alone has to have.
+fn in_front(
+    alloc: Global,
+    program: &Program,
+    quasts: &Quasts,
+    front: &Wavefront,
+    steps: &[Step],
+) -> Result<Option<usize>, Memory> {
+    let (nest, rest) = (&front.nest, behind(steps, 1));
+    let (user, vertex) = (&front.user, &front.vertex);
+    match (key_at(steps, 0), &front.source, &front.reach) {
+        (Some("edge"), _, _) => {
+            let reader = Reader {
+                statement: user.statement,
+                read: front.read,
+            };
+            Ok(Some(open_count(alloc, quasts, reader)?))
+        }
+        (Some("outer_sums"), _, _) => Ok(Some(usize::from(front.outer))),
+        (Some("back"), _, _) => {
+            reach_length(
+                alloc,
+                program,
+                quasts,
+                nest,
+                user,
+                vertex,
+                &front.back,
+                rest,
+            )
+        }
+        (Some("reach"), Some(source), Some(reach)) => {
+            reach_length(alloc, program, quasts, nest, vertex, source, reach, rest)
+        }
+        _ => Ok(None),
+    }
+}
+
+/// How many members the list at a place in a term has to have.
+fn in_term(
+    alloc: Global,
+    program: &Program,
+    quasts: &Quasts,
+    term: &Term,
+    steps: &[Step],
+) -> Result<Option<usize>, Memory> {
+    let common = in_lists(program, term, steps);
+    if common.is_some() {
+        return Ok(common);
+    }
+    match term {
+        Term::Cold(cold) if key_at(steps, 0) == Some("leaves") => {
+            let reader = Reader {
+                statement: cold.statement,
+                read: cold.read,
+            };
+            Ok(Some(open_count(alloc, quasts, reader)?))
+        }
+        Term::Cold(_) => Ok(None),
+        Term::Partition(partition) => in_partition(alloc, program, quasts, partition, steps),
+        Term::Wavefront(front) => in_front(alloc, program, quasts, front, steps),
     }
 }
 
@@ -120,21 +240,37 @@ pub(crate) fn term_at<'a>(
     Some((term, behind(steps, 4)))
 }
 
-/// How many members the list at a place of a certificate for a program has to have, where that is known: the source trees and their
-/// lists, and lists of a term for each of its nest's variables or of its statements' loops.
-pub(crate) fn called_for(
+/// How many members the list at a place behind `branches` has to have.
+fn in_branches(
+    alloc: Global,
     program: &Program,
     certificate: &Certificate,
     steps: &[Step],
-) -> Option<usize> {
+) -> Result<Option<usize>, Memory> {
+    let quasts = certificate.quasts();
+    if let Some((term, inner)) = term_at(certificate, steps) {
+        return in_term(alloc, program, quasts, term, inner);
+    }
+    let branch = certificate.branches().get(index_at(steps, 0).unwrap_or(0));
+    match (branch, key_at(steps, 1)) {
+        (Some(branch), Some("disjoint")) => {
+            let lists = branch_pieces(alloc, program, quasts, branch)?;
+            Ok(Some(pair_count(alloc, lists.as_slice())?))
+        }
+        _ => Ok(None),
+    }
+}
+
+/// How many members the list at a place of a certificate for a program has to have, where that is known.
+pub(crate) fn called_for(
+    alloc: Global,
+    program: &Program,
+    certificate: &Certificate,
+    steps: &[Step],
+) -> Result<Option<usize>, Memory> {
     let rest = behind(steps, 1);
-    if key_at(steps, 0)? == "quasts" {
-        return in_trees(program, certificate, rest);
+    if key_at(steps, 0) == Some("quasts") {
+        return Ok(in_trees(program, certificate, rest));
     }
-    let (term, inner) = term_at(certificate, rest)?;
-    if inner.len() == 1 {
-        in_term(program, term, key_at(inner, 0)?)
-    } else {
-        None
-    }
+    in_branches(alloc, program, certificate, rest)
 }

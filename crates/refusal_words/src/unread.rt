@@ -6,8 +6,9 @@ use claims::Place;
 use json_places::{first_error, value_place};
 use plain_pages::Page;
 
-/// Writes the fault of this number of a certificate's or a schedule's text, which the file of this name has: what is said of it, the
-/// place of the value at fault, and its line with a caret; for fault 1, that the text isn't JSON, where it stops to be.
+/// Writes the fault of this number of a certificate's or a schedule's text, which the file of this name has: what is
+/// said of it, the place of the value at fault, and its line with a caret; for fault 1, that the text isn't JSON, where
+/// it stops to be.
 pub fn write_unread(
     page: &mut Page,
     file: &str,
