@@ -174,10 +174,6 @@ abbrev pub family_pieces : AffineProgram → List (List SelectionTree) → Joint
 family_pieces program trees term family =
     flat_map (start_pieces program trees) (part_walks family term.parts family.starts) ++ flat_map (way_pieces program trees family) family.ways
 
--- those of the term, family by family
-abbrev pub joint_pieces : AffineProgram → List (List SelectionTree) → JointTerm → List FootprintPiece
-joint_pieces program trees term = flat_map (family_pieces program trees term) term.families
-
 -- the families of other groups than this one's
 abbrev pub of_other_groups : JointFamily → List JointFamily → List JointFamily
 of_other_groups family others = filter (λ (other : JointFamily). not (other.group == family.group)) others
